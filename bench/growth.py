@@ -23,8 +23,8 @@ import tempfile
 from pathlib import Path
 
 ROOT = Path(__file__).resolve().parent.parent
-CRATES = ["lt_tag_tests", "lt_range_tests", "lt_accept_tests", "lt_parts_tests", "lt_jar_tests", "lt_registry_tests", "lt_rewrite_tests",
-          "lt_canon_tests", "lt_match_tests", "lt_lines_tests", "lt_select_tests"]
+CRATES = ["lt_tag_tests", "lt_jar_tests", "lt_registry_tests", "lt_rewrite_tests", "lt_canon_tests", "lt_match_tests",
+          "lt_lines_tests", "lt_show_tests", "lt_json_tests", "lt_codes_tests"]
 PROGRAM = ROOT / "build" / "langtag"
 SECONDS = 60
 NONE = "_without_growth"
@@ -63,17 +63,24 @@ void *realloc(void *old, size_t size) { return refused(size) ? NULL : __libc_rea
 
 SAMPLE = ROOT / "examples" / "sample-registry.txt"
 LINES = b"zh-yue\r\nfr\n\nen-u-foo-bar-foo-nu-latn-ca-buddhist-NU-arab\nen-t-zh-yue-m0-names-a0-xyz\nsgn-dd"
-# Each command with its input.
+TABLE = "TABLE"
+CODES = b"chi|zho|zh|Chinese|chinois\nger|deu|de|German|allemand\n"
+# Each command with its input; TABLE stands for a file with these codes.
 COMMANDS = [
     (["--help"], b""),
     (["classify", "en-Latn-a-bb"], b""),
     (["check", SAMPLE], b""),
     (["canon", SAMPLE], LINES),
+    (["codes", TABLE, SAMPLE], b"chi-yue\r\nfre\nger-u-foo-bar-foo-nu-latn\ndeu-dd"),
+    (["csv", SAMPLE, "2", "--codes", TABLE], b"id,tag\n1,\"chi-yue\"\n2,fre\n"),
     (["tsv", SAMPLE, "2"], b"1\tzh-yue\tx\r\n2\tfr\n3\n4\tsgn-dd"),
     (["csv", SAMPLE, "2"], b"id,tag\r\n\"1\n,\",zh-yue\r\n2,\"fr\"\n3\n4,sgn-dd"),
     (["extlang", SAMPLE, "cmn-hans"], b""),
     (["equal", SAMPLE, "YUE", "zh-yue"], b""),
     (["explain", SAMPLE, "sgn-dd"], b""),
+    (["show", SAMPLE, "zh-yue", "en_US"], b""),
+    (["show", "--json", SAMPLE, "de-t-zh", "de-foobar"], b""),
+    (["json", SAMPLE], LINES + b"\nen-\xff\nde-a-bc-x-a"),
     (["explain", SAMPLE, "en-u-foo-bar-foo-nu-latn-ca-buddhist-NU-arab"], b""),
     (["match", SAMPLE, "zh-yue", "de"], b"yue\nfr\nde-DE\n"),
     (["verify", SAMPLE, "sgn-dd"], b"Region 2 27 sgn-DE\nWhole 1 44 gsg\n= gsg\n"),
@@ -182,9 +189,11 @@ def main():
                 for name, words in tests_of(crate):
                     print("%s %s: %d" % (crate, name, judge_test(library, name, words)), flush=True)
                 continue
+            table = Path(folder, "table")
+            table.write_bytes(CODES)
             for command, lines in COMMANDS:
                 shown = " ".join(word for word in command if word != SAMPLE)
-                print("langtag %s: %d" % (shown, judge_command(library, command, lines)), flush=True)
+                print("langtag %s: %d" % (shown, judge_command(library, [table if word == TABLE else word for word in command], lines)), flush=True)
             doubled = (2 ** power for power in itertools.count())
             print("langtag explain, of a long tag: %d" % judge_command(library, LONG, b"", doubled), flush=True)
 

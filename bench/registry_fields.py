@@ -1,29 +1,29 @@
 #!/usr/bin/env python3
-"""Prints a registry in IANA's format with the fields alone that `langtag` reads.
+"""Prints a registry in IANA's format without its Comments and the dates at which records were added.
 
 Usage: bench/registry_fields.py FILE > examples/iana-DATE.txt
 
-Kept, in the order of FILE, are File-Date, Type, Subtag, Tag, Preferred-Value and Prefix, each with the lines that continue
-it, and every line between records. So `langtag` reads the same entries of both files, under the same numbers.
+All other fields are kept, in the order of FILE, each with the lines that continue it, and every line between records. So
+`langtag` reads the same entries of both files, under the same numbers, and shows the same of them but for the Comments.
 """
 
 import sys
 
-KEPT = {"file-date", "type", "subtag", "tag", "preferred-value", "prefix"}
+LEFT_OUT = {"comments", "added"}
 
 
 def kept_lines(lines):
-    """The lines of the kept fields, of those that continue one of them, and the lines that part records."""
-    keeps = False
+    """The lines but for those of the fields that are left out, and those that continue one of these."""
+    keeps = True
     for line in lines:
         if line.rstrip("\r\n") == "%%":
-            keeps = False
+            keeps = True
             yield line
         elif line[:1] in (" ", "\t"):
             if keeps:
                 yield line
         else:
-            keeps = line.partition(":")[0].strip().lower() in KEPT
+            keeps = line.partition(":")[0].strip().lower() not in LEFT_OUT
             if keeps:
                 yield line
 

@@ -3,34 +3,45 @@ _langtag() {
     local word=${COMP_WORDS[COMP_CWORD]}
     COMPREPLY=()
     if [ "$COMP_CWORD" = 1 ]; then
-        mapfile -t COMPREPLY < <(compgen -W 'classify check canon tsv csv match extlang equal explain verify upgrade help --help --version' -- "$word")
+        mapfile -t COMPREPLY < <(compgen -W 'classify check canon codes tsv csv match extlang equal explain verify upgrade show json help --help --version' -- "$word")
         return
     fi
+    case ${COMP_WORDS[1]}:${COMP_WORDS[COMP_CWORD - 1]} in
+        tsv:--codes | csv:--codes)
+            mapfile -t COMPREPLY < <(compgen -f -- "$word")
+            compopt -o filenames 2> /dev/null
+            return
+            ;;
+    esac
     case ${COMP_WORDS[1]}:$word in
         csv:-*)
-            mapfile -t COMPREPLY < <(compgen -W '--delimiter --keep --summary --help' -- "$word")
+            mapfile -t COMPREPLY < <(compgen -W '--delimiter --keep --codes --summary --help' -- "$word")
             return
             ;;
         tsv:-*)
-            mapfile -t COMPREPLY < <(compgen -W '--heading --keep --summary --help' -- "$word")
+            mapfile -t COMPREPLY < <(compgen -W '--heading --keep --codes --summary --help' -- "$word")
             return
             ;;
         match:-*)
-            mapfile -t COMPREPLY < <(compgen -W '--extended --help' -- "$word")
+            mapfile -t COMPREPLY < <(compgen -W '--extended --lookup --help' -- "$word")
             return
             ;;
-        canon:-*)
+        show:-*)
+            mapfile -t COMPREPLY < <(compgen -W '--json --help' -- "$word")
+            return
+            ;;
+        canon:-* | codes:-*)
             mapfile -t COMPREPLY < <(compgen -W '--summary --help' -- "$word")
             return
             ;;
     esac
     case ${COMP_WORDS[1]}:$COMP_CWORD in
-        check:2 | canon:2 | tsv:2 | csv:2 | match:2 | extlang:2 | equal:2 | explain:2 | verify:2 | upgrade:2 | upgrade:3)
+        check:2 | canon:2 | codes:2 | codes:3 | tsv:2 | csv:2 | match:2 | extlang:2 | equal:2 | explain:2 | verify:2 | upgrade:2 | upgrade:3 | show:2 | json:2)
             mapfile -t COMPREPLY < <(compgen -f -- "$word")
             compopt -o filenames 2> /dev/null
             ;;
         help:2)
-            mapfile -t COMPREPLY < <(compgen -W 'classify check canon tsv csv match extlang equal explain verify upgrade' -- "$word")
+            mapfile -t COMPREPLY < <(compgen -W 'classify check canon codes tsv csv match extlang equal explain verify upgrade show json' -- "$word")
             ;;
     esac
 }

@@ -23,6 +23,7 @@ OURS = "MIT OR Apache-2.0"
 LICENCES = {
     "arrayvec": OURS,
     "clap": OURS,
+    "hex": OURS,
     "itoa": OURS,
     "memchr": "MIT OR Unlicense",
     "simdutf8": OURS,

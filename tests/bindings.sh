@@ -26,6 +26,11 @@ paste -d '\t' "$folder/tags" "$folder/wanted" | awk -F '\t' '$1 ~ /^[-A-Za-z0-9_
 passes "400 tags to explain" test "$(wc -l < "$folder/explained-tags")" = 400
 while read -r tag; do "$program" explain "$registry" "$tag"; done < "$folder/explained-tags" > "$folder/explained" 2> "$folder/err"
 
+# Tags of each record, and some that are refused, with the rows that are shown of them.
+{ tests/bindings/rows.py tags "$registry"; cat "$folder/explained-tags"; } > "$folder/shown-tags"
+passes "tags of each record" test "$(wc -l < "$folder/shown-tags")" -gt 18000
+tests/bindings/rows.py rows "$program" "$registry" "$folder/shown-tags" > "$folder/shown"
+
 # A script for each, beside what is below.
 if [ $# -gt 1 ]; then parts=${*:2}; else parts="cpp rust node java go dask"; fi
 for part in $parts; do
@@ -125,6 +130,7 @@ passes "a signal handler that asks" "$folder/threads" "$sample" "$folder/few" 50
 passes "forks in the midst of calls" "$folder/threads" "$sample" "$folder/few" 500 6 forks
 writes "C answers as the program" "$folder/wanted" "$folder/answers-shared" "$registry" "$folder/tags" 1
 writes "C explains as the program" "$folder/explained" "$folder/answers-shared" "$registry" "$folder/explained-tags" 4 explain
+writes "C shows as the program" "$folder/shown" "$folder/answers-shared" "$registry" "$folder/shown-tags" 4 show
 
 # Under sanitizers. The proved calls have none, so that helgrind and drd, which see each instruction, look at them too.
 made calls-memory tests/bindings/calls.c $files $memory
@@ -219,6 +225,7 @@ passes "Python: types of the package" env -C "$folder/python" MYPYPATH=. mypy --
 passes "Python: types of a program" env MYPYPATH="$folder/python" mypy --strict --cache-dir="$folder/mypy" "$folder/examples/example.py"
 writes "Python answers as the program" "$folder/wanted" $python bindings/python/tests/answers.py "$registry" "$folder/tags"
 writes "Python explains as the program" "$folder/explained" $python bindings/python/tests/answers.py "$registry" "$folder/explained-tags" explain
+writes "Python shows as the program" "$folder/shown" $python bindings/python/tests/answers.py "$registry" "$folder/shown-tags" show
 # Under sanitizers, which see the extension and what it frees; what the interpreter keeps to its end is no leak of it.
 CFLAGS="-O1 -g -fsanitize=address,undefined -fno-sanitize-recover=all" passes "pip install, for sanitizers" $python -m pip install -q \
     --no-index --root-user-action=ignore --target "$folder/python-memory" bindings/python

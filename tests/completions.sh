@@ -46,16 +46,19 @@ by_zsh() {
     ' zsh "$completions" "$1" 2> /dev/null
 }
 
-is 'bash: a command' 'canon check classify csv' < <(by_bash langtag c)
+is 'bash: a command' 'canon check classify codes csv' < <(by_bash langtag c)
 is 'bash: a file' 'registry.txt' < <(by_bash langtag tsv reg)
 is 'bash: the second file' 'registry.txt' < <(by_bash langtag upgrade old reg)
+is 'bash: the table and the registry' 'registry.txt registry.txt registry.txt' < <({ by_bash langtag codes reg; by_bash langtag codes table reg; by_bash langtag tsv registry.txt 2 --codes reg; })
 is 'bash: options of csv' '--delimiter' < <(by_bash langtag csv --d)
-is 'bash: options of tsv' '--heading --help --keep --summary' < <(by_bash langtag tsv registry.txt -)
-is 'bash: options of match' '--extended' < <(by_bash langtag match registry.txt --e)
+is 'bash: the file of json' 'json registry.txt' < <({ by_bash langtag js; by_bash langtag json reg; })
+is 'bash: options of tsv' '--codes --heading --help --keep --summary' < <(by_bash langtag tsv registry.txt -)
+is 'bash: options of match' '--extended --help --lookup' < <(by_bash langtag match registry.txt -)
 is 'bash: a tag is not completed' '' < <(by_bash langtag classify reg)
 if command -v fish > /dev/null; then
-    is 'fish: a command' 'canon check classify csv' < <(by_fish 'langtag c')
+    is 'fish: a command' 'canon check classify codes csv' < <(by_fish 'langtag c')
     is 'fish: a file' 'registry.txt' < <(by_fish 'langtag tsv reg')
+    is 'fish: the table' 'registry.txt' < <(by_fish 'langtag csv registry.txt 2 --codes reg')
     is 'fish: an option' '--delimiter' < <(by_fish 'langtag csv --d')
     is 'fish: options of rows' '--heading --keep' < <({ by_fish 'langtag tsv --hea'; by_fish 'langtag csv --k'; })
     is 'fish: help' 'upgrade' < <(by_fish 'langtag help up')
@@ -63,8 +66,9 @@ else
     echo 'fish is not here'
 fi
 if command -v zsh > /dev/null; then
-    is 'zsh: a command' 'canon check classify csv' < <(by_zsh 'langtag c' | grep -ao 'canon \|check \|classify \|csv ' | tr -d ' ' | sort -u)
+    is 'zsh: a command' 'canon check classify codes csv' < <(by_zsh 'langtag c' | grep -ao 'canon \|check \|classify \|codes \|csv ' | tr -d ' ' | sort -u)
     is 'zsh: an option' '--summary' < <(by_zsh 'langtag tsv --s' | grep -ao -e '--summary' | sort -u)
+    is 'zsh: the table' 'registry.txt' < <(by_zsh 'langtag tsv r 2 --codes reg' | grep -ao 'registry.txt' | sort -u)
     is 'zsh: a file' 'registry.txt' < <(by_zsh 'langtag check reg' | grep -ao 'registry.txt' | sort -u)
 else
     echo 'zsh is not here'

@@ -6,7 +6,9 @@ Usage: tests/edits.py [--anew] [CRATE..]
 Without a CRATE, the edits of all crates are tried. One check judges many edits: a round is a copy of a crate with one
 wrong body at most in each function, and the check says of each function what of it is not proved. What a function has to
 show speaks of the contracts of those that it calls, and never of their bodies, so what it does not show is the fault of
-its own body. An edit of a type, a constant, a signature or two functions is alone in its round.
+its own body. So the check looks at the edited functions and those that they call. An edit of a type, a constant, a signature
+or two functions is alone in its round, and but for that of two functions its check looks at the whole crate. The rounds of all
+crates are tried side by side, as many as processors and memory allow.
 
 Prints a line for each edit, and last `N edits: N refused at a clause, N for a name alone, N not refused`:
   clause       the function has a goal that does not hold: an `ensures`, an invariant, a measure, a bound, or what a
@@ -14,14 +16,16 @@ Prints a line for each edit, and last `N edits: N refused at a clause, N for a n
   name         only a proof file that names what the edit took away does not pass, which says nothing of the contract
   NOT REFUSED  the function is proved with this edit
   BAD EDIT     the edit cannot be applied, or the prover cannot read what it makes
-An edit of which a round shows nothing, since an edited function that it calls stands in its way, is tried again in the
-next one. Ends with status 1 unless each edit is refused at a clause, and where a function fails that no edit touches.
+An edit of which a round shows nothing, since an edited function that it calls stands in its way, is tried again once the
+crate's other rounds have ended. Ends with status 1 unless each edit is refused at a clause, and where a function fails that
+no edit touches.
 
 An edit that was refused at a clause is not tried again while the kit, the crate, those below it and the edit are the
-same; --anew tries it all the same. What is kept lies in $XDG_CACHE_HOME/langtag-edits, or in ~/.cache. Over the work that
-`rt check` keeps in out/ the first round of a crate is quick, and else it proves the crate.
+same; --anew tries it all the same. What is kept lies in $XDG_CACHE_HOME/langtag-edits, or in ~/.cache. Each round begins
+with the work that `rt check` keeps in out/; where there is none, the crate as it stands is proved first.
 """
 
+import contextlib
 import functools
 import hashlib
 import importlib.machinery
@@ -34,13 +38,19 @@ import subprocess
 import sys
 import tempfile
 import threading
+from concurrent.futures import ThreadPoolExecutor
 
 ROOT = os.path.dirname(os.path.dirname(os.path.abspath(__file__)))
 CLAUSE, NAME, NOT_REFUSED, BAD = KINDS = ["clause", "name", "NOT REFUSED", "BAD EDIT"]
 # The words that a check is started by.
 PRIORITY = []
+# The most edits that a round holds, so that none takes long after the others, and the fewest that a part of a round is cut
+# for: to read the crate takes a check as long as some three.
+MOST, LEAST = 20, 5
+# After how many seconds a pool looks again whether a processor is free.
+LOOK = 1.0
 NEEDED = {
-    "rt": ["Crate", "main", "edits_of", "read_edit", "unread", "need", "in_lanes"],
+    "rt": ["Crate", "main", "edits_of", "read_edit", "unread", "need", "processors", "free"],
     "rtlib": ["KIT", "RATTLE", "PARTS", "KEPT", "STALE", "Crate", "crates_below", "guarded"],
     "rt-plant-bodies": ["Source"],
 }
@@ -137,7 +147,7 @@ class Edit:
     def __init__(self, crate, path, functions):
         self.path, self.name = path, "%s/%s" % (crate.name, os.path.basename(path)[: -len(".edit")])
         texts, self.fault = rt.read_edit(path, crate.folder)
-        self.lines, self.functions, self.is_alone = {}, [], False
+        self.lines, self.functions, self.is_of_others = {}, [], False
         for file, text in (texts or {}).items():
             was = text_of(crate.folder, file).split("\n")
             now = text.split("\n")
@@ -149,9 +159,9 @@ class Edit:
             for at in changed:
                 found = [it for it in functions if it.has(file, at)]
                 # (what is in a head, or outside of each function, speaks of others too)
-                self.is_alone = self.is_alone or not found or at < found[0].opens
+                self.is_of_others = self.is_of_others or not found or at < found[0].opens
                 self.functions += [it for it in found if it not in self.functions]
-        self.is_alone = self.is_alone or len(self.functions) != 1
+        self.is_alone = self.is_of_others or len(self.functions) != 1
         if not self.fault and not self.lines:
             self.fault = "it changes nothing"
 
@@ -187,7 +197,10 @@ class Said:
                 goals = []
 
     def has_verdict(self):
-        return self.lines[-1].startswith("logic=")
+        return self.lines[-1].startswith(("logic=", "only="))
+
+    def is_proved(self):
+        return self.lines[-1].startswith("logic=proved")
 
     def of_clauses(self, symbol):
         """What fails of the function by its own body, as texts."""
@@ -206,16 +219,27 @@ class Said:
 
 
 class Round:
-    """Edits of which one check judges each."""
+    """Edits of which one check judges each, of a crate."""
 
-    def __init__(self, edits):
-        self.edits = []
-        for it in edits:
-            if not any(it.clashes(other) for other in self.edits):
-                self.edits.append(it)
+    def __init__(self, edits, crate=None, wave=0):
+        self.edits, self.crate, self.wave = list(edits), crate, wave
 
-    def check(self, crate, jobs, kept):
+    def fits(self, edit):
+        return not any(edit.clashes(other) for other in self.edits)
+
+    def cost(self):
+        """What it is likely to take, in seconds: to read the crate, and to search for proofs of what is wrong."""
+        # (all functions may fail by an edit of a type or a constant, and before a check of no edit no other begins)
+        lone = any(not it.functions for it in self.edits)
+        return self.crate.lines / 200 + 7 * (10 if lone else len(self.edits or self.crate.left()))
+
+    def cut(self, number):
+        """As many rounds that hold these edits."""
+        return [Round(self.edits[at::number], self.crate, self.wave) for at in range(number)]
+
+    def check(self):
         """What a check of the copy with these edits says, and what it took in seconds of a processor."""
+        crate = self.crate.crate
         with tempfile.TemporaryDirectory(prefix="rt-edits-") as room:
             for part in rtlib.PARTS:
                 if os.path.isdir(os.path.join(crate.folder, part)):
@@ -228,7 +252,12 @@ class Round:
                             rows[at - 1] = text
                 with open(os.path.join(room, file), "w", encoding="utf-8") as it:
                     it.write("\n".join(rows))
-            words = [rtlib.RATTLE, "check", *crate.words(["--jobs", str(jobs)], keeps=False), "--incremental", kept]
+            kept = self.crate.kept_work
+            if self.edits:
+                # (rounds that run side by side would take away each other's)
+                kept = os.path.join(room, "kept")
+                shutil.copytree(self.crate.kept_work, kept, copy_function=kept_linked)
+            words = [rtlib.RATTLE, "check", *crate.words(["--jobs", "1"], keeps=False), "--incremental", kept, *self.asked()]
             with tempfile.TemporaryFile("w+", errors="replace") as out:
                 run = subprocess.Popen([*PRIORITY, *rtlib.guarded(), *words], cwd=room, stdin=subprocess.DEVNULL, stdout=out,
                                        stderr=subprocess.STDOUT)
@@ -238,6 +267,17 @@ class Round:
                 said = Said(out.read(), crate)
             said.was_killed = run.returncode < 0
             return said, used.ru_utime + used.ru_stime
+
+    def asked(self):
+        """The words that have the check look at the edited functions and those that they call alone, where that is enough and what
+        the check calls them is known."""
+        if any(it.is_of_others for it in self.edits):
+            return []
+        known = self.crate.checked_functions()
+        found = [f.symbols(known) for it in self.edits for f in it.functions]
+        if not all(found):
+            return []
+        return [word for it in sorted({*sum(found, [])}) for word in ("--only", it.split("::", 1)[1])]
 
     def blamed(self, said):
         """The edits in whose functions a check stopped before it came to the proofs, or all."""
@@ -264,6 +304,20 @@ class Round:
         failed = [it for it in said.not_proved() if it not in ours]
         return ["%s: %s" % (it, (said.of_clauses(it) + said.of_names(it) + [said.status[it]])[0]) for it in failed
                 if said.of_clauses(it) or said.of_names(it) or not (WAITS.search(said.status[it]) or it in said.errors)]
+
+
+def rounds_of(edits, crate=None, wave=0):
+    """Rounds of much the same size that hold each of these edits once, and can be tried side by side."""
+    alone, others = ([it for it in edits if it.is_alone == is_alone] for is_alone in (True, False))
+    keys = [f.key for it in others for f in it.functions]
+    rounds = [Round([], crate, wave) for _ in range(-(-len(others) // MOST))]
+    # (first those of which many stand in one function)
+    for it in sorted(others, key=lambda it: -max((keys.count(f.key) for f in it.functions), default=0)):
+        free = [found for found in rounds if found.fits(it)]
+        if not free:
+            rounds.append(Round([], crate, wave))
+        min(free or rounds[-1:], key=lambda found: len(found.edits)).edits.append(it)
+    return rounds + [Round([it], crate, wave) for it in alone]
 
 
 def judged(edit, said, is_among_others):
@@ -343,7 +397,8 @@ class Crate:
 
     def __init__(self, crate, kept, anew):
         self.crate, self.kept, self.told, self.faults = crate, kept, {}, []
-        self.rounds, self.seconds, self.sum = [], 0.0, crate.stamp()
+        self.rounds, self.seconds, self.sum, self.running = [], 0.0, crate.stamp(), 0
+        self.lines, self.need = crate.count(rb"\n"), rt.need(crate)
         good, bad = rt.edits_of(crate)
         functions = functions_of(crate) if good else []
         self.edits = [Edit(crate, it, functions) for it in good]
@@ -359,22 +414,46 @@ class Crate:
     def left(self):
         return [it for it in self.edits if it not in self.told]
 
-    def try_all(self, jobs):
-        with tempfile.TemporaryDirectory(prefix="rt-edits-kept-") as room:
-            kept, own = os.path.join(room, "kept"), os.path.join(self.crate.folder, rtlib.KEPT[1])
-            if os.path.isdir(own):
-                shutil.copytree(own, kept, copy_function=linked)
-            else:
-                os.mkdir(kept)
-            while self.left():
-                self.one_round(Round(self.left()), jobs, kept)
+    def begin(self, is_current=False):
+        """The rounds to begin with. is_current: whether the kept work is known to be of the crate as it stands."""
+        self.room = tempfile.TemporaryDirectory(prefix="rt-edits-kept-")
+        self.kept_work, own = os.path.join(self.room.name, "kept"), os.path.join(self.crate.folder, rtlib.KEPT[1])
+        if os.path.isdir(own):
+            shutil.copytree(own, self.kept_work, copy_function=kept_linked)
+        else:
+            os.mkdir(self.kept_work)
+        rounds = rounds_of(self.left(), self)
+        return self.waits_for(rounds if is_current or len(rounds) < 2 else [Round([], self)])
 
-    def one_round(self, tried, jobs, kept):
-        said, used = tried.check(self.crate, jobs, kept)
-        if said.was_killed:
-            said, used = tried.check(self.crate, 1, kept)
-        self.rounds.append("%d in %.0f" % (len(tried.edits), used))
+    def checked_functions(self):
+        """The names of the functions of which the kept work has a proof, as a check prints them."""
+        front, end = "Rattle-%s-proofs." % self.crate.name, ".Proof.oantt"
+        names = [name[len(front) : -len(end)] for _, _, names in os.walk(self.kept_work) for name in names
+                 if name.startswith(front) and name.endswith(end)]
+        return {"::".join([self.crate.name, *it.split(".")]) for it in names}
+
+    def waits_for(self, rounds):
+        self.running += len(rounds)
+        return rounds
+
+    def take(self, tried, said, used):
+        """Takes what the check of a round said, and returns the rounds that can be tried now."""
+        self.running -= 1
         self.seconds += used
+        if tried.edits:
+            self.judge(tried, said, used)
+        elif not said.is_proved():
+            for it in self.left():
+                self.told[it] = BAD, "the crate is not proved as it stands: " + " / ".join(said.lines[-3:])[:300]
+        if not self.running and self.left():
+            return self.waits_for(rounds_of(self.left(), self, tried.wave + bool(tried.edits)))
+        return []
+
+    def is_done(self):
+        return not self.running and not self.left()
+
+    def judge(self, tried, said, used):
+        self.rounds.append("%d in %.0f" % (len(tried.edits), used))
         keep_said(self.crate, len(self.rounds), said)
         is_one = len(tried.edits) == 1
         if rtlib.STALE.search(said.text):
@@ -399,6 +478,84 @@ class Crate:
                 self.kept.keep(self.kept.path(self.sum, it), reason)
 
 
+class Pool:
+    """Tries rounds of many crates side by side: one a processor, and as many as memory holds."""
+
+    def __init__(self, ended, busy=lambda: 0, is_last=lambda: True):
+        """ended: what to call with each crate whose edits are all judged. busy: how many processors something else uses. is_last:
+        whether nothing else will need them."""
+        number = os.environ.get("RT_JOBS", "")
+        self.is_fixed = number.isdigit() and int(number) > 0
+        self.lanes, self.memory = int(number) if self.is_fixed else rt.processors(), 0.85 * rt.free()
+        self.waiting, self.running, self.is_open, self.fault = [], [], True, None
+        self.ended, self.busy, self.is_last, self.changed = ended, busy, is_last, threading.Condition()
+
+    def add(self, crate, is_current=False):
+        """Adds a crate, whose rounds can be tried from now on. Any thread may call this."""
+        rounds = crate.begin(is_current)
+        with self.changed:
+            self.waiting += rounds
+            self.changed.notify_all()
+
+    def close(self, fault=None):
+        """No crate comes any more."""
+        with self.changed:
+            self.is_open, self.fault = False, self.fault or fault
+            self.changed.notify_all()
+
+    def next(self):
+        """Takes the next round that memory has room for, or None: first what waited for other rounds, then the dearest."""
+        idle = self.lanes - len(self.running) - self.busy()
+        room = self.memory - sum(it.crate.need for it in self.running)
+        if idle <= 0:
+            return None
+        self.waiting.sort(key=lambda it: (-it.wave, -it.cost()))
+        for it in self.waiting:
+            if self.is_fixed or not self.running or it.crate.need <= room:
+                self.waiting.remove(it)
+                parts = min(idle - len(self.waiting), len(it.edits) // LEAST)
+                if parts > 1 and not self.is_open and self.is_last():
+                    # (else processors would be idle while one is busy for long)
+                    it, *others = it.cut(parts)
+                    self.waiting += it.crate.waits_for(others)
+                self.running.append(it)
+                return it
+        return None
+
+    def try_one(self, tried):
+        try:
+            said, used = tried.check()
+            if said.was_killed:
+                said, used = tried.check()
+            with self.changed:
+                self.waiting += tried.crate.take(tried, said, used)
+                is_done = tried.crate.is_done()
+            if is_done:
+                tried.crate.room.cleanup()
+                self.ended(tried.crate)
+        except BaseException as fault:
+            self.close(fault)
+        finally:
+            with self.changed:
+                self.running.remove(tried)
+                self.changed.notify_all()
+
+    def run(self):
+        """Tries all rounds, until the pool is closed and nothing is left."""
+        with ThreadPoolExecutor(self.lanes) as threads, self.changed:
+            while not self.fault and (self.is_open or self.waiting or self.running):
+                found = self.next()
+                if found:
+                    threads.submit(self.try_one, found)
+                else:
+                    # (nothing tells when a processor is free that something else used)
+                    self.changed.wait(LOOK)
+            while self.running:
+                self.changed.wait()
+        if self.fault:
+            raise self.fault
+
+
 def linked(was, to):
     try:
         os.link(was, to)
@@ -407,6 +564,15 @@ def linked(was, to):
         return
     except OSError:
         shutil.copyfile(was, to)
+
+
+def kept_linked(was, to):
+    """Copies a file of kept work: what was checked by a link, since a check replaces such a file, and writes into none."""
+    if was.endswith(".oantt"):
+        linked(was, to)
+    else:
+        with contextlib.suppress(FileNotFoundError):
+            shutil.copyfile(was, to)
 
 
 def keep_said(crate, number, said):
@@ -432,18 +598,18 @@ def run(root, names, anew):
         sys.exit("edits.py: a library below %s did not build" % ", ".join(over))
     printing = threading.Lock()
 
-    def one(it, jobs):
-        it.try_all(jobs)
+    def ended(it):
         with printing:
             report(it)
 
     for it in crates:
         if it.edits and it not in todo:
             report(it)
-    rt.in_lanes({
-        (it.crate.name, "rounds"):
-            ([], it.crate.count(rb"\n") + 100 * len(it.left()), rt.need(it.crate), lambda _, jobs, it=it: one(it, jobs))
-        for it in todo})
+    pool = Pool(ended)
+    for it in todo:
+        pool.add(it)
+    pool.close()
+    pool.run()
     return summary(crates)
 
 

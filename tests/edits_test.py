@@ -8,6 +8,8 @@ import os
 import pathlib
 import re
 import tempfile
+import threading
+import time
 import types
 import unittest
 
@@ -199,6 +201,197 @@ class Judged(unittest.TestCase):
         self.assertEqual(tried.strangers(said("fn made::f: not proved", "fn made::g: no proof: it calls `made::f`, which is not proved")), [])
         self.assertEqual(len(tried.strangers(said("fn made::f: not proved", goal, "fn made::g: no proof: it calls `made::f`, which is not proved"))), 1)
         self.assertEqual(len(tried.strangers(said("fn made::f: not proved", "fn made::g: could not tell"))), 1)
+
+
+class Made(edits.Crate):
+    """A crate of which no check is run."""
+
+    def __init__(self, name, tried, folder):
+        self.crate = types.SimpleNamespace(name=name, folder=folder)
+        self.edits, self.told, self.faults, self.rounds, self.seconds = tried, {}, [], [], 0.0
+        self.sum, self.running, self.lines, self.need = "", 0, 100, 1
+        self.kept = types.SimpleNamespace(keep=lambda path, reason: None, path=lambda made, edit: "")
+
+
+class MadeEdit:
+    """An edit of the function of this name; none of a type."""
+
+    def __init__(self, function):
+        key = function and function.rstrip("2")
+        found = types.SimpleNamespace(key=key, symbols=lambda told: [it for it in told if it == "made::" + key])
+        self.functions = [found] if key else []
+        self.lines, self.is_alone, self.name = {("src/lib.rt", function): ""}, not function, function
+
+    clashes = edits.Edit.clashes
+
+
+class Asked(unittest.TestCase):
+    """What of a crate the check of a round looks at."""
+
+    def asked(self, *names, of_others=()):
+        tried = [types.SimpleNamespace(functions=MadeEdit(it).functions, is_of_others=it in of_others) for it in names]
+        known = {"made::f", "made::g", "made::inner::h"}
+        return edits.Round(tried, types.SimpleNamespace(checked_functions=lambda: known)).asked()
+
+    def test_edited_functions(self):
+        self.assertEqual(self.asked("g", "inner::h", "g2"), ["--only", "g", "--only", "inner::h"])
+
+    def test_the_whole_crate(self):
+        # where a head is edited, where the name of a function is not known, and where nothing is edited
+        self.assertEqual(self.asked("f", "g", of_others=["g"]), [])
+        self.assertEqual(self.asked("f", "i"), [])
+        self.assertEqual(self.asked(), [])
+
+    def test_names_of_kept_work(self):
+        with tempfile.TemporaryDirectory() as room:
+            folder = pathlib.Path(room, "a build of rattle")
+            folder.mkdir()
+            for it in ("proofs.inner.Made.h.Proof", "proofs.inner.Made.h.Statement", "specs.f.Proof", "proofs.f.Proof"):
+                (folder / ("Rattle-made-%s.oantt" % it)).touch()
+            crate = types.SimpleNamespace(kept_work=room, crate=types.SimpleNamespace(name="made"))
+            self.assertEqual(edits.Crate.checked_functions(crate), {"made::inner::Made::h", "made::f"})
+
+
+class Pooled(unittest.TestCase):
+    """Rounds of edits, and the order in which they are tried."""
+    HIDDEN = "fn made::%s: no proof: it calls `made::k`, which is not proved"
+
+    def setUp(self):
+        room = tempfile.TemporaryDirectory()
+        self.addCleanup(room.cleanup)
+        self.folder, self.checked, self.ended, self.lock = room.name, [], [], threading.Lock()
+        self.addCleanup(setattr, edits.Round, "check", edits.Round.check)
+
+    def pool(self, lanes, text=None, **how):
+        """A pool in which a check says that each edited function fails, or what text says of the round's edits."""
+        def check(tried):
+            names = [it.name for it in tried.edits]
+            with self.lock:
+                self.checked.append(names)
+            lines = (text or self.fails)(names)
+            found = edits.Said("\n".join(lines), types.SimpleNamespace(name="made"))
+            found.was_killed = lines == ["killed"]
+            return found, 1.0
+
+        edits.Round.check = check
+        made = edits.Pool(self.ended.append, **how)
+        made.is_fixed, made.lanes, made.memory = False, lanes, 1000
+        return made
+
+    def fails(self, names):
+        goal = "note: src/lib.rt:3:5: it is not proved that what the function ensures holds (`returns`)"
+        lines = [it for name in names for it in (goal, "fn made::%s: no proof: goal" % name.rstrip("2"))]
+        return [*lines, "logic=not-proved" if names else "logic=proved"]
+
+    def tried(self, pool, *crates, is_current=True):
+        for it in crates:
+            pool.add(it, is_current)
+        pool.close()
+        pool.run()
+
+    def crate(self, *names):
+        return Made("made", [MadeEdit(it) for it in names], self.folder)
+
+    def test_rounds_hold_each_edit_once(self):
+        tried = [MadeEdit(name) for name in [*("f%d" % it for it in range(70)), "f1_2", "", "g", "g2", ""]]
+        rounds = edits.rounds_of(tried)
+        self.assertEqual(sorted(map(id, tried)), sorted(id(it) for found in rounds for it in found.edits))
+        self.assertEqual([len(it.edits) for it in rounds[-2:]], [1, 1])
+        for found in rounds:
+            self.assertLessEqual(len(found.edits), edits.MOST)
+            self.assertFalse([(a, b) for a in found.edits for b in found.edits if a is not b and a.clashes(b)])
+        self.assertEqual(len(rounds), 6)
+        self.assertEqual(len(edits.rounds_of([MadeEdit("g"), MadeEdit("g2"), MadeEdit("h")])), 2)
+
+    def test_rounds_of_one_crate_run_side_by_side(self):
+        both = threading.Barrier(2)
+
+        def text(names):
+            both.wait(60)
+            return self.fails(names)
+
+        it = self.crate("f", "f2")
+        self.tried(self.pool(2, text), it)
+        self.assertEqual([kind for kind, _ in it.told.values()], ["clause"] * 2)
+        self.assertEqual(self.ended, [it])
+
+    def test_what_is_hidden_waits_for_all_others(self):
+        def text(names):
+            if "f" in names and len(names) > 1:
+                return [self.HIDDEN % "f", *self.fails([it for it in names if it != "f"])]
+            return self.fails(names)
+
+        it = self.crate("f", "g", "g2", "h", "h2")
+        self.tried(self.pool(1, text), it)
+        self.assertEqual([kind for kind, _ in it.told.values()], ["clause"] * 5)
+        self.assertEqual((len(self.checked), self.checked[-1]), (3, ["f"]))
+
+    def test_what_is_alone_and_shows_nothing_is_not_refused(self):
+        it = self.crate("f", "g")
+        self.tried(self.pool(2, lambda names: [*(self.HIDDEN % name for name in names), "logic=not-proved"]), it)
+        self.assertEqual([kind for kind, _ in it.told.values()], ["NOT REFUSED"] * 2)
+        self.assertEqual(sorted(map(len, self.checked)), [1, 1, 2])
+
+    def test_a_crate_without_work_of_its_own_is_proved_first(self):
+        it = self.crate("f", "f2")
+        self.tried(self.pool(2), it, is_current=False)
+        self.assertEqual((self.checked[0], len(it.rounds), len(it.told)), ([], 2, 2))
+        other = self.crate("f", "f2")
+        self.tried(self.pool(2, lambda names: ["logic=not-proved"]), other, is_current=False)
+        self.assertEqual([kind for kind, _ in other.told.values()], ["BAD EDIT"] * 2)
+        self.assertEqual(len(other.rounds), 0)
+
+    def test_memory_bounds_what_runs(self):
+        running = []
+
+        def text(names):
+            running.append(names)
+            self.assertEqual(len(running), 1)
+            time.sleep(0.1)
+            running.remove(names)
+            return self.fails(names)
+
+        it, pool = self.crate("f", "f2", "g", "g2"), self.pool(4, text)
+        it.need = 600
+        self.tried(pool, it)
+        self.assertEqual(len(it.told), 4)
+
+    def test_processors_that_something_else_uses_are_left_to_it(self):
+        at_once = []
+
+        def text(names):
+            at_once.append(len(pool.running))
+            return self.fails(names)
+
+        pool = self.pool(3, text, busy=lambda: 2)
+        edits.LOOK, was = 0.01, edits.LOOK
+        self.addCleanup(setattr, edits, "LOOK", was)
+        self.tried(pool, self.crate("a", "b"), self.crate("c", "d"), self.crate("e", "f"))
+        self.assertEqual(at_once, [1, 1, 1])
+
+    def test_the_dearest_come_first_and_the_last_are_cut(self):
+        small, large = self.crate("f", "f2"), self.crate(*("f%d_" % it for it in range(12)))
+        pool = self.pool(1)
+        self.tried(pool, small, large)
+        self.assertEqual([*map(len, self.checked)], [12, 1, 1])
+        self.checked.clear()
+        self.tried(self.pool(4), self.crate(*("f%d_" % it for it in range(12))))
+        self.assertEqual([*map(len, self.checked)], [6, 6])
+        self.checked.clear()
+        self.tried(self.pool(4, is_last=lambda: False), self.crate(*("f%d_" % it for it in range(12))))
+        self.assertEqual([*map(len, self.checked)], [12])
+
+    def test_a_check_that_was_killed_is_made_again(self):
+        it, told = self.crate("f"), [["killed"]]
+        self.tried(self.pool(1, lambda names: told.pop() if told else self.fails(names)), it)
+        self.assertEqual([kind for kind, _ in it.told.values()], ["clause"])
+
+    def test_a_fault_ends_the_run(self):
+        def text(names):
+            raise OSError("no room")
+
+        with self.assertRaisesRegex(OSError, "no room"):
+            self.tried(self.pool(2, text), self.crate("f", "f2", "g"))
 
 
 if __name__ == "__main__":

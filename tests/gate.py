@@ -4,10 +4,13 @@
 Usage: tests/gate.py [--anew] [COMMAND..]
 
 `rt ci` proves everything from nothing, and runs each program and test. It proves one crate after another where they stand on
-each other, so that processors are left for the edits: those of a crate are tried by tests/edits.py, with less priority, once
-the crate is proved, over what its proof has checked. --anew tries also those that were refused before. `rt ci` is run as the
-kit has it, but for one thing: its libraries keep their checked proofs, where it would leave their statements alone. What it
-makes comes to crates/*/out, where rt and the scripts look for it; the checked proofs too, so that `rt check` and `rt lib`
+each other, so that processors are left for the edits: those of a crate are tried by tests/edits.py, with less priority, from
+when the crate is proved, over what its proof has checked, on the processors that no proof uses: memory would not hold more. --anew
+tries also those that were refused before.
+
+`rt ci` is run as the kit has it, but for two things. Its libraries keep their checked proofs, where it would leave their
+statements alone. And a proof has one job while edits can use the other processors, since more jobs read what each other checks.
+What it makes comes to crates/*/out, where rt and the scripts look for it; the checked proofs too, so that `rt check` and `rt lib`
 there take what is proved. A library that rt has built there stays, if nothing has changed since.
 
 COMMAND is run beside, as soon as all programs, static libraries and the crates of tests in GROWN are there.
@@ -16,6 +19,7 @@ Prints what `rt ci` prints and a line for each edit, what COMMAND printed, and l
 status 1 unless all pass.
 """
 
+import contextlib
 import functools
 import importlib.util
 import json
@@ -29,8 +33,10 @@ import threading
 
 ROOT = os.path.dirname(os.path.dirname(os.path.abspath(__file__)))
 COPY = os.path.join(ROOT, "build", "gate")
-# The word by which this script runs `rt ci` in the copy.
-CI = "--ci"
+# The words by which this script runs `rt ci` in the copy, the second so that each proof has one job.
+CI, CI_ONE_JOB = "--ci", "--ci-one-job"
+# How many edits fill the processors that proofs leave.
+MANY = 100
 # What rattle is told to leave a static library's checked proof in, as it does in the rlib of a library.
 CHECKED = "out/checked"
 # The crates of tests whose programs the scripts run.
@@ -58,12 +64,14 @@ def copied():
     os.mkdir(os.path.join(COPY, ".git"))
 
 
-def ci():
+def ci(one_job):
     """Runs `rt ci` so that libraries keep their checked proofs."""
     rt, crate = edits.rt, edits.rt.Crate
     proves = crate.ci
 
     def keeps(self, flags, tests):
+        # (with four a small crate's proof takes two fifths more of the processors)
+        flags = ["--jobs", "1"] if one_job else flags
         if self.is_static and not tests:
             return self.prove(["check", *self.words(flags, keeps=False), "-o", CHECKED])
         self.cuts_libraries = False
@@ -103,34 +111,52 @@ def unpack(toolchain, folder):
 class Gate:
     """A run of `rt ci` over the copy, and what it has proved."""
 
-    def __init__(self, crates):
+    def __init__(self, crates, one_job, proves, ended):
+        """one_job: whether each proof has one job. proves: what to call with the name of each crate that is proved, once those below
+        it are, and whether what its proof has checked is kept. ended: what to call when the run has ended, with the fault by which
+        it could not be followed, if any."""
         self.crates, self.proved, self.status = {it.name: it for it in crates}, set(), None
+        self.proves, self.ended = proves, ended
         self.changed = threading.Condition()
-        self.run = subprocess.Popen([sys.executable, "-u", __file__, CI], cwd=COPY, stdin=subprocess.DEVNULL,
+        word = CI_ONE_JOB if one_job else CI
+        self.run = subprocess.Popen([sys.executable, "-u", __file__, word], cwd=COPY, stdin=subprocess.DEVNULL,
                                     stdout=subprocess.PIPE, stderr=subprocess.STDOUT, text=True, errors="replace")
         self.reader = threading.Thread(target=self.read)
         self.reader.start()
 
     def read(self):
+        fault = None
         try:
             for line in self.run.stdout:
                 print(line, end="", flush=True)
-                found = re.fullmatch(r"rt: (\w+)(: its tests are)? proved\n", line)
+                found = re.fullmatch(r"rt: (\w+)(?:(: its tests are)? proved| is kept: an earlier run on this machine .*)\n", line)
                 if found and found[1] in self.crates:
-                    self.keep(self.crates[found[1]], found[1] + ("_tests" if found[2] else ""))
-                    with self.changed:
-                        self.proved.add(found[1] + (" tests" if found[2] else ""))
-                        self.changed.notify_all()
-        except BaseException:
+                    self.takes(self.crates[found[1]], bool(found[2]))
+            if not self.run.wait():
+                # (of tests that an earlier run proved, rt says nothing)
+                for it in self.crates.values():
+                    self.takes(it, True)
+        except BaseException as it:
+            fault = it
             self.run.kill()
-            raise
         finally:
             with self.changed:
                 self.status = self.run.wait()
                 self.changed.notify_all()
+            self.ended(fault)
+
+    def takes(self, crate, tests):
+        """Takes a crate, or its tests, as proved."""
+        is_current = self.keep(crate, crate.name + "_tests" * tests)
+        with self.changed:
+            self.proved.add(crate.name + " tests" * tests)
+            self.changed.notify_all()
+        if not tests:
+            self.proves(crate.name, is_current)
 
     def keep(self, crate, made):
-        """Brings what a proof has made to the crate's own folder: the program or the tests of this name, and the library."""
+        """Brings what a proof has made to the crate's own folder: the program or the tests of this name, and the library. Returns
+        whether what the proof has checked is kept there now."""
         out, copied = (os.path.join(top, "crates", crate.name, "out") for top in (ROOT, COPY))
         if os.path.isfile(os.path.join(copied, made)):
             os.makedirs(out, exist_ok=True)
@@ -144,6 +170,26 @@ class Gate:
             for it in (crate.rlib, os.path.join(COPY, "crates", crate.name, CHECKED)):
                 if os.path.isdir(it):
                     unpack(os.path.join(it, "toolchain"), kept)
+                    return True
+        return False
+
+    def busy(self):
+        """How many of its checks run."""
+        parents, checks = {}, set()
+        for name in filter(str.isdigit, os.listdir("/proc")):
+            with contextlib.suppress(OSError):
+                head, _, rest = edits.text_of("/proc", name + "/stat").rpartition(")")
+                parents[name] = rest.split()[1]
+                if head.endswith("(rattle"):
+                    checks.add(name)
+        # (a check waits for the copies that it makes of itself)
+        return sum(parents[name] not in checks and self.is_above(name, parents) for name in checks)
+
+    def is_above(self, name, parents):
+        """Whether the process of this number was begun by this run, by the parents of all."""
+        while name in parents and name != str(self.run.pid):
+            name = parents[name]
+        return name == str(self.run.pid)
 
     def waits_for(self, names):
         """Waits until these are proved, and returns whether they are."""
@@ -174,35 +220,45 @@ class Command(threading.Thread):
 
 def main():
     words = sys.argv[1:]
-    if words == [CI]:
-        return ci()
+    if words in ([CI], [CI_ONE_JOB]):
+        return ci(words == [CI_ONE_JOB])
     anew = words[:1] == ["--anew"]
     if [it for it in words[anew : anew + 1] if it.startswith("-")]:
         sys.exit(__doc__)
-    rt, rtlib = edits.rt, edits.rtlib
+    rtlib = edits.rtlib
     rtlib.guarded()
     crates = rtlib.crates_below(ROOT)
     kept = edits.Kept()
     tried = [edits.Crate(it, kept, anew) for it in crates]
     edits.PRIORITY = ["nice", "-n", "10"]
-    copied()
-    gate = Gate(crates)
-    beside = Command(words[anew:], gate)
     printing = threading.Lock()
 
-    def one(it, jobs):
-        if it.left() and gate.waits_for({below.name for below in [*it.crate.below(), it.crate]}):
-            it.try_all(jobs)
-        for edit in it.left():
-            it.told[edit] = edits.BAD, "it was not tried, since its crate or one below is not proved"
+    def ended(it):
         with printing:
             edits.report(it)
 
+    copied()
+    todo = {it.crate.name: it for it in tried if it.left()}
+    for it in tried:
+        if it.edits and it.crate.name not in todo:
+            ended(it)
+    pool = edits.Pool(ended, busy=lambda: gate.busy(), is_last=lambda: gate.status is not None)
+
+    def proves(name, is_current):
+        """Has the edits of a crate tried, now that it and those below it are proved."""
+        if name in todo:
+            pool.add(todo.pop(name), is_current)
+        if not todo:
+            pool.close()
+
+    gate = Gate(crates, sum(len(it.left()) for it in tried) >= MANY, proves, pool.close)
+    beside = Command(words[anew:], gate)
     try:
-        # (the lowest crates first, as `rt ci` proves them)
-        rt.in_lanes({(it.crate.name, "rounds"): ([], -len(it.crate.below()), rt.need(it.crate),
-                                                 lambda _, jobs, it=it: one(it, jobs)) for it in tried if it.edits})
+        pool.run()
         gate.reader.join()
+        for it in todo.values():
+            it.told.update({edit: (edits.BAD, "it was not tried, since its crate is not proved") for edit in it.left()})
+            ended(it)
         beside.join()
     finally:
         if gate.status is None:

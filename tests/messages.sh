@@ -14,7 +14,7 @@ if ! diff "$manual" "$program"; then
 fi
 missing=0
 # BadStep is printed by `verify` alone
-for name in BadStep $(sed -n 's/.*=> "\([A-Z][A-Za-z0-9]*\)",.*/\1/p' crates/lt_{tag,jar,registry,check,upgrade,canon,lines}/src/*.rt | sort -u); do
+for name in BadStep $(sed -n 's/.*=> "\([A-Z][A-Za-z0-9]*\)",.*/\1/p' crates/lt_{tag,jar,registry,check,upgrade,canon,stream,lines,codes}/src/*.rt | sort -u); do
     case $name in
         # of a call of a library, which the program never prints
         Failed) ;;

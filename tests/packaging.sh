@@ -177,12 +177,12 @@ if command -v go > /dev/null && command -v java > /dev/null; then
     cp examples/sample-registry.txt "$folder/page/registry.txt"
     sed -n '/^```java$/,/^```$/{/^```/!p}' docs/JAVA.md > "$folder/page/Page.java"
     passes "the jar" env -C "$folder/page" java -cp "$folder/dist/bcp47-$version.jar" Page.java
-    is "the jar answers" 'yue true BadByte 1 BadByte 1 zh-Hant-TW Hant' "$(echo $(cat "$folder/out"))"
+    is "the jar answers" 'yue true true BadByte 1 BadByte 1 zh-Hant-TW Hant' "$(echo $(cat "$folder/out"))"
     passes "the module for Go" tar -xzf "$folder/dist/bcp47-go-$version-x86_64-linux.tar.gz" -C "$folder/module" --strip-components=1
     sed -n '/^```go$/,/^```$/{/^```/!p}' docs/GO.md > "$folder/page/main.go"
     printf 'module page\n\ngo 1.19\n\nrequire bcp47 v0.0.0\n\nreplace bcp47 => %s/module\n' "$folder" > "$folder/page/go.mod"
     passes "the module's program" env -C "$folder/page" GOFLAGS=-mod=mod GOPROXY=off GOCACHE="$folder/cache" go run .
-    is "the module answers" 'yue true BadByte 1 BadByte 1 zh-Hant-TW 3' "$(echo $(cat "$folder/out"))"
+    is "the module answers" 'yue true true BadByte 1 BadByte 1 zh-Hant-TW 3' "$(echo $(cat "$folder/out"))"
 else
     echo "no JDK or no Go here: their packages are not used"
 fi

@@ -3,6 +3,7 @@
 # Argument: the program (build/langtag, if there is none). The last line counts; the status is 1 if any run failed.
 program=$(realpath "${1:-"$(dirname "$0")/../build/langtag"}")
 sample=$(realpath "$(dirname "$0")/../examples/sample-registry.txt")
+objects=$(realpath "$(dirname "$0")/json_objects.py")
 round=$(realpath "$(dirname "$0")/../examples/loop-registry.txt")
 number=$(cat "$(dirname "$0")/../VERSION")
 folder=$(mktemp -d)
@@ -65,11 +66,57 @@ sed 's/= gsg/= de/' steps | "$program" verify "$sample" sgn-dd > out 2> err; is 
 "$program" verify "$sample" sgn-dd <&- > out 2> err; is 'verify: closed input' 4 '' '! Read\n'
 : > out
 "$program" verify "$sample" sgn-dd < steps > /dev/full 2> err; is 'verify: full output' 4 '' '! Write\n'
+# keywords in falling order: their lines are written as they are made
+tag=en-u$(for first in {z..a}; do for second in {z..a}; do printf -- '-%s%s' "$first" "$second"; done; done | head -c 1017)
+(ulimit -v 40000; "$program" explain "$sample" "$tag") > steps-of-keys 2> err; ended=$?; wc -lc < steps-of-keys > out
+(exit "$ended"); is 'explain: 57,292 lines in 40 MB' 0 '   57292 59610480\n' ''
+rm steps-of-keys
 # a registry that passes, and in which steps in a free order go round: an explanation ends
 run check "$round"; is 'check: a registry that goes round' 0 'ok 5\n' ''
 run explain "$round" sgn-aa; is 'explain: it ends' 0 'Region 2 3 sgn-DD\nRegion 2 4 sgn-DE\n= sgn-DE\n' ''
 { yes "$(printf 'Region 2 3 sgn-DD\nWhole 1 6 sgn-AA')" | head -n 100000; echo '= sgn-AA'; } | "$program" verify "$round" sgn-aa > out 2> err
 is 'verify: 100,000 steps round' 0 'ok\n' ''
+# what a registry says of tags; the fields are those of IANA's records
+{
+    printf 'File-Date: 2025-05-15\n'
+    record 'Type: language' 'Subtag: de' 'Description: German' 'Added: 2005-10-16' 'Suppress-Script: Latn'
+    record 'Type: language' 'Subtag: zh' 'Description: Chinese' 'Added: 2005-10-16' 'Scope: macrolanguage'
+    record 'Type: language' 'Subtag: yue' 'Description: Yue Chinese' 'Description: Cantonese' 'Macrolanguage: zh'
+    record 'Type: language' 'Subtag: tlh' 'Description: Klingon' 'Description: tlhIngan Hol'
+    record 'Type: language' 'Subtag: ja' 'Description: Japanese'
+    record 'Type: extlang' 'Subtag: yue' 'Description: Yue Chinese' 'Description: Cantonese' 'Preferred-Value: yue' 'Prefix: zh' 'Macrolanguage: zh'
+    record 'Type: script' 'Subtag: Hant' 'Description: Han (Traditional' ' variant)'
+    record 'Type: region' 'Subtag: HK' 'Description: Hong Kong'
+    record 'Type: variant' 'Subtag: heploc' 'Description: Hepburn romanization, Library of Congress method' 'Deprecated: 2010-02-07' 'Preferred-Value: alalc97' 'Prefix: ja' 'Comments: Preferred tag is ja-Latn-alalc97'
+    record 'Type: variant' 'Subtag: alalc97' 'description: ALA-LC romanization, 1997 edition'
+    record 'Type: redundant' 'Tag: zh-Hant' 'Description: traditional Chinese'
+    record 'Type: grandfathered' 'Tag: i-klingon' 'Description: Klingon' 'Deprecated: 2004-02-24' 'Preferred-Value: tlh'
+} > described
+zh='record 3\n     Description      Chinese\n     Scope            macrolanguage\n'
+hant='record 8\n     Description      Han (Traditional variant)\n'
+run show described zh-YUE-hant-hk
+is show 0 "zh-yue-Hant-HK\n1    Language  zh    ${zh}2    Extlang   yue   record 7\n     Description      Yue Chinese\n     Description      Cantonese\n     Preferred-Value  yue\n     Macrolanguage    zh\n3    Script    Hant  ${hant}4    Region    HK    record 9\n     Description      Hong Kong\nExtlang 2 7 yue-Hant-HK\n= yue-Hant-HK\n\n" ''
+run show described zh-hant
+is 'show: a redundant tag' 0 "zh-Hant\n1    Whole     zh-Hant  record 12\n     Description      traditional Chinese\n1    Language  zh       ${zh}2    Script    Hant     ${hant}= zh-Hant\n\n" ''
+klingon='i-klingon\n1    Grandfathered  i-klingon  record 13\n     Description      Klingon\n     Deprecated       2004-02-24\n     Preferred-Value  tlh\nWhole 1 13 tlh\n= tlh\n\n'
+run show described I-KLINGON; is 'show: a grandfathered tag' 0 "$klingon" ''
+de='record 2\n     Description      German\n     Suppress-Script  Latn\n'
+run show described de-t-zh-hk-m0-und-x-a
+is 'show: a source, and what no registry lists' 0 "de-t-zh-hk-m0-und-x-a\n1    Language             de   ${de}2    Singleton            t\n3    SourceLanguage       zh   ${zh}4    SourceRegion         hk   record 9\n     Description      Hong Kong\n5    Separator            m0\n6    Value                und\n7    PrivateUseSingleton  x\n8    PrivateUse           a\n= de-t-zh-hk-m0-und-x-a\n\n" ''
+run show described de-foobar en_US i-klingon
+is 'show: refused tags, and more' 1 "de-foobar\n1    Language  de      ${de}2    Variant   foobar  not registered\n! UnknownVariant 2\n\n! BadByte 1\n\n$klingon" ''
+run show described ja-heploc-alalc97
+is 'show: a variant would repeat' 1 'ja-heploc-alalc97\n1    Language  ja       record 6\n     Description      Japanese\n2    Variant   heploc   record 10\n     Description      Hepburn romanization, Library of Congress method\n     Deprecated       2010-02-07\n     Preferred-Value  alalc97\n     Comments         Preferred tag is ja-Latn-alalc97\n3    Variant   alalc97  record 11\n     description      ALA-LC romanization, 1997 edition\n! ReplacementRepeats alalc97\n\n' ''
+cat described | "$program" show - i-klingon > out 2> err; is 'show: a registry that comes through a pipe' 0 "$klingon" ''
+run show other de; is 'show: the registry is refused' 2 'jar BadLine line 1\n' ''
+run show described; ended=$?; head -c 7 err > out; : > err; (exit "$ended"); is 'show: no tag' 3 'error: ' ''
+: > out
+"$program" show described de > /dev/full 2> err; is 'show: full output' 4 '' '! Write\n'
+# as JSON
+run show --json described de-foobar en_US zh-yue
+is 'show --json' 1 '{"tag":"de-foobar","rows":[{"place":1,"kind":"Language","text":"de","listing":"Record","record":2,"fields":[{"name":"Description","body":"German"},{"name":"Suppress-Script","body":"Latn"}]},{"place":2,"kind":"Variant","text":"foobar","listing":"Unregistered","record":null,"fields":[]}],"canonical":null,"steps":[],"fault":"UnknownVariant 2"}\n{"tag":null,"rows":[],"canonical":null,"steps":[],"fault":"BadByte 1"}\n{"tag":"zh-yue","rows":[{"place":1,"kind":"Language","text":"zh","listing":"Record","record":3,"fields":[{"name":"Description","body":"Chinese"},{"name":"Scope","body":"macrolanguage"}]},{"place":2,"kind":"Extlang","text":"yue","listing":"Record","record":7,"fields":[{"name":"Description","body":"Yue Chinese"},{"name":"Description","body":"Cantonese"},{"name":"Preferred-Value","body":"yue"},{"name":"Macrolanguage","body":"zh"}]}],"canonical":"yue","steps":[{"kind":"Extlang","place":2,"record":7}],"fault":null}\n' ''
+run show described de-x-a --json; python3 -c 'import json, sys; rows = json.load(sys.stdin)["rows"]; print([(r["listing"], r["record"], len(r["fields"])) for r in rows])' < out > read; mv read out
+is 'show --json: private use' 0 "[('Record', 2, 2), ('Unlisted', None, 0), ('Unlisted', None, 0)]\n" ''
 # what canonical tags leave alone
 for tags in 'en-Latn en' 'sgn-DE-x-a gsg-x-a' 'en-scotland-fonipa en-fonipa-scotland' 'und-Latn-DE de' 'ar-u-ca-islamicc ar-u-ca-islamic-civil'; do
     # shellcheck disable=SC2086
@@ -87,6 +134,36 @@ printf 'zh-yue\nDE\n' > lines
 "$program" canon "$sample" < lines > out 2> err; is canon 0 'yue\nde\n' ''
 "$program" canon other < lines > out 2> err; is 'canon: the registry is refused' 2 'jar BadLine line 1\n' ''
 
+# the same by a table of codes; its rows are those that the Library of Congress publishes
+printf 'chi|zho|zh|Chinese|chinois\neng||en|English|anglais\nger|deu|de|German|allemand\n' > table
+printf 'chi-yue\r\nENG-GB\nger_AT\nfre\nDEU' > coded
+"$program" codes table "$sample" < coded > out 2> err; is 'codes refuses two' 1 'yue\nen-GB\n! BadByte 1\n! UnknownLanguage 1\nde\n' ''
+dd bs=1 status=none < coded | "$program" codes table "$sample" > out 2> err; is 'codes: byte by byte' 1 'yue\nen-GB\n! BadByte 1\n! UnknownLanguage 1\nde\n' ''
+echo ger-DD | "$program" codes <(cat table) "$sample" > out 2> err; is 'codes: a table that comes through a pipe' 0 'de-DE\n' ''
+"$program" codes table "$sample" < lines > out 2> err; is 'codes: no code' 0 'yue\nde\n' ''
+"$program" codes empty "$sample" < coded > out 2> err; is 'codes: an empty table' 1 '! UnknownLanguage 1\n! UnknownLanguage 1\n! BadByte 1\n! UnknownLanguage 1\n! UnknownLanguage 1\n' ''
+"$program" codes --summary table "$sample" < coded > out 2> err; is 'codes --summary' 1 'yue\nen-GB\n! BadByte 1\n! UnknownLanguage 1\nde\n' '5 lines, 2 refused\n1 BadByte, first in line 3: ger_AT\n  A byte that is no ASCII letter, digit or hyphen: write zh-Hant for zh_Hant; remove quotes, spaces, a byte order mark.\n1 UnknownLanguage, first in line 4: fre\n  fre: BCP 47 writes fr.\n'
+"$program" codes other "$sample" < coded > out 2> err; is 'codes: the table is refused' 2 'codes BadRow line 1\n' ''
+"$program" codes --summary other "$sample" < coded > out 2> err; is 'codes --summary: the table is refused' 2 'codes BadRow line 1\n' 'BadRow: A line of the table of codes has not five fields: see whether it is ISO-639-2_utf-8.txt.\n'
+"$program" codes table other < coded > out 2> err; is 'codes: the registry is refused' 2 'jar BadLine line 1\n' ''
+"$program" codes missing "$sample" < coded > out 2> err; is 'codes: no table' 4 '' '! File\n'
+"$program" codes table missing < coded > out 2> err; is 'codes: no registry' 4 '' '! File\n'
+"$program" codes . "$sample" < coded > out 2> err; is 'codes: a folder' 4 'codes Read line 1\n' ''
+(ulimit -v 60000; "$program" codes /dev/zero "$sample" < coded > out 2> err); is 'codes: a table without end, in 60 MB' 2 'codes TableTooLong line 1\n' ''
+"$program" codes table "$sample" <&- > out 2> err; is 'codes: closed input' 4 '' '! Read\n'
+: > out
+"$program" codes table "$sample" < coded > /dev/full 2> err; is 'codes: full output' 4 '' '! Write\n'
+printf '1\tger-DD\r\n2\tfre\n3' | "$program" tsv --codes table "$sample" 2 > out 2> err; is 'tsv --codes' 1 '1\tde-DE\t\r\n2\tfre\tUnknownLanguage 1\n3\tNoColumn\n' ''
+printf 'id,tag\n1,"CHI-yue"\n2,"fre"\n' | "$program" csv "$sample" tag --codes table --keep > out 2> err; is 'csv --codes --keep' 1 'id,tag,langtag,langtag_fault\n1,"CHI-yue",yue,\n2,"fre",,UnknownLanguage 1\n' ''
+printf 'id,tag\n1,ger\n' | "$program" csv "$sample" 2 --codes old > out 2> err; is 'csv --codes: the table is refused' 2 'codes BadRow line 1\n' ''
+printf '1\tger\n' | "$program" tsv "$sample" 2 --codes missing > out 2> err; is 'tsv --codes: no table' 4 '' '! File\n'
+for words in 'codes table' 'codes table other more' 'canon --codes table' 'tsv table 2 --codes'; do
+    # shellcheck disable=SC2086
+    "$program" $words < coded > out 2> usage; ended=$?
+    head -c 7 usage > err
+    (exit "$ended"); is "$words" 3 '' 'error: '
+done
+
 # the lines that ranges match
 printf 'zh-yue\r\nzh\nyue-Hans\nen_US\nde-Latn-DE\nde-DE' > tags
 "$program" match "$sample" yue < tags > out 2> err; is match 0 'zh-yue\r\nyue-Hans\n' ''
@@ -94,7 +171,16 @@ printf 'zh-yue\r\nzh\nyue-Hans\nen_US\nde-Latn-DE\nde-DE' > tags
 "$program" match --extended "$sample" de-de < tags > out 2> err; is 'match --extended' 0 'de-Latn-DE\nde-DE\n' ''
 dd bs=1 status=none < tags | "$program" match "$sample" 'zh-yue' > out 2> err; is 'match: the same byte by byte' 0 'zh-yue\r\nyue-Hans\n' ''
 "$program" match "$sample" ja < tags > out 2> err; is 'match: none' 1 '' ''
-"$program" match "$sample" de en_US < tags > out 2> err; is 'match: a range is refused' 3 '' '! BadByte\n'
+"$program" match "$sample" de en_US < tags > out 2> err; is 'match: a range is refused' 3 '' '! BadByte range 2\n'
+"$program" match --lookup "$sample" fr zh-yue-Hans-GB de < tags > out 2> err; is 'match --lookup' 0 'yue-Hans\n' ''
+"$program" match "$sample" yue-Latn --lookup < tags > out 2> err; is 'match --lookup: a carriage return' 0 'zh-yue\r\n' ''
+dd bs=1 status=none < tags | "$program" match --lookup "$sample" de-DE-1996 > out 2> err; is 'match --lookup: byte by byte' 0 'de-DE\n' ''
+"$program" match --lookup "$sample" '*' ja de < tags > out 2> err; is 'match --lookup: none' 1 '' ''
+"$program" match --lookup "$sample" de en_US < tags > out 2> err; is 'match --lookup: a range is refused' 3 '' '! BadByte range 2\n'
+"$program" match --lookup "$sample" de-DE < tags > /dev/full 2> err; is 'match --lookup: full output' 4 '' '! Write\n'
+"$program" match --lookup --extended "$sample" de < tags > out 2> usage; ended=$?
+head -c 7 usage > err
+(exit "$ended"); is 'match: two schemes' 3 '' 'error: '
 "$program" match other de < tags > out 2> err; is 'match: the registry is refused' 2 'jar BadLine line 1\n' ''
 "$program" match "$sample" de <&- > out 2> err; is 'match: closed input' 4 '' '! Read\n'
 : > out
@@ -102,6 +188,25 @@ dd bs=1 status=none < tags | "$program" match "$sample" 'zh-yue' > out 2> err; i
 "$program" match "$sample" < tags > out 2> usage; ended=$?
 head -c 7 usage > err
 (exit "$ended"); is 'match: no range' 3 '' 'error: '
+
+# the lines as objects of JSON
+printf 'zh-yue\r\nDE' | "$program" json "$sample" > out 2> err
+is json 0 '{"input":"zh-yue","bytes":null,"canonical":"yue","fault":null,"place":null,"variant":null,"class":"langtag","language":"zh","extlangs":["yue"],"script":null,"region":null,"variants":[],"extensions":[],"private":[]}\n{"input":"DE","bytes":null,"canonical":"de","fault":null,"place":null,"variant":null,"class":"langtag","language":"de","extlangs":[],"script":null,"region":null,"variants":[],"extensions":[],"private":[]}\n' ''
+python3 "$objects" "$program" "$sample" > told 2> err; ended=$?; cut -d ' ' -f 1-2 told > out
+(exit "$ended"); is 'json: by hand, and made lines' 0 '20013 objects,\n' ''
+head -c 17000000 /dev/zero | tr '\0' a | "$program" json "$sample" > long 2> err; ended=$?
+head -c 11 long > out; wc -c < long >> out
+(exit "$ended"); is 'json: a line that is cut' 1 '{"input":"a16777416\n' ''
+rm long
+"$program" json other < tags > out 2> err; is 'json: the registry is refused' 2 'jar BadLine line 1\n' ''
+"$program" json "$sample" <&- > out 2> err; is 'json: closed input' 4 '' '! Read\n'
+"$program" json - < tags > out 2> err; is 'json -: no such file' 4 '' '! File\n'
+"$program" json "$sample" < empty > out 2> err; is 'json: no line' 0 '' ''
+: > out
+"$program" json "$sample" < tags > /dev/full 2> err; is 'json: full output' 4 '' '! Write\n'
+"$program" json < tags > out 2> usage; ended=$?
+head -c 7 usage > err
+(exit "$ended"); is 'json: no registry' 3 '' 'error: '
 
 # rows with tabs between their fields, by their second fields
 printf '1\tzh-yue\tbook\r\n2\ten_US\n3\n' > rows
@@ -161,9 +266,9 @@ for order in LE BE; do
     "$program" canon "$sample" < wide > out 2> err; is "canon: UTF-16$order" 4 '' '! Utf16\n'
 done
 { printf 'id,tag\n1,iw\n2,"'; head -c 17825792 /dev/zero | tr '\0' 'a'; } > long
-"$program" csv "$sample" 2 < long > out 2> err; is 'csv: a quote that is never closed' 4 'id,tag,langtag_fault\n1,he,\n' '! BadCsv line 3\n'
+(ulimit -v 60000; "$program" csv "$sample" 2) < long > out 2> err; is 'csv: a quote that is never closed, in 60 MB' 4 'id,tag,langtag_fault\n1,he,\n' '! BadCsv line 3\n'
 { printf 'a\tiw\nb\t'; head -c 17825792 /dev/zero | tr '\0' 'a'; printf '\nc\tiw\n'; } > long
-"$program" tsv "$sample" 2 < long > out 2> err; is 'tsv: a row that is too long' 4 'a\the\t\n' '! BadTsv line 2\n'
+(ulimit -v 60000; "$program" tsv "$sample" 2) < long > out 2> err; is 'tsv: a row that is too long, in 60 MB' 4 'a\the\t\n' '! BadTsv line 2\n'
 { printf 'h,tag\n'; head -c 16777213 /dev/zero | tr '\0' 'a'; printf ',iw\n'; head -c 16777214 /dev/zero | tr '\0' 'a'; printf ',iw\n'; } > long
 "$program" csv "$sample" 2 < long > out 2> err; ended=$?
 tail -c 5 out > end; mv end out
@@ -228,12 +333,13 @@ cat "$sample" | "$program" check - > out 2> err; is 'check -, from a pipe' 0 'ok
 "$program" canon - < lines > out 2> err; is 'canon -: no such file' 4 '' '! File\n'
 "$program" check - <&- > out 2> err; is 'check -: closed input' 4 '' '! File\n'
 
-# a line is answered before the next is there
+# a line is answered before the next is there, and signals that end no program end no read
 mkfifo to from
 "$program" canon "$sample" < to > from 2> err &
 exec 3> to 4< from
 echo zh-yue >&3
 read -r -t 10 line <&4
+for signal in STOP WINCH CONT URG; do kill -$signal $!; done
 echo DE >&3
 read -r -t 10 other_line <&4
 exec 3>&-
@@ -268,7 +374,7 @@ run check .; is 'check: a folder' 4 'jar Read line 1\n' ''
 grep '^Usage: ' help > out
 (exit "$ended"); is help 0 'Usage: langtag <COMMAND>\n' ''
 sed -n '/^Status:/,$p' help > out
-(exit "$ended"); is 'help: the statuses' 0 'Status:\n  0  done\n  1  a tag was refused, or the tags are different, or the steps are no explanation, or no line was matched\n  2  a registry or an upgrade was refused\n  3  the words name no command, or a column that is missing or stands twice, or a range that is refused\n  4  a file, the input, the output or memory failed\n' ''
+(exit "$ended"); is 'help: the statuses' 0 'Status:\n  0  done\n  1  a tag was refused, or the tags are different, or the steps are no explanation, or no line was matched\n  2  a registry, a table or an upgrade was refused\n  3  the words name no command, or a column that is missing or stands twice, or a range that is refused\n  4  a file, the input, the output or memory failed\n' ''
 "$program" --version < empty > version 2> err; ended=$?
 cut -d '(' -f 1 version > out
 (exit "$ended"); is version 0 "langtag $number \n" ''
@@ -322,6 +428,8 @@ on_terminal tsv "$sample" 1; is 'tsv at a terminal' 1 'yue\t\nxx\tUnknownLanguag
 on_terminal csv "$sample" 1; is 'csv at a terminal' 1 'zh-yue,langtag_fault\nxx,UnknownLanguage 1\nen_US,BadByte 1\n' "3 records, 2 refused\n$of_records"
 printf 'id,note,tag\n1,"see, File\nmore Read",zh-yue\n' > input
 on_terminal csv "$sample" 3; is 'csv at a terminal: words that look like faults' 0 'id,note,tag,langtag_fault\n1,"see, File\nmore Read",yue,\n' '2 records, 0 refused\n'
+printf 'x File y\n' > input
+on_terminal json "$sample"; is 'json at a terminal: words that look like faults' 1 '{"input":"x File y","bytes":null,"canonical":null,"fault":"BadByte","place":1,"variant":null,"class":null,"language":null,"extlangs":[],"script":null,"region":null,"variants":[],"extensions":[],"private":[]}\n' ''
 printf 'id,my File here\n' > input
 on_terminal csv "$sample" tag; is 'csv at a terminal: names that look like faults' 3 '' 'error: no column has the name "tag"; names: "id" "my File here"\n'
 yes en | head -n 2500000 > input

@@ -17,6 +17,9 @@
 #endif
 enum { SLOTS = 64 };
 
+/* Room for what is shown of most tags. */
+enum { ROWS = 4096 };
+
 /* What a registry that is open begins with. */
 #define OPEN 0x37345042u
 
@@ -31,6 +34,7 @@ typedef struct {
 #ifndef BCP47_TAKEN
 #define BCP47_TAKEN(slot) ((void)0)
 #define BCP47_GIVEN(slot) ((void)0)
+#define BCP47_SHOWN(shown) ((void)0)
 #endif
 
 struct bcp47_registry {
@@ -38,7 +42,8 @@ struct bcp47_registry {
     bcp47_info info; /* but for the digest, which is taken of the bytes when it is asked for */
     void *bytes;
     size_t length;
-    slot slots[SLOTS]; /* their handles hold one registry */
+    slot slots[SLOTS];      /* their handles hold one registry */
+    _Atomic(slot *) shown;  /* as many whose handles keep its records, too: made by the first bcp47_show */
 };
 
 /* ---- what is answered */
@@ -124,10 +129,13 @@ static slot *take_other(slot *slots, size_t first) {
     return NULL;
 }
 
-static inline slot *take(const bcp47_registry *registry) {
-    slot *slots = ((bcp47_registry *)(uintptr_t)registry)->slots;
+static inline slot *take_of(slot *slots) {
     size_t first = first_slot();
     return takes(&slots[first]) ? &slots[first] : take_other(slots, first + 1);
+}
+
+static inline slot *take(const bcp47_registry *registry) {
+    return take_of(((bcp47_registry *)(uintptr_t)registry)->slots);
 }
 
 static inline void give(slot *s) {
@@ -155,9 +163,31 @@ static void read_date(const uint8_t *bytes, size_t length, char date[11]) {
     date[10] = 0;
 }
 
+/* Lets the others hold what the first handle does: how many hold it then, fewer than all where memory runs out. */
+static size_t share_first(slot *slots) {
+    size_t count = 1;
+    while (count < SLOTS && !bcp47_handle_share(&slots[0].handle, &slots[count].handle)) count++;
+    return count;
+}
+
+static void close_handles(slot *slots, size_t count) {
+    for (size_t i = 0; i < count; i++) bcp47_handle_close(&slots[i].handle);
+}
+
+/* Closes the handles that no call has: whether that is all. A slot that a call has stays: a call of a thread that a fork left
+   behind in the parent never ends. */
+static bool close_slots(slot *slots) {
+    bool is_whole = true;
+    for (size_t i = 0; i < SLOTS; i++) {
+        if (takes(&slots[i])) bcp47_handle_close(&slots[i].handle);
+        else is_whole = false;
+    }
+    return is_whole;
+}
+
 /* Lets go of a registry that has so many handles. */
 static void let_go(bcp47_registry *registry, size_t handles) {
-    for (size_t i = 0; i < handles; i++) bcp47_handle_close(&registry->slots[i].handle);
+    close_handles(registry->slots, handles);
     free(registry->bytes);
     free(registry);
 }
@@ -196,11 +226,11 @@ bcp47_outcome bcp47_open(bcp47_registry **registry, const void *bytes, size_t le
         tell(&outcome, said, line, room);
         return outcome;
     }
-    for (size_t i = 1; i < SLOTS; i++)
-        if (bcp47_handle_share(&opened->slots[0].handle, &opened->slots[i].handle)) {
-            let_go(opened, i);
-            return no_memory(line, room);
-        }
+    size_t handles = share_first(opened->slots);
+    if (handles < SLOTS) {
+        let_go(opened, handles);
+        return no_memory(line, room);
+    }
     opened->info.entries = bcp47_handle_entries(&opened->slots[0].handle);
     read_date(bytes_of(bytes), length, opened->info.file_date);
     for (size_t i = 0; i < SLOTS; i++) give(&opened->slots[i]);
@@ -210,16 +240,12 @@ bcp47_outcome bcp47_open(bcp47_registry **registry, const void *bytes, size_t le
     return outcome;
 }
 
-/* A slot that a call has stays: a call of a thread that a fork left behind in the parent never ends. */
 void bcp47_close(bcp47_registry *registry) {
-    bool is_whole = true;
     if (!is_open(registry)) return;
     atomic_store_explicit(&registry->mark, 0, memory_order_relaxed);
-    for (size_t i = 0; i < SLOTS; i++) {
-        if (takes(&registry->slots[i])) bcp47_handle_close(&registry->slots[i].handle);
-        else is_whole = false;
-    }
-    if (is_whole) let_go(registry, 0);
+    slot *shown = atomic_load_explicit(&registry->shown, memory_order_relaxed);
+    if (shown && close_slots(shown)) free(shown);
+    if (close_slots(registry->slots)) let_go(registry, 0);
 }
 
 bcp47_outcome bcp47_registry_info(const bcp47_registry *registry, bcp47_info *info) {
@@ -281,17 +307,15 @@ bcp47_outcome bcp47_parts(const char *text, size_t length, char *buffer, size_t 
     return outcome;
 }
 
-/* ---- explanations that are given whole */
+/* ---- texts that are given whole */
 
-/* The lines of so many steps. Each has about the length of the text; where replacements make tags longer, they are asked
-   for again. */
-static bcp47_outcome write_lines(slot *s, const uint8_t *text, size_t length, size_t steps, char **lines) {
-    size_t room = (steps + 1) * (length + 64);
+/* A text that is written whole. Where it does not fit the room, it is written again. */
+static bcp47_outcome write_whole(writer *writes, slot *s, const uint8_t *text, size_t length, size_t room, char **whole) {
     char *buffer = NULL, *more;
     bcp47_outcome outcome;
     do {
         more = realloc(buffer, room);
-        outcome = more ? bcp47_handle_explain(&s->handle, text, length, (uint8_t *)more, room - 1) : ended(BCP47_OUT_OF_MEMORY);
+        outcome = more ? writes(&s->handle, text, length, (uint8_t *)more, room - 1) : ended(BCP47_OUT_OF_MEMORY);
         if (more) buffer = more;
         room = outcome.length + 1;
     } while (outcome.status == BCP47_BUFFER_TOO_SMALL);
@@ -301,8 +325,13 @@ static bcp47_outcome write_lines(slot *s, const uint8_t *text, size_t length, si
     }
     buffer[outcome.length] = 0;
     more = realloc(buffer, room);
-    *lines = more ? more : buffer;
+    *whole = more ? more : buffer;
     return outcome;
+}
+
+/* The lines of so many steps. Each has about the length of the text, where replacements don't make tags longer. */
+static bcp47_outcome write_lines(slot *s, const uint8_t *text, size_t length, size_t steps, char **lines) {
+    return write_whole(bcp47_handle_explain, s, text, length, (steps + 1) * (length + 64), lines);
 }
 
 bcp47_outcome bcp47_explanation(const bcp47_registry *registry, const char *text, size_t length, size_t most, char **lines) {
@@ -321,8 +350,60 @@ bcp47_outcome bcp47_explanation(const bcp47_registry *registry, const char *text
     return outcome;
 }
 
-void bcp47_free(void *lines) {
-    free(lines);
+/* Slots whose handles share the registry of one, and keep the records of the bytes from which it was opened. */
+static bcp47_outcome keep_records(const bcp47_registry *registry, bcp47_handle *handle, slot **made) {
+    slot *slots = calloc(SLOTS, sizeof *slots);
+    size_t handles = 0;
+    if (!slots) return ended(BCP47_OUT_OF_MEMORY);
+    if (!bcp47_handle_share(handle, &slots[0].handle))
+        handles = bcp47_handle_keep(&slots[0].handle, registry->bytes, registry->length) ? 1 : share_first(slots);
+    if (handles < SLOTS) {
+        close_handles(slots, handles);
+        free(slots);
+        return ended(BCP47_OUT_OF_MEMORY);
+    }
+    for (size_t i = 0; i < SLOTS; i++) give(&slots[i]);
+    *made = slots;
+    return ended(BCP47_DONE);
+}
+
+/* The slots whose handles keep the records: those that a call before, or another thread meanwhile, has made, or else new ones. */
+static bcp47_outcome find_shown(bcp47_registry *registry, slot **shown) {
+    slot *made;
+    BCP47_SHOWN(&registry->shown);
+    *shown = atomic_load_explicit(&registry->shown, memory_order_acquire);
+    if (*shown) return ended(BCP47_DONE);
+    slot *s = take(registry);
+    if (!s) return ended(BCP47_BUSY);
+    bcp47_outcome outcome = keep_records(registry, &s->handle, &made);
+    give(s);
+    if (outcome.status != BCP47_DONE) return outcome;
+    if (atomic_compare_exchange_strong_explicit(&registry->shown, shown, made, memory_order_acq_rel, memory_order_acquire)) {
+        *shown = made;
+    } else {
+        close_handles(made, SLOTS);
+        free(made);
+    }
+    return outcome;
+}
+
+bcp47_outcome bcp47_show(const bcp47_registry *registry, const char *text, size_t length, char **rows) {
+    slot *shown;
+    if (!rows) return ended(BCP47_BAD_CALL);
+    *rows = NULL;
+    if (!is_open(registry)) return ended(BCP47_NOT_OPEN);
+    if (!is_text(text, length)) return ended(BCP47_BAD_CALL);
+    bcp47_outcome outcome = find_shown((bcp47_registry *)(uintptr_t)registry, &shown);
+    if (outcome.status != BCP47_DONE) return outcome;
+    slot *s = take_of(shown);
+    if (!s) return ended(BCP47_BUSY);
+    outcome = write_whole(bcp47_handle_show, s, bytes_of(text), length, ROWS, rows);
+    give(s);
+    return outcome;
+}
+
+void bcp47_free(void *text) {
+    free(text);
 }
 
 /* ---- calls that judge */

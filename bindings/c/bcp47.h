@@ -171,8 +171,17 @@ bcp47_outcome bcp47_explain(const bcp47_registry *registry, const char *text, si
    are more than `most` steps, the status is BCP47_TOO_MANY_STEPS. Where it is not BCP47_DONE, *lines is NULL. */
 bcp47_outcome bcp47_explanation(const bcp47_registry *registry, const char *text, size_t length, size_t most, char **lines);
 
-/* Lets go of what bcp47_explanation gave. NULL does nothing. */
-void bcp47_free(void *lines);
+/* What the registry says of a tag, which need not be valid: the array `rows` that `langtag show --json` prints, with a zero after
+   it, in memory that bcp47_free lets go of. It has an object for each part, in order, and before those one for the whole of a
+   tag that is registered as redundant: `place`, `kind` (that of the part by name, or "Whole"), `text`, `listing` ("Record",
+   "Unregistered" or, where no registry lists parts of the kind, "Unlisted"), `record`, its number or null, and `fields`: each
+   Description, Deprecated, Preferred-Value, Suppress-Script, Macrolanguage, Scope and Comments of the record, with `name` and
+   `body`. Where the status is not BCP47_DONE, *rows is NULL. The first call reads the records, some milliseconds; they stay until
+   the registry is closed, some MB for a registry of IANA's size. */
+bcp47_outcome bcp47_show(const bcp47_registry *registry, const char *text, size_t length, char **rows);
+
+/* Lets go of what bcp47_explanation or bcp47_show gave. NULL does nothing. */
+void bcp47_free(void *text);
 
 /* Whether steps lead from a valid tag, one after another, to another tag, which is then equivalent to it. */
 bcp47_outcome bcp47_verify(const bcp47_registry *registry, const char *text, size_t length, const bcp47_step *steps,

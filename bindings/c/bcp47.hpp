@@ -218,6 +218,15 @@ class registry {
         return refusal{outcome, {}};
     }
 
+    /* What the registry says of a tag: the array of JSON that bcp47_show gives. */
+    result<std::string> show(std::string_view tag) const {
+        char *rows;
+        bcp47_outcome outcome = bcp47_show(opened_.get(), tag.data(), tag.size(), &rows);
+        std::unique_ptr<char, void (*)(void *)> freed(rows, &bcp47_free);
+        if (outcome.status == BCP47_DONE) return std::string(rows, outcome.length);
+        return refusal{outcome, {}};
+    }
+
     /* Nothing, if the steps lead from a valid tag, one after another, to the last. */
     result<void> verify(std::string_view tag, const std::vector<bcp47_step> &steps, std::string_view last) const {
         return detail::nothing_of(

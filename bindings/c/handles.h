@@ -14,11 +14,14 @@ typedef struct {
    holds a registry, and those two one that holds nothing. */
 bcp47_outcome bcp47_handle_open(bcp47_handle *handle, const uint8_t *bytes, size_t length, uint8_t *line, size_t room);
 uint8_t bcp47_handle_share(bcp47_handle *handle, bcp47_handle *other);
+/* Keeps the records of the bytes with the registry. */
+uint8_t bcp47_handle_keep(bcp47_handle *handle, const uint8_t *bytes, size_t length);
 void bcp47_handle_close(bcp47_handle *handle);
 bcp47_outcome bcp47_handle_canonical(bcp47_handle *handle, const uint8_t *text, size_t length, uint8_t *buffer, size_t room);
 bcp47_outcome bcp47_handle_extlang(bcp47_handle *handle, const uint8_t *text, size_t length, uint8_t *buffer, size_t room);
 bcp47_outcome bcp47_handle_classify(bcp47_handle *handle, const uint8_t *text, size_t length, uint8_t *buffer, size_t room);
 bcp47_outcome bcp47_handle_explain(bcp47_handle *handle, const uint8_t *text, size_t length, uint8_t *buffer, size_t room);
+bcp47_outcome bcp47_handle_show(bcp47_handle *handle, const uint8_t *text, size_t length, uint8_t *buffer, size_t room);
 bcp47_outcome bcp47_handle_verify(bcp47_handle *handle, const uint8_t *text, size_t length, const bcp47_step *steps,
                                  size_t count, const uint8_t *last, size_t last_length);
 bcp47_outcome bcp47_handle_validate(bcp47_handle *handle, const uint8_t *text, size_t length);

@@ -24,6 +24,10 @@ package bcp47
 //     return bcp47_equal((bcp47_registry *)registry, _GoStringPtr(first), _GoStringLen(first), _GoStringPtr(second),
 //                        _GoStringLen(second), buffer, room);
 // }
+// static bcp47_outcome match(uintptr_t registry, int scheme, _GoString_ range, _GoString_ tag, char *buffer, size_t room) {
+//     return bcp47_match((bcp47_registry *)registry, scheme, _GoStringPtr(range), _GoStringLen(range), _GoStringPtr(tag),
+//                        _GoStringLen(tag), buffer, room);
+// }
 // static bcp47_outcome explanation(uintptr_t registry, _GoString_ tag, size_t most, char **lines) {
 //     return bcp47_explanation((bcp47_registry *)registry, _GoStringPtr(tag), _GoStringLen(tag), most, lines);
 // }
@@ -199,7 +203,11 @@ func (r *Registry) Equal(first, second string) (bool, error) {
 	defer r.give()
 	buffer := buffers.Get().(*[room]byte)
 	defer buffers.Put(buffer)
-	outcome := C.equal(raw, first, second, chars(buffer), room)
+	return agree(C.equal(raw, first, second, chars(buffer), room), buffer, first, second)
+}
+
+// Whether two texts agree, or why one of them is refused.
+func agree(outcome C.bcp47_outcome, buffer *[room]byte, first, second string) (bool, error) {
 	switch {
 	case outcome.status == C.BCP47_DONE || outcome.status == C.BCP47_DIFFERENT:
 		return outcome.status == C.BCP47_DONE, nil
@@ -207,6 +215,32 @@ func (r *Registry) Equal(first, second string) (bool, error) {
 		return false, refusedTag(outcome, buffer[:], second)
 	}
 	return false, refusedTag(outcome, buffer[:], first)
+}
+
+// A Scheme is how a language range matches tags (RFC 4647).
+type Scheme int
+
+const (
+	Basic    Scheme = 1 // basic filtering (3.3.1): the tag is the range, or begins with it and a hyphen
+	Extended Scheme = 2 // extended filtering (3.3.2): the subtags of the range are in the tag in their order
+	Lookup   Scheme = 3 // lookup (3.4): the tag is the range, or what is left where that is cut from its end
+)
+
+// Matches tells whether a language range matches a tag by a scheme, both by their canonical forms: zh-yue matches yue-HK.
+// A range that is no valid tag, as zh-*, is taken as it is written. The *TagError is of the range, where that is neither a
+// valid tag nor a range, or else of the tag; another scheme gives ErrScheme.
+func (r *Registry) Matches(languageRange, tag string, scheme Scheme) (bool, error) {
+	if scheme < Basic || scheme > Lookup {
+		return false, ErrScheme
+	}
+	raw, err := r.take()
+	if err != nil {
+		return false, err
+	}
+	defer r.give()
+	buffer := buffers.Get().(*[room]byte)
+	defer buffers.Put(buffer)
+	return agree(C.match(raw, C.int(scheme), languageRange, tag, chars(buffer), room), buffer, languageRange, tag)
 }
 
 // Explain gives the steps from a tag to its canonical form, if there are at most so many.

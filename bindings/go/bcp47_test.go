@@ -130,6 +130,35 @@ func TestRefusals(t *testing.T) {
 	is(t, "{de <nil>} {de <nil>}", fmt.Sprint(answers[0], answers[2]))
 }
 
+func TestRanges(t *testing.T) {
+	registry := opened(t)
+	defer registry.Close()
+	all := ""
+	for _, pair := range []string{"zh-yue yue-GB", "yue-GB zh-yue", "de-DE de-Latn-DE", "zh-* zh-Hans", "* de", "en de"} {
+		texts := strings.Split(pair, " ")
+		for scheme := Basic; scheme <= Lookup; scheme++ {
+			matched, err := registry.Matches(texts[0], texts[1], scheme)
+			is(t, nil, err)
+			all += map[bool]string{true: "1", false: "0"}[matched]
+		}
+		all += " "
+	}
+	is(t, "110 001 010 110 110 000 ", all)
+	var refused *TagError
+	for wanted, texts := range map[string][2]string{
+		"BadByte 0 e_n ": {"e_n", "e_m"}, "BadByte 1 e_m ": {"en", "e_m"},
+		"ReplacementRepeats alalc97 ja-Latn-hepburn-alalc97-heploc alalc97": {"*", "ja-Latn-hepburn-alalc97-heploc"},
+	} {
+		_, err := registry.Matches(texts[0], texts[1], Extended)
+		is(t, true, errors.As(err, &refused))
+		is(t, wanted, err.Error()+" "+refused.Tag+" "+refused.Variant)
+	}
+	for _, scheme := range []Scheme{0, 4, -1} {
+		_, err := registry.Matches("en", "en", scheme)
+		is(t, ErrScheme, err)
+	}
+}
+
 func TestExplanations(t *testing.T) {
 	registry := opened(t)
 	defer registry.Close()
@@ -194,10 +223,11 @@ func TestClosed(t *testing.T) {
 	_, canonical := own.Canonical("en")
 	_, extlang := own.Extlang("en")
 	_, equal := own.Equal("en", "en")
+	_, match := own.Matches("en", "en", Basic)
 	_, explain := own.Explain("en", 1)
 	_, many := own.CanonicalMany([]string{"en"})
 	_, info := own.Info()
-	for _, err := range []error{canonical, extlang, equal, explain, many, info, own.Validate("en"), own.Verify("en", nil, "en"),
+	for _, err := range []error{canonical, extlang, equal, match, explain, many, info, own.Validate("en"), own.Verify("en", nil, "en"),
 		own.UpgradeCheck(registry), registry.UpgradeCheck(own)} {
 		is(t, ErrClosed, err)
 	}

@@ -16,6 +16,9 @@ var ErrClosed = errors.New("bcp47: the registry is closed")
 // ErrUnavailable says that memory ran out, or that as many calls are under way as there is room for.
 var ErrUnavailable = errors.New("bcp47: out of memory, or too many calls at once")
 
+// ErrScheme says that a number is none of Basic, Extended and Lookup.
+var ErrScheme = errors.New("bcp47: no scheme of matching")
+
 // A Cause says why something is refused.
 type Cause struct {
 	Status string // how the call ended, as "NotATag"
@@ -29,8 +32,8 @@ type Cause struct {
 // condition and the record, as "U1 3".
 func (c *Cause) Error() string { return c.line }
 
-// A TagError says that a text is no tag, that a tag is not valid, that its replacements can repeat a variant, or that
-// its explanation has too many steps.
+// A TagError says that a text is no tag or no language range, that a tag is not valid, that its replacements can repeat a
+// variant, or that its explanation has too many steps.
 type TagError struct {
 	Cause
 	Tag     string

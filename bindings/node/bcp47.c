@@ -185,18 +185,30 @@ static napi_value validate(napi_env env, napi_callback_info info) {
     return outcome.status == BCP47_DONE ? NULL : refusal(env, outcome, NULL);
 }
 
-/* equal(registry, first, second): whether they are */
-static napi_value equal(napi_env env, napi_callback_info info) {
-    napi_value values[3], made = NULL;
+/* equal(registry, first, second): whether they are. match(registry, range, tag, scheme): whether the range matches the tag */
+static napi_value agrees(napi_env env, napi_callback_info info, size_t count) {
+    napi_value values[4], made = NULL;
     char first[ROOM], second[ROOM], variant[BCP47_LINE];
     size_t length, other;
-    if (!takes(env, info, 3, values)) return NULL;
+    int32_t scheme = 0;
+    if (!takes(env, info, count, values)) return NULL;
     holder *it = held(env, values[0]);
     if (!it || !text_of(env, values[1], first, &length) || !text_of(env, values[2], second, &other)) return NULL;
-    bcp47_outcome outcome = bcp47_equal(it->registry, first, length, second, other, variant, sizeof variant);
+    if (count == 4) napi_get_value_int32(env, values[3], &scheme);
+    bcp47_outcome outcome =
+        count == 4 ? bcp47_match(it->registry, scheme, first, length, second, other, variant, sizeof variant)
+                   : bcp47_equal(it->registry, first, length, second, other, variant, sizeof variant);
     if (outcome.status != BCP47_DONE && outcome.status != BCP47_DIFFERENT) return refusal(env, outcome, variant);
     napi_get_boolean(env, outcome.status == BCP47_DONE, &made);
     return made;
+}
+
+static napi_value equal(napi_env env, napi_callback_info info) {
+    return agrees(env, info, 3);
+}
+
+static napi_value match(napi_env env, napi_callback_info info) {
+    return agrees(env, info, 4);
 }
 
 /* verify(registry, tag, numbers, last): nothing. The numbers are kind, place and number of each step, one after another. */
@@ -276,7 +288,7 @@ NAPI_MODULE_INIT() {
         {"open", open_registry}, {"close", close_registry}, {"canonical", canonical}, {"extlang", extlang},
         {"classify", classify},  {"explain", explain},      {"validate", validate},   {"equal", equal},
         {"upgrade", upgrade},    {"facts", facts},          {"name", name},           {"parts", parts},
-        {"verify", verify},
+        {"verify", verify},      {"match", match},
     };
     for (size_t i = 0; i < sizeof functions / sizeof *functions; i++) {
         napi_value made = NULL;

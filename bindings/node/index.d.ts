@@ -9,7 +9,10 @@ export class Refused extends Error {
   readonly help: string;
 }
 
-/** A text is no tag, a tag is not valid, or its replacements can repeat a variant. */
+/**
+ * A text is no tag or no language range, a tag is not valid, its replacements can repeat a variant, or its explanation has too
+ * many steps.
+ */
 export class RefusedTag extends Refused {
   readonly tag: string;
   readonly variant?: string;
@@ -69,6 +72,12 @@ export class Registry {
   isValid(tag: string | Tag): boolean;
   /** Whether two tags are equivalent: their canonical texts are equal. */
   equivalent(first: string | Tag, second: string | Tag): boolean;
+  /**
+   * Whether a language range matches a tag (RFC 4647), by their canonical forms: by basic filtering (3.3.1), by extended
+   * filtering (3.3.2), or by lookup (3.4), where the range, cut from its end, is the tag. A range that is no valid tag, as
+   * `zh-*`, is taken as it is written. Throws RefusedTag for the range, or else for the tag.
+   */
+  matches(range: string | Tag, tag: string | Tag, scheme?: 'basic' | 'extended' | 'lookup'): boolean;
   /** The steps from a tag to its canonical form, at most so many, and that form. */
   explain(tag: string | Tag, most?: number): { steps: Step[]; canonical: string };
   /**

@@ -8,6 +8,7 @@ const [STATUS, FAULT, STATUS_HELP, FAULT_HELP, KIND] = [0, 1, 2, 3, 4];
 const OUT_OF_MEMORY = 4;
 const REPEATS = 3;
 const [NO_SUCH_STEP, WRONG_END] = [11, 12];
+const SCHEMES = ['basic', 'extended', 'lookup'];
 const CLASSES = ['', 'langtag', 'privateuse', 'grandfathered'];
 
 class Refused extends Error {
@@ -131,6 +132,12 @@ class Registry {
 
   equivalent(first, second) {
     return answered(native.equal(this.#open, textOf(first), textOf(second)), RefusedTag, first, second);
+  }
+
+  matches(range, tag, scheme = 'extended') {
+    if (!SCHEMES.includes(scheme)) throw new TypeError(`a scheme is basic, extended or lookup, not ${String(scheme)}`);
+    const answer = native.match(this.#open, textOf(range), textOf(tag), SCHEMES.indexOf(scheme) + 1);
+    return answered(answer, RefusedTag, range, tag);
   }
 
   explain(tag, most = 1_000_000) {

@@ -3,10 +3,12 @@
    starts, and its sessions share them: none of them changes one. */
 #include "postgres.h"
 #include "fmgr.h"
+#include "mb/pg_wchar.h"
 #include "miscadmin.h"
 #include "storage/fd.h"
 #include "utils/builtins.h"
 #include "utils/guc.h"
+#include "utils/memutils.h"
 #include "bcp47.h"
 #include <sys/stat.h>
 
@@ -172,10 +174,23 @@ Datum fault_of(PG_FUNCTION_ARGS) {
     PG_RETURN_TEXT_P(cstring_to_text(psprintf("%s %zu", bcp47_fault_name(outcome.detail), outcome.place)));
 }
 
+/* The front of a text that a call gave, as a text of the server, whose encoding may be another. */
+static text *taken(char *given, size_t length) {
+    char *copy = AllocSizeIsValid(length + 1) ? palloc_extended(length + 1, MCXT_ALLOC_NO_OOM) : NULL;
+
+    if (copy) {
+        memcpy(copy, given, length);
+        copy[length] = 0;
+    }
+    bcp47_free(given);
+    check((bcp47_outcome){.status = copy ? BCP47_DONE : BCP47_OUT_OF_MEMORY});
+    return cstring_to_text(pg_any_to_server(copy, (int)length, PG_UTF8));
+}
+
 /* The lines that the program prints, without the line feed of the last. */
 PG_FUNCTION_INFO_V1(explanation_of);
 Datum explanation_of(PG_FUNCTION_ARGS) {
-    text *value = PG_GETARG_TEXT_PP(0), *answer = NULL;
+    text *value = PG_GETARG_TEXT_PP(0), *answer;
     char *lines;
     bcp47_outcome outcome;
 
@@ -183,17 +198,22 @@ Datum explanation_of(PG_FUNCTION_ARGS) {
     outcome = bcp47_explanation(unnamed()->registry, VARDATA_ANY(value), VARSIZE_ANY_EXHDR(value), STEPS, &lines);
     check(outcome);
     if (outcome.status != BCP47_DONE) PG_RETURN_NULL();
-    PG_TRY();
-    {
-        answer = cstring_to_text_with_len(lines, (int)outcome.length - 1);
-    }
-    PG_FINALLY();
-    {
-        bcp47_free(lines);
-    }
-    PG_END_TRY();
+    answer = taken(lines, outcome.length - 1);
     CHECK_FOR_INTERRUPTS();
     PG_RETURN_TEXT_P(answer);
+}
+
+/* What the registry says of a tag, as JSON: of (tag), and of (tag, name). */
+PG_FUNCTION_INFO_V1(rows_of);
+Datum rows_of(PG_FUNCTION_ARGS) {
+    text *value = PG_GETARG_TEXT_PP(0);
+    const named_registry *it = PG_NARGS() == 2 ? named(PG_GETARG_TEXT_PP(1)) : unnamed();
+    char *rows;
+    bcp47_outcome outcome = bcp47_show(it->registry, VARDATA_ANY(value), VARSIZE_ANY_EXHDR(value), &rows);
+
+    check(outcome);
+    if (outcome.status != BCP47_DONE) PG_RETURN_NULL();
+    PG_RETURN_TEXT_P(taken(rows, outcome.length));
 }
 
 PG_FUNCTION_INFO_V1(equality_of);

@@ -1,14 +1,14 @@
 #!/bin/bash
-# Tests the extension on a server in a folder of its own. Arguments: the folder of `tags`, `wanted`, `explained-tags` and
-# `explained`, IANA's registry, the sample registry.
+# Tests the extension on a server in a folder of its own. Arguments: the folder of `tags`, `wanted`, `explained-tags`, `explained`,
+# `shown-tags` and `shown`, IANA's registry, the sample registry.
 registry=$2
 # what each session runs is counted as it ends
 flags=--coverage
 # shellcheck source=bindings/postgresql/server.sh
 . "$(dirname "$(realpath "$0")")/server.sh"
 cp "$3" sample
-cp "$1/wanted" "$1/explained-tags" "$1/explained" .
-chmod 644 sample wanted explained-tags explained
+cp "$1/wanted" "$1/explained-tags" "$1/explained" "$1/shown-tags" "$1/shown" .
+chmod 644 sample wanted explained-tags explained shown-tags shown
 fail() { echo "$@"; exit 1; }
 again() { as_user "$tools/pg_ctl" -D "$folder/data" -m fast -w stop > /dev/null 2>&1; start "$@"; }
 # is NAME WANTED COMMAND..: compares what a command prints.
@@ -37,6 +37,9 @@ NULL|NULL|NULL|NULL|NULL
 t' ask -c "SELECT bcp47_match('yue-HK', 'zh-yue'), bcp47_match('de-Latn-DE', 'de-DE'), bcp47_match('de', 'de-DE'), bcp47_match('de-CH', '*-CH')" \
     -c "SELECT bcp47_match('e_n', 'en'), bcp47_match('en', 'e_n'), bcp47_match(NULL, 'en'), bcp47_match('en', NULL), bcp47_match('', '')" \
     -c "SELECT bcp47_match('yue-HK', 'zh-yue', '$(sed -n '1s/File-Date: //p' registry)')"
+is shown '3|Modern Greek (1453-)|NULL|NULL
+Modern' ask -c "SELECT json_array_length(bcp47_show('zh-yue')::json), bcp47_show('EL')::json -> 0 -> 'fields' -> 0 ->> 'body', bcp47_show('e_n'), bcp47_show(NULL)" \
+    -c "SELECT left(bcp47_show('el', '$(sed -n '1s/File-Date: //p' registry)')::json -> 0 -> 'fields' -> 0 ->> 'body', 6)"
 is 'an index by a range without a name' 'ERROR:  functions in index predicate must be marked IMMUTABLE' \
     ask -c 'CREATE TEMP TABLE tagged (tag text)' -c "CREATE INDEX by_range ON tagged (tag) WHERE bcp47_match(tag, 'zh-yue')"
 
@@ -65,6 +68,16 @@ cmp wanted answers || exit 1
 ask -c 'CREATE TABLE explained (place serial, tag text)' -c "COPY explained (tag) FROM '$folder/explained-tags'" || exit 1
 ask -c "SELECT coalesce(bcp47_explain(tag), '! ' || bcp47_fault(tag)) FROM explained ORDER BY place" > answers || exit 1
 cmp explained answers || exit 1
+ask -c 'CREATE TABLE shown (place serial, tag text)' -c "COPY shown (tag) FROM '$folder/shown-tags'" || exit 1
+ask -c "SELECT coalesce(bcp47_show(tag), '! ' || bcp47_fault(tag)) FROM shown ORDER BY place" > answers || exit 1
+cmp shown answers || exit 1
+# A database of another encoding has the letters of Bokmål as its own, and those that it lacks are an error.
+ask -c 'CREATE DATABASE latin ENCODING LATIN1 TEMPLATE template0' || exit 1
+export PGCLIENTENCODING=UTF8 database=latin
+is 'another encoding' 'Norwegian Bokmål|t
+ERROR:  character with byte sequence 0xc4 0x81 in encoding "UTF8" has no equivalent in encoding "LATIN1"' ask -c 'CREATE EXTENSION bcp47' \
+    -c "SELECT bcp47_show('nb')::json -> 0 -> 'fields' -> 0 ->> 'body', length(bcp47_show('nb')) = octet_length(bcp47_show('nb'))" -c "SELECT bcp47_show('psu')"
+unset PGCLIENTENCODING database
 of_yue="SELECT count(*) FROM books WHERE bcp47_canonical(tag, '$date') = 'yue'"
 is 'by the index' "$(grep -cx yue wanted)" ask -c 'SET enable_seqscan = off' -c "$of_yue"
 parallel='SET max_parallel_workers_per_gather = 4; SET parallel_setup_cost = 0; SET parallel_tuple_cost = 0; SET min_parallel_table_scan_size = 0'

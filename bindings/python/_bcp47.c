@@ -282,6 +282,28 @@ static PyObject *registry_explain_lines(PyObject *self, PyObject *arguments) {
     return made;
 }
 
+/* show_rows(tag): the rows that the program prints as JSON. The first call reads the records. */
+static PyObject *registry_show_rows(PyObject *self, PyObject *tag) {
+    char *rows;
+    PyObject *made = NULL;
+    text it;
+    if (!has_text(tag, &it)) return NULL;
+    registry_object *registry = opened(self);
+    if (registry) {
+        bcp47_outcome outcome;
+        registry->calls++;
+        Py_BEGIN_ALLOW_THREADS
+        outcome = bcp47_show(registry->registry, it.bytes, it.length, &rows);
+        Py_END_ALLOW_THREADS
+        end_call(registry);
+        made = outcome.status == BCP47_DONE ? PyUnicode_FromStringAndSize(rows, (Py_ssize_t)outcome.length)
+                                            : raise_refusal("RefusedTag", outcome, NULL, tag);
+        bcp47_free(rows);
+    }
+    end_text(&it);
+    return made;
+}
+
 /* ---- two texts */
 
 /* Whether two tags have texts, both of which end_text() then lets go of. */
@@ -547,6 +569,7 @@ static PyMethodDef registry_methods[] = {
      "close($self, /)\n--\n\nFrees the registry, once the calls of other threads have ended. No call but this one may follow."},
     {"_match", registry_match, METH_VARARGS, NULL},
     {"_explain_lines", registry_explain_lines, METH_VARARGS, NULL},
+    {"_show_rows", registry_show_rows, METH_O, NULL},
     {"_verify_steps", registry_verify_steps, METH_VARARGS, NULL},
     {"_upgrade_to", registry_upgrade_to, METH_O, NULL},
     {"_answer_many", registry_answer_many, METH_VARARGS, NULL},

@@ -38,7 +38,7 @@ Classifier: Typing :: Typed
 Description-Content-Type: text/plain
 
 Says whether a language tag is well-formed and valid, and makes it canonical, by a registry of language subtags that you hand
-in, in the format of IANA's: zh-yue and YUE become yue. Over a library in C of which each call is proved.
+in, in the format of IANA's: zh-yue and YUE become yue. Over a library for C that stands on proved calls.
 """
 # The processors of ELF's field e_machine. With the static library in it, the module asks for no symbol after glibc 2.17.
 PROCESSORS = {62: "x86_64", 183: "aarch64"}

@@ -1,6 +1,6 @@
 #!/bin/bash
 # Answers each line of `tags` as the program does. Arguments: the folder of bcp47_sqlite.so, `tags`, `wanted`, and the few tags
-# `explained-tags` with their explanations `explained`; a registry.
+# `explained-tags` with their explanations `explained`, `shown-tags` with what is shown of them, `shown`; a registry.
 
 # answers FOLDER REGISTRY TAGS FUNCTION WANTED: the texts of a function of each line, or why there is none.
 answers() {
@@ -12,4 +12,5 @@ answers() {
     rm -f "$1/answers.db"
     cmp "$1/$5" "$1/sqlite-answers"
 }
-answers "$1" "$2" tags bcp47_canonical wanted && answers "$1" "$2" explained-tags bcp47_explain explained
+answers "$1" "$2" tags bcp47_canonical wanted && answers "$1" "$2" explained-tags bcp47_explain explained &&
+    answers "$1" "$2" shown-tags bcp47_show shown

@@ -260,6 +260,19 @@ static void part(sqlite3_context *context, int count, sqlite3_value **values) {
     if (length) sqlite3_result_text(context, found, (int)length - 1, SQLITE_TRANSIENT);
 }
 
+/* bcp47_show(tag [, name of the registry]): what the registry says of a tag, as JSON */
+static void show(sqlite3_context *context, int count, sqlite3_value **values) {
+    connection *c = sqlite3_user_data(context);
+    char *rows;
+    if (sqlite3_value_type(values[0]) == SQLITE_NULL || !is_ready(context, c)) return;
+    if (count == 2 && !is_named(c, values[1])) return say(context, "the registry that is loaded has another name", "");
+    const char *text = (const char *)sqlite3_value_text(values[0]);
+    bcp47_outcome outcome = bcp47_show(c->held->registry, text, (size_t)sqlite3_value_bytes(values[0]), &rows);
+    if (is_error(context, outcome) || outcome.status != BCP47_DONE) return;
+    if (outcome.length > INT_MAX) sqlite3_result_error_toobig(context), bcp47_free(rows);
+    else sqlite3_result_text(context, rows, (int)outcome.length, bcp47_free);
+}
+
 static void explain(sqlite3_context *context, int count, sqlite3_value **values) {
     connection *c = sqlite3_user_data(context);
     char *lines;
@@ -355,6 +368,7 @@ int sqlite3_extension_init(sqlite3 *database, char **error, const sqlite3_api_ro
         {"bcp47_canonical", 1, PURE, canonical}, {"bcp47_canonical", 2, PURE, canonical},
         {"bcp47_equal", 2, PURE, equal},      {"bcp47_fault", 1, PURE, fault}, {"bcp47_explain", 1, PURE, explain},
         {"bcp47_part", 2, PURE, part},        {"bcp47_match", 2, PURE, match},
+        {"bcp47_show", 1, PURE, show},        {"bcp47_show", 2, PURE, show},
     };
     (void)error;
     SQLITE_EXTENSION_INIT2(api);

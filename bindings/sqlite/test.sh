@@ -27,6 +27,7 @@ got=$(sqlite3 :memory: ".load $1/bcp47_sqlite" "SELECT bcp47_load('$2');" \
     "SELECT bcp47_match('yue-GB', 'zh-yue'), bcp47_match('de-Latn-DE', 'de-DE'), bcp47_match('de', 'de-DE'), bcp47_match('de-GB', '*-GB');" \
     "SELECT bcp47_match('e_n', 'en'), bcp47_match('en', 'e_n'), bcp47_match(NULL, 'en'), bcp47_match('en', NULL), bcp47_match('', '');" \
     "SELECT bcp47_explain(NULL), bcp47_explain('en_US'), bcp47_explain('EN');" \
+    "SELECT json_extract(bcp47_show('zh-yue'), '\$[1].record'), bcp47_show('en_US'), bcp47_show(NULL), json_array_length(bcp47_show('X-a'));" \
     "SELECT bcp47_canonical(''), bcp47_fault(''), bcp47_fault(x'ff'), bcp47_fault(1);" \
     "SELECT length(bcp47_canonical('en-x-' || substr(replace(hex(zeroblob(700)), '00', 'abcdefgh-'), 1, 1007)));" \
     "SELECT 'zh-yue' = 'YUE' COLLATE BCP47, 'zh' = 'YUE' COLLATE BCP47;" \
@@ -45,6 +46,7 @@ NULL|NULL|NULL|NULL
 1|1|0|1
 NULL|NULL|NULL|NULL|NULL
 NULL|NULL|= en
+23|NULL|NULL|2
 NULL|EmptySubtag 1|BadByte 1|BadLanguage 1
 1012
 1|0

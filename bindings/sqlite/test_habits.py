@@ -81,9 +81,12 @@ class Habits(unittest.TestCase):
         self.assertEqual(value(connection, "SELECT bcp47_registry()"), f"2024-01-01 {CONTENT.count(b'%%')} {DIGEST}")
         for name in ("2024-01-01", DIGEST, DIGEST[:8].upper()):
             self.assertEqual(value(connection, "SELECT bcp47_canonical('iw', ?)", (name,)), "he")
+            self.assertEqual(value(connection, "SELECT json_extract(bcp47_show('iw', ?), '$[0].record')", (name,)), 9)
         for name in ("2024-01-02", DIGEST[:7], "", None, DIGEST + "0", "2024-01-0", "0" * 8):
             with self.assertRaisesRegex(sqlite3.OperationalError, "has another name"):
                 connection.execute("SELECT bcp47_canonical('iw', ?)", (name,))
+            with self.assertRaisesRegex(sqlite3.OperationalError, "has another name"):
+                connection.execute("SELECT bcp47_show('iw', ?)", (name,))
         empty = opened(load=False)
         empty.execute("SELECT bcp47_load(x'')")
         self.assertEqual(value(empty, "SELECT bcp47_registry()"), f"- 0 {hashlib.sha256(b'').hexdigest()}")

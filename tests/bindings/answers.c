@@ -1,5 +1,6 @@
 /* Answers each line of a file as `langtag canon` does, by so many threads that ask one registry, and prints
-   the lines in order. Arguments: registry, lines, threads; and `explain`, to answer as that command does. */
+   the lines in order. Arguments: registry, lines, threads; and `explain`, to answer as that command does, or `show`, with the rows
+   that this prints by `--json`. */
 #include "support.h"
 #include <pthread.h>
 
@@ -10,6 +11,18 @@ typedef struct {
 } part;
 
 static int is_explained = 0;
+static bcp47_outcome (*writes)(const bcp47_registry *, const char *, size_t, char *, size_t) = bcp47_canonical;
+
+/* The rows of a tag, written to a buffer that has room for them. */
+static bcp47_outcome show(const bcp47_registry *by, const char *text, size_t length, char *buffer, size_t room) {
+    char *rows;
+    bcp47_outcome o = bcp47_show(by, text, length, &rows);
+    if (o.length > room) exit(4);
+    if (rows) memcpy(buffer, rows, o.length);
+    bcp47_free(rows);
+    return o;
+}
+
 static bcp47_registry *registry;
 
 static void *answer(void *data) {
@@ -19,8 +32,7 @@ static void *answer(void *data) {
     for (size_t i = p->begin; i < p->end;) {
         size_t j = i;
         while (p->texts[j] != '\n') j++;
-        bcp47_outcome o = is_explained ? bcp47_explain(registry, p->texts + i, j - i, buffer, sizeof buffer)
-                                       : bcp47_canonical(registry, p->texts + i, j - i, buffer, sizeof buffer);
+        bcp47_outcome o = writes(registry, p->texts + i, j - i, buffer, sizeof buffer);
         size_t n = (size_t)line_of(o, buffer, line, sizeof line);
         if (is_explained && o.status == BCP47_DONE) n--;
         if (p->used + n > p->room && !(p->lines = realloc(p->lines, p->room = 2 * (p->room + n)))) exit(4);
@@ -35,6 +47,7 @@ int main(int count, char **words) {
     size_t texts_length;
     int threads = count > 3 ? atoi(words[3]) : 1;
     is_explained = count > 4 && !strcmp(words[4], "explain");
+    if (count > 4) writes = is_explained ? bcp47_explain : show;
     char *texts = read_all(words[2], &texts_length);
     registry = opened(words[1]);
     part *parts = calloc((size_t)threads, sizeof *parts);

@@ -237,6 +237,59 @@ static void others(void) {
     CHECK(o.status == BCP47_BUFFER_TOO_SMALL && o.length == 5 && buffer[0] == '#');
 }
 
+static int is_shown(const bcp47_registry *by, const char *tag, const char *wanted) {
+    char *rows;
+    bcp47_outcome o = bcp47_show(by, tag, strlen(tag), &rows);
+    int is_so = !o.status && !o.detail && !o.place && !o.text && o.length == strlen(wanted) && rows && !strcmp(rows, wanted);
+    if (!is_so && rows) fprintf(stderr, "%s\n", rows);
+    bcp47_free(rows);
+    return is_so;
+}
+
+/* The rows are those of RFC 5646, 3.1.2 and 2.2.8: a subtag's record, which tag is redundant, what no registry lists. */
+static void shown(void) {
+    static const char bytes[] =
+        "File-Date: 2000-01-01\n%%\nType: language\nSubtag: zh\nDescription: Chinese\nScope: macrolanguage\nAdded: 2005-10-16\n"
+        "%%\nType: extlang\nSubtag: yue\nDescription: Yue\n  Chinese\nDescription: \"Cantonese\"\nPreferred-Value: yue\nPrefix: zh\n"
+        "%%\nType: language\nSubtag: yue\n%%\nType: script\nSubtag: Hant\n%%\nType: redundant\nTag: zh-Hant\nDescription: traditional\n";
+    static const char yue[] =
+        "[{\"place\":1,\"kind\":\"Language\",\"text\":\"zh\",\"listing\":\"Record\",\"record\":2,\"fields\":[{\"name\":\"Description\",\"body\":"
+        "\"Chinese\"},{\"name\":\"Scope\",\"body\":\"macrolanguage\"}]},{\"place\":2,\"kind\":\"Extlang\",\"text\":\"yue\",\"listing\":\"Record\","
+        "\"record\":3,\"fields\":[{\"name\":\"Description\",\"body\":\"Yue Chinese\"},{\"name\":\"Description\",\"body\":\"\\\"Cantonese\\\"\"},"
+        "{\"name\":\"Preferred-Value\",\"body\":\"yue\"}]}]";
+    static const char hant[] =
+        "[{\"place\":1,\"kind\":\"Whole\",\"text\":\"zh-Hant\",\"listing\":\"Record\",\"record\":6,\"fields\":[{\"name\":\"Description\",\"body\":"
+        "\"traditional\"}]},{\"place\":1,\"kind\":\"Language\",\"text\":\"zh\",\"listing\":\"Record\",\"record\":2,\"fields\":[{\"name\":\"Description\","
+        "\"body\":\"Chinese\"},{\"name\":\"Scope\",\"body\":\"macrolanguage\"}]},{\"place\":2,\"kind\":\"Script\",\"text\":\"Hant\",\"listing\":\"Record\","
+        "\"record\":5,\"fields\":[]}]";
+    static const char own[] =
+        "[{\"place\":1,\"kind\":\"Language\",\"text\":\"xx\",\"listing\":\"Unregistered\",\"record\":null,\"fields\":[]},{\"place\":2,\"kind\":"
+        "\"PrivateUseSingleton\",\"text\":\"x\",\"listing\":\"Unlisted\",\"record\":null,\"fields\":[]},{\"place\":3,\"kind\":\"PrivateUse\",\"text\":"
+        "\"own\",\"listing\":\"Unlisted\",\"record\":null,\"fields\":[]}]";
+    bcp47_registry *opened;
+    char *rows = buffer;
+    CHECK(is_ended(bcp47_open(&opened, bytes, strlen(bytes), buffer, sizeof buffer), BCP47_DONE));
+    CHECK(is_shown(opened, "ZH-yue", yue));
+    CHECK(is_shown(opened, "zh-hant", hant));
+    CHECK(is_shown(opened, "XX-x-own", own));
+    bcp47_outcome o = bcp47_show(opened, "en_US", 5, &rows);
+    CHECK(o.status == BCP47_NOT_A_TAG && o.detail == 3 && o.place == 1 && o.length == 0 && !rows);
+    o = bcp47_show(opened, NULL, 0, &rows);
+    CHECK(o.status == BCP47_NOT_A_TAG && o.place == 1 && !rows);
+    /* More than there is room for at first. */
+    char longest[1025] = "x";
+    for (int i = 0; i < 500; i++) strcat(longest, "-a");
+    o = bcp47_show(opened, longest, strlen(longest), &rows);
+    CHECK(o.status == BCP47_DONE && o.length > 500 * 64 && rows && strlen(rows) == o.length && !strcmp(rows + o.length - 2, "}]"));
+    bcp47_free(rows);
+    rows = buffer;
+    CHECK(is_ended(bcp47_show(opened, NULL, 1, &rows), BCP47_BAD_CALL) && !rows);
+    rows = buffer;
+    CHECK(is_ended(bcp47_show(opened, "en", SIZE_MAX, &rows), BCP47_BAD_CALL) && !rows);
+    CHECK(is_ended(bcp47_show(opened, "en", 2, NULL), BCP47_BAD_CALL));
+    bcp47_close(opened);
+}
+
 static void explanations(void) {
     char *lines = buffer, longest[1025] = "en-u";
     bcp47_outcome o = bcp47_explanation(registry, "sgn-dd", 6, SIZE_MAX, &lines);
@@ -350,9 +403,11 @@ static void many(void) {
 static void not_open(const bcp47_registry *none) {
     bcp47_info info;
     bcp47_step step = {BCP47_WHOLE, 1, 44};
+    char *rows = buffer;
     CHECK(is_ended(bcp47_canonical(none, "en", 2, buffer, sizeof buffer), BCP47_NOT_OPEN));
     CHECK(is_ended(bcp47_extlang(none, "en", 2, buffer, sizeof buffer), BCP47_NOT_OPEN));
     CHECK(is_ended(bcp47_explain(none, "en", 2, buffer, sizeof buffer), BCP47_NOT_OPEN));
+    CHECK(is_ended(bcp47_show(none, "en", 2, &rows), BCP47_NOT_OPEN) && !rows);
     CHECK(is_ended(bcp47_validate(none, "en", 2), BCP47_NOT_OPEN));
     CHECK(is_ended(bcp47_equal(none, "en", 2, "en", 2, buffer, sizeof buffer), BCP47_NOT_OPEN));
     CHECK(is_ended(bcp47_match(none, BCP47_BASIC, "en", 2, "en", 2, buffer, sizeof buffer), BCP47_NOT_OPEN));
@@ -507,6 +562,7 @@ int main(int count, char **words) {
     match();
     match_refused();
     others();
+    shown();
     explanations();
     longer();
     verify();

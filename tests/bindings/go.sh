@@ -21,7 +21,7 @@ if command -v go > /dev/null; then
     sed -n '/^```go$/,/^```$/{/^```/!p}' docs/GO.md > "$folder/page/main.go"
     cp "$sample" "$folder/page/registry.txt"
     printf 'module page\n\ngo 1.19\n\nrequire bcp47 v0.0.0\n\nreplace bcp47 => %s/bindings/go\n' "$root" > "$folder/page/go.mod"
-    printf '%s\n' yue true 'BadByte 1 BadByte 1' 'zh-Hant-TW 3' > "$folder/page/wanted"
+    printf '%s\n' yue true true 'BadByte 1 BadByte 1' 'zh-Hant-TW 3' > "$folder/page/wanted"
     writes "Go: docs/GO.md's program" "$folder/page/wanted" env -C "$folder/page" go run .
     chmod -R u+w "$folder"
 else

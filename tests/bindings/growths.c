@@ -26,10 +26,10 @@ void *__wrap_realloc(void *old, size_t size) {
 static const char *const tags[] = {"zh-yue", "en-us", "I-KLINGON", "sgn-dd", "en-t-iw-m0-names", "en-u-nu-latn-ca-buddhist-foo",
                                    "en_US", "xx", "de-1901-1901", "x-own-use", "en-a-bbb-x-own"};
 #define TAGS (sizeof tags / sizeof *tags)
-#define CALLS 12
+#define CALLS 13
 static char buffer[4096];
 static bcp47_part parts[BCP47_PARTS];
-static char wanted[CALLS * TAGS][512];
+static char wanted[CALLS * TAGS][2048];
 static const bcp47_step steps[2] = {{BCP47_REGION, 2, 27}, {BCP47_WHOLE, 1, 44}};
 
 /* Whether a growth was refused since so many. */
@@ -39,7 +39,7 @@ static int was_refused(long before) {
 
 /* An answer is that of the run in which no growth was refused; or the growth of this call was refused. */
 static void kept(int is_first, size_t at, bcp47_outcome o, const char *text, long before) {
-    char line[512];
+    char line[2048];
     int n = line_of(o, text, line, sizeof line);
     snprintf(line + n, sizeof line - (size_t)n, "%d", 10 * o.text + o.status);
     if (is_first) strcpy(wanted[at], line);
@@ -76,6 +76,11 @@ static void ask(const bcp47_registry *registry, int is_first, size_t at, const c
     kept(is_first, at + 10, bcp47_match(registry, BCP47_EXTENDED, "zh-yue", 6, text, n, buffer, sizeof buffer), buffer, before);
     before = growths;
     kept(is_first, at + 11, bcp47_match(registry, BCP47_LOOKUP, text, n, "yue", 3, buffer, sizeof buffer), buffer, before);
+    before = growths;
+    o = bcp47_show(registry, text, n, &lines);
+    CHECK((o.status == BCP47_DONE) == (lines != NULL));
+    kept(is_first, at + 12, o, lines ? lines : "", before);
+    bcp47_free(lines);
 }
 
 /* All calls, with the growth of this number refused; answers whether one was. */
@@ -108,7 +113,8 @@ static void first_answers(void) {
         {6 * CALLS + 5, "! BadByte 1\n1"}, {7 * CALLS + 5, "! UnknownLanguage 1\n2"}, {7 * CALLS + 6, "! UnknownLanguage 1\n12"},
         {8 * CALLS + 5, "! DuplicateVariant 3\n2"}, {9, "zh-yue\n0"}, {2 * CALLS + 9, "i-klingon\n0"}, {6 * CALLS + 9, "! BadByte 1\n1"},
         {10, "\n0"}, {11, "\n0"}, {3 * CALLS + 10, "\n6"}, {6 * CALLS + 10, "! BadByte 1\n21"}, {6 * CALLS + 11, "! BadByte 0\n11"},
-        {7 * CALLS + 10, "! UnknownLanguage 1\n22"}, {7 * CALLS + 11, "\n6"},
+        {7 * CALLS + 10, "! UnknownLanguage 1\n22"}, {7 * CALLS + 11, "\n6"}, {6 * CALLS + 12, "! BadByte 1\n1"},
+        {7 * CALLS + 12, "[{\"place\":1,\"kind\":\"Language\",\"text\":\"xx\",\"listing\":\"Unregistered\",\"record\":null,\"fields\":[]}]\n0"},
     };
     for (size_t i = 0; i < sizeof rows / sizeof *rows; i++) {
         if (strcmp(wanted[rows[i].at], rows[i].line)) fprintf(stderr, "%zu: %s\n", rows[i].at, wanted[rows[i].at]);

@@ -25,7 +25,7 @@ if command -v javac > /dev/null; then
     passes "Java: documentation" javadoc -quiet -Xdoclint:all -Werror -d "$folder/documentation" bindings/java/src/main/java/bcp47/*.java
     sed -n '/^```java$/,/^```$/{/^```/!p}' docs/JAVA.md > "$folder/page/Page.java"
     cp "$sample" "$folder/page/registry.txt"
-    printf '%s\n' yue true 'BadByte 1 BadByte 1' 'zh-Hant-TW Hant' > "$folder/page/wanted"
+    printf '%s\n' yue true true 'BadByte 1 BadByte 1' 'zh-Hant-TW Hant' > "$folder/page/wanted"
     writes "Java: docs/JAVA.md's program" "$folder/page/wanted" env -C "$folder/page" java -cp "$jar" Page.java
     # Each other Java that is here, from 17 on.
     for other in /usr/lib/jvm/*/bin/java; do

@@ -44,6 +44,8 @@ static void call_again(void) {
     CHECK(bcp47_extlang(registry, "yue", 3, buffer, sizeof buffer).status == BCP47_BUSY);
     CHECK(bcp47_explain(registry, "yue", 3, buffer, sizeof buffer).status == BCP47_BUSY);
     CHECK(bcp47_classify(registry, "yue", 3, buffer, sizeof buffer).status == BCP47_BUSY);
+    CHECK(bcp47_show(registry, "yue", 3, &lines).status == BCP47_BUSY && !lines);
+    lines = buffer;
     CHECK(bcp47_validate(registry, "yue", 3).status == BCP47_BUSY);
     CHECK(bcp47_equal(registry, "yue", 3, "yue", 3, NULL, 0).status == BCP47_BUSY);
     CHECK(bcp47_match(registry, BCP47_BASIC, "yue", 3, "yue", 3, NULL, 0).status == BCP47_BUSY);
@@ -69,7 +71,52 @@ static void upgrade_within(void) {
     }
 }
 
+static const char rows[] =
+    "[{\"place\":1,\"kind\":\"Language\",\"text\":\"yue\",\"listing\":\"Record\",\"record\":16,\"fields\":[]}]";
+static int shows = 0, depth_of_shows = 0;
+
+static int is_shown(void) {
+    char *given;
+    depth++;
+    bcp47_outcome o = bcp47_show(registry, "yue", 3, &given);
+    depth--;
+    int is_so = !o.status && !strcmp(given, rows);
+    bcp47_free(given);
+    return is_so;
+}
+
+/* The records are kept by the call within the first one, which is then too late with its own. */
+static void show_within(void) {
+    if (shows++) return;
+    CHECK(is_shown());
+}
+
+/* One more call that shows a tag, until there is no room for it. */
+static void show_again(void) {
+    char *given;
+    if (depth_of_shows > ROOM) return;
+    if (++depth_of_shows > ROOM - 1)
+        CHECK(bcp47_show(registry, "yue", 3, &given).status == BCP47_BUSY && !given);
+    else
+        CHECK(is_shown());
+}
+
 static int forks = 0;
+
+/* The child goes on from within a call that shows a tag, and closes the registry. */
+static void fork_and_show(void) {
+    if (forks++) return;
+    pid_t child = fork();
+    if (child < 0) exit(4);
+    if (!child) {
+        alarm(20);
+        CHECK(is_shown());
+        bcp47_close(registry);
+        exit(failures ? 1 : 7);
+    }
+    int status;
+    CHECK(waitpid(child, &status, 0) == child && WIFEXITED(status) && WEXITSTATUS(status) == 7);
+}
 
 /* The child goes on from within the call, and ends with a status. */
 static void fork_within(void) {
@@ -101,6 +148,13 @@ int main(int count, char **words) {
     CHECK(busy == 1 && deepest == ROOM + 1);
     within = upgrade_within;
     CHECK(!ask(unusual, buffer, sizeof buffer).status && many_busy);
+    within = show_within;
+    CHECK(is_shown() && shows > 1);
+    within = show_again;
+    CHECK(is_shown() && depth_of_shows == ROOM + 1);
+    within = fork_and_show;
+    CHECK(is_shown() && forks > 0);
+    forks = 0;
     within = fork_within;
     CHECK(!ask(unusual, buffer, sizeof buffer).status && forks > 0);
     within = NULL;

@@ -77,6 +77,9 @@ int main(int count, char **words) {
     CHECK(registry.equal("zh-yue", "YUE").value() && !registry.equal("zh-yue", "zh").value());
     CHECK(registry.match("zh-yue", "yue-GB").value() && !registry.match("zh", "yue-GB").value());
     CHECK(registry.match("de-DE", "de-Latn-DE").value() && !registry.match("de-DE", "de-Latn-DE", BCP47_BASIC).value());
+    CHECK(registry.show("YUE").value() ==
+          R"([{"place":1,"kind":"Language","text":"yue","listing":"Record","record":16,"fields":[]}])");
+    CHECK(registry.show("en_US").error().line() == "BadByte 1");
     CHECK(registry.explain("sgn-DD").value() == "Region 2 27 sgn-DE\nWhole 1 44 gsg\n= gsg\n");
     CHECK(registry.verify("sgn-DD", {{BCP47_REGION, 2, 27}, {BCP47_WHOLE, 1, 44}}, "gsg") && registry.verify("en", {}, "EN"));
     CHECK(registry.upgrade_check(registry).has_value());

@@ -49,6 +49,7 @@ static const struct {
 } rows[] = {
     {"SELECT bcp47_canonical('en')", NULL},
     {"SELECT bcp47_match('en', 'en')", NULL},
+    {"SELECT bcp47_show('en')", NULL},
     {"SELECT bcp47_registry()", "NULL"},
     {"SELECT bcp47_load(?)", "1"},
     {"SELECT bcp47_load(?)", "1"},
@@ -60,6 +61,10 @@ static const struct {
     {"SELECT bcp47_fault('en_US')", "BadByte 1"},
     {"SELECT bcp47_fault('ja-Latn-hepburn-alalc97-heploc')", "ReplacementRepeats alalc97"},
     {"SELECT bcp47_explain('sgn-dd')", "Region 2 27 sgn-DE\nWhole 1 44 gsg\n= gsg"},
+    {"SELECT bcp47_show('YUE')", "[{\"place\":1,\"kind\":\"Language\",\"text\":\"yue\",\"listing\":\"Record\",\"record\":16,\"fields\":[]}]"},
+    {"SELECT json_extract(bcp47_show('zh-yue', '2024-01-01'), '$[1].fields[0].body')", "yue"},
+    {"SELECT bcp47_show('en', 'none')", NULL},
+    {"SELECT bcp47_show('e_n') IS NULL AND bcp47_show(NULL) IS NULL AND length(bcp47_show('x' || replace(hex(zeroblob(250)), '00', '-a-a'))) > 9999", "1"},
     {"SELECT bcp47_equal('en-u-ca-buddhist-nu-latn', 'en-u-nu-latn-ca-buddhist')", "1"},
     {"SELECT bcp47_match('yue-GB', 'zh-yue')", "1"},
     {"SELECT bcp47_match('en-u-ca-buddhist-nu-latn', 'de')", "0"},

@@ -44,6 +44,12 @@ static void ask_explain(void) {
     bcp47_explain(registry, text, strlen(text), buffer, room);
 }
 
+static void ask_show(void) {
+    char *rows;
+    bcp47_show(registry, text, strlen(text), &rows);
+    bcp47_free(rows);
+}
+
 static void ask_explanation(void) {
     char *lines;
     bcp47_explanation(registry, text, strlen(text), 1000, &lines);
@@ -100,7 +106,8 @@ int main(int count, char **words) {
         void (*call)(void);
     } of_none[] = {{"open", ask_open}, {"open refused", ask_open_refused}, {"upgrade_check", ask_upgrade}},
       of_text[] = {{"canonical", ask_canonical}, {"extlang", ask_extlang},         {"classify", ask_classify},
-                   {"explain", ask_explain},     {"explanation", ask_explanation}, {"others", ask_others}};
+                   {"explain", ask_explain},     {"explanation", ask_explanation}, {"others", ask_others},
+                   {"show", ask_show}};
     for (size_t i = 0; i < sizeof of_none / sizeof *of_none; i++) {
         size_t bytes_touched = touched(of_none[i].call);
         if (bytes_touched > most) most = bytes_touched;

@@ -1,4 +1,4 @@
-/* Threads that ask one registry, by seven calls of the header; a fork while they do; and a signal handler that asks too. Each
+/* Threads that ask one registry, by eight calls of the header; a fork while they do; and a signal handler that asks too. Each
    answer has to be the one that is given alone. Arguments: registry, tags, how many of them, threads; and `signals`, `forks`
    or the bytes of each thread's stack. */
 #include "support.h"
@@ -12,9 +12,10 @@
 
 #define MOST 200000
 #define ROOM 200
+#define CALLS 7
 typedef struct {
-    bcp47_outcome o[6];
-    char text[4][ROOM];
+    bcp47_outcome o[CALLS];
+    char text[4][ROOM], *rows;
 } answers;
 
 static bcp47_registry *registry;
@@ -24,9 +25,9 @@ static answers *wanted;
 static atomic_long wrong = 0, calls = 0, handled = 0;
 static atomic_bool is_over = false;
 
-static int same(bcp47_outcome a, bcp47_outcome b, const char *x, const char *y) {
+static int same(bcp47_outcome a, bcp47_outcome b, const char *x, const char *y, size_t room) {
     return a.status == b.status && a.detail == b.detail && a.place == b.place && a.length == b.length && a.text == b.text &&
-           (a.length > ROOM || !memcmp(x, y, a.length));
+           (a.length > room || !a.length || !memcmp(x, y, a.length));
 }
 
 static void ask(size_t i, answers *got) {
@@ -38,14 +39,17 @@ static void ask(size_t i, answers *got) {
     got->o[3] = bcp47_explain(registry, text, n, got->text[3], ROOM);
     got->o[4] = bcp47_validate(registry, text, n);
     got->o[5] = bcp47_equal(registry, text, n, other, m, NULL, 0);
-    calls += 6;
+    got->o[6] = bcp47_show(registry, text, n, &got->rows);
+    calls += CALLS;
 }
 
 static void compare(size_t i) {
     answers got;
     ask(i, &got);
     for (int k = 0; k < 6; k++)
-        if (!same(got.o[k], wanted[i].o[k], k < 4 ? got.text[k] : "", k < 4 ? wanted[i].text[k] : "")) wrong++;
+        if (!same(got.o[k], wanted[i].o[k], k < 4 ? got.text[k] : "", k < 4 ? wanted[i].text[k] : "", ROOM)) wrong++;
+    if (!same(got.o[6], wanted[i].o[6], got.rows, wanted[i].rows, SIZE_MAX)) wrong++;
+    bcp47_free(got.rows);
 }
 
 static void *run(void *data) {
@@ -117,6 +121,9 @@ int main(int words_count, char **words) {
     if (!wanted || !ids || !count) return 4;
     for (size_t i = 0; i < count; i++) ask(i, &wanted[i]);
     calls = 0;
+    /* Opened anew, so that the threads have to read the records, which the first call does that shows a tag. */
+    bcp47_close(registry);
+    registry = opened(words[1]);
     pthread_attr_t attributes;
     pthread_attr_init(&attributes);
     if (stack && pthread_attr_setstacksize(&attributes, stack)) return 4;
@@ -128,6 +135,7 @@ int main(int words_count, char **words) {
     if (bcp47_upgrade_check(registry, registry).status) wrong++;
     bcp47_close(registry);
     pthread_attr_destroy(&attributes);
+    for (size_t i = 0; i < count; i++) bcp47_free(wanted[i].rows);
     free(ids);
     free(wanted);
     free(texts);

@@ -22,6 +22,23 @@ test('texts are made canonical', () => {
   for (const wrong of ['iw', new Tag('iw'), null, {}, 7, [7]]) assert.throws(() => registry.canonicalMany(wrong), TypeError);
 });
 
+test('ranges match', () => {
+  const schemes = ['basic', 'extended', 'lookup'];
+  for (const [range, tag, wanted] of [
+    ['zh-yue', 'yue-GB', [true, true, false]], ['yue-GB', new Tag('zh-yue'), [false, false, true]],
+    ['de-DE', 'de-Latn-DE', [false, true, false]], ['zh-*', 'zh-Hans', [true, true, false]],
+    ['*', 'de', [true, true, false]], [new Tag('en'), 'de', [false, false, false]],
+  ]) assert.deepEqual(schemes.map((scheme) => registry.matches(range, tag, scheme)), wanted, `${range} ${tag}`);
+  assert.equal(registry.matches('de-DE', 'de-Latn-DE'), true);
+  for (const [range, tag, message, refused] of [
+    ['e_n', 'e_n', 'BadByte 0', 'e_n'], ['en', 'e_n', 'BadByte 1', 'e_n'], ['en', 'xx', 'UnknownLanguage 1', 'xx'],
+    ['ja-Latn-hepburn-alalc97-heploc', 'ja', 'ReplacementRepeats alalc97', 'ja-Latn-hepburn-alalc97-heploc'],
+  ]) assert.throws(() => registry.matches(range, tag, 'basic'), { message, tag: refused });
+  for (const wrong of ['', 'Basic', 1, null]) assert.throws(() => registry.matches('en', 'en', wrong), TypeError);
+  for (const wrong of [null, 7]) assert.throws(() => registry.matches('en', wrong), TypeError);
+  assert.throws(() => registry.matches(undefined, 'en'), TypeError);
+});
+
 test('the longest text has room', () => {
   const numbers = Array.from({ length: 204 }, (_, n) => String(n).padStart(3, '0'));
   const records = numbers.map((n) => `%%\nType: variant\nSubtag: 1${n}\nPreferred-Value: value${n}\n%%\nType: variant\nSubtag: value${n}\n`);

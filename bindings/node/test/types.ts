@@ -11,6 +11,7 @@ registry.verify(new Tag('sgn-dd'), new Set(steps), canonical);
 const kinds: ('langtag' | 'privateuse' | 'grandfathered')[] = [new Tag('en').kind];
 const info: Info = registry.info;
 const isOne: boolean = registry.isValid('en') || registry.equivalent('iw', new Tag('he'));
+const matched: boolean[] = [registry.matches('en', 'en'), registry.matches(new Tag('en'), new Tag('de'), 'lookup')];
 const parts: string[] = new Tag('en').parts.map(({ kind, text }) => kind + text);
 try {
   new Registry(new Uint8Array(3)).upgradeCheck(registry);
@@ -21,6 +22,8 @@ try {
 // @ts-expect-error
 registry.canonical(7);
 // @ts-expect-error
+registry.matches('en', 'en', 'exact');
+// @ts-expect-error
 registry.verify('en');
 // @ts-expect-error
 registry.verify('en', registry.explain('en'));
@@ -28,4 +31,4 @@ registry.verify('en', registry.explain('en'));
 info.entries = 3;
 // @ts-expect-error
 new Registry('text');
-export { isOne, kinds, many, parts, step };
+export { isOne, kinds, many, matched, parts, step };

@@ -10,13 +10,14 @@ from __future__ import annotations
 
 import datetime
 import functools
+import json
 import os
 from typing import Any, Dict, Iterable, List, Literal, NamedTuple, NoReturn, Optional, Tuple, Type, TypeVar, Union, overload
 
 from . import _bcp47
 
 __all__ = ["Explanation", "Info", "Part", "Refused", "RefusedRegistry", "RefusedTag", "RefusedTrace", "RefusedUpgrade", "Registry",
-           "Step", "Tag", "__version__"]
+           "Row", "Step", "Tag", "__version__"]
 
 __version__: str = _bcp47.version
 
@@ -58,8 +59,8 @@ class Refused(ValueError):
 
 
 class RefusedTag(Refused):
-    """A text is no tag or no language range, a tag is not valid, or its replacements can repeat a variant, which `variant` names.
-    `tag` is the text."""
+    """A text is no tag or no language range, a tag is not valid, its replacements can repeat a variant, which `variant` names, or its
+    explanation has too many steps. `tag` is the text."""
 
     tag: Optional[str] = None
     variant: Optional[str] = None
@@ -101,6 +102,21 @@ class Part(NamedTuple):
 
     kind: str
     text: str
+
+
+class Row(NamedTuple):
+    """What a registry has for a part of a tag, or, where the kind is "Whole", for a tag that is registered as redundant."""
+
+    place: int
+    kind: str
+    text: str
+    listing: Literal["Record", "Unregistered", "Unlisted"]
+    record: Optional[int]
+    fields: Tuple[Tuple[str, str], ...]
+
+    def bodies(self, name: str) -> Tuple[str, ...]:
+        """What the record says in its fields of a name, such as "Description", in either case of its letters."""
+        return tuple(body for other, body in self.fields if other.lower() == name.lower())
 
 
 class Info(NamedTuple):
@@ -368,6 +384,13 @@ class Registry(_bcp47.Registry):
         *lines, last = self._explain_lines(tag, most).splitlines()
         steps = (line.split(" ") for line in lines)
         return Explanation(tuple(Step(kind, int(place), int(number), after) for kind, place, number, after in steps), last[2:])
+
+    def show(self, tag: Union[str, Tag]) -> List[Row]:
+        """What the registry has for the parts of a tag, in order, with the fields of their records (RFC 5646, 3.1.2): Description,
+        Deprecated, Preferred-Value, Suppress-Script, Macrolanguage, Scope and Comments. A tag that is registered as redundant has a
+        row for the whole of it first. The tag need not be valid. Raises RefusedTag where the text is no tag."""
+        return [Row(row["place"], row["kind"], row["text"], row["listing"], row["record"],
+                    tuple((field["name"], field["body"]) for field in row["fields"])) for row in json.loads(self._show_rows(tag))]
 
     def verify(self, tag: Union[str, Tag], steps: Iterable[Step], last: Union[str, Tag, None] = None) -> None:
         """Returns where steps lead from a valid tag, one after another, to the last: that of the last step, if none is given.

@@ -5,9 +5,9 @@ from __future__ import annotations
 import re
 from typing import Dict, List, Mapping, Optional, Tuple
 
-from . import Part, RefusedTag, Registry, Tag, __version__
+from . import RefusedTag, Registry, Row, Tag, __version__
 from .pages import LONGEST, STYLE, Tables, Text, answers_of, breaking, document, escaped, facts_of, shown, tag_text
-from .records import Record, Records
+from .records import Record, read
 
 _MOST_ROWS = 1000
 _MOST_STEPS = 200
@@ -142,7 +142,7 @@ class Page:
 
     def __init__(self, content: bytes) -> None:
         self._registry = Registry.from_bytes(content)
-        self._records = Records(content)
+        self._records = read(content)
 
     def of(self, fields: Mapping[str, str]) -> str:
         """The page that answers the fields of a form: "tags" for a list of tags, or else "tag" for one."""
@@ -183,19 +183,16 @@ class Page:
 
     def _parts(self, title: str, tag: Tag) -> str:
         """The subtags of a tag, and the record that it has as a whole."""
-        whole = self._records.entry("whole", str(tag)) if tag.kind == "langtag" else None
-        of_whole = f"<ul>\n<li>The whole tag: {_record(whole)}</li>\n</ul>\n" if whole else ""
-        items = "\n".join(self._part(part) for part in tag.parts)
+        rows = self._registry.show(tag)
+        whole = [row for row in rows if row.kind == "Whole"]
+        of_whole = f"<ul>\n<li>The whole tag: {self._said(whole[0])}</li>\n</ul>\n" if whole else ""
+        items = "\n".join(f"<li>{shown(row.text)} <strong>{_words(row.kind)}</strong>: {self._said(row)}</li>"
+                          for row in rows[len(whole):])
         return f"<h4>{title}</h4>\n<ol>\n{items}\n</ol>\n{of_whole}"
 
-    def _part(self, part: Part) -> str:
-        """A subtag with its kind, and its record or else what it does."""
-        said = _PARTS.get(part.kind)
-        if said is None:
-            kind = part.kind.removeprefix("Source").lower()
-            record = self._records.entry("whole" if kind == "grandfathered" else kind, part.text)
-            said = _record(record) if record else "not registered"
-        return f"<li>{shown(part.text)} <strong>{_words(part.kind)}</strong>: {said}</li>"
+    def _said(self, row: Row) -> str:
+        """The record of a part, or else what the part does."""
+        return _record(self._records[row.record - 1]) if row.record else _PARTS.get(row.kind, "not registered")
 
     def _steps(self, tag: Tag) -> str:
         """The steps from a tag to its canonical tag, which it has."""
@@ -210,7 +207,7 @@ class Page:
         before = str(tag)
         for step in steps:
             changed = before if step.kind == "Whole" else before.split("-")[step.place - 1]
-            record = f", by {_record(self._records.numbered(step.number))}" if step.number else ""
+            record = f", by {_record(self._records[step.number - 1])}" if step.number else ""
             items.append(f"<li>{shown(changed)} <strong>{_words(step.kind)}</strong>: {_STEPS[step.kind]}. "
                          f"The tag is now {shown(step.tag, _LONGEST_TAG)}{record}</li>")
             before = step.tag

@@ -8,6 +8,29 @@ from pathlib import Path
 import bcp47
 
 SAMPLE, IANA = sys.argv[1:3]
+DESCRIBED = b"""File-Date: 2000-01-01
+%%
+Type: language
+Subtag: zh
+Description: Chinese
+Added: 2005-10-16
+Scope: macrolanguage
+%%
+Type: extlang
+Subtag: yue
+Description: Yue
+  Chinese
+description: "Cantonese" \xe7\xb2\xb5
+Preferred-Value: yue
+Prefix: zh
+%%
+Type: language
+Subtag: yue
+%%
+Type: redundant
+Tag: zh-Hant
+Description: traditional
+"""
 
 
 class Examples(unittest.TestCase):
@@ -102,6 +125,24 @@ class Calls(unittest.TestCase):
         self.assertEqual(self.registry.canonical(bcp47.Tag("iw")), "he")
         self.assertRaises(bcp47.RefusedTag, bcp47.Tag, "e")
 
+    def test_show(self):
+        with bcp47.Registry.from_bytes(DESCRIBED) as registry:
+            chinese = bcp47.Row(1, "Language", "zh", "Record", 2, (("Description", "Chinese"), ("Scope", "macrolanguage")))
+            yue = bcp47.Row(2, "Extlang", "yue", "Record", 3, (("Description", "Yue Chinese"), ("description", '"Cantonese" 粵'),
+                                                             ("Preferred-Value", "yue")))
+            self.assertEqual(registry.show("ZH-YUE"), [chinese, yue])
+            self.assertEqual((yue.bodies("description"), yue.bodies("Scope")), (("Yue Chinese", '"Cantonese" 粵'), ()))
+            self.assertEqual(registry.show(bcp47.Tag("zh-hant-x-own")),
+                             [chinese, (2, "Script", "Hant", "Unregistered", None, ()),
+                              (3, "PrivateUseSingleton", "x", "Unlisted", None, ()), (4, "PrivateUse", "own", "Unlisted", None, ())])
+            self.assertEqual(registry.show("zh-HANT")[0], (1, "Whole", "zh-Hant", "Record", 5, (("Description", "traditional"),)))
+            with self.assertRaises(bcp47.RefusedTag) as raised:
+                registry.show("en_US")
+            self.assertEqual((raised.exception.tag, str(raised.exception)), ("en_US", "BadByte 1"))
+            self.assertEqual(len(registry.show("x" + "-a" * 500)), 501)
+            self.assertRaises(TypeError, registry.show, b"zh")
+            self.assertRaises(UnicodeEncodeError, registry.show, "zh-\udc80")
+
     def test_many(self):
         answers = self.registry.canonical_many(["zh-yue", "en_US", bcp47.Tag("iw"), ""])
         self.assertEqual([str(answer) for answer in answers], ["yue", "BadByte 1", "he", "EmptySubtag 1"])
@@ -131,7 +172,7 @@ class Calls(unittest.TestCase):
         with self.registry as registry:
             pass
         registry.close()
-        for call in (registry.canonical, registry.extlang, registry.validate, registry.explain):
+        for call in (registry.canonical, registry.extlang, registry.validate, registry.explain, registry.show):
             self.assertRaises(ValueError, call, "en")
         self.assertRaises(ValueError, registry.canonical_many, ["en"])
         self.assertRaises(ValueError, registry.verify, "en", [])

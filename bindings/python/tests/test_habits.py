@@ -197,6 +197,19 @@ class Threads(unittest.TestCase):
                         self.assertEqual(str(error), "the registry is closed")
             self.assertTrue(own.closed)
 
+    def test_the_first_call_that_shows_a_tag_is_made_by_many(self):
+        for _ in range(20):
+            own = bcp47.Registry.from_file(SAMPLE)
+            with concurrent.futures.ThreadPoolExecutor(8) as pool:
+                answers = [pool.submit(own.show, "zh-yue") for _ in range(40)]
+                time.sleep(0.001)
+                own.close()
+                for answer in answers:
+                    try:
+                        self.assertEqual([row.text for row in answer.result(60)], ["zh", "yue"])
+                    except ValueError as error:
+                        self.assertEqual(str(error), "the registry is closed")
+
     def test_other_threads_go_on(self):
         """A thread runs while another one's call is under way."""
         turns = []
@@ -272,7 +285,7 @@ class Memory(unittest.TestCase):
             registry.canonical_many(tags)
             registry.canonical_columns(tags)
             for tag in ("zh-yue", "en_US", "sgn-dd"):
-                for call in (registry.canonical, registry.extlang, registry.validate, registry.explain, bcp47.Tag):
+                for call in (registry.canonical, registry.extlang, registry.validate, registry.explain, registry.show, bcp47.Tag):
                     try:
                         call(tag)
                     except bcp47.RefusedTag:
@@ -290,11 +303,11 @@ class Memory(unittest.TestCase):
 
         for _ in range(20):
             ask_all()
-            bcp47.Registry.from_file(SAMPLE)
+            bcp47.Registry.from_file(SAMPLE).show("en")
         before = held()
         for _ in range(200):
             ask_all()
-            bcp47.Registry.from_file(SAMPLE)
+            bcp47.Registry.from_file(SAMPLE).show("en")
         self.assertLess(held() - before, 2 << 20)
 
 
@@ -317,6 +330,7 @@ class Growths(unittest.TestCase):
             (lambda: registry.info.entries, registry.info.entries),
             (lambda: registry.canonical_many(["iw", None, tag]), ["he", None, "yue"]),
             (lambda: registry.canonical_columns(["e_n", "iw"]), ([None, "he"], ["BadByte 1", None])),
+            (lambda: registry._show_rows("x-a"), registry._show_rows("x-a")),
             (lambda: bcp47.Registry.from_bytes(b"").info.entries, 0),
         ]
         refused = 0

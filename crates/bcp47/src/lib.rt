@@ -14,15 +14,16 @@ pub use errors::RegistryError;
 pub use lt_accept::{AcceptFault, AcceptFaultKind, AcceptLanguage, WeightedRange};
 pub use lt_canon::{Refusal, TextRefusal, Trace, TraceFault};
 pub use lt_check::{Condition, Finding};
-pub use lt_jar::{Device, JarFault, JarFaultKind};
+pub use lt_jar::{Device, Jar, JarFault, JarFaultKind, JarField, Record, read_jar};
 pub use lt_match::RangeRefusal;
 pub use lt_parts::{Part, PartKind, parts};
 pub use lt_range::{LanguageRange, RangeFault, TagSubtags, filter_basic, filter_extended, lookup};
 pub use lt_registry::{
     Entry, EntryName, EntryValue, Kind, Prefix, RecordFault, RecordFaultKind, ValidFault,
-    ValidFaultKind, ValidRefusal,
+    ValidFaultKind, ValidRefusal, WholeTag,
 };
 pub use lt_rewrite::{Step, StepKind};
+pub use lt_show::{Listing, Row, Subject, fields_of, is_shown};
 pub use lt_subtag::{Case, Subtag, SubtagFault};
 pub use lt_tag::{
     Class, Core, Extension, Field, Keyword, OutOfMemory, TParts, Tag, TagFault, TagFaultKind,

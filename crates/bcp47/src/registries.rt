@@ -1,5 +1,5 @@
 //! A registry that passes the check, and what it says of tags.
-ghost use Rattle.std.specs.Prelude.{◌≡◌, Ok, OnOk, OnErr, IfOk, IfErr, Err, Some};
+ghost use Rattle.std.specs.Prelude.{◌≡◌, ◌++◌, Ok, OnOk, OnErr, IfOk, IfErr, Err, Some};
 ghost use Rattle.std.specs.Option.{option_copied};
 ghost use Rattle.lt_registry.specs.Entries as listed;
 ghost use Rattle.lt_registry.specs.Faults as validity;
@@ -15,6 +15,8 @@ ghost use Rattle.lt_canon.specs.Texts.{AppendsCanonicalText, IsCanonicalTextOf, 
 ghost use Rattle.lt_canon.specs.Traces.{IsTraceFault, IsValidTrace};
 ghost use Rattle.lt_match.specs.Matched.{HasCanonicalList, IsCanonicalRange};
 ghost use Rattle.lt_match.specs.Refusals.{IsRangeRefusal};
+ghost use Rattle.lt_show.specs.Json.{rows_value};
+ghost use Rattle.lt_show.specs.Rows.{rows_of};
 ghost use Rattle.lt_upgrade.specs.Laws.{UpgradeKeepsTags};
 ghost use Rattle.lt_upgrade.specs.Upgrade.{Upgrades};
 ghost use Rattle.lt_upgrade.specs.UpgradeChecking.{IsUpgradeFault};
@@ -26,12 +28,13 @@ use crate::readings::read_entries;
 use lt_canon::laws::confluence;
 use lt_canon::{Refusal, TextRefusal, Trace, TraceFault};
 use lt_check::{Checked, RejectedCause};
-use lt_jar::Device;
+use lt_jar::{Device, Record};
 use lt_match::RangeRefusal;
 use lt_range::{LanguageRange, TagSubtags};
 use lt_registry::{Entry, Kind, Lookup, Registry as Entries, SortedTable, ValidRefusal};
+use lt_show::Row;
 use lt_subtag::Subtag;
-use lt_tag::Tag;
+use lt_tag::{OutOfMemory, Tag};
 use lt_upgrade::UpgradeFault;
 use std::alloc::Global;
 use std::fmt;
@@ -299,6 +302,33 @@ impl Registry {
         ensures named { IfErr result (λ refusal. NamesRepeat self.now tag.now refusal) }
     {
         lt_match::canonical_subtags(alloc, &self.checked, tag)
+    }
+
+    /// What the registry has for the parts of a tag, in order: of each its place, what it is, where it is in the text that
+    /// [`write_tag`](crate::write_tag) gives, and its record (RFC 5646, 3.1.4). A tag that is registered as redundant has a
+    /// row for the whole of it first. What a record says is in the file: [`fields_of`](crate::fields_of) gives the fields of
+    /// a number among the records of [`read_jar`](crate::read_jar). The only refusal is running out of memory.
+    pub fn rows(&self, alloc: Global, tag: &Tag) -> Result<Vec<Row>, OutOfMemory>
+        ensures { IfOk result (λ rows. rows.items ≡ rows_of self.now tag.now) }
+    {
+        lt_show::rows_of(alloc, self.checked.table(), tag)
+    }
+
+    /// Appends the [`rows`](Registry::rows) of a tag as an array of JSON (RFC 8259) to other texts, with the fields that
+    /// [`is_shown`](crate::is_shown) shows of their records among these, which are those of the file: of each row an object
+    /// with the members `place`, `kind`, `text`, `listing` (`Record`, `Unregistered` or `Unlisted`), `record` (its number, or
+    /// null) and `fields`, an array of objects with a `name` and a `body`. The only refusal is running out of memory, after
+    /// which a front of it may have been appended.
+    pub fn append_rows(
+        &self,
+        alloc: Global,
+        records: &[Record],
+        tag: &Tag,
+        texts: &mut Vec<u8>,
+    ) -> Result<(), OutOfMemory>
+        ensures { OnOk result (texts.new.items ≡ texts.old.items ++ rows_value self.now records.now tag.now) }
+    {
+        lt_show::append_rows(texts, alloc, self.checked.table(), records, tag)
     }
 
     /// Whether a newer registry upgrades this one: whether it meets each

@@ -1,10 +1,14 @@
 -- How each call ends.
-use Rattle.std.specs.Prelude.{ℕ, ◌≡◌, ◌⊎◌, if◌then◌else◌, Bool, List, [], Some, None, Ok, Err}
+use Rattle.std.specs.Prelude.{ℕ, ◌≡◌, ◌≢◌, ◌⊎◌, if◌then◌else◌, Bool, List, [], Some, None, Ok, Err}
 use Rattle.lt_tag.specs.Classes.{class_of}
 use Rattle.lt_tag.specs.Conventional.{conventional}
 use Rattle.lt_tag.specs.Faults.{HasTag}
 use Rattle.lt_tag.specs.Parts.{TagForm}
 use Rattle.lt_tag.specs.WellFormed.{spell}
+use Rattle.lt_jar.specs.Records.{Field, HasRecords}
+use Rattle.lt_jar.specs.Views.{IsFaultOf}
+use Rattle.lt_jar.specs.declared.faults.JarFault.{JarFault}
+use Rattle.lt_jar.specs.declared.faults.JarFaultKind.TheVariants as jar_kinds
 use Rattle.lt_registry.specs.Parts.{EntryParts}
 use Rattle.lt_canon.specs.Texts.{IsTextRefusal}
 use Rattle.lt_upgrade.specs.Laws.{UpgradeKeepsTags}
@@ -19,12 +23,13 @@ use Rattle.bcp47.specs.declared.errors.RegistryError.TheVariants as errors
 use Rattle.bcp47_c.specs.Handles.{Held}
 use Rattle.bcp47_c.specs.Numbers.{class, condition, file_fault, record_fault, upgrade_condition}
 use Rattle.bcp47_c.specs.Outcomes.{ended, outcome, IsDelivered, IsRefusedAsOwed}
+use Rattle.bcp47_c.specs.Records.{Kept}
 use Rattle.lt_canon.specs.TextAnswers.{IsEqualityOf, IsPairRefusal, IsValidityRefusal}
 use Rattle.bcp47_c.specs.Texts.{IsReadingRefusal, IsStepCount, IsValidText}
 use Rattle.bcp47_c.specs.declared.outcomes.Outcome.{Outcome}
 use Rattle.bcp47_c.specs.declared.outcomes.Said.{Said}
 
--- ---- opening and sharing
+-- ---- opening, sharing and keeping
 
 -- what is said of bytes that are no registry
 abbrev pub error_said : RegistryError → Said
@@ -33,10 +38,10 @@ error_said (errors.Record fault) = record { status = 8; detail = record_fault fa
 error_said (errors.Check finding) = record { status = 9; detail = condition finding.condition; place = finding.number }
 error_said errors.OutOfMemory = ended 4
 
--- the registry that the bytes are is held
+-- the registry that the bytes are is held, and no record is kept with it
 pub record IsOpened (held : Held) (bytes before after : List ℕ) (o : Outcome) : Type 0 where
   pub registry : List EntryParts
-  pub holds : held ≡ Some registry
+  pub holds : held ≡ Some (registry, [])
   pub read : ReadsBytes bytes (Ok registry)
   pub delivered : IsDelivered (ended 0) [] before after o
 
@@ -60,8 +65,26 @@ abbrev pub Opens : Held → List ℕ → List ℕ → List ℕ → Outcome → T
 Opens held bytes before after o = IsOpened held bytes before after o ⊎ IsNotOpened held bytes before after o
 
 -- another handle holds the same registry, or memory ran out for it
-abbrev pub Shares : List EntryParts → Held → ℕ → Type 0
+abbrev pub Shares : Kept → Held → ℕ → Type 0
 Shares registry held status = ((status ≡ 0) × (held ≡ Some registry)) ⊎ ((status ≡ 4) × (held ≡ None))
+
+-- the records of the bytes are kept with the registry (RFC 5646, 3.1.1)
+pub record IsKept (registry : Kept) (held : Held) (bytes : List ℕ) : Type 0 where
+  pub records : List (List Field)
+  pub read : HasRecords bytes records
+  pub holds : held ≡ Some (registry.0, records)
+
+-- the bytes are not in the format
+pub record HasNoRecords (bytes : List ℕ) : Type 0 where
+  pub fault : JarFault
+  pub owed : IsFaultOf bytes fault
+  pub named : fault.kind ≢ jar_kinds.OutOfMemory
+
+-- the records are kept; or what was held is held, since the bytes are not in the format, or memory ran out
+abbrev pub Keeps : Kept → Held → List ℕ → ℕ → Type 0
+Keeps registry held bytes status =
+    ((status ≡ 0) × IsKept registry held bytes)
+    ⊎ ((((status ≡ 7) × HasNoRecords bytes) ⊎ (status ≡ 4)) × (held ≡ Some registry))
 
 -- ---- tags
 

@@ -1,3 +1,4 @@
+pub mod Records
 pub mod Handles
 pub mod Numbers
 pub mod Names

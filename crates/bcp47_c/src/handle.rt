@@ -1,8 +1,8 @@
 //! What C holds. A handle has no `Drop`, and its fields are private to this file: what could lose a registry stands here
 //! alone.
-ghost use Rattle.std.specs.Prelude.{◌≡◌, List, Some, None};
-ghost use Rattle.lt_registry.specs.Parts.{EntryParts};
+ghost use Rattle.std.specs.Prelude.{◌≡◌, Some, None};
 ghost use Rattle.bcp47_c.specs.Handles.{Held, held_owns, held_coded};
+ghost use Rattle.bcp47_c.specs.Records.{Kept};
 
 use crate::blocks::Block;
 use crate::opened::Opened;
@@ -11,8 +11,8 @@ use std::marker::Model;
 use std::mem::replace;
 use std::ptr::null_mut;
 
-/// What C holds: a registry, or nothing, as bytes do that are all zero. A contract sees its entries.
-/// `bcp47_handle_open` and `bcp47_handle_share` open it, `bcp47_handle_close` closes it.
+/// What C holds: a registry, or nothing, as bytes do that are all zero. A contract sees its entries, and the records that are
+/// kept with them. `bcp47_handle_open` and `bcp47_handle_share` open it, `bcp47_handle_close` closes it.
 #[repr(C)]
 pub struct Handle {
     place: *mut u8,
@@ -45,7 +45,7 @@ impl Handle {
 
     /// The block of the registry that a handle holds.
     fn into_block(self) -> Block<Opened, Global>
-        ghost registry: { List EntryParts }
+        ghost registry: { Kept }
         requires { self.held ≡ Some registry }
         ensures { result.value ≡ registry }
     {
@@ -59,7 +59,7 @@ impl Handle {
 
 /// Takes the registry that a handle holds out of it.
 pub(crate) fn take(alloc: Global, handle: &mut Handle) -> Box<Opened>
-    ghost registry: { List EntryParts }
+    ghost registry: { Kept }
     requires { handle.old.held ≡ Some registry }
     ensures value { result.value ≡ registry }
     ensures empty { handle.new.held ≡ None }

@@ -5,19 +5,20 @@
 //! fit its buffer is not written; the status is then 5, and the length is the one that is needed.
 #![tactic(auto)]
 
-ghost use Rattle.std.specs.Prelude.{◌≡◌, ◌≤◌, ◌<◌, ◌≢◌, List, [], Some, None, length, slice_index_or};
+ghost use Rattle.std.specs.Prelude.{◌≡◌, ◌≤◌, ◌<◌, ◌≢◌, [], Some, None, length, slice_index_or};
 ghost use Rattle.sha2.specs.Sha256.{sha256};
-ghost use Rattle.lt_registry.specs.Parts.{EntryParts};
 ghost use Rattle.lt_rewrite.specs.Names.{name_of};
 ghost use Rattle.lt_rewrite.specs.declared.steps.StepKind.{StepKind};
 ghost use Rattle.lt_canon.specs.ExplanationTexts.{IsExplanationTextOf};
 ghost use Rattle.lt_canon.specs.TextAnswers.{IsExtlangTextOf};
 ghost use Rattle.lt_canon.specs.Texts.{IsCanonicalTextOf, IsTextRefusal};
-ghost use Rattle.bcp47_c.specs.Ends.{ChecksUpgrade, Classifies, Compares, CountsSteps, Opens, Shares, Validates};
+ghost use Rattle.bcp47_c.specs.Ends.{ChecksUpgrade, Classifies, Compares, CountsSteps, Keeps, Opens, Shares, Validates};
 ghost use Rattle.bcp47_c.specs.Matches.{Matches};
 ghost use Rattle.bcp47_c.specs.Names.{fault_names, status_names};
 ghost use Rattle.bcp47_c.specs.Numbers as number_of;
 ghost use Rattle.bcp47_c.specs.Outcomes.{Answers, IsDelivered, ended};
+ghost use Rattle.bcp47_c.specs.Records.{AreRowsOf, Kept};
+ghost use Rattle.bcp47_c.specs.Texts.{IsReadingRefusal};
 ghost use Rattle.bcp47_c.specs.Traces.{Verifies};
 
 mod blocks;
@@ -74,7 +75,7 @@ pub extern "C" fn bcp47_handle_open(
 /// Lets another handle, which holds nothing, hold the same registry: 0, or 4 where memory runs out.
 #[unsafe(no_mangle)]
 pub extern "C" fn bcp47_handle_share(alloc: Global, handle: &mut Handle, other: &mut Handle) -> u8
-    ghost registry: { List EntryParts }
+    ghost registry: { Kept }
     requires open { handle.old.held ≡ Some registry }
     requires empty { other.old.held ≡ None }
     ensures kept { handle.new.held ≡ Some registry }
@@ -92,10 +93,26 @@ pub extern "C" fn bcp47_handle_share(alloc: Global, handle: &mut Handle, other: 
     }
 }
 
+/// Keeps the records of bytes with a registry (RFC 5646, 3.1.1): 0. Its entries are of these records where it was opened from
+/// the same bytes.
+///
+/// Status 7 says that the bytes are not in the format, and 4 that memory ran out. What was held is held then.
+#[unsafe(no_mangle)]
+pub extern "C" fn bcp47_handle_keep(alloc: Global, handle: &mut Handle, bytes: &[u8]) -> u8
+    ghost registry: { Kept }
+    requires { handle.old.held ≡ Some registry }
+    ensures { Keeps registry handle.new.held bytes.now result }
+{
+    let mut opened = take(alloc, handle);
+    let status = opened.keep(alloc, bytes);
+    put(handle, opened);
+    status
+}
+
 /// Closes a registry: the handle holds nothing then. What it held is freed where no other handle holds it.
 #[unsafe(no_mangle)]
 pub extern "C" fn bcp47_handle_close(alloc: Global, handle: &mut Handle)
-    ghost registry: { List EntryParts }
+    ghost registry: { Kept }
     requires { handle.old.held ≡ Some registry }
     ensures { handle.new.held ≡ None }
 {
@@ -105,10 +122,10 @@ pub extern "C" fn bcp47_handle_close(alloc: Global, handle: &mut Handle)
 /// How many entries the registry has: one for each record but the header.
 #[unsafe(no_mangle)]
 pub extern "C" fn bcp47_handle_entries(alloc: Global, handle: &mut Handle) -> usize
-    ghost registry: { List EntryParts }
+    ghost registry: { Kept }
     requires { handle.old.held ≡ Some registry }
     ensures kept { handle.new.held ≡ Some registry }
-    ensures count { result ≡ length registry }
+    ensures count { result ≡ length registry.0 }
 {
     let opened = take(alloc, handle);
     let count = opened.count();
@@ -137,10 +154,10 @@ pub extern "C" fn bcp47_handle_canonical(
     text: &[u8],
     buffer: &mut [u8],
 ) -> Outcome
-    ghost registry: { List EntryParts }
+    ghost registry: { Kept }
     requires { handle.old.held ≡ Some registry }
     ensures kept { handle.new.held ≡ Some registry }
-    ensures answer { Answers (IsCanonicalTextOf registry text.now) (IsTextRefusal registry text.now) buffer.old buffer.new result }
+    ensures answer { Answers (IsCanonicalTextOf registry.0 text.now) (IsTextRefusal registry.0 text.now) buffer.old buffer.new result }
 {
     let mut opened = take(alloc, handle);
     let outcome = opened.canonical(alloc, text, buffer);
@@ -157,10 +174,10 @@ pub extern "C" fn bcp47_handle_extlang(
     text: &[u8],
     buffer: &mut [u8],
 ) -> Outcome
-    ghost registry: { List EntryParts }
+    ghost registry: { Kept }
     requires { handle.old.held ≡ Some registry }
     ensures kept { handle.new.held ≡ Some registry }
-    ensures answer { Answers (IsExtlangTextOf registry text.now) (IsTextRefusal registry text.now) buffer.old buffer.new result }
+    ensures answer { Answers (IsExtlangTextOf registry.0 text.now) (IsTextRefusal registry.0 text.now) buffer.old buffer.new result }
 {
     let mut opened = take(alloc, handle);
     let outcome = opened.extlang(alloc, text, buffer);
@@ -178,7 +195,7 @@ pub extern "C" fn bcp47_handle_classify(
     text: &[u8],
     buffer: &mut [u8],
 ) -> Outcome
-    ghost registry: { List EntryParts }
+    ghost registry: { Kept }
     requires { handle.old.held ≡ Some registry }
     ensures kept { handle.new.held ≡ Some registry }
     ensures answer { Classifies text.now buffer.old buffer.new result }
@@ -207,13 +224,37 @@ pub extern "C" fn bcp47_handle_explain(
     text: &[u8],
     buffer: &mut [u8],
 ) -> Outcome
-    ghost registry: { List EntryParts }
+    ghost registry: { Kept }
     requires { handle.old.held ≡ Some registry }
     ensures kept { handle.new.held ≡ Some registry }
-    ensures answer { Answers (IsExplanationTextOf registry text.now) (IsTextRefusal registry text.now) buffer.old buffer.new result }
+    ensures answer { Answers (IsExplanationTextOf registry.0 text.now) (IsTextRefusal registry.0 text.now) buffer.old buffer.new result }
 {
     let opened = take(alloc, handle);
     let outcome = opened.explain(alloc, text, buffer);
+    put(handle, opened);
+    outcome
+}
+
+/// Writes what the registry has for the parts of the tag that a text is read as, in order, with the fields of the records that
+/// are kept: an array of JSON (RFC 8259) of objects with the members `place`, `kind`, `text`, `listing` (`Record`, `Unregistered`
+/// or `Unlisted`), `record` (its number, or null) and `fields`, an array of objects with a `name` and a `body`. A tag that is
+/// registered as redundant has an object for the whole of it first. The tag need not be valid.
+///
+/// Status 1 says that the text is no tag, with the number of the fault and its place; 4 that memory ran out.
+#[unsafe(no_mangle)]
+pub extern "C" fn bcp47_handle_show(
+    alloc: Global,
+    handle: &mut Handle,
+    text: &[u8],
+    buffer: &mut [u8],
+) -> Outcome
+    ghost registry: { Kept }
+    requires { handle.old.held ≡ Some registry }
+    ensures kept { handle.new.held ≡ Some registry }
+    ensures answer { Answers (AreRowsOf registry text.now) (IsReadingRefusal text.now) buffer.old buffer.new result }
+{
+    let opened = take(alloc, handle);
+    let outcome = opened.show(alloc, text, buffer);
     put(handle, opened);
     outcome
 }
@@ -227,10 +268,10 @@ pub extern "C" fn bcp47_handle_count_steps(
     text: &[u8],
     buffer: &mut [u8],
 ) -> Outcome
-    ghost registry: { List EntryParts }
+    ghost registry: { Kept }
     requires { handle.old.held ≡ Some registry }
     ensures kept { handle.new.held ≡ Some registry }
-    ensures answer { CountsSteps registry text.now buffer.old buffer.new result }
+    ensures answer { CountsSteps registry.0 text.now buffer.old buffer.new result }
 {
     let opened = take(alloc, handle);
     let outcome = opened.count_steps(alloc, text, buffer);
@@ -251,10 +292,10 @@ pub extern "C" fn bcp47_handle_verify(
     steps: &[StepNumbers],
     last: &[u8],
 ) -> Outcome
-    ghost registry: { List EntryParts }
+    ghost registry: { Kept }
     requires { handle.old.held ≡ Some registry }
     ensures kept { handle.new.held ≡ Some registry }
-    ensures answer { Verifies registry text.now steps.now last.now result }
+    ensures answer { Verifies registry.0 text.now steps.now last.now result }
 {
     let opened = take(alloc, handle);
     let outcome = opened.verify(alloc, text, steps, last);
@@ -266,10 +307,10 @@ pub extern "C" fn bcp47_handle_verify(
 /// no tag, 2 that the tag is not valid, both with the number of the fault and its place; 4 that memory ran out.
 #[unsafe(no_mangle)]
 pub extern "C" fn bcp47_handle_validate(alloc: Global, handle: &mut Handle, text: &[u8]) -> Outcome
-    ghost registry: { List EntryParts }
+    ghost registry: { Kept }
     requires { handle.old.held ≡ Some registry }
     ensures kept { handle.new.held ≡ Some registry }
-    ensures answer { Validates registry text.now result }
+    ensures answer { Validates registry.0 text.now result }
 {
     let opened = take(alloc, handle);
     let outcome = opened.validate(alloc, text);
@@ -290,10 +331,10 @@ pub extern "C" fn bcp47_handle_equal(
     second: &[u8],
     buffer: &mut [u8],
 ) -> Outcome
-    ghost registry: { List EntryParts }
+    ghost registry: { Kept }
     requires { handle.old.held ≡ Some registry }
     ensures kept { handle.new.held ≡ Some registry }
-    ensures answer { Compares registry first.now second.now buffer.old buffer.new result }
+    ensures answer { Compares registry.0 first.now second.now buffer.old buffer.new result }
 {
     let opened = take(alloc, handle);
     let outcome = opened.equal(alloc, first, second, buffer);
@@ -319,10 +360,10 @@ pub extern "C" fn bcp47_handle_match(
     tag: &[u8],
     buffer: &mut [u8],
 ) -> Outcome
-    ghost registry: { List EntryParts }
+    ghost registry: { Kept }
     requires { handle.old.held ≡ Some registry }
     ensures kept { handle.new.held ≡ Some registry }
-    ensures answer { Matches registry scheme range.now tag.now buffer.old buffer.new result }
+    ensures answer { Matches registry.0 scheme range.now tag.now buffer.old buffer.new result }
 {
     let opened = take(alloc, handle);
     let outcome = opened.matches(alloc, scheme, range, tag, buffer);
@@ -332,10 +373,10 @@ pub extern "C" fn bcp47_handle_match(
 
 /// Whether the registry that a handle holds upgrades an older one.
 fn check_newer(alloc: Global, older: &Opened, newer: &mut Handle) -> Outcome
-    ghost registry: { List EntryParts }
+    ghost registry: { Kept }
     requires { newer.old.held ≡ Some registry }
     ensures kept { newer.new.held ≡ Some registry }
-    ensures answer { ChecksUpgrade older.now registry result }
+    ensures answer { ChecksUpgrade older.now.0 registry.0 result }
 {
     let opened = take(alloc, newer);
     let outcome = older.upgrade_check(alloc, &opened);
@@ -351,12 +392,12 @@ pub extern "C" fn bcp47_handle_upgrade_check(
     older: &mut Handle,
     newer: &mut Handle,
 ) -> Outcome
-    ghost registry: { List EntryParts × List EntryParts }
+    ghost registry: { Kept × Kept }
     requires older { older.old.held ≡ Some registry.0 }
     requires newer { newer.old.held ≡ Some registry.1 }
     ensures kept { older.new.held ≡ Some registry.0 }
     ensures kept_newer { newer.new.held ≡ Some registry.1 }
-    ensures answer { ChecksUpgrade registry.0 registry.1 result }
+    ensures answer { ChecksUpgrade registry.0.0 registry.1.0 result }
 {
     let opened = take(alloc, older);
     let outcome = check_newer(alloc, &opened, newer);

@@ -1,22 +1,24 @@
 //! What a handle holds.
-ghost use Rattle.std.specs.Prelude.{◌≡◌, IfOk, IfErr, Ok, Err, length};
+ghost use Rattle.std.specs.Prelude.{◌≡◌, IfOk, IfErr, Ok, Err, Some, [], length};
 ghost use Rattle.lt_canon.specs.ExplanationTexts.{IsExplanationTextOf};
 ghost use Rattle.lt_canon.specs.Texts.{IsCanonicalTextOf, IsTextRefusal};
 ghost use Rattle.bcp47.specs.Promise.{ReadsBytes};
-ghost use Rattle.bcp47_c.specs.Ends.{ChecksUpgrade, Classifies, Compares, CountsSteps, Validates};
+ghost use Rattle.bcp47_c.specs.Ends.{ChecksUpgrade, Classifies, Compares, CountsSteps, Keeps, Validates};
 ghost use Rattle.bcp47_c.specs.Matches.{Matches};
 ghost use Rattle.bcp47_c.specs.Outcomes.{Answers};
+ghost use Rattle.bcp47_c.specs.Records.{AreRowsOf};
+ghost use Rattle.bcp47_c.specs.Texts.{IsReadingRefusal};
 ghost use Rattle.lt_canon.specs.TextAnswers.{IsExtlangTextOf};
 ghost use Rattle.bcp47_c.specs.Traces.{Verifies};
 
 use crate::errors::upgrade_said;
 use crate::matching::{answer_match, scheme_of};
-use crate::numbers::{BAD_CALL, DIFFERENT, DONE};
+use crate::numbers::{BAD_CALL, BAD_FILE, DIFFERENT, DONE, OUT_OF_MEMORY};
 use crate::outcomes::{Outcome, Said, deliver, ended, refuse};
 use crate::steps::StepNumbers;
-use crate::texts::{classify, equality, read_pair, step_count, validity, write_extlang};
+use crate::texts::{classify, equality, read_pair, rows_text, step_count, validity, write_extlang};
 use crate::traces::{judge, trace_said};
-use bcp47::{OutOfMemory, Registry, RegistryError};
+use bcp47::{Jar, JarFaultKind, OutOfMemory, Registry, RegistryError, read_jar};
 use std::alloc::Global;
 use std::marker::Model;
 use std::sync::Arc;
@@ -24,49 +26,83 @@ use std::sync::Arc;
 /// The bytes of texts for which a handle has room from the first.
 const TEXT_ROOM: usize = 1024;
 
-/// A registry, which other handles may hold too, and room for the text of one call after another.
+/// A registry and the records that are kept with it, both of which other handles may hold too, and room for the text of one
+/// call after another.
 #[derive(Drop)]
 pub(crate) struct Opened {
     registry: Arc<Registry>,
+    records: Arc<Jar>,
     texts: Vec<u8>,
 }
 
 impl Model for Opened {
-    ghost use Rattle.std.specs.Prelude.{List};
-    ghost use Rattle.lt_registry.specs.Parts.{EntryParts};
+    ghost use Rattle.bcp47_c.specs.Records.{Kept};
 
-    ghost Value = { List EntryParts };
+    ghost Value = { Kept };
 
-    ghost view = { λ o. o.registry.value };
+    ghost view = { λ o. (o.registry.value, o.records.value) };
 }
 
 impl Opened {
-    /// What a handle holds for a registry.
-    fn hold(alloc: Global, registry: Arc<Registry>) -> Result<Box<Opened>, OutOfMemory>
-        ensures { IfOk result (λ opened. opened.value ≡ registry.value) }
+    /// What a handle holds for a registry and records.
+    fn hold(
+        alloc: Global,
+        registry: Arc<Registry>,
+        records: Arc<Jar>,
+    ) -> Result<Box<Opened>, OutOfMemory>
+        ensures { IfOk result (λ opened. opened.value ≡ (registry.value, records.value)) }
     {
         let texts = Vec::with_capacity(alloc, TEXT_ROOM)?;
-        Ok(Box::new(alloc, Opened { registry, texts })?)
+        let opened = Opened {
+            registry,
+            records,
+            texts,
+        };
+        Ok(Box::new(alloc, opened)?)
     }
 
-    /// The registry whose text the bytes are.
+    /// What a handle holds for a registry with which no record is kept.
+    fn hold_alone(alloc: Global, registry: Registry) -> Result<Box<Opened>, OutOfMemory>
+        ensures { IfOk result (λ opened. opened.value ≡ (registry, [])) }
+    {
+        let records = Vec::new(alloc);
+        let none = Arc::new(alloc, Jar { records })?;
+        Opened::hold(alloc, Arc::new(alloc, registry)?, none)
+    }
+
+    /// The registry whose text the bytes are. No record is kept with it.
     pub(crate) fn read(alloc: Global, bytes: &[u8]) -> Result<Box<Opened>, RegistryError>
-        ensures read { IfOk result (λ opened. ReadsBytes bytes.now (Ok opened.value)) }
+        ensures read { IfOk result (λ opened. ReadsBytes bytes.now (Ok opened.value.0)) }
+        ensures none { IfOk result (λ opened. opened.value.1 ≡ []) }
         ensures error { IfErr result (λ error. ReadsBytes bytes.now (Err error)) }
     {
         let registry = Registry::from_bytes(alloc, bytes)?;
-        let Ok(shared) = Arc::new(alloc, registry) else {
-            return Err(RegistryError::OutOfMemory);
-        };
-        match Opened::hold(alloc, shared) {
+        match Opened::hold_alone(alloc, registry) {
             Ok(opened) => Ok(opened),
             Err(_) => Err(RegistryError::OutOfMemory),
         }
     }
 
+    /// Keeps the records of bytes with the registry in place of those that were kept, and answers the status.
+    pub(crate) fn keep(&mut self, alloc: Global, bytes: &[u8]) -> u8
+        ensures { Keeps self.old (Some self.new) bytes.now result }
+    {
+        match read_jar(alloc, bytes) {
+            Ok(jar) => match Arc::new(alloc, jar) {
+                Ok(records) => {
+                    self.records = records;
+                    DONE
+                }
+                Err(_) => OUT_OF_MEMORY,
+            },
+            Err(fault) if fault.kind == JarFaultKind::OutOfMemory => OUT_OF_MEMORY,
+            Err(_) => BAD_FILE,
+        }
+    }
+
     /// How many entries the registry has.
     pub(crate) fn count(&self) -> usize
-        ensures { result ≡ length self.now }
+        ensures { result ≡ length self.now.0 }
     {
         self.registry.entries().len()
     }
@@ -75,13 +111,14 @@ impl Opened {
     pub(crate) fn share(&self, alloc: Global) -> Result<Box<Opened>, OutOfMemory>
         ensures { IfOk result (λ opened. opened.value ≡ self.now) }
     {
-        Opened::hold(alloc, Arc::try_clone(&self.registry)?)
+        let registry = Arc::try_clone(&self.registry)?;
+        Opened::hold(alloc, registry, Arc::try_clone(&self.records)?)
     }
 
     /// Writes the canonical text of the tag that a text is read as.
     pub(crate) fn canonical(&mut self, alloc: Global, text: &[u8], buffer: &mut [u8]) -> Outcome
         ensures kept { self.new ≡ self.old }
-        ensures answer { Answers (IsCanonicalTextOf self.old text.now) (IsTextRefusal self.old text.now) buffer.old buffer.new result }
+        ensures answer { Answers (IsCanonicalTextOf self.old.0 text.now) (IsTextRefusal self.old.0 text.now) buffer.old buffer.new result }
     {
         self.texts.clear();
         match self
@@ -96,7 +133,7 @@ impl Opened {
     /// Writes the text of the extlang form of the tag that a text is read as.
     pub(crate) fn extlang(&mut self, alloc: Global, text: &[u8], buffer: &mut [u8]) -> Outcome
         ensures kept { self.new ≡ self.old }
-        ensures answer { Answers (IsExtlangTextOf self.old text.now) (IsTextRefusal self.old text.now) buffer.old buffer.new result }
+        ensures answer { Answers (IsExtlangTextOf self.old.0 text.now) (IsTextRefusal self.old.0 text.now) buffer.old buffer.new result }
     {
         if let Err(refusal) = write_extlang(alloc, &self.registry, text, &mut self.texts) {
             return refuse(&refusal, buffer);
@@ -114,7 +151,7 @@ impl Opened {
 
     /// Whether the tag that a text is read as is valid.
     pub(crate) fn validate(&self, alloc: Global, text: &[u8]) -> Outcome
-        ensures { Validates self.now text.now result }
+        ensures { Validates self.now.0 text.now result }
     {
         match validity(alloc, &self.registry, text) {
             Ok(()) => deliver(ended(DONE), &[], &mut []),
@@ -130,7 +167,7 @@ impl Opened {
         second: &[u8],
         buffer: &mut [u8],
     ) -> Outcome
-        ensures { Compares self.now first.now second.now buffer.old buffer.new result }
+        ensures { Compares self.now.0 first.now second.now buffer.old buffer.new result }
     {
         match equality(alloc, &self.registry, first, second) {
             Ok(true) => deliver(ended(DONE), &[], buffer),
@@ -148,7 +185,7 @@ impl Opened {
         tag: &[u8],
         buffer: &mut [u8],
     ) -> Outcome
-        ensures { Matches self.now scheme range.now tag.now buffer.old buffer.new result }
+        ensures { Matches self.now.0 scheme range.now tag.now buffer.old buffer.new result }
     {
         match scheme_of(scheme) {
             Some(known) => answer_match(alloc, &self.registry, known, range, tag, buffer),
@@ -158,7 +195,7 @@ impl Opened {
 
     /// Writes the explanation of the tag that a text is read as.
     pub(crate) fn explain(&self, alloc: Global, text: &[u8], buffer: &mut [u8]) -> Outcome
-        ensures { Answers (IsExplanationTextOf self.now text.now) (IsTextRefusal self.now text.now) buffer.old buffer.new result }
+        ensures { Answers (IsExplanationTextOf self.now.0 text.now) (IsTextRefusal self.now.0 text.now) buffer.old buffer.new result }
     {
         match self.registry.explanation_text(alloc, text) {
             Ok(lines) => deliver(ended(DONE), &lines, buffer),
@@ -166,9 +203,19 @@ impl Opened {
         }
     }
 
+    /// Writes what the registry has for the parts of the tag that a text is read as.
+    pub(crate) fn show(&self, alloc: Global, text: &[u8], buffer: &mut [u8]) -> Outcome
+        ensures { Answers (AreRowsOf self.now text.now) (IsReadingRefusal text.now) buffer.old buffer.new result }
+    {
+        match rows_text(alloc, &self.registry, self.records.records(), text) {
+            Ok(rows) => deliver(ended(DONE), &rows, buffer),
+            Err(refusal) => refuse(&refusal, buffer),
+        }
+    }
+
     /// Tells how many steps the explanation has of the tag that a text is read as.
     pub(crate) fn count_steps(&self, alloc: Global, text: &[u8], buffer: &mut [u8]) -> Outcome
-        ensures { CountsSteps self.now text.now buffer.old buffer.new result }
+        ensures { CountsSteps self.now.0 text.now buffer.old buffer.new result }
     {
         match step_count(alloc, &self.registry, text) {
             Ok(count) => {
@@ -191,7 +238,7 @@ impl Opened {
         steps: &[StepNumbers],
         last: &[u8],
     ) -> Outcome
-        ensures { Verifies self.now text.now steps.now last.now result }
+        ensures { Verifies self.now.0 text.now steps.now last.now result }
     {
         let (tag, last) = match read_pair(alloc, text, last) {
             Ok(pair) => pair,
@@ -205,7 +252,7 @@ impl Opened {
 
     /// Whether a newer registry upgrades this one.
     pub(crate) fn upgrade_check(&self, alloc: Global, newer: &Opened) -> Outcome
-        ensures { ChecksUpgrade self.now newer.now result }
+        ensures { ChecksUpgrade self.now.0 newer.now.0 result }
     {
         match self.registry.upgrade_check(alloc, &newer.registry) {
             Ok(()) => deliver(ended(DONE), &[], &mut []),

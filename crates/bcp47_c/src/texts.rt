@@ -4,12 +4,13 @@ ghost use Rattle.lt_tag.specs.Faults.{HasTag};
 ghost use Rattle.lt_canon.specs.Texts.{IsTextRefusal};
 ghost use Rattle.bcp47_c.specs.Ends.{Classifies};
 ghost use Rattle.lt_canon.specs.TextAnswers.{IsEqualityOf, IsExtlangTextOf, IsPairRefusal, IsValidityRefusal};
-ghost use Rattle.bcp47_c.specs.Texts.{IsStepCount, IsValidText};
+ghost use Rattle.bcp47_c.specs.Records.{AreRowsOf};
+ghost use Rattle.bcp47_c.specs.Texts.{IsReadingRefusal, IsStepCount, IsValidText};
 ghost use Rattle.bcp47_c.specs.Traces.{IsPairReadingRefusal};
 
 use crate::numbers::{DONE, class};
 use crate::outcomes::{Outcome, Said, deliver, refuse};
-use bcp47::{Refusal, Registry, Tag, TextRefusal, append_tag};
+use bcp47::{Record, Refusal, Registry, Tag, TextRefusal, append_tag};
 use std::alloc::Global;
 
 /// Makes a text that of the extlang form of the tag that another is read as.
@@ -67,6 +68,22 @@ pub(crate) fn step_count(
     let tag = Tag::read(alloc, text)?;
     let trace = registry.explain(alloc, &tag)?;
     Ok(trace.steps.len())
+}
+
+/// What a registry has for the parts of the tag that a text is read as, with the fields of records, as an array of JSON.
+pub(crate) fn rows_text(
+    alloc: Global,
+    registry: &Registry,
+    records: &[Record],
+    text: &[u8],
+) -> Result<Vec<u8>, TextRefusal>
+    ensures rows { IfOk result (λ rows. AreRowsOf (registry.now, records.now) text.now rows.items) }
+    ensures refusal { IfErr result (IsReadingRefusal text.now) }
+{
+    let tag = Tag::read(alloc, text)?;
+    let mut rows = Vec::new(alloc);
+    registry.append_rows(alloc, records, &tag, &mut rows)?;
+    Ok(rows)
 }
 
 /// Whether the tag that a text is read as is valid.

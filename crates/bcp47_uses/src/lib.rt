@@ -14,6 +14,8 @@ mod printing;
 #[cfg(test)]
 mod reading;
 #[cfg(test)]
+mod records;
+#[cfg(test)]
 mod tags;
 
 #[cfg(test)]

@@ -1,4 +1,4 @@
-//! How often each language is named in a list of tags, one on a line.
+//! How often each canonical tag is in a list of tags, one on a line.
 #![tactic(auto)]
 
 use bcp47::Registry;

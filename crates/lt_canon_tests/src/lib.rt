@@ -1,4 +1,4 @@
-//! Tests of the check, of canonical tags and of upgrades, over what is public.
+//! Tests of the check, of canonical tags, of upgrades, of ends and of recent answers, over what is public.
 #![tactic(auto)]
 
 #[cfg(test)]

@@ -4,6 +4,7 @@ mod ends;
 mod explanations;
 mod growths;
 mod hostile;
+mod recent;
 mod refusals;
 mod rounds;
 mod settled_ends;

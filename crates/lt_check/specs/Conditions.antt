@@ -39,8 +39,7 @@ HasRestingWhole R e = OfWhole e (λ t u. (c d : CoreParts) → u ≡ core_alone 
 abbrev pub HasAgreeingWhole : List EntryParts → EntryParts → Type 0
 HasAgreeingWhole R e = OfWhole e (λ t u. (c s p d : CoreParts) → t ≡ core_alone c → u ≡ core_alone p →
     IsCoreNormalForm R c s → s ≢ c → IsCoreNormalForm R p d →
-    (s ≡ d)
-    ⊎ ((q : CoreParts) × (whole_value R (core_alone s) ≡ Some (core_alone q)) × IsCoreNormalForm R q d))
+    (s ≡ d) ⊎ ((q : CoreParts) × (whole_value R (core_alone s) ≡ Some (core_alone q)) × IsCoreNormalForm R q d))
 
 -- a record meets a condition
 abbrev pub Meets : Condition → List EntryParts → EntryParts → Type 0

@@ -91,7 +91,7 @@ fn has_fitting_tag(entry: &Entry) -> bool
         ↔ (entry.now.kind ≡ kinds.Grandfathered → (number : ℕ) × (entry.now.name ≡ names.Whole (Grandfathered number))) }
 {
     match (entry.kind(), entry.name()) {
-        (Kind::Grandfathered, EntryName::Whole(tag)) => tag.grandfathered().is_some(),
+        (Kind::Grandfathered, EntryName::Whole(whole)) => whole.tag().grandfathered().is_some(),
         _ => true,
     }
 }

@@ -34,7 +34,7 @@ fn is_new<L: Lookup>(table: &L, seen: &mut RangeNames, entry: &Entry) -> Result<
     match entry.name() {
         EntryName::Single(subtag) => Ok(is_entry(table.entry(entry.kind(), subtag), entry)),
         EntryName::Range(first, last) => seen.add(entry.kind(), first, last),
-        EntryName::Whole(tag) => Ok(is_entry(table.whole(tag), entry)),
+        EntryName::Whole(whole) => Ok(is_entry(table.whole(whole.tag()), entry)),
     }
 }
 

@@ -1,4 +1,5 @@
 //! The commands on registries and tags.
+mod coded;
 mod hostile;
 mod matched;
 mod registries;

@@ -14,11 +14,11 @@ use Rattle.lt_rows.specs.declared.quotes.Place.{Place}
 use Rattle.lt_rows.specs.declared.quotes.Place.TheVariants as places
 use Rattle.lt_rows.specs.declared.rows.Separator.{Separator}
 use Rattle.lt_rows.specs.declared.rows.Separator.TheVariants as separators
-use Rattle.lt_lines.specs.Running.{HasRead}
-use Rattle.lt_lines.specs.declared.faults.ToolFault.{ToolFault}
-use Rattle.lt_lines.specs.declared.faults.ToolFault.TheVariants as faults
-use Rattle.lt_lines.proofs.DeviceLemmas.{failed_from}
-use Rattle.lt_lines.proofs.RunLemmas.{ReadsPiece, read_more}
+use Rattle.lt_stream.specs.Running.{HasRead}
+use Rattle.lt_stream.specs.declared.faults.ToolFault.{ToolFault}
+use Rattle.lt_stream.specs.declared.faults.ToolFault.TheVariants as faults
+use Rattle.lt_stream.proofs.DeviceLemmas.{failed_from}
+use Rattle.lt_stream.proofs.ReadLemmas.{ReadsPiece, read_more}
 use Rattle.lt_heading.specs.Headings.{BeginsText, EndsReading, EndsRow, EndsText, FinishesText, HasHeading, HasLongHeading, HasOpenHeading, IsBegun, IsFirstOf, IsGoing, IsMarked, IsRowIn, IsRowSoFar, IsUndecided, IsWholeRow, KnowsHeading, ReadsHeading, StopsHeading, StopsText, TakesPiece, TakesText, heading_in, long_fault, rows_of, taken_by}
 use Rattle.lt_heading.specs.declared.first_rows.FirstRow.{FirstRow}
 use Rattle.lt_heading.proofs.RowLemmas.{rows_ended, rows_last, rows_none}

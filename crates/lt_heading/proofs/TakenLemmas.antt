@@ -5,8 +5,8 @@ use Rattle.lt_rows.specs.Quotes.{is_quoted}
 use Rattle.lt_rows.specs.declared.quotes.Place.{Place}
 use Rattle.lt_rows.specs.declared.quotes.Place.TheVariants as places
 use Rattle.lt_rows.specs.declared.rows.Separator.{Separator}
-use Rattle.lt_lines.specs.declared.faults.ToolFault.{ToolFault}
-use Rattle.lt_lines.specs.declared.faults.ToolFault.TheVariants as faults
+use Rattle.lt_stream.specs.declared.faults.ToolFault.{ToolFault}
+use Rattle.lt_stream.specs.declared.faults.ToolFault.TheVariants as faults
 use Rattle.lt_heading.specs.Headings.{AppendsPart, BeginsLong, IsOneRow, IsRowSoFar, IsWholeRow, TakesText, is_open, long_fault, place_then}
 use Rattle.lt_heading.proofs.RowLemmas.{feed_within, one_more, place_more}
 

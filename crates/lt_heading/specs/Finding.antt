@@ -5,8 +5,8 @@ use Rattle.lt_jar.specs.Devices.{inner_of}
 use Rattle.lt_jar.specs.Sources.{most_reads}
 use Rattle.lt_jar.specs.declared.devices.Device.{Device}
 use Rattle.lt_rows.specs.declared.rows.Separator.{Separator}
-use Rattle.lt_lines.specs.Running.{HasRead}
-use Rattle.lt_lines.specs.declared.faults.ToolFault.TheVariants as faults
+use Rattle.lt_stream.specs.Running.{HasRead}
+use Rattle.lt_stream.specs.declared.faults.ToolFault.TheVariants as faults
 use Rattle.lt_heading.specs.Headings.{KnowsHeading, StopsHeading}
 use Rattle.lt_heading.specs.Names.{AreNamesIn, IsOnly, IsRepeated, Lacks, name_line}
 use Rattle.lt_heading.specs.declared.finding.ColumnFault.{ColumnFault}

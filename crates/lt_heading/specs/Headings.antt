@@ -11,10 +11,9 @@ use Rattle.lt_rows.specs.declared.quotes.Place.{Place}
 use Rattle.lt_rows.specs.declared.quotes.Place.TheVariants as places
 use Rattle.lt_rows.specs.declared.rows.Separator.{Separator}
 use Rattle.lt_rows.specs.declared.rows.Separator.TheVariants as separators
-use Rattle.lt_lines.specs.Owed.{longest_row}
-use Rattle.lt_lines.specs.Running.{HasRead}
-use Rattle.lt_lines.specs.declared.faults.ToolFault.{ToolFault}
-use Rattle.lt_lines.specs.declared.faults.ToolFault.TheVariants as faults
+use Rattle.lt_stream.specs.Running.{HasRead, longest_row}
+use Rattle.lt_stream.specs.declared.faults.ToolFault.{ToolFault}
+use Rattle.lt_stream.specs.declared.faults.ToolFault.TheVariants as faults
 use Rattle.lt_heading.specs.declared.first_rows.FirstRow.{FirstRow}
 
 -- the rows of a text: its lines, or its records where a delimiter parts fields

@@ -1,7 +1,7 @@
 //! Finding the column that has a name.
 ghost use Rattle.std.specs.Prelude.{◌≡◌, ◌≤◌, ℕ, List, IfOk, length, string_bytes};
 ghost use Rattle.std.specs.Option.{option_map};
-ghost use Rattle.lt_lines.specs.declared.faults.ToolFault.TheVariants.{OutOfMemory};
+ghost use Rattle.lt_stream.specs.declared.faults.ToolFault.TheVariants.{OutOfMemory};
 ghost use Rattle.lt_heading.specs.Finding.{FindsColumn, PicksColumn};
 ghost use Rattle.lt_heading.specs.Headings as spec;
 ghost use Rattle.lt_heading.specs.Names.{IsFound, shown_line, shown_names};
@@ -10,8 +10,8 @@ ghost use Rattle.lt_heading.specs.declared.finding.ColumnFault.TheVariants.{Head
 use crate::first_rows::{FirstRow, read_heading};
 use crate::names::{Found, Looked, append_shown, look_up};
 use lt_jar::Device;
-use lt_lines::ToolFault;
 use lt_rows::Separator;
+use lt_stream::ToolFault;
 use std::alloc::{AllocError, Global};
 use std::io::Read;
 

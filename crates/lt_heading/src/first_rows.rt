@@ -4,8 +4,8 @@ ghost use Rattle.lt_heading.specs.Headings as spec;
 ghost use Rattle.lt_heading.specs.Headings.{AppendsPart, BeginsText, EndsText, FinishesText, IsGoing, IsRowSoFar, IsUndecided, ReadsHeading, TakesPiece, TakesText};
 
 use lt_jar::Device;
-use lt_lines::ToolFault;
 use lt_rows::{Place, Separator, after_text, is_wide, may_be_mark, split_first, split_mark};
+use lt_stream::ToolFault;
 use std::alloc::{AllocError, Global};
 use std::io::Read;
 

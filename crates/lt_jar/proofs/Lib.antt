@@ -1,5 +1,8 @@
 -- Lemmas on the definitions of the format.
 pub mod CutLemmas
+pub mod NameLemmas
+pub mod WordLemmas
+pub mod TrimLemmas
 pub mod GroupLemmas
 pub mod ReadLemmas
 pub mod ReadingLemmas

@@ -1,9 +1,11 @@
 -- What the turns of one call keep, and how the call ends.
-use Rattle.std.proofs.Common.{◌≡◌, ◌≤◌, ◌+◌, ◌-◌, ◌++◌, ◌∷◌, ◌∙◌, inl, inr, ℕ, Bool, true, false, List, [], Option, Result, Ok, Err, length, take, drop, sym, ap, refl, subst, arith, zero, suc, add-zero, append_assoc, append-nil, length-append, length-drop}
+use Rattle.std.proofs.Common.{Bor, MatchResult, is_ok, ◌≡◌, ◌≤◌, ◌+◌, ◌-◌, ◌++◌, ◌∷◌, ◌∙◌, inl, inr, ℕ, Bool, true, false, List, [], Option, Result, Ok, Err, length, take, drop, sym, ap, refl, subst, arith, zero, suc, add-zero, append_assoc, append-nil, length-append, length-drop}
 use Rattle.std.proofs.KnownBytes.{Consumes-nil, Consumes-trans}
 use Rattle.std.proofs.Math.Seq.{drop-append_seam}
 use Rattle.std.proofs.lemmas.List.{drop-drop, drop-take, length-take-le}
+use Rattle.std.proofs.lemmas.Str.{is_utf8-from_IsUtf8}
 use Rattle.std.specs.Io.KnownBytes.{IsAtEnd}
+use Rattle.std.specs.Str.{IsUtf8, is_utf8}
 use Rattle.lt_jar.specs.Devices.{after_reads, failures_of, inner_of, one_more, reads_of}
 use Rattle.lt_jar.specs.Lines.{IsOneLine, whole_lines}
 use Rattle.lt_jar.specs.Limits.{most_records}
@@ -239,3 +241,9 @@ unread_rest buffer start end front rest low high is =
     let at : end - n ≡ start + k = omega (arith, sum, low) in
     let size : end - (end - n) ≡ n = omega (arith, sum, low) in
     cc (size, at, drop-drop k start buffer, drop-take k n (drop start buffer), sum, is, drop-append_seam front rest)
+
+-- bytes that were found to be UTF-8
+pub found_text : {E : Type 0} (found : Result (Bor (List ℕ)) E) (bytes : List ℕ) → MatchResult found (λ s. (s.now ≡ bytes) × IsUtf8 bytes) (λ e. ¬ (IsUtf8 bytes))
+    → is_ok found ≡ true → is_utf8 bytes ≡ true
+found_text (Ok s) bytes cases is = is_utf8-from_IsUtf8 bytes cases.1
+found_text (Err e) bytes cases is = cc

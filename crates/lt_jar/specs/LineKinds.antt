@@ -1,5 +1,5 @@
 -- What a line of a record-jar text is.
-use Rattle.std.specs.Prelude.{ℕ, Bool, false, List, [], ◌∷◌, ◌==◌, ◌&&◌, ◌||◌, length, drop, reverse, if◌then◌else◌}
+use Rattle.std.specs.Prelude.{◌≡◌, ℕ, Bool, true, false, List, [], ◌∷◌, ◌==◌, ◌&&◌, ◌||◌, length, drop, reverse, if◌then◌else◌}
 use Rattle.std.specs.List.{list_all}
 use Rattle.std.specs.Char.{is_ascii_alphanumeric}
 use Rattle.lt_jar.specs.Lines.{content_of}
@@ -72,3 +72,15 @@ kind_of_content text =
 -- what a line is
 abbrev pub line_of : List ℕ → Line
 line_of line = let text = content_of line in if list_all is_blank text then Blank else kind_of_content text
+
+-- made of the bytes of names
+abbrev pub IsNamed : List ℕ → Type 0
+IsNamed name = list_all is_name_byte name ≡ true
+
+-- the name of a line that begins a field is made of them
+abbrev pub HasName : Line → Type 0
+HasName Blank = Unit {0}
+HasName Separator = Unit {0}
+HasName (Continuation text) = Unit {0}
+HasName (Start name body) = IsNamed name
+HasName Bad = Unit {0}

@@ -1,5 +1,5 @@
 -- What is done with a piece of a text.
-use Rattle.std.specs.Prelude.{◌≡◌, ◌≢◌, ◌≤◌, ◌<◌, ◌+◌, ◌⊎◌, ℕ, Bool, true, false, List, [], ◌∷◌, ◌++◌, length, take, Option, Some, None, Result, Ok, Err, MatchOption}
+use Rattle.std.specs.Prelude.{◌≡◌, ◌≢◌, ◌≤◌, ◌<◌, ◌+◌, ◌⊎◌, ℕ, Bool, true, false, List, [], ◌∷◌, ◌++◌, length, get_or, take, Option, Some, None, Result, Ok, Err, MatchOption}
 use Rattle.std.specs.Borrow.{Bor}
 use Rattle.std.specs.List.{AllByRecursion}
 use Rattle.lt_jar.specs.Lines.{IsOneLine, lines_of, whole_lines}
@@ -11,6 +11,10 @@ use Rattle.lt_jar.specs.declared.faults.JarFaultKind.{JarFaultKind}
 use Rattle.lt_jar.specs.declared.faults.JarFaultKind.TheVariants as kinds
 use Rattle.lt_jar.specs.declared.drafts.Progress.{Progress}
 use Rattle.lt_jar.specs.declared.engine.Engine.{Engine}
+
+-- the first line feed is at this place
+abbrev pub EndsAt : List ℕ → ℕ → Type 0
+EndsAt text i = (i < length text) × (get_or text i 0 ≡ 10) × IsOneLine (take i text)
 
 -- what is before the first line feed and after it
 abbrev pub SplitsLine : List ℕ → Option (Bor (List ℕ) × Bor (List ℕ)) → Type 0

@@ -1,8 +1,8 @@
 -- What a line does to the records that are read so far, computed.
-use Rattle.std.specs.Prelude.{◌+◌, ◌∷◌, ◌++◌, ℕ, List, [], length, Result, Ok, Err, nat_lt, if◌then◌else◌}
-use Rattle.std.specs.List.{filter}
+use Rattle.std.specs.Prelude.{◌≡◌, ◌<◌, ◌+◌, ◌∷◌, ◌++◌, ℕ, List, [], length, get_or, Result, Ok, Err, nat_lt, if◌then◌else◌}
+use Rattle.std.specs.List.{All, filter}
 use Rattle.std.specs.Str.{is_utf8}
-use Rattle.lt_jar.specs.LineKinds.{Line, Blank, Separator, Continuation, Start, Bad, line_of}
+use Rattle.lt_jar.specs.LineKinds.{IsNamed, Line, Blank, Separator, Continuation, Start, Bad, line_of}
 use Rattle.lt_jar.specs.Limits.{longest_line, most_records}
 use Rattle.lt_jar.specs.Records.{Field, is_something, joined}
 use Rattle.lt_jar.specs.Faults.{Fault, LineTooLong, NotUtf8, LeadingContinuation, BadLine, TooManyRecords}
@@ -98,3 +98,15 @@ rest_of (field ∷ fields) = (field ∷ fields) ∷ []
 -- the records at the end of a text
 abbrev pub finished : Going → List (List Field)
 finished going = going.records ++ rest_of going.fields
+
+-- each name is made of the bytes of names
+abbrev pub AreNamed : List Field → Type 0
+AreNamed fields = All (λ (field : Field). IsNamed field.0) fields
+
+-- no name and no body
+abbrev pub nothing : Field
+nothing = ([], [])
+
+-- the line begins a field with this body, which has the name of the one at this place among others
+abbrev pub BeginsAgain : ℕ → List Field → List ℕ → List ℕ → Type 0
+BeginsAgain place fields line body = (place < length fields) × (line_of line ≡ Start (get_or fields place nothing).0 body)

@@ -1,12 +1,14 @@
 //! The record that is being read. A field is written over one of the record before, so that a registry is read without
 //! an allocation for each; what a reader keeps grows to the longest bodies that came.
-ghost use Rattle.std.specs.Prelude.{◌≡◌, ◌≤◌, [], OnOk, string_bytes, take, vec_len};
+ghost use Rattle.std.specs.Prelude.{◌≡◌, ◌≤◌, ◌<◌, [], IfSome, OnOk, get_or, string_bytes, take, vec_len};
+ghost use Rattle.lt_jar.specs.LineKinds as lines;
 ghost use Rattle.lt_jar.specs.Reading as reading;
 ghost use Rattle.lt_jar.specs.Views.{IsTaken, line_in};
 
 use crate::faults::JarFaultKind;
 use crate::jars::{JarField, Record};
-use crate::lines::{LineKind, kind_of};
+use crate::lines::{LineKind, body_again, kind_of};
+use crate::words::are_same;
 use std::alloc::{AllocError, Global};
 
 /// The most bytes of a line, with its carriage return and without its line feed.
@@ -29,6 +31,7 @@ pub(crate) struct Draft {
     /// How many of them are of this record.
     count: usize,
     ghost within: { count ≤ vec_len fields },
+    ghost named: { reading.AreNamed fields.items },
 }
 
 impl Draft {
@@ -74,8 +77,52 @@ impl Draft {
             return Err(JarFaultKind::LineTooLong);
         }
         match simdutf8::compat::from_utf8(line) {
-            Ok(line) => self.take_kind(alloc, kind_of(line), ended),
+            Ok(line) => self.take_short_line(alloc, line, ended),
             Err(_) => Err(JarFaultKind::NotUtf8),
+        }
+    }
+
+    /// The same of a line that is UTF-8.
+    pub(crate) fn take_text(
+        &mut self,
+        alloc: Global,
+        line: &str,
+        ended: usize,
+    ) -> Result<Progress, JarFaultKind>
+        ensures { IsTaken result (reading.take_line ended (take self.old.count self.old.fields.items) line.now)
+            (take self.new.count self.new.fields.items) }
+    {
+        if LONGEST_LINE < line.len() {
+            return Err(JarFaultKind::LineTooLong);
+        }
+        self.take_short_line(alloc, line, ended)
+    }
+
+    /// Takes the next line, which is UTF-8 and not too long. Most begin a field that has the name of the one in its place in the record
+    /// before: there the name is neither looked for nor written.
+    fn take_short_line(
+        &mut self,
+        alloc: Global,
+        line: &str,
+        ended: usize,
+    ) -> Result<Progress, JarFaultKind>
+        ensures { IsTaken result (reading.take_kind ended (take self.old.count self.old.fields.items) (lines.line_of line.now))
+            (take self.new.count self.new.fields.items) }
+    {
+        match self.body_again(line) {
+            Some(body) => self.put_body(body, ended),
+            None => self.take_kind(alloc, kind_of(line), ended),
+        }
+    }
+
+    /// What the body begins with, if the line begins a field that has the name of the one in its place in the record before.
+    fn body_again<'l>(&self, line: &'l str) -> Option<&'l str>
+        ensures { IfSome result (λ body. reading.BeginsAgain self.now.count self.now.fields.items line.now body.now) }
+    {
+        if self.count < self.fields.len() {
+            body_again(line, &self.fields[self.count].name)
+        } else {
+            None
         }
     }
 
@@ -85,6 +132,7 @@ impl Draft {
         kind: LineKind<'_>,
         ended: usize,
     ) -> Result<Progress, JarFaultKind>
+        requires { lines.HasName (line_in kind) }
         ensures { IsTaken result (reading.take_kind ended (take self.old.count self.old.fields.items) (line_in kind.entry))
             (take self.new.count self.new.fields.items) }
     {
@@ -115,19 +163,32 @@ impl Draft {
         body: &str,
         ended: usize,
     ) -> Result<Progress, JarFaultKind>
+        requires { lines.IsNamed name.now }
         ensures { IsTaken result (reading.started ended (name.now, body.now) (take self.old.count self.old.fields.items))
             (take self.new.count self.new.fields.items) }
     {
-        if self.count == 0 && ended >= MOST_RECORDS {
-            return Err(JarFaultKind::TooManyRecords);
-        }
         if self.count == self.fields.len() {
             self.fields.push(JarField {
                 name: String::new(alloc),
                 body: String::new(alloc),
             })?;
         }
-        write_field(&mut self.fields[self.count], name, body)?;
+        let field = &mut self.fields[self.count];
+        field.name.clear();
+        field.name.push_str(name)?;
+        self.put_body(body, ended)
+    }
+
+    /// Begins a field by its body, under the name that is in its place.
+    fn put_body(&mut self, body: &str, ended: usize) -> Result<Progress, JarFaultKind>
+        requires { self.old.count < vec_len self.old.fields }
+        ensures { IsTaken result (reading.started ended ((get_or self.old.fields.items self.old.count reading.nothing).0, body.now)
+            (take self.old.count self.old.fields.items)) (take self.new.count self.new.fields.items) }
+    {
+        if self.count == 0 && ended >= MOST_RECORDS {
+            return Err(JarFaultKind::TooManyRecords);
+        }
+        write_over(&mut self.fields[self.count].body, body)?;
         self.count += 1;
         Ok(Progress::GoesOn)
     }
@@ -147,14 +208,16 @@ impl Draft {
 
 ghost use Rattle.std.specs.Prelude.{◌↔◌, IsTrue};
 
-/// Puts a name and a body into a field, in place of those that it had.
-fn write_field(field: &mut JarField, name: &str, body: &str) -> Result<(), AllocError>
-    ensures { OnOk result (field.new ≡ (name.now, body.now)) }
+/// Makes a text another. Often it is that already, and nothing is written.
+#[inline(always)]
+fn write_over(text: &mut String, other: &str) -> Result<(), AllocError>
+    ensures { OnOk result (string_bytes text.new ≡ other.now) }
 {
-    field.name.clear();
-    field.name.push_str(name)?;
-    field.body.clear();
-    field.body.push_str(body)
+    if are_same(text.as_bytes(), other.as_bytes()) {
+        return Ok(());
+    }
+    text.clear();
+    text.push_str(other)
 }
 
 /// Puts a further text after a body.

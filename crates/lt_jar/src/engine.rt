@@ -4,7 +4,7 @@ ghost use Rattle.std.specs.Prelude.{◌≤◌, vec_len};
 use crate::drafts::{Draft, LONGEST_LINE, Progress};
 use crate::faults::JarFaultKind;
 use crate::jars::{JarField, Record};
-use crate::lines::split_line;
+use crate::lines::{split_line, split_text};
 use std::alloc::Global;
 
 /// What is read so far of a line and of a record.
@@ -61,6 +61,23 @@ impl Engine {
         Ok(progress)
     }
 
+    /// The same of bytes that are UTF-8.
+    #[inline(always)]
+    fn end_text(&mut self, alloc: Global, last: &str) -> Result<Progress, JarFaultKind>
+        requires { self.old.line + 1 < 2 ^ 64 }
+        ensures taken { IsTaken result (reading.take_line self.old.ended (fields_in self.old)
+            (self.old.partial.items ++ last.now)) (fields_in self.new) }
+        ensures ended { self.new.ended ≡ self.old.ended }
+        ensures counted { IsOneLine self.old.partial.items → EndsLine self.old self.new result }
+    {
+        if !self.partial.is_empty() {
+            return self.end_line(alloc, last.as_bytes());
+        }
+        let progress = self.draft.take_text(alloc, last, self.ended)?;
+        self.line += 1;
+        Ok(progress)
+    }
+
     /// Keeps the bytes of a line whose end is not read, up to the longest line.
     fn keep(&mut self, part: &[u8]) -> Result<(), JarFaultKind>
         ensures kept { KeepsBytes self.old self.new part.now result }
@@ -95,6 +112,27 @@ impl Engine {
             }
         }
         self.keep(rest)?;
+        Ok(None)
+    }
+
+    /// The same of a piece that is UTF-8, whose lines are not looked at again for that.
+    pub(crate) fn take_text<'p>(
+        &mut self,
+        alloc: Global,
+        piece: &'p str,
+    ) -> Result<Option<&'p str>, JarFaultKind>
+        requires begun { IsOneLine self.old.partial.items }
+        requires room { self.old.line + length piece.now < 2 ^ 64 }
+        ensures { TakesPiece self.old self.new piece.now result }
+    {
+        let mut rest = piece;
+        while let Some((line, after)) = split_text(rest) {
+            match self.end_text(alloc, line)? {
+                Progress::GoesOn => rest = after,
+                Progress::Ends => return Ok(Some(after)),
+            }
+        }
+        self.keep(rest.as_bytes())?;
         Ok(None)
     }
 

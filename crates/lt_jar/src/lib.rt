@@ -14,6 +14,7 @@ mod pieces;
 mod readers;
 mod reading;
 mod sources;
+mod words;
 
 pub use devices::Device;
 pub use faults::{JarFault, JarFaultKind};

@@ -1,12 +1,13 @@
 //! The lines of a text, and what a line is.
-ghost use Rattle.std.specs.Prelude.{◌≡◌, ◌<◌, ◌≤◌, ◌∷◌, length};
+ghost use Rattle.std.specs.Prelude.{◌≡◌, ◌<◌, ◌≤◌, ◌∷◌, length, IfSome, MatchOption};
 ghost use Rattle.std.specs.List.{list_all};
-ghost use Rattle.lt_jar.specs.Lines.{content_of, lines_of};
+ghost use Rattle.lt_jar.specs.Lines.{IsOneLine, content_of, lines_of};
 ghost use Rattle.lt_jar.specs.LineKinds as lines;
 ghost use Rattle.lt_jar.specs.Views.{line_in};
-ghost use Rattle.lt_jar.specs.Pieces.{SplitsLine};
+ghost use Rattle.lt_jar.specs.Pieces.{EndsAt, SplitsLine};
 
-use memchr::memchr;
+use crate::words::are_same;
+use memchr::{memchr, memchr_iter};
 
 /// What is before the first line feed and after it, if there is one.
 #[tactic(auto, using(crate::proofs::CutLemmas::line_front, crate::proofs::CutLemmas::split_at, crate::proofs::CutLemmas::whole_line))]
@@ -14,6 +15,28 @@ pub(crate) fn split_line(text: &[u8]) -> Option<(&[u8], &[u8])>
     ensures { SplitsLine text.now result }
 {
     match memchr(b'\n', text) {
+        Some(i) => Some((&text[..i], &text[i + 1..])),
+        None => None,
+    }
+}
+
+/// Where the first line feed is.
+#[tactic(auto, using(crate::proofs::CutLemmas::line_front, crate::proofs::CutLemmas::whole_line))]
+fn line_end(text: &[u8]) -> Option<usize>
+    ensures { MatchOption result (IsOneLine text.now) (EndsAt text.now) }
+{
+    let found = memchr_iter(b'\n', text).next();
+    match found {
+        Some(i) => Some(i),
+        None => None,
+    }
+}
+
+/// What is before the first line feed and after it, of a text that is UTF-8, as both parts are.
+pub(crate) fn split_text(text: &str) -> Option<(&str, &str)>
+    ensures { SplitsLine text.now result }
+{
+    match line_end(text.as_bytes()) {
         Some(i) => Some((&text[..i], &text[i + 1..])),
         None => None,
     }
@@ -115,9 +138,15 @@ fn trim_end(text: &str) -> &str
     &text[..end]
 }
 
+/// The text without the spaces and tabs at both ends: of most it is one space at the front.
 fn trim(text: &str) -> &str
     ensures { result.now ≡ lines.trim text.now }
 {
+    let bytes = text.as_bytes();
+    let count = bytes.len();
+    if 1 < count && bytes[0] == b' ' && !is_blank(bytes[1]) && !is_blank(bytes[count - 1]) {
+        return &text[1..];
+    }
     trim_end(trim_start(text))
 }
 
@@ -135,6 +164,25 @@ fn split_name(text: &str) -> (&str, &str)
 }
 
 ghost use Rattle.std.specs.Prelude.{drop};
+
+/// What the body of a line begins with that begins with this name, as that of a field did before it. `None` says nothing
+/// of the line.
+pub(crate) fn body_again<'l>(line: &'l str, name: &str) -> Option<&'l str>
+    requires { lines.IsNamed name.now }
+    ensures { IfSome result (λ body. lines.line_of line.now ≡ lines.Start name.now body.now) }
+{
+    let text = content(line);
+    let bytes = text.as_bytes();
+    let length = name.len();
+    if length == 0 || bytes.len() <= length || bytes[length] != b':' {
+        return None;
+    }
+    if are_same(&bytes[..length], name.as_bytes()) {
+        Some(trim(&text[length + 1..]))
+    } else {
+        None
+    }
+}
 
 /// A line that begins a field, or a bad one.
 fn field_start(text: &str) -> LineKind<'_>

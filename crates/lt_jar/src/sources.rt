@@ -1,5 +1,6 @@
 //! The records of a reader, one by one.
-ghost use Rattle.std.specs.Prelude.{◌≡◌, ◌≤◌, ◌+◌, ◌-◌, ◌*◌, length, take, drop};
+ghost use Rattle.std.specs.Prelude.{◌≡◌, ◌≤◌, ◌+◌, ◌-◌, ◌*◌, true, false, length, take, drop};
+ghost use Rattle.std.specs.Str.{is_utf8};
 ghost use Rattle.lt_jar.specs.Lines.{IsOneLine};
 
 use crate::devices::Device;
@@ -30,12 +31,15 @@ pub struct JarSource {
     buffer: [u8; PIECE],
     start: usize,
     end: usize,
+    /// Whether the bytes that are not yet handed on are known to be UTF-8.
+    is_text: bool,
     turns: u32,
     status: Status,
     ghost placed: { (start ≤ end) × (end ≤ 8192) },
     ghost bounded: { (turns ≤ 10000000) × (engine.line + (end - start) ≤ 1 + 65536 * turns) },
     ghost begun: { IsOneLine engine.partial.items },
     ghost few: { engine.ended ≤ 100000 },
+    ghost text: { is_text ≡ true → is_utf8 (take (end - start) (drop start buffer)) ≡ true },
 }
 
 impl JarSource {
@@ -54,6 +58,7 @@ impl JarSource {
             buffer: [0; PIECE],
             start: 0,
             end: 0,
+            is_text: false,
             turns: 0,
             status: Status::Open,
         }
@@ -61,6 +66,48 @@ impl JarSource {
 
     /// Hands on what was read, up to the end of a record, and tells whether one ended.
     fn take_unread(&mut self, alloc: Global) -> Result<bool, JarFaultKind>
+        ensures takes { TakesUnread self.old self.new result }
+        ensures same { (self.new.turns ≡ self.old.turns) × (self.new.status ≡ self.old.status) }
+    {
+        if self.is_text {
+            self.take_unread_text(alloc)
+        } else {
+            self.take_unread_bytes(alloc)
+        }
+    }
+
+    /// Hands on what was read and is UTF-8.
+    fn take_unread_text(&mut self, alloc: Global) -> Result<bool, JarFaultKind>
+        requires { self.old.is_text ≡ true }
+        ensures takes { TakesUnread self.old self.new result }
+        ensures same { (self.new.turns ≡ self.old.turns) × (self.new.status ≡ self.old.status) }
+    {
+        let piece = between(&self.buffer, self.start, self.end);
+        // It was found to be UTF-8 when it was read.
+        let text = unsafe { str::from_utf8_unchecked(piece) };
+        match self.engine.take_text(alloc, text) {
+            Ok(Some(rest)) => {
+                // So that it is known to be UTF-8.
+                let _ = rest.as_bytes();
+                self.start = self.end - rest.len();
+                Ok(true)
+            }
+            Ok(None) => {
+                self.start = self.end;
+                self.is_text = false;
+                Ok(false)
+            }
+            Err(kind) => {
+                self.start = self.end;
+                self.is_text = false;
+                Err(kind)
+            }
+        }
+    }
+
+    /// Hands on what was read, of which a part may be no UTF-8.
+    fn take_unread_bytes(&mut self, alloc: Global) -> Result<bool, JarFaultKind>
+        requires { self.old.is_text ≡ false }
         ensures takes { TakesUnread self.old self.new result }
         ensures same { (self.new.turns ≡ self.old.turns) × (self.new.status ≡ self.old.status) }
     {
@@ -93,10 +140,12 @@ impl JarSource {
         self.turns += 1;
         self.start = 0;
         self.end = 0;
+        self.is_text = false;
         match device.read(&mut self.buffer) {
             Ok(0) => Ok(false),
             Ok(count) => {
                 self.end = count;
+                self.is_text = simdutf8::basic::from_utf8(&self.buffer[..count]).is_ok();
                 Ok(true)
             }
             Err(_) => Err(JarFaultKind::Read),

@@ -48,7 +48,7 @@ fn shown(alloc: Global, jar: &Jar) -> Result<String, AllocError> {
 }
 
 /// Texts with their records.
-const TEXTS: [(&str, &str); 7] = [
+const TEXTS: [(&str, &str); 10] = [
     ("", ""),
     ("%%\n\n%%\n", ""),
     ("A:\n  b \n\tc", "A=b c"),
@@ -56,6 +56,12 @@ const TEXTS: [(&str, &str); 7] = [
     ("A : b:c\n%%\t", "A=b:c"),
     ("A:b\r\n%%\r\nC-9:\r\n d\r", "A=b|C-9=d"),
     ("A: Bokmål\n 正書法\n%%\nB: 𝄞\n", "A=Bokmål 正書法|B=𝄞"),
+    ("Tag: a\n%%\nTagged: b\n%%\nTa: c", "Tag=a|Tagged=b|Ta=c"),
+    ("A: b\r\n%%\r\nA:\r\n%%\r\nA :c\r\n d\r\n", "A=b|A=|A=c d"),
+    (
+        "A: b\nB: c\n%%\nB:d\nA:\te \t\n%%\na: f",
+        "A=b;B=c|B=d;A=e|a=f",
+    ),
 ];
 
 /// Whether a text has the fault of this name at this line.
@@ -67,7 +73,7 @@ fn has_fault(alloc: Global, text: &[u8], name: &str, line: u64) -> bool {
 }
 
 /// Texts with the names and the lines of their faults.
-const FAULTS: [(&[u8], &str, u64); 8] = [
+const FAULTS: [(&[u8], &str, u64); 12] = [
     (
         b"Type: language\nSubtag: en\n%%\n  x",
         "LeadingContinuation",
@@ -80,6 +86,10 @@ const FAULTS: [(&[u8], &str, u64); 8] = [
     (b"A: \xc3\xa5\nB: \xe2\x82\nC: d", "NotUtf8", 2),
     (b"A: \xf0\x9d\x84\n\x9e", "NotUtf8", 1),
     (b"A: b\n\n\xf0\x9d\x84\x9e\xc3", "NotUtf8", 3),
+    (b"Tag: a\n%%\nTag", "BadLine", 3),
+    (b"Tag: a\n%%\nTag;: b", "BadLine", 3),
+    (b"Tag: a\n%%\n Tag: b", "LeadingContinuation", 3),
+    (b"Tag: a\n%%\nTag: \xff", "NotUtf8", 3),
 ];
 
 /// A field `Comments` whose body has this many letters, with this end after its line.

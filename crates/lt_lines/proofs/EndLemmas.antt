@@ -8,7 +8,7 @@ use Rattle.lt_rows.specs.Quotes.{is_quoted}
 use Rattle.lt_lines.specs.Tallied.{AreTalliesOf, OwesAll, TalliesTooLong}
 use Rattle.lt_rows.specs.declared.quotes.Place.{Place}
 use Rattle.lt_lines.specs.declared.forms.LineForm.{LineForm}
-use Rattle.lt_lines.specs.DeviceOutput.{IsFrontOf}
+use Rattle.lt_stream.specs.DeviceOutput.{IsFrontOf}
 use Rattle.lt_lines.specs.declared.answering.Answering.{Answering}
 use Rattle.lt_lines.specs.declared.forms.LineForm.TheVariants as forms
 use Rattle.lt_lines.proofs.FormLemmas.{ended-length, ended_first, feeds_in-append, of_none, place_of_ended, unit-append, units-ended, units-last}

@@ -1,5 +1,4 @@
 -- Lemmas on answers to lines.
-pub mod DeviceLemmas
 mod FormLemmas
 pub mod PartLemmas
 pub mod LookLemmas

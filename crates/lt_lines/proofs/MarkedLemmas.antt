@@ -13,8 +13,8 @@ use Rattle.lt_lines.specs.declared.answering.Answering.{Answering}
 use Rattle.lt_lines.specs.declared.forms.LineForm.{LineForm}
 use Rattle.lt_lines.specs.declared.forms.LineForm.TheVariants as forms
 use Rattle.lt_lines.specs.declared.marked.Marked.{Marked}
-use Rattle.lt_lines.specs.declared.faults.ToolFault.{ToolFault}
-use Rattle.lt_lines.proofs.DeviceLemmas.{failed_from}
+use Rattle.lt_stream.specs.declared.faults.ToolFault.{ToolFault}
+use Rattle.lt_stream.proofs.DeviceLemmas.{failed_from}
 use Rattle.lt_lines.proofs.EndLemmas.{owed_to_last_feed, taken_room}
 use Rattle.lt_lines.proofs.FormLemmas.{of_none}
 use Rattle.lt_lines.proofs.TakenLemmas.{begun_nothing, taken_part}

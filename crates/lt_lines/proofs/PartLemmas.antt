@@ -1,41 +1,22 @@
 -- What is kept of a line that comes in pieces, and rows and records that are too long.
-use Rattle.std.proofs.Common.{◌≡◌, ◌+◌, ◌++◌, ◌∷◌, ◌∙◌, ℕ, List, [], true, false, length, sym, ap, refl, subst, arith, append-nil, length-append, ◌==◌, ◌-◌, inl, inr, take}
+use Rattle.std.proofs.Common.{◌≡◌, ◌++◌, ◌∷◌, ◌∙◌, ℕ, List, [], true, false, length, sym, ap, subst, arith, append-nil, length-append, inl, inr}
 use Rattle.std.specs.List.{AllByRecursion}
 use Rattle.lt_lines.specs.Answering.{kept_of, IsLongBy, longest_kept, part_kept}
-use Rattle.lt_lines.specs.Owed.{IsWhole, is_open, IsShort, longest_row}
+use Rattle.lt_lines.specs.Owed.{IsWhole, is_open, IsShort}
+use Rattle.lt_stream.specs.Running.{longest_row}
 use Rattle.lt_lines.specs.declared.forms.LineForm.{LineForm}
-use Rattle.std.proofs.lemmas.Bool.{eqb-true, eqb-false}
+use Rattle.lt_stream.proofs.PartLemmas.{kept_front, nothing_kept as none_kept}
 use Rattle.std.proofs.lemmas.Bool.Decides.{leb_tells}
-use Rattle.std.proofs.lemmas.List.{take_all, length-take, length-take-le, nil_from_length, take-append-le}
-use Rattle.std.proofs.Math.Seq.{take-append-add}
 use Rattle.lt_lines.specs.declared.forms.LineForm.TheVariants as forms
-
--- whether there are bytes, by their count
-pub no_items : (items : List ℕ) (count : ℕ) → count ≡ length items → (count == 0) ≡ true → items ≡ []
-no_items items count is e = nil_from_length items (sym is ∙ eqb-true count 0 e)
-
-pub some_items : (items : List ℕ) (count : ℕ) → count ≡ length items → (count == 0) ≡ false → items ≡ [] → ⊥
-some_items items count is e none = eqb-false count 0 e (is ∙ ap length none)
 
 -- what is kept of a line that goes on
 pub kept_more : (form : LineForm) (kept last part new : List ℕ) → kept ≡ kept_of form last → new ≡ kept ++ part_kept form (length kept) part → new ≡ kept_of form (last ++ part)
-kept_more forms.Tag kept last part new is e = elim (leb_tells (length last) longest_kept) [
-  | inl short ↦
-      let all : kept ≡ last = is ∙ take_all longest_kept last short.1 in
-      let room : longest_kept ≡ length last + (longest_kept - length last) = omega (arith, short.1) in
-      e ∙ ap (λ (l : List ℕ). l ++ take (longest_kept - length l) part) all
-      ∙ sym (ap (λ (n : ℕ). take n (last ++ part)) room ∙ take-append-add last part (longest_kept - length last))
-  | inr long ↦
-      let full : length kept ≡ longest_kept = ap length is ∙ length-take-le longest_kept last (omega (arith, long.1)) in
-      let none : longest_kept - length kept ≡ 0 = omega (arith, full) in
-      e ∙ ap (λ (n : ℕ). kept ++ take n part) none ∙ append-nil kept ∙ is ∙ sym (take-append-le longest_kept last part (omega (arith, long.1)))
-]
+kept_more forms.Tag kept last part new is e = kept_front longest_kept kept last part new is e
 kept_more form kept last part new is e = e ∙ ap (λ (l : List ℕ). l ++ part) is
 
 -- a line of which nothing is kept is empty
 pub nothing_kept : (form : LineForm) (kept last : List ℕ) → kept ≡ kept_of form last → kept ≡ [] → last ≡ []
-nothing_kept forms.Tag kept [] is none = refl
-nothing_kept forms.Tag kept (byte ∷ last) is none = absurd (omega (arith, ap length (sym is ∙ none), length-take longest_kept (byte ∷ last)))
+nothing_kept forms.Tag kept last is none = none_kept longest_kept kept last (omega arith) is none
 nothing_kept form kept last is none = sym is ∙ none
 
 -- all is kept of a line that can go on after a line feed

@@ -6,12 +6,12 @@ use Rattle.std.proofs.Math.Seq.{take-append_seam}
 use Rattle.lt_jar.specs.Devices.{failures_of, inner_of}
 use Rattle.lt_jar.specs.declared.devices.Device.{Device}
 use Rattle.lt_jar.specs.Lines.{IsOneLine}
-use Rattle.lt_lines.specs.DeviceOutput.{IsFrontOf}
+use Rattle.lt_stream.specs.DeviceOutput.{IsFrontOf}
 use Rattle.lt_lines.specs.Answering.{CountsFeed, IsLongBy, IsStop, IsTaken, StopsLong, TakesPiece, WritesOwed, line_of, part_kept, place_then}
 use Rattle.lt_lines.specs.Owed.{Terms}
 use Rattle.lt_lines.specs.declared.answering.Answering.{Answering}
-use Rattle.lt_lines.specs.declared.faults.ToolFault.{ToolFault}
-use Rattle.lt_lines.proofs.DeviceLemmas.{failed_from}
+use Rattle.lt_stream.specs.declared.faults.ToolFault.{ToolFault}
+use Rattle.lt_stream.proofs.DeviceLemmas.{failed_from}
 use Rattle.lt_lines.proofs.EndLemmas.{too_long}
 use Rattle.lt_lines.proofs.TakenLemmas.{begun_front, taken_part, taken_write}
 

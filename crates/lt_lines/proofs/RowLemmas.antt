@@ -2,11 +2,11 @@
 use Rattle.std.proofs.Common.{refl, ◌≡◌, ◌≤◌, ◌-◌, ◌++◌, ◌∷◌, ◌∙◌, [], ℕ, Bool, false, true, List, inl, inr, ap, arith, append_assoc, append-nil, codes, drop, length, subst, sym, take, take-append-drop}
 use Rattle.std.proofs.lemmas.List.{drop-drop, drop-take, take_rest, take-take}
 use Rattle.lt_jar.specs.Lines.{content_of}
-use Rattle.lt_registry.specs.Parts.{EntryParts}
+use Rattle.lt_codes.specs.Codes.{replaced}
 use Rattle.lt_canon.specs.Texts.{AppendsCanonicalText, IsTextRefusal}
 use Rattle.lt_canon.specs.declared.refusals.TextRefusal.{TextRefusal}
 use Rattle.lt_lines.specs.Answering.{AppendsKept, AppendsRowReply, EndsRefused}
-use Rattle.lt_lines.specs.Owed.{refused_line, row_line, with_canonical}
+use Rattle.lt_lines.specs.Owed.{Ground, refused_line, row_line, with_canonical}
 use Rattle.lt_lines.specs.declared.forms.RowForm.{RowForm}
 use Rattle.lt_rows.specs.Looks.{HasTextAt}
 use Rattle.lt_rows.specs.Rows.{HasFewer, HasField, HasReturn, IsTextIn, separator}
@@ -14,17 +14,17 @@ use Rattle.lt_rows.specs.declared.looks.TextAt.{TextAt}
 use Rattle.lt_lines.proofs.LookLemmas.{content_front}
 use Rattle.lt_rows.specs.declared.rows.Separator.{Separator}
 
-module _ (S : Separator) (R : List EntryParts) (row : RowForm) (line front field after quotes text old fronted filled new : List ℕ) (at : HasField S row.before (content_of line) front field after)
-    (is_text : IsTextIn S field quotes text) (none : HasReturn S (content_of line) → ⊥) (replaced : row.is_kept ≡ false) (first : fronted ≡ old ++ (front ++ quotes)) where
+module _ (S : Separator) (G : Ground) (row : RowForm) (line front field after quotes text old fronted filled new : List ℕ) (at : HasField S row.before (content_of line) front field after)
+    (is_text : IsTextIn S field quotes text) (none : HasReturn S (content_of line) → ⊥) (changed : row.is_kept ≡ false) (first : fronted ≡ old ++ (front ++ quotes)) where
   -- the row was answered
-  pub row_answered : AppendsCanonicalText R text fronted filled → new ≡ filled ++ row_line S (quotes ++ after) [] line → AppendsRowReply S R row line old new false
+  pub row_answered : AppendsCanonicalText G.entries (replaced G.codes text) fronted filled → new ≡ filled ++ row_line S (quotes ++ after) [] line → AppendsRowReply S G row line old new false
   row_answered a last = record {
     bytes = row_line S ((front ++ quotes) ++ a.canonical ++ (quotes ++ after)) [] line;
     grown = rw (last, a.grown, first) (simp append_assoc);
     owed = inr (record {
       none = none;
       owed = inl (
-        rw replaced (record {
+        rw changed (record {
           front = front;
           field = field;
           after = after;
@@ -42,7 +42,7 @@ module _ (S : Separator) (R : List EntryParts) (row : RowForm) (line front field
   }
 
   -- the row was refused
-  pub row_refused : (refusal : TextRefusal) → IsTextRefusal R text refusal → filled ≡ fronted → EndsRefused S refusal text quotes after line filled new → AppendsRowReply S R row line old new true
+  pub row_refused : (refusal : TextRefusal) → IsTextRefusal G.entries (replaced G.codes text) refusal → filled ≡ fronted → EndsRefused S refusal text quotes after line filled new → AppendsRowReply S G row line old new true
   row_refused refusal is same e = record {
     bytes = row_line S (content_of line) e.told line;
     grown = rw (e.grown, same, first, at.row_is, is_text.field_is) (simp append_assoc);
@@ -61,7 +61,7 @@ module _ (S : Separator) (R : List EntryParts) (row : RowForm) (line front field
           is_refusal = is;
           told = e.told;
           is_told = e.is_told;
-          line_is = rw replaced refl;
+          line_is = rw changed refl;
         }),
         refl,
       );
@@ -69,9 +69,9 @@ module _ (S : Separator) (R : List EntryParts) (row : RowForm) (line front field
   }
 
 -- the text of the field of a row that is kept was answered
-pub row_kept : (S : Separator) (R : List EntryParts) (row : RowForm) (line front field after quotes text old new : List ℕ) (refused : Bool) → HasField S row.before (content_of line) front field after
-    → IsTextIn S field quotes text → (HasReturn S (content_of line) → ⊥) → row.is_kept ≡ true → AppendsKept S R text line old new refused → AppendsRowReply S R row line old new refused
-row_kept S R row line front field after quotes text old new refused at is_text none kept a = record {
+pub row_kept : (S : Separator) (G : Ground) (row : RowForm) (line front field after quotes text old new : List ℕ) (refused : Bool) → HasField S row.before (content_of line) front field after
+    → IsTextIn S field quotes text → (HasReturn S (content_of line) → ⊥) → row.is_kept ≡ true → AppendsKept S G text line old new refused → AppendsRowReply S G row line old new refused
+row_kept S G row line front field after quotes text old new refused at is_text none kept a = record {
   bytes = row_line S (with_canonical true S (content_of line) a.canonical) a.told line;
   grown = a.grown;
   owed = inr (record {
@@ -114,8 +114,8 @@ row_kept S R row line front field after quotes text old new refused at is_text n
 }
 
 -- a row that is kept was answered, or refused
-module _ (S : Separator) (R : List EntryParts) (line text old fronted filled new : List ℕ) (first : fronted ≡ (old ++ content_of line) ++ separator S ∷ []) where
-  pub kept_answered : AppendsCanonicalText R text fronted filled → new ≡ filled ++ row_line S [] [] line → AppendsKept S R text line old new false
+module _ (S : Separator) (G : Ground) (line text old fronted filled new : List ℕ) (first : fronted ≡ (old ++ content_of line) ++ separator S ∷ []) where
+  pub kept_answered : AppendsCanonicalText G.entries (replaced G.codes text) fronted filled → new ≡ filled ++ row_line S [] [] line → AppendsKept S G text line old new false
   kept_answered a last = record {
     canonical = a.canonical;
     told = [];
@@ -123,7 +123,7 @@ module _ (S : Separator) (R : List EntryParts) (line text old fronted filled new
     owed = inl (a.is_canonical, refl, refl);
   }
 
-  pub kept_refused : (refusal : TextRefusal) → IsTextRefusal R text refusal → filled ≡ fronted → EndsRefused S refusal [] [] [] line filled new → AppendsKept S R text line old new true
+  pub kept_refused : (refusal : TextRefusal) → IsTextRefusal G.entries (replaced G.codes text) refusal → filled ≡ fronted → EndsRefused S refusal [] [] [] line filled new → AppendsKept S G text line old new true
   kept_refused refusal is same e = record {
     canonical = [];
     told = e.told;
@@ -152,42 +152,42 @@ text_within text count place le ordered inside =
     ap (drop place.start) (sym (content_front text count le)) ∙ ap (λ m. drop place.start (take m text)) (omega (arith, ordered, inside)) ∙ drop-take place.start (n - place.start) text in
     ap (take long) (take_rest text place.start) ∙ sym (ap (take long) row_is ∙ take-take long (n - place.start) (drop place.start text) (omega (arith, inside)))
 
-module _ (S : Separator) (R : List EntryParts) (row : RowForm) (line old fronted filled new : List ℕ) (place : TextAt) (h : HasTextAt S row.before (content_of line) place)
+module _ (S : Separator) (G : Ground) (row : RowForm) (line old fronted filled new : List ℕ) (place : TextAt) (h : HasTextAt S row.before (content_of line) place)
     (none : HasReturn S (content_of line) → ⊥) where
   abbrev text : List ℕ
   text = take (place.end - place.start) (drop place.start (content_of line))
 
-  pub found_answered : row.is_kept ≡ false → fronted ≡ old ++ take place.start (content_of line) → AppendsCanonicalText R text fronted filled
-      → new ≡ filled ++ row_line S (drop place.end (content_of line)) [] line → AppendsRowReply S R row line old new false
-  found_answered replaced first a last =
-      row_answered S R row line h.front h.field h.after h.quotes h.text old fronted filled new h.at h.is_text none replaced (first ∙ ap (λ l. old ++ l) h.front_is)
-      (subst (λ t. AppendsCanonicalText R t fronted filled) h.text_is a) (last ∙ ap (λ l. filled ++ row_line S l [] line) h.after_is)
+  pub found_answered : row.is_kept ≡ false → fronted ≡ old ++ take place.start (content_of line) → AppendsCanonicalText G.entries (replaced G.codes text) fronted filled
+      → new ≡ filled ++ row_line S (drop place.end (content_of line)) [] line → AppendsRowReply S G row line old new false
+  found_answered changed first a last =
+      row_answered S G row line h.front h.field h.after h.quotes h.text old fronted filled new h.at h.is_text none changed (first ∙ ap (λ l. old ++ l) h.front_is)
+      (subst (λ t. AppendsCanonicalText G.entries (replaced G.codes t) fronted filled) h.text_is a) (last ∙ ap (λ l. filled ++ row_line S l [] line) h.after_is)
 
-  pub found_refused : row.is_kept ≡ false → fronted ≡ old ++ take place.start (content_of line) → (refusal : TextRefusal) → IsTextRefusal R text refusal → filled ≡ fronted
-      → EndsRefused S refusal (drop place.start (content_of line)) [] [] line filled new → AppendsRowReply S R row line old new true
-  found_refused replaced first refusal is same e =
+  pub found_refused : row.is_kept ≡ false → fronted ≡ old ++ take place.start (content_of line) → (refusal : TextRefusal) → IsTextRefusal G.entries (replaced G.codes text) refusal → filled ≡ fronted
+      → EndsRefused S refusal (drop place.start (content_of line)) [] [] line filled new → AppendsRowReply S G row line old new true
+  found_refused changed first refusal is same e =
       let rest = text_and_rest (content_of line) h.text (h.quotes ++ h.after) place h.ordered h.text_is h.after_is in
-      row_refused S R row line h.front h.field h.after h.quotes h.text old fronted filled new h.at h.is_text none replaced (first ∙ ap (λ l. old ++ l) h.front_is) refusal
-      (subst (λ t. IsTextRefusal R t refusal) h.text_is is) same
+      row_refused S G row line h.front h.field h.after h.quotes h.text old fronted filled new h.at h.is_text none changed (first ∙ ap (λ l. old ++ l) h.front_is) refusal
+      (subst (λ t. IsTextRefusal G.entries (replaced G.codes t) refusal) h.text_is is) same
       (record { told = e.told; is_told = e.is_told; grown = e.grown ∙ ap (λ l. filled ++ row_line S l e.told line) (append-nil (drop place.start (content_of line)) ∙ rest) })
 
-  pub found_kept : (refused : Bool) → row.is_kept ≡ true → AppendsKept S R text line old new refused → AppendsRowReply S R row line old new refused
+  pub found_kept : (refused : Bool) → row.is_kept ≡ true → AppendsKept S G text line old new refused → AppendsRowReply S G row line old new refused
   found_kept refused kept a =
-      row_kept S R row line h.front h.field h.after h.quotes h.text old new refused h.at h.is_text none kept (subst (λ t. AppendsKept S R t line old new refused) h.text_is a)
+      row_kept S G row line h.front h.field h.after h.quotes h.text old new refused h.at h.is_text none kept (subst (λ t. AppendsKept S G t line old new refused) h.text_is a)
 
 -- ---- a row without its field
 
-pub row_returns : (S : Separator) (R : List EntryParts) (row : RowForm) (line old new : List ℕ) → HasReturn S (content_of line)
-    → new ≡ old ++ refused_line row.is_kept S line (codes "BadReturn") → AppendsRowReply S R row line old new true
-row_returns S R row line old new returns grown = record {
+pub row_returns : (S : Separator) (G : Ground) (row : RowForm) (line old new : List ℕ) → HasReturn S (content_of line)
+    → new ≡ old ++ refused_line row.is_kept S line (codes "BadReturn") → AppendsRowReply S G row line old new true
+row_returns S G row line old new returns grown = record {
   bytes = refused_line row.is_kept S line (codes "BadReturn");
   grown = grown;
   owed = inl (record { returns = returns; line_is = refl; refused = refl });
 }
 
-pub row_lacks : (S : Separator) (R : List EntryParts) (row : RowForm) (line old new : List ℕ) → (HasReturn S (content_of line) → ⊥) × HasFewer S row.before (content_of line)
-    → new ≡ old ++ refused_line row.is_kept S line (codes "NoColumn") → AppendsRowReply S R row line old new true
-row_lacks S R row line old new lacks grown = record {
+pub row_lacks : (S : Separator) (G : Ground) (row : RowForm) (line old new : List ℕ) → (HasReturn S (content_of line) → ⊥) × HasFewer S row.before (content_of line)
+    → new ≡ old ++ refused_line row.is_kept S line (codes "NoColumn") → AppendsRowReply S G row line old new true
+row_lacks S G row line old new lacks grown = record {
   bytes = refused_line row.is_kept S line (codes "NoColumn");
   grown = grown;
   owed = inr (record { none = lacks.0; owed = inr (inr (record { fewer = lacks.1; line_is = refl }), refl) });

@@ -1,89 +1,24 @@
--- What the turns of a run over lines keep, and how it ends.
-use Rattle.std.proofs.Common.{◌≡◌, ◌≤◌, ◌+◌, ◌++◌, ◌∙◌, inl, inr, ℕ, List, [], Option, Result, Ok, Err, length, take, sym, ap, refl, arith, append-nil, length-append, ◌<◌, ◌*◌, add-one, drop}
-use Rattle.std.specs.Io.KnownBytes.{Appends, Consumes, IsAtEnd, Keeps}
-use Rattle.std.proofs.KnownBytes.{Appends-nil, Appends-trans, Consumes-kept, Consumes-nil, Consumes-trans}
-use Rattle.std.proofs.Math.Seq.{take-append_seam}
-use Rattle.lt_jar.specs.Devices.{failures_of, inner_of, HasFailed, after_reads, last_given_of, one_more, reads_of}
-use Rattle.lt_jar.specs.Sources.{most_reads}
+-- What holds of a text while it is read, and how a run over lines ends.
+use Rattle.std.proofs.Common.{◌≡◌, ◌+◌, ◌++◌, ◌∙◌, inl, inr, ℕ, List, [], Option, Result, Ok, Err, length, sym, ap, refl, arith, append-nil, ◌<◌, ◌^◌}
+use Rattle.std.specs.Io.KnownBytes.{Appends, IsAtEnd}
+use Rattle.std.proofs.KnownBytes.{Appends-nil, Appends-trans}
+use Rattle.lt_jar.specs.Devices.{failures_of, inner_of}
 use Rattle.lt_jar.specs.declared.devices.Device.{Device}
-use Rattle.lt_lines.specs.Marked.{EndsText, FinishesText, HasRoomFor, IsNew, IsTakenText, TakesText}
+use Rattle.lt_lines.specs.Marked.{EndsText, EndsTextInQuotes, FinishesText, HasRoomFor, IsNew, TakesText}
 use Rattle.lt_lines.specs.Owed.{AfterMark, IsBegunText, Terms, long_fault, units_of}
 use Rattle.lt_lines.specs.Tallied.{OwesAll, TalliesInQuotes, TalliesTooLong}
 use Rattle.lt_tallies.specs.declared.Tally.{Tally}
-use Rattle.lt_lines.specs.Running.{EndsAs, HasRead, RunsLines}
+use Rattle.lt_lines.specs.Running.{EndsAs, RunsLines}
+use Rattle.lt_stream.specs.Pieces.{EndFact, IsStoppedByRead, IsStoppedByTurns, IsWithoutMemory, RunFact, RunsPieces}
+use Rattle.lt_lines.specs.Reading.{EndsReading, IsReading, StopsReading}
 use Rattle.lt_lines.specs.declared.forms.LineForm.{LineForm}
 use Rattle.lt_lines.specs.declared.forms.LineForm.TheVariants as forms
 use Rattle.lt_lines.specs.declared.marked.Marked.{Marked}
 use Rattle.lt_lines.specs.declared.runs.Counts.{Counts}
-use Rattle.lt_lines.specs.declared.faults.ToolFault.{ToolFault}
-use Rattle.lt_lines.specs.declared.faults.ToolFault.TheVariants as faults
-use Rattle.lt_lines.proofs.DeviceLemmas.{failed_from}
+use Rattle.lt_stream.specs.declared.faults.ToolFault.{ToolFault}
+use Rattle.lt_stream.specs.declared.faults.ToolFault.TheVariants as faults
 use Rattle.lt_lines.proofs.EndLemmas.{begun_to_last_feed, begun_too_long}
-use Rattle.lt_lines.proofs.MarkedLemmas.{begun_none, text_begun, text_room, text_to_last_feed}
-
--- so far this was read and answered
-pub record RunTurn {I O : Type 0} (T : Terms) (remaining : I → Option (List ℕ)) (contents : O → Option (List ℕ))
-    (input input' : Device I) (output output' : Device O) (state : Marked) (turn : ℕ) : Type 0 where
-  pub read : List ℕ
-  pub written : List ℕ
-  pub consumes : Consumes (remaining (inner_of input)) (remaining (inner_of input')) read
-  pub appends : Appends (contents (inner_of output)) (contents (inner_of output')) written
-  pub taken : IsTakenText T read written state
-  pub emptied : state.answering.owed.items ≡ []
-  pub calls : HasRead input input' turn
-  pub some : turn ≤ length read
-  pub last_gave : 0 < turn → 0 < last_given_of input'
-  pub most : length read ≤ 65536 * turn
-  pub read_failures : failures_of input' ≡ failures_of input
-  pub write_failures : failures_of output' ≡ failures_of output
-
--- what one read of this many bytes did
-pub record ReadsPiece {I : Type 0} (remaining : I → Option (List ℕ)) (before after : Device I) (piece : List ℕ) : Type 0 where
-  pub consumes : Consumes (remaining (inner_of before)) (remaining (inner_of after)) piece
-  pub calls : reads_of after ≡ one_more (reads_of before)
-  pub failures : failures_of after ≡ failures_of before
-
-pub run_first : {I O : Type 0} (T : Terms) (remaining : I → Option (List ℕ)) (contents : O → Option (List ℕ)) (input : Device I) (output : Device O) (state : Marked) → IsNew T state
-    → RunTurn T remaining contents input input output output state 0
-run_first T remaining contents input output state new = record {
-  read = [];
-  written = [];
-  consumes = Consumes-nil _;
-  appends = Appends-nil _;
-  taken = inr new.kept;
-  emptied = new.emptied;
-  calls = refl;
-  some = omega arith;
-  last_gave = λ some. absurd (omega (arith, some));
-  most = omega arith;
-  read_failures = refl;
-  write_failures = refl;
-}
-
--- one read more
-pub read_more : {I : Type 0} (input before after : Device I) (turn : ℕ) → HasRead input before turn → reads_of after ≡ one_more (reads_of before) → HasRead input after (turn + 1)
-read_more input before after turn has more = more ∙ ap one_more has ∙ ap (after_reads (reads_of input)) (sym (add-one turn))
-
--- memory ran out for the pieces
-pub run_lacks : {I O : Type 0} (T : Terms) (remaining : I → Option (List ℕ)) (contents : O → Option (List ℕ)) (input : Device I) (output : Device O) (tallies : List Tally)
-    → RunsLines T remaining contents input input output output tallies (Err faults.OutOfMemory)
-run_lacks T remaining contents input output tallies = record {
-  read = [];
-  written = [];
-  reads = 0;
-  consumes = Consumes-nil _;
-  appends = Appends-nil _;
-  begun = begun_none T [];
-  calls = refl;
-  bounded = omega arith;
-  ends = tt;
-  read_rises = λ lt. absurd (omega (arith, lt));
-  write_rises = λ lt. absurd (omega (arith, lt));
-}
-
--- the pieces' buffer after a read
-pub refilled : (count : ℕ) (items buffer : List ℕ) → count ≡ length items → length buffer ≡ length items → take count (buffer ++ drop (length buffer) items) ≡ buffer
-refilled count items buffer is same = ap (λ (n : ℕ). take n (buffer ++ drop (length buffer) items)) (is ∙ sym same) ∙ take-append_seam buffer (drop (length buffer) items)
+use Rattle.lt_lines.proofs.MarkedLemmas.{begun_none, stop_from, text_begun, text_room, text_to_last_feed}
 
 -- ---- what was written is a front of what is owed
 
@@ -117,105 +52,157 @@ ends_long T remaining input input' output output' reads read written tallies lin
     by_form (forms.Row row) is = record { named = sym (ap (λ (f : LineForm). long_fault f line) is); ends = a }
     by_form (forms.Csv row delimiter) is = inr (record { named = sym (ap (λ (f : LineForm). long_fault f line) is); ends = a })
 
-module _ {I O : Type 0} (T : Terms) (remaining : I → Option (List ℕ)) (contents : O → Option (List ℕ)) (input before : Device I) (output between : Device O)
-    (state : Marked) (turn : ℕ) (t : RunTurn T remaining contents input before output between state turn) where
-  -- a piece was read and taken
-  pub run_next : (after : Device I) (last : Device O) (new : Marked) (piece : List ℕ) → ReadsPiece remaining before after piece
-      → 0 < length piece → length piece ≤ 65536 → 0 < last_given_of after → TakesText T contents piece state new between last (Ok tt) → RunTurn T remaining contents input after output last new (turn + 1)
-  run_next after last new piece r some short gave takes = record {
-    read = t.read ++ piece;
-    written = t.written ++ takes.written;
-    consumes = Consumes-trans _ _ _ _ _ t.consumes r.consumes;
-    appends = Appends-trans _ _ _ _ _ t.appends takes.appends;
-    taken = (takes.done.1 t.read t.written t.taken t.emptied).0;
-    emptied = (takes.done.1 t.read t.written t.taken t.emptied).1;
-    calls = read_more input before after turn t.calls r.calls;
-    some = let n = length-append t.read piece in omega (arith, n, t.some);
-    last_gave = λ some. gave;
-    most = let n = length-append t.read piece in omega (arith, n, t.most);
-    read_failures = r.failures ∙ t.read_failures;
-    write_failures = takes.done.0 ∙ t.write_failures;
-  }
+-- ---- a text that is read
 
-  -- a read failed
-  pub run_failed : (after : Device I) → turn < most_reads → Keeps (remaining (inner_of before)) (remaining (inner_of after)) → reads_of after ≡ one_more (reads_of before)
-      → HasFailed before after → RunsLines T remaining contents input after output between state.answering.tallies (Err faults.Read)
-  run_failed after few kept more failed = record {
-    read = t.read;
-    written = t.written;
-    reads = turn + 1;
-    consumes = Consumes-kept _ _ _ _ t.consumes kept;
-    appends = t.appends;
-    begun = text_begun T t.read t.written state t.taken t.emptied;
-    calls = read_more input before after turn t.calls more;
-    bounded = omega (arith, few);
-    ends = record { failed = failed_from input before after t.read_failures failed; owed = text_to_last_feed T t.read t.written state t.taken t.emptied };
-    read_rises = λ lt. refl;
-    write_rises = λ lt. absurd (omega (arith, lt, t.write_failures));
-  }
+module _ {W : Type 0} (T : Terms) (contents : W → Option (List ℕ)) (start : Device W) where
+  -- nothing was taken
+  pub reading_none : (state : Marked) → IsNew T state → IsReading T contents start start [] state
+  reading_none state new = record { written = []; appends = Appends-nil _; same = refl; taken = inr new.kept; emptied = new.emptied }
 
-  -- all reads were made
-  pub run_turns : turn ≡ most_reads → RunsLines T remaining contents input before output between state.answering.tallies (Err faults.TooManyTurns)
-  run_turns all = record {
-    read = t.read;
-    written = t.written;
-    reads = turn;
-    consumes = t.consumes;
-    appends = t.appends;
-    begun = text_begun T t.read t.written state t.taken t.emptied;
-    calls = t.calls;
-    bounded = omega (arith, all);
-    ends = record { all_made = all; gave_bytes = omega (arith, all, t.some); last_gave = t.last_gave (omega (arith, all)); owed = text_to_last_feed T t.read t.written state t.taken t.emptied };
-    read_rises = λ lt. absurd (omega (arith, lt, t.read_failures));
-    write_rises = λ lt. absurd (omega (arith, lt, t.write_failures));
-  }
+  -- there is room for a piece
+  pub reading_room : (now : Device W) (read : List ℕ) (state : Marked) (count : ℕ) → IsReading T contents start now read state → length read + count < 2 ^ 63 → HasRoomFor state (count + 1)
+  reading_room now read state count t few = text_room T read t.written state (count + 1) t.taken (omega (arith, few))
 
-  -- a run that ends after a read
-  run_after : (after : Device I) (last : Device O) (piece part : List ℕ) (tallies : List Tally) (r : Result Counts ToolFault) → turn < most_reads → ReadsPiece remaining before after piece
-      → Appends (contents (inner_of between)) (contents (inner_of last)) part → IsBegunText T (t.read ++ piece) (t.written ++ part) → EndsAs T remaining input after output last (turn + 1) (t.read ++ piece) (t.written ++ part) tallies r
-      → (failures_of output < failures_of last → r ≡ Err faults.Write) → RunsLines T remaining contents input after output last tallies r
-  run_after after last piece part tallies r few reads appends begun ends rises = record {
-    read = t.read ++ piece;
-    written = t.written ++ part;
-    reads = turn + 1;
-    consumes = Consumes-trans _ _ _ _ _ t.consumes reads.consumes;
-    appends = Appends-trans _ _ _ _ _ t.appends appends;
-    begun = begun;
-    calls = read_more input before after turn t.calls reads.calls;
-    bounded = omega (arith, few);
-    ends = ends;
-    read_rises = λ lt. absurd (omega (arith, lt, reads.failures, t.read_failures));
-    write_rises = rises;
-  }
+  module _ (before after : Device W) (read piece : List ℕ) (old new : Marked) (t : IsReading T contents start before read old) (U : Terms) (same : U ≡ T) where
+    -- a piece was taken
+    pub reading_more : TakesText U contents piece old new before after (Ok tt) → IsReading T contents start after (read ++ piece) new
+    reading_more takes =
+        let p = rw same at takes in
+        record {
+          written = t.written ++ p.written;
+          appends = Appends-trans _ _ _ _ _ t.appends p.appends;
+          same = p.done.0 ∙ t.same;
+          taken = (p.done.1 read t.written t.taken t.emptied).0;
+          emptied = (p.done.1 read t.written t.taken t.emptied).1;
+        }
 
-  -- a run over lines that could not all be answered or written
-  pub run_stopped : (after : Device I) (last : Device O) (piece part : List ℕ) (tallies : List Tally) (f : ToolFault) → turn < most_reads → ReadsPiece remaining before after piece
-      → Appends (contents (inner_of between)) (contents (inner_of last)) part → EndsText T between last (t.read ++ piece) (t.written ++ part) tallies f → RunsLines T remaining contents input after output last tallies (Err f)
-  run_stopped after last piece part tallies f few reads appends (inl stop) = elim stop.0 [
-    | inl wrote ↦ rw wrote.0 (run_after after last piece part tallies _ few reads appends stop.1 (failed_from output between last t.write_failures wrote.1) (λ _. refl))
-    | inr lacks ↦ rw lacks.0 (run_after after last piece part tallies _ few reads appends stop.1 tt (λ lt. absurd (omega (arith, lt, t.write_failures, lacks.1))))
+    -- a text that is no more read was begun before
+    ends_from : (bytes written : List ℕ) (tallies : List Tally) (f : ToolFault) → EndsText T before after bytes written tallies f → EndsText T start after bytes written tallies f
+    ends_from bytes written tallies f (inl stop) = inl (stop_from start before after f t.same stop.0, stop.1)
+    ends_from bytes written tallies f (inr (inl wide)) = inr (inl (wide.0, wide.1 ∙ t.same, wide.2, wide.3, wide.4))
+    ends_from bytes written tallies f (inr (inr long)) = inr (inr (long.0, long.1, long.2 ∙ t.same, long.3))
+
+    -- a piece ended it
+    pub reading_stops : (f : ToolFault) → TakesText U contents piece old new before after (Err f) → StopsReading T contents start after (read ++ piece) new.answering.tallies (Err f)
+    reading_stops f takes =
+        let p = rw same at takes in
+        record {
+          written = t.written ++ p.written;
+          appends = Appends-trans _ _ _ _ _ t.appends p.appends;
+          holds = ends_from (read ++ piece) (t.written ++ p.written) new.answering.tallies f (p.stopped read t.written t.taken);
+        }
+
+    -- the end did
+    pub reading_ends : (r : Result Counts ToolFault) → FinishesText U contents old new before after r → EndsReading T contents start after read new.answering.tallies r
+    reading_ends (Ok counts) finishes =
+        let p = rw same at finishes in
+        record { written = t.written ++ p.written; appends = Appends-trans _ _ _ _ _ t.appends p.appends; holds = (p.done.0 ∙ t.same, p.done.1 read t.written t.taken) }
+    reading_ends (Err f) finishes =
+        let p = rw same at finishes in
+        record {
+          written = t.written ++ p.written;
+          appends = Appends-trans _ _ _ _ _ t.appends p.appends;
+          holds = elim (p.stopped read t.written t.taken t.emptied) [
+            | inl q ↦ inl (record { line = q.line; fault = q.fault; same = q.same ∙ t.same; ends = q.ends })
+            | inr stop ↦ inr (ends_from read (t.written ++ p.written) new.answering.tallies f stop)
+          ];
+        }
+
+-- ---- how a run ends
+
+module _ {I W A : Type 0} (T : Terms) (U : A → Terms) (text : A → Marked) (remaining : I → Option (List ℕ)) (contents : W → Option (List ℕ)) (input input' : Device I) (output output' : Device W) (here : A) where
+  abbrev Taken : RunFact (Device W) A
+  Taken start now read state = (U state ≡ T) × IsReading T contents start now read (text state)
+
+  abbrev Stopped : EndFact (Device W) A Counts
+  Stopped start now read state r = StopsReading T contents start now read (text state).answering.tallies r
+
+  abbrev Finished : EndFact (Device W) A Counts
+  Finished start now read state r = EndsReading T contents start now read (text state).answering.tallies r
+
+  module _ (r : Result Counts ToolFault) (p : RunsPieces Taken Stopped Finished remaining input input' output output' here r) where
+    run_over : (written : List ℕ) → Appends (contents (inner_of output)) (contents (inner_of output')) written → IsBegunText T p.read written
+        → EndsAs T remaining input input' output output' p.reads p.read written (text here).answering.tallies r → (failures_of input < failures_of input' → r ≡ Err faults.Read)
+        → (failures_of output < failures_of output' → r ≡ Err faults.Write) → RunsLines T remaining contents input input' output output' (text here).answering.tallies r
+    run_over written appends begun ends read_rises write_rises = record {
+      read = p.read;
+      written = written;
+      reads = p.reads;
+      consumes = p.consumes;
+      appends = appends;
+      begun = begun;
+      calls = p.calls;
+      bounded = p.bounded;
+      ends = ends;
+      read_rises = read_rises;
+      write_rises = write_rises;
+    }
+
+    -- a read failed, or all were made, or there was no memory for a piece
+    run_taken : (t : IsReading T contents output output' p.read (text here)) → EndsAs T remaining input input' output output' p.reads p.read t.written (text here).answering.tallies r
+        → (failures_of input < failures_of input' → r ≡ Err faults.Read) → RunsLines T remaining contents input input' output output' (text here).answering.tallies r
+    run_taken t ends read_rises = run_over t.written t.appends (text_begun T p.read t.written (text here) t.taken t.emptied) ends read_rises (λ lt. absurd (omega (arith, lt, t.same)))
+
+    run_read : IsStoppedByRead (λ bytes. Taken output output' bytes here) input input' p.read r → RunsLines T remaining contents input input' output output' (text here).answering.tallies r
+    run_read s =
+        let t = s.taken.1 in
+        run_taken t (rw s.fault (record { failed = s.failed; owed = text_to_last_feed T p.read t.written (text here) t.taken t.emptied })) (λ _. s.fault)
+
+    run_turns : IsStoppedByTurns (λ bytes. Taken output output' bytes here) input input' p.reads p.read r → RunsLines T remaining contents input input' output output' (text here).answering.tallies r
+    run_turns s =
+        let t = s.taken.1 in
+        run_taken t (rw s.fault (record { all_made = s.all_made; gave_bytes = s.gave_bytes; last_gave = s.last_gave; owed = text_to_last_feed T p.read t.written (text here) t.taken t.emptied }))
+        (λ lt. absurd (omega (arith, lt, s.same)))
+
+    run_memory : IsWithoutMemory (λ bytes. Taken output output' bytes here) input input' p.read r → RunsLines T remaining contents input input' output output' (text here).answering.tallies r
+    run_memory s = run_taken s.taken.1 (rw s.fault tt) (λ lt. absurd (omega (arith, lt, s.same)))
+
+    -- the text was read no more
+    run_stopped : (f : ToolFault) → r ≡ Err f → failures_of input' ≡ failures_of input → (written : List ℕ) → Appends (contents (inner_of output)) (contents (inner_of output')) written
+        → EndsText T output output' p.read written (text here).answering.tallies f → RunsLines T remaining contents input input' output output' (text here).answering.tallies r
+    run_stopped f is same written appends (inl (inl wrote, begun)) =
+        let fault : r ≡ Err faults.Write = is ∙ ap (λ (e : ToolFault). Err e) wrote.0 in
+        run_over written appends begun (rw fault wrote.1) (λ lt. absurd (omega (arith, lt, same))) (λ _. fault)
+    run_stopped f is same written appends (inl (inr lacks, begun)) =
+        let fault : r ≡ Err faults.OutOfMemory = is ∙ ap (λ (e : ToolFault). Err e) lacks.0 in
+        run_over written appends begun (rw fault tt) (λ lt. absurd (omega (arith, lt, same))) (λ lt. absurd (omega (arith, lt, lacks.1)))
+    run_stopped f is same written appends (inr (inl wide)) =
+        let fault : r ≡ Err faults.Utf16 = is ∙ ap (λ (e : ToolFault). Err e) wide.0 in
+        run_over written appends (rw wide.3 (begun_none T p.read)) (rw fault (record { wide = wide.2; nothing = wide.3; none = wide.4 })) (λ lt. absurd (omega (arith, lt, same))) (λ lt. absurd (omega (arith, lt, wide.1)))
+    run_stopped f is same written appends (inr (inr long)) =
+        let fault : r ≡ Err (long_fault T.form long.0) = is ∙ ap (λ (e : ToolFault). Err e) long.1 in
+        run_over written appends (begun_after T p.read written long.0 (text here).answering.tallies long.3)
+        (rw fault (ends_long T remaining input input' output output' p.reads p.read written (text here).answering.tallies long.0 long.3)) (λ lt. absurd (omega (arith, lt, same)))
+        (λ lt. absurd (omega (arith, lt, long.2)))
+
+    run_quotes : (f : ToolFault) → r ≡ Err f → IsAtEnd (remaining (inner_of input')) → failures_of input' ≡ failures_of input → (written : List ℕ) → Appends (contents (inner_of output)) (contents (inner_of output')) written
+        → EndsTextInQuotes T output output' p.read written (text here).answering.tallies f → RunsLines T remaining contents input input' output output' (text here).answering.tallies r
+    run_quotes f is end same written appends q =
+        let fault : r ≡ Err (faults.BadCsv q.line) = is ∙ ap (λ (e : ToolFault). Err e) q.fault in
+        run_over written appends (begun_in_quotes T p.read written q.line (text here).answering.tallies q.ends) (rw fault (inl (record { end = end; ends = q.ends }))) (λ lt. absurd (omega (arith, lt, same)))
+        (λ lt. absurd (omega (arith, lt, q.same)))
+
+  -- what a run over the pieces of a text did
+  pub runs_lines : (r : Result Counts ToolFault) → RunsPieces Taken Stopped Finished remaining input input' output output' here r → RunsLines T remaining contents input input' output output' (text here).answering.tallies r
+  runs_lines (Ok counts) p = elim p.ends [
+    | inl f ↦
+        let h = f.finished in
+        run_over (Ok counts) p h.written h.appends (begun_owed T p.read h.written counts (text here).answering.tallies h.holds.1) (record { end = f.end; owed = h.holds.1 })
+        (λ lt. absurd (omega (arith, lt, f.same))) (λ lt. absurd (omega (arith, lt, h.holds.0)))
+    | inr (inl s) ↦ absurd s.stopped
+    | inr (inr (inl s)) ↦ run_read (Ok counts) p s
+    | inr (inr (inr (inl s))) ↦ run_turns (Ok counts) p s
+    | inr (inr (inr (inr s))) ↦ run_memory (Ok counts) p s
   ]
-  run_stopped after last piece part tallies f few reads appends (inr (inl wide)) = rw wide.0
-      (run_after after last piece part tallies _ few reads appends (rw wide.3 (begun_none T (t.read ++ piece))) (record { wide = wide.2; nothing = wide.3; none = wide.4 }) (λ lt. absurd (omega (arith, lt, t.write_failures, wide.1))))
-  run_stopped after last piece part tallies f few reads appends (inr (inr long)) = rw long.1
-      (run_after after last piece part tallies _ few reads appends (begun_after T (t.read ++ piece) (t.written ++ part) long.0 tallies long.3) (ends_long T remaining input after output last (turn + 1) (t.read ++ piece) (t.written ++ part) tallies long.0 long.3)
-      (λ lt. absurd (omega (arith, lt, t.write_failures, long.2))))
-
-  -- the reader was at its end
-  pub run_finished : (after : Device I) (last : Device O) (new : Marked) (r : Result Counts ToolFault) → turn < most_reads → ReadsPiece remaining before after [] → IsAtEnd (remaining (inner_of after))
-      → FinishesText T contents state new between last r → RunsLines T remaining contents input after output last new.answering.tallies r
-  run_finished after last new (Ok counts) few reads end f =
-      let owed : AfterMark T (λ text more. OwesAll T text more counts new.answering.tallies) (t.read ++ []) (t.written ++ f.written) = rw (append-nil t.read) (f.done.1 t.read t.written t.taken) in
-      run_after after last [] f.written new.answering.tallies (Ok counts) few reads f.appends (begun_owed T (t.read ++ []) (t.written ++ f.written) counts new.answering.tallies owed)
-      (record { end = end; owed = owed }) (λ lt. absurd (omega (arith, lt, f.done.0, t.write_failures)))
-  run_finished after last new (Err e) few reads end f = elim (f.stopped t.read t.written t.taken t.emptied) [
-    | inl q ↦
-        let quotes : AfterMark T (TalliesInQuotes T q.line new.answering.tallies) (t.read ++ []) (t.written ++ f.written) = rw (append-nil t.read) q.ends in
-        rw q.fault (run_after after last [] f.written new.answering.tallies (Err (faults.BadCsv q.line)) few reads f.appends (begun_in_quotes T (t.read ++ []) (t.written ++ f.written) q.line new.answering.tallies quotes)
-        (inl (record { end = end; ends = quotes })) (λ lt. absurd (omega (arith, lt, q.same, t.write_failures))))
-    | inr stop ↦ run_stopped after last [] f.written new.answering.tallies e few reads f.appends (rw (append-nil t.read) stop)
+  runs_lines (Err f) p = elim p.ends [
+    | inl e ↦
+        let h = e.finished in
+        elim h.holds [
+          | inl quotes ↦ run_quotes (Err f) p f refl e.end e.same h.written h.appends quotes
+          | inr stop ↦ run_stopped (Err f) p f refl e.same h.written h.appends stop
+        ]
+    | inr (inl s) ↦ let h = s.stopped in run_stopped (Err f) p f refl s.same h.written h.appends h.holds
+    | inr (inr (inl s)) ↦ run_read (Err f) p s
+    | inr (inr (inr (inl s))) ↦ run_turns (Err f) p s
+    | inr (inr (inr (inr s))) ↦ run_memory (Err f) p s
   ]
-
-  -- the counts have room for the lines of a piece
-  pub run_room : (lines : ℕ) → turn < most_reads → lines ≤ 65537 → HasRoomFor state lines
-  run_room lines few short = text_room T t.read t.written state lines t.taken (omega (arith, t.most, few, short))

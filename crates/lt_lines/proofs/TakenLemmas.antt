@@ -10,7 +10,7 @@ use Rattle.lt_lines.specs.Tallied.{CountsIf}
 use Rattle.lt_lines.proofs.TalliedLemmas.{tallied_more}
 use Rattle.lt_rows.specs.declared.quotes.Place.TheVariants as places
 use Rattle.lt_rows.proofs.RowLemmas.{each-last}
-use Rattle.lt_lines.specs.DeviceOutput.{IsFrontOf}
+use Rattle.lt_stream.specs.DeviceOutput.{IsFrontOf}
 use Rattle.lt_lines.specs.declared.answering.Answering.{Answering}
 use Rattle.lt_lines.proofs.FormLemmas.{ended-append, ended_first, feed_within, feeds_in-append, no_feeds, of_none, one_feed, place_of-append, unit-append}
 use Rattle.lt_lines.proofs.PartLemmas.{kept_more, short_by, short_line}
@@ -48,7 +48,7 @@ pub taken_line : (T : Terms) (bytes out part : List ℕ) (r : Reply) (old new : 
     → new.owed.items ≡ old.owed.items ++ r.bytes → new.kept.items ≡ [] → new.place ≡ places.Fresh → new.feeds ≡ old.feeds + 1 → new.counts.lines ≡ old.counts.lines + 1
     → new.counts.refused ≡ old.counts.refused + one_if r.refused → old.counts.lines + 1 < 18446744073709551616
     → ((last : List ℕ) → old.kept.items ≡ kept_of T.form last → CountsIf T.form (old.counts.lines + 1) (last ++ part) r.bytes r.refused old.tallies new.tallies)
-    → AreRecent T new.recent → IsTaken T (bytes ++ (part ++ 10 ∷ [])) out new
+    → AreRecent T.ground.entries T.form new.recent → IsTaken T (bytes ++ (part ++ 10 ∷ [])) out new
 taken_line T bytes out part r old new t one owed_for grown none closed feeds lines refusals room tally recent =
     let whole = t.last ++ part in
     record {

@@ -4,7 +4,8 @@ use Rattle.std.proofs.lemmas.Bool.{cases_Bool, eqb-true}
 use Rattle.std.proofs.lemmas.Bool.Decides.{leb_tells}
 use Rattle.std.specs.Io.BufRead.{ends_with_byte}
 use Rattle.std.proofs.lemmas.List.{take_rest}
-use Rattle.std.specs.List.{list_all, onto_first}
+use Rattle.std.specs.List.{list_all, onto_first, position_or_len}
+use Rattle.std.specs.Prelude.{zero, suc}
 use Rattle.lt_subtag.specs.Bytes.{folded, is_subtag}
 use Rattle.lt_tag.specs.Faults.{HasList}
 use Rattle.lt_tag.specs.Lists.{pieces, longest_text}
@@ -13,10 +14,13 @@ use Rattle.lt_tag.proofs.FaultLemmas.{one_fault}
 use Rattle.lt_tag.proofs.OneTagLemmas.{text_of_tag}
 use Rattle.lt_jar.specs.Lines.{content_of}
 use Rattle.lt_registry.specs.Parts.{EntryParts}
+use Rattle.lt_codes.specs.Codes.{replaced}
+use Rattle.lt_codes.specs.Index.{IsCode}
+use Rattle.lt_codes.proofs.TextLemmas.{replaced_long}
 use Rattle.lt_canon.specs.Texts.{AppendsCanonicalText, IsTextRefusal}
 use Rattle.lt_canon.specs.declared.refusals.TextRefusal.{TextRefusal}
 use Rattle.lt_lines.specs.Answering.{AppendsTextReply, kept_of, longest_kept, AreRecent, IsRecent}
-use Rattle.lt_lines.specs.Owed.{IsReplyIn, IsTextReply, Reply, is_refusal, Terms, terms}
+use Rattle.lt_lines.specs.Owed.{Ground, IsReplyIn, IsTextReply, Reply, is_refusal}
 use Rattle.lt_lines.specs.declared.forms.LineForm.{LineForm}
 use Rattle.lt_lines.specs.declared.forms.RowForm.{RowForm}
 use Rattle.std.proofs.lemmas.Result.{on_ok_weaker}
@@ -61,13 +65,16 @@ content-length line = elim (ends_with_byte 13 line) as (λ t. length line ≤ le
 ]
 
 -- what is owed for the front of a line, as far as it is kept, is owed for the line
-pub reply_for_kept : (R : List EntryParts) (form : LineForm) (first : Bool) (line : List ℕ) (r : Reply) → IsReplyIn R form first (kept_of form line) r → IsReplyIn R form first line r
-reply_for_kept R forms.Tag first line r owed = elim (leb_tells (length line) longest_kept) [
-  | inl short ↦ subst (λ (l : List ℕ). IsTextReply R (content_of l) r) (take_all longest_kept line short.1) owed
-  | inr long ↦ reply_for_long R (content_of (take longest_kept line)) (content_of line) r
-      (omega (arith, length-take-le longest_kept line (omega (arith, long.1)), content-length (take longest_kept line))) (omega (arith, content-length line, long.1)) owed
+pub reply_for_kept : (G : Ground) (form : LineForm) (first : Bool) (line : List ℕ) (r : Reply) → All IsCode G.codes → IsReplyIn G form first (kept_of form line) r → IsReplyIn G form first line r
+reply_for_kept G forms.Tag first line r each owed = elim (leb_tells (length line) longest_kept) [
+  | inl short ↦ subst (λ (l : List ℕ). IsTextReply G.entries (replaced G.codes (content_of l)) r) (take_all longest_kept line short.1) owed
+  | inr long ↦
+      let front = take longest_kept line in
+      reply_for_long G.entries (replaced G.codes (content_of front)) (replaced G.codes (content_of line)) r
+      (omega (arith, length-take-le longest_kept line (omega (arith, long.1)), content-length front, replaced_long G.codes (content_of front) each))
+      (omega (arith, content-length line, long.1, replaced_long G.codes (content_of line) each)) owed
 ]
-reply_for_kept R form first line r owed = owed
+reply_for_kept G form first line r each owed = owed
 
 -- ---- refusals
 
@@ -102,16 +109,25 @@ canonical_reply R text old new ended a last = record {
   };
 }
 
+-- without codes a text stays as it is
+pub replaced_none : (text : List ℕ) → replaced [] text ≡ text
+replaced_none text = front_rest (position_or_len (λ byte. byte == 45) text) text
+  where
+    front_rest : (n : ℕ) (l : List ℕ) → take n l ++ drop (length (take n l)) l ≡ l
+    front_rest zero l = refl
+    front_rest (suc n) [] = refl
+    front_rest (suc n) (byte ∷ l) = ap (λ (m : List ℕ). byte ∷ m) (front_rest n l)
+
 -- what was appended for a text may be put
-pub put_appended : (T : Terms) (before after : List (Option Kept)) (text bytes old new items : List ℕ) (start : ℕ) (refused : Bool) → PutsIn before after text (take (length items - start) (drop start items)) refused
-    → items ≡ new → start ≡ length old → new ≡ old ++ bytes → IsRecent T (kept text bytes refused) → All (IsRecent T) before → All (IsRecent T) after
-put_appended T before after text bytes old new items start refused puts is from grown right =
+pub put_appended : (R : List EntryParts) (form : LineForm) (before after : List (Option Kept)) (text bytes old new items : List ℕ) (start : ℕ) (refused : Bool) → PutsIn before after text (take (length items - start) (drop start items)) refused
+    → items ≡ new → start ≡ length old → new ≡ old ++ bytes → IsRecent R form (kept text bytes refused) → All (IsRecent R form) before → All (IsRecent R form) after
+put_appended R form before after text bytes old new items start refused puts is from grown right =
     let same : take (length items - start) (drop start items) ≡ bytes = take_rest items start ∙ rw (is, from, grown) (drop-append_seam old bytes) in
-    all_put (IsRecent T) before after text (take (length items - start) (drop start items)) refused puts (subst (λ (l : List ℕ). IsRecent T (kept text l refused)) (sym same) right)
+    all_put (IsRecent R form) before after text (take (length items - start) (drop start items)) refused puts (subst (λ (l : List ℕ). IsRecent R form (kept text l refused)) (sym same) right)
 
 -- the canonical texts of fields are kept alike where tabs part fields and where commas do
 pub csv_recent : (R : List EntryParts) (row : RowForm) (delimiter : ℕ) (form : LineForm) (r : Result Bool OutOfMemory) (old new : RecentAnswers) → form ≡ forms.Csv row delimiter
-    → OnOk r (AreRecent (terms R (forms.Row row)) old → AreRecent (terms R (forms.Row row)) new) → OnOk r (AreRecent (terms R form) old → AreRecent (terms R form) new)
+    → OnOk r (AreRecent R (forms.Row row) old → AreRecent R (forms.Row row) new) → OnOk r (AreRecent R form old → AreRecent R form new)
 csv_recent R row delimiter form r old new is h =
-    subst (λ (f : LineForm). OnOk r (AreRecent (terms R f) old → AreRecent (terms R f) new)) (sym is)
+    subst (λ (f : LineForm). OnOk r (AreRecent R f old → AreRecent R f new)) (sym is)
     (on_ok_weaker r (λ keeps recent. let a = keeps (record { whole = recent.whole; ends = recent.ends }) in record { whole = a.whole; ends = a.ends }) h)

@@ -6,7 +6,7 @@ use Rattle.lt_jar.specs.Devices.{failures_of, inner_of}
 use Rattle.lt_jar.specs.declared.devices.Device.{Device}
 use Rattle.lt_rows.specs.Marks.{IsWide, MayBeMark}
 use Rattle.lt_rows.proofs.MarkLemmas.{short_narrow, wide_more}
-use Rattle.lt_lines.specs.DeviceOutput.{WritesText}
+use Rattle.lt_stream.specs.DeviceOutput.{WritesText}
 use Rattle.lt_lines.specs.Answering.{FinishesLines, IsFresh, TakesPiece}
 use Rattle.lt_lines.specs.Marked.{BeginsText, EndsText, EndsTextInQuotes, FinishesText, IsKeptFront, IsNew, TakesText}
 use Rattle.lt_lines.specs.Owed.{AfterMark, IsBegunText, SplitsText, Terms}
@@ -15,8 +15,8 @@ use Rattle.lt_tallies.proofs.TallyLemmas.{no_tallies}
 use Rattle.lt_lines.specs.declared.answering.Answering.{Answering}
 use Rattle.lt_lines.specs.declared.marked.Marked.{Marked}
 use Rattle.lt_lines.specs.declared.runs.Counts.{Counts}
-use Rattle.lt_lines.specs.declared.faults.ToolFault.{ToolFault}
-use Rattle.lt_lines.specs.declared.faults.ToolFault.TheVariants as faults
+use Rattle.lt_stream.specs.declared.faults.ToolFault.{ToolFault}
+use Rattle.lt_stream.specs.declared.faults.ToolFault.TheVariants as faults
 use Rattle.lt_lines.proofs.FormLemmas.{of_none}
 use Rattle.lt_lines.proofs.MarkedLemmas.{IsAt, at_after, begun_none, piece_stopped, splits_more, splits_whole, stop_from}
 
@@ -48,7 +48,7 @@ new_text T state front begun fresh = record {
       count = fresh.counts.0;
       refused = fresh.counts.1;
       tallied = record { refusals = []; are_refused = refl; tallied = rw fresh.tallies no_tallies };
-      recent = fresh.recent T;
+      recent = fresh.recent T.ground.entries T.form;
     };
   };
   emptied = fresh.items.1;

@@ -8,12 +8,14 @@ use Rattle.lt_jar.specs.Lines.{IsOneLine, content_of}
 use Rattle.lt_registry.specs.Parts.{EntryParts}
 use Rattle.lt_canon.specs.Texts.{AppendsCanonicalText, IsCanonicalTextOf, IsTextRefusal}
 use Rattle.lt_canon.specs.declared.refusals.TextRefusal.{TextRefusal}
+use Rattle.lt_codes.specs.Codes.{replaced}
 use Rattle.lt_lines.specs.Refusals.{IsTold}
 use Rattle.lt_rows.specs.Quotes.{is_quoted, place_at}
 use Rattle.lt_rows.specs.declared.quotes.Place.{Place}
 use Rattle.lt_rows.specs.declared.quotes.Place.TheVariants as places
-use Rattle.lt_lines.specs.Owed.{AreReplies, IsBegun, IsHeadingReply, IsReplyAmong, IsReplyTo, IsRowReply, IsShort, IsTextReply, IsUnit, IsWhole, Reply, Terms, bytes_in, ended, feeds_in, is_open, long_fault, longest_row, place_of, refused_in, reply, row_line, units_of, with_canonical}
-use Rattle.lt_lines.specs.DeviceOutput.{IsFrontOf}
+use Rattle.lt_lines.specs.Owed.{AreReplies, Ground, IsBegun, IsHeadingReply, IsReplyAmong, IsReplyTo, IsRowReply, IsShort, IsTextReply, IsUnit, IsWhole, Reply, Terms, bytes_in, ended, feeds_in, is_open, long_fault, place_of, refused_in, reply, row_line, units_of, with_canonical}
+use Rattle.lt_stream.specs.Running.{longest_row}
+use Rattle.lt_stream.specs.DeviceOutput.{IsFrontOf}
 use Rattle.lt_lines.specs.Tallied.{AreTalliesOf, OwesAll, TalliesInQuotes, TalliesTooLong}
 use Rattle.lt_recent.specs.declared.Kept.{Kept}
 use Rattle.lt_ends.specs.Ends.{AreEnds}
@@ -24,12 +26,12 @@ use Rattle.lt_lines.specs.declared.forms.RowForm.{RowForm}
 use Rattle.lt_lines.specs.declared.forms.LineForm.TheVariants as forms
 use Rattle.lt_rows.specs.declared.rows.Separator.{Separator}
 use Rattle.lt_lines.specs.declared.runs.Counts.{Counts}
-use Rattle.lt_lines.specs.declared.faults.ToolFault.{ToolFault}
-use Rattle.lt_lines.specs.declared.faults.ToolFault.TheVariants as faults
+use Rattle.lt_stream.specs.declared.faults.ToolFault.{ToolFault}
+use Rattle.lt_stream.specs.declared.faults.ToolFault.TheVariants as faults
 
--- a longer tag is too long, whatever follows: 1,025 bytes and a carriage return
+-- a longer tag is too long, whatever follows: 1,026 bytes, or one less with the registered code, and a carriage return
 abbrev pub longest_kept : ℕ
-longest_kept = 1026
+longest_kept = 1027
 
 -- Lines are written once this many bytes of them are owed, if no read comes before.
 abbrev pub full : ℕ
@@ -86,19 +88,20 @@ pub record AppendsTextReply (R : List EntryParts) (text old new : List ℕ) (ref
   pub owed : IsTextReply R text (reply bytes refused)
 
 -- a row was appended as it is, with the canonical text of a text, or with why that is refused
-pub record AppendsKept (S : Separator) (R : List EntryParts) (text line old new : List ℕ) (refused : Bool) : Type 0 where
+pub record AppendsKept (S : Separator) (G : Ground) (text line old new : List ℕ) (refused : Bool) : Type 0 where
   pub canonical : List ℕ
   pub told : List ℕ
   pub grown : new ≡ old ++ row_line S (with_canonical true S (content_of line) canonical) told line
-  pub owed : (IsCanonicalTextOf R text canonical × (told ≡ []) × (refused ≡ false))
-      ⊎ ((refusal : TextRefusal) × IsTextRefusal R text refusal × IsTold refusal told × (canonical ≡ []) × (refused ≡ true))
+  pub owed : (IsCanonicalTextOf G.entries (replaced G.codes text) canonical × (told ≡ []) × (refused ≡ false))
+      ⊎ ((refusal : TextRefusal) × IsTextRefusal G.entries (replaced G.codes text) refusal × IsTold refusal told
+      × (canonical ≡ []) × (refused ≡ true))
 
 -- that to a row
-pub record AppendsRowReply (S : Separator) (R : List EntryParts) (row : RowForm) (line old new : List ℕ)
+pub record AppendsRowReply (S : Separator) (G : Ground) (row : RowForm) (line old new : List ℕ)
     (refused : Bool) : Type 0 where
   pub bytes : List ℕ
   pub grown : new ≡ old ++ bytes
-  pub owed : IsRowReply S R row line (reply bytes refused)
+  pub owed : IsRowReply S G row line (reply bytes refused)
 
 -- that to a heading
 pub record AppendsHeadingReply (kept : Bool) (S : Separator) (line old new : List ℕ) (refused : Bool) : Type 0 where
@@ -107,11 +110,11 @@ pub record AppendsHeadingReply (kept : Bool) (S : Separator) (line old new : Lis
   pub owed : IsHeadingReply kept S line (reply bytes refused)
 
 -- that to a heading or a row
-pub record AppendsReplyAmong (S : Separator) (R : List EntryParts) (row : RowForm) (heading : Bool) (line old new : List ℕ)
+pub record AppendsReplyAmong (S : Separator) (G : Ground) (row : RowForm) (heading : Bool) (line old new : List ℕ)
     (refused : Bool) : Type 0 where
   pub bytes : List ℕ
   pub grown : new ≡ old ++ bytes
-  pub owed : IsReplyAmong S R row heading line (reply bytes refused)
+  pub owed : IsReplyAmong S G row heading line (reply bytes refused)
 
 -- that to a line
 pub record AppendsReply (T : Terms) (first : Bool) (line old new : List ℕ) (refused : Bool) : Type 0 where
@@ -143,14 +146,14 @@ IsRight R (forms.Row row) kept = IsCanonicalTextOf R kept.line kept.answer
 IsRight R (forms.Csv row delimiter) kept = IsCanonicalTextOf R kept.line kept.answer
 
 -- what a place has, if it has something, is right
-abbrev pub IsRecent : Terms → Option Kept → Type 0
-IsRecent T None = Unit {0}
-IsRecent T (Some kept) = IsRight T.entries T.form kept
+abbrev pub IsRecent : List EntryParts → LineForm → Option Kept → Type 0
+IsRecent R form None = Unit {0}
+IsRecent R form (Some kept) = IsRight R form kept
 
 -- each answer that was given lately is right, and so is each end
-pub record AreRecent (T : Terms) (recent : RecentAnswers) : Type 0 where
-  pub whole : All (IsRecent T) recent.whole
-  pub ends : AreEnds T.entries recent.ends
+pub record AreRecent (R : List EntryParts) (form : LineForm) (recent : RecentAnswers) : Type 0 where
+  pub whole : All (IsRecent R form) recent.whole
+  pub ends : AreEnds R recent.ends
 
 -- These bytes were taken: their lines are answered, and the answers written or still kept.
 pub record IsTaken (T : Terms) (bytes written : List ℕ) (state : Answering) : Type 0 where
@@ -169,7 +172,7 @@ pub record IsTaken (T : Terms) (bytes written : List ℕ) (state : Answering) : 
   pub count : state.counts.lines ≡ length owed
   pub refused : state.counts.refused ≡ refused_in owed
   pub tallied : AreTalliesOf T.form lines owed state.tallies
-  pub recent : AreRecent T state.recent
+  pub recent : AreRecent T.ground.entries T.form state.recent
 
 -- what is owed for these bytes is written or still kept
 pub record IsAnswered (T : Terms) (bytes written : List ℕ) (state : Answering) : Type 0 where
@@ -211,7 +214,7 @@ pub record IsFresh (state : Answering) : Type 0 where
   pub place : (state.place ≡ places.Fresh) × (state.feeds ≡ 0)
   pub counts : (state.counts.lines ≡ 0) × (state.counts.refused ≡ 0)
   pub tallies : state.tallies ≡ []
-  pub recent : (T : Terms) → AreRecent T state.recent
+  pub recent : (R : List EntryParts) (form : LineForm) → AreRecent R form state.recent
 
 -- all but what is owed is the same
 pub record KeepsLine (old new : Answering) : Type 0 where

@@ -10,8 +10,8 @@ use Rattle.lt_lines.specs.Tallied.{OwesAll, TalliesInQuotes, TalliesTooLong}
 use Rattle.lt_lines.specs.declared.marked.Marked.{Marked}
 use Rattle.lt_tallies.specs.declared.Tally.{Tally}
 use Rattle.lt_lines.specs.declared.runs.Counts.{Counts}
-use Rattle.lt_lines.specs.declared.faults.ToolFault.{ToolFault}
-use Rattle.lt_lines.specs.declared.faults.ToolFault.TheVariants as faults
+use Rattle.lt_stream.specs.declared.faults.ToolFault.{ToolFault}
+use Rattle.lt_stream.specs.declared.faults.ToolFault.TheVariants as faults
 
 -- These bytes were taken, and the mark that they begin with was written: what follows goes to the answers.
 pub record IsTakenAfter (T : Terms) (bytes written : List ℕ) (state : Marked) : Type 0 where

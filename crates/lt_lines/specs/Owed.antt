@@ -1,34 +1,53 @@
 -- What is owed for the bytes of a reader: an answer to each of its lines.
-use Rattle.std.specs.Prelude.{◌≡◌, ◌≤◌, ◌⊎◌, ◌+◌, ◌==◌, ◌&&◌, ℕ, Bool, true, false, List, [], ◌∷◌, ◌++◌, if◌then◌else◌, length, codes}
+use Rattle.std.specs.Prelude.{◌≡◌, ◌≤◌, ◌⊎◌, ◌+◌, ◌==◌, ◌&&◌, ℕ, Bool, true, false, List, [], ◌∷◌, ◌++◌, if◌then◌else◌, length, codes, Option, Some, None}
+use Rattle.std.specs.Borrow.{Bor}
 use Rattle.std.specs.List.{AllByRecursion, count_by}
 use Rattle.std.specs.Io.BufRead.{ends_with_byte}
 use Rattle.lt_jar.specs.Lines.{IsOneLine, content_of, lines_of}
 use Rattle.lt_registry.specs.Parts.{EntryParts}
 use Rattle.lt_canon.specs.Texts.{IsCanonicalTextOf, IsTextRefusal}
 use Rattle.lt_canon.specs.declared.refusals.TextRefusal.{TextRefusal}
+use Rattle.lt_codes.specs.Codes.{replaced}
+use Rattle.lt_codes.specs.declared.codes.Code.{Code}
 use Rattle.lt_lines.specs.Refusals.{IsRefusalLine, IsTold}
 use Rattle.lt_rows.specs.Quotes.{IsFreeOutside, is_quoted, place_at, records_from}
 use Rattle.lt_rows.specs.declared.quotes.Place.{Place}
 use Rattle.lt_rows.specs.declared.quotes.Place.TheVariants as places
 use Rattle.lt_rows.specs.Marks.{Begins, IsWide, SplitsMark}
 use Rattle.lt_rows.specs.Rows.{HasFewer, HasField, HasReturn, IsTextIn, separator}
+use Rattle.lt_lines.specs.declared.bases.Basis.{Basis}
 use Rattle.lt_lines.specs.declared.forms.LineForm.{LineForm}
 use Rattle.lt_lines.specs.declared.forms.RowForm.{RowForm}
 use Rattle.lt_lines.specs.declared.forms.LineForm.TheVariants as forms
 use Rattle.lt_rows.specs.declared.rows.Separator.{Separator}
 use Rattle.lt_rows.specs.declared.rows.Separator.TheVariants as separators
-use Rattle.lt_lines.specs.declared.faults.ToolFault.{ToolFault}
-use Rattle.lt_lines.specs.declared.faults.ToolFault.TheVariants as faults
+use Rattle.lt_stream.specs.Running.{longest_row}
+use Rattle.lt_stream.specs.declared.faults.ToolFault.{ToolFault}
+use Rattle.lt_stream.specs.declared.faults.ToolFault.TheVariants as faults
 use Rattle.lt_lines.specs.declared.runs.Counts.{Counts}
 
--- by what lines are answered: the entries of a registry, and what a line is
-pub record Terms : Type 0 where
+-- by what texts are answered: the entries of a registry, and codes for whose first subtag what is registered is read
+pub record Ground : Type 0 where
   pub entries : List EntryParts
+  pub codes : List Code
+
+-- the codes of a table, if there is one
+abbrev pub codes_in : Option (Bor (List Code)) → List Code
+codes_in None = []
+codes_in (Some table) = table.now
+
+-- what is held, by the entries that a registry lists
+abbrev pub ground_of : {T : Type 0} → (T → List EntryParts) → Basis T → Ground
+ground_of listed basis = record { entries = listed basis.checked.now; codes = codes_in basis.codes }
+
+-- by what lines are answered: by what their texts are, and what a line is
+pub record Terms : Type 0 where
+  pub ground : Ground
   pub form : LineForm
 
--- those of these entries and this form
-abbrev pub terms : List EntryParts → LineForm → Terms
-terms entries form = record { entries = entries; form = form }
+-- those of this ground and this form
+abbrev pub terms : Ground → LineForm → Terms
+terms ground form = record { ground = ground; form = form }
 
 -- an answer: its bytes, and whether it refuses what it answers
 pub record Reply : Type 0 where
@@ -84,7 +103,7 @@ abbrev pub refused_line : Bool → Separator → (line told : List ℕ) → List
 refused_line kept S line told = row_line S (with_canonical kept S (content_of line) []) told line
 
 -- the field has a canonical text, which is in the place of its text, and the last field is empty
-pub record AnswersRow (S : Separator) (R : List EntryParts) (before : ℕ) (line bytes : List ℕ) : Type 0 where
+pub record AnswersRow (S : Separator) (G : Ground) (before : ℕ) (line bytes : List ℕ) : Type 0 where
   pub front : List ℕ
   pub field : List ℕ
   pub after : List ℕ
@@ -93,11 +112,11 @@ pub record AnswersRow (S : Separator) (R : List EntryParts) (before : ℕ) (line
   pub text : List ℕ
   pub is_text : IsTextIn S field quotes text
   pub canonical : List ℕ
-  pub is_canonical : IsCanonicalTextOf R text canonical
+  pub is_canonical : IsCanonicalTextOf G.entries (replaced G.codes text) canonical
   pub line_is : bytes ≡ row_line S ((front ++ quotes) ++ canonical ++ (quotes ++ after)) [] line
 
 -- the field has a canonical text: the row stays as it is, and that is added to it, and a last field, which is empty
-pub record KeepsRow (S : Separator) (R : List EntryParts) (before : ℕ) (line bytes : List ℕ) : Type 0 where
+pub record KeepsRow (S : Separator) (G : Ground) (before : ℕ) (line bytes : List ℕ) : Type 0 where
   pub front : List ℕ
   pub field : List ℕ
   pub after : List ℕ
@@ -106,16 +125,16 @@ pub record KeepsRow (S : Separator) (R : List EntryParts) (before : ℕ) (line b
   pub text : List ℕ
   pub is_text : IsTextIn S field quotes text
   pub canonical : List ℕ
-  pub is_canonical : IsCanonicalTextOf R text canonical
+  pub is_canonical : IsCanonicalTextOf G.entries (replaced G.codes text) canonical
   pub line_is : bytes ≡ row_line S (with_canonical true S (content_of line) canonical) [] line
 
 -- the first, or where rows are kept the second
-abbrev pub AnswersOrKeeps : Bool → Separator → List EntryParts → ℕ → (line bytes : List ℕ) → Type 0
-AnswersOrKeeps false S R before line bytes = AnswersRow S R before line bytes
-AnswersOrKeeps true S R before line bytes = KeepsRow S R before line bytes
+abbrev pub AnswersOrKeeps : Bool → Separator → Ground → ℕ → (line bytes : List ℕ) → Type 0
+AnswersOrKeeps false S G before line bytes = AnswersRow S G before line bytes
+AnswersOrKeeps true S G before line bytes = KeepsRow S G before line bytes
 
 -- the text of the field is refused, and the last field says why
-pub record RefusesRow (kept : Bool) (S : Separator) (R : List EntryParts) (before : ℕ) (line bytes : List ℕ) : Type 0 where
+pub record RefusesRow (kept : Bool) (S : Separator) (G : Ground) (before : ℕ) (line bytes : List ℕ) : Type 0 where
   pub front : List ℕ
   pub field : List ℕ
   pub after : List ℕ
@@ -124,7 +143,7 @@ pub record RefusesRow (kept : Bool) (S : Separator) (R : List EntryParts) (befor
   pub text : List ℕ
   pub is_text : IsTextIn S field quotes text
   pub refusal : TextRefusal
-  pub is_refusal : IsTextRefusal R text refusal
+  pub is_refusal : IsTextRefusal G.entries (replaced G.codes text) refusal
   pub told : List ℕ
   pub is_told : IsTold refusal told
   pub line_is : bytes ≡ refused_line kept S line told
@@ -135,10 +154,10 @@ pub record LacksField (kept : Bool) (S : Separator) (before : ℕ) (line bytes :
   pub line_is : bytes ≡ refused_line kept S line (codes "NoColumn")
 
 -- the line that is owed for a row by its field; running out of memory aside
-abbrev pub IsFieldReply : Separator → List EntryParts → RowForm → List ℕ → Reply → Type 0
-IsFieldReply S R row line r =
-    (AnswersOrKeeps row.is_kept S R row.before line r.bytes × (r.refused ≡ false))
-    ⊎ ((RefusesRow row.is_kept S R row.before line r.bytes ⊎ LacksField row.is_kept S row.before line r.bytes)
+abbrev pub IsFieldReply : Separator → Ground → RowForm → List ℕ → Reply → Type 0
+IsFieldReply S G row line r =
+    (AnswersOrKeeps row.is_kept S G row.before line r.bytes × (r.refused ≡ false))
+    ⊎ ((RefusesRow row.is_kept S G row.before line r.bytes ⊎ LacksField row.is_kept S row.before line r.bytes)
     × (r.refused ≡ true))
 
 -- a carriage return is in a record, outside of quotes, and the last field says so
@@ -153,9 +172,9 @@ pub record HasNoReturn (S : Separator) (line : List ℕ) (P : Type 0) : Type 0 w
   pub owed : P
 
 -- the line that is owed for a row
-abbrev pub IsRowReply : Separator → List EntryParts → RowForm → List ℕ → Reply → Type 0
-IsRowReply S R row line r =
-    RefusesReturn row.is_kept S line r ⊎ HasNoReturn S line (IsFieldReply S R row line r)
+abbrev pub IsRowReply : Separator → Ground → RowForm → List ℕ → Reply → Type 0
+IsRowReply S G row line r =
+    RefusesReturn row.is_kept S line r ⊎ HasNoReturn S line (IsFieldReply S G row line r)
 
 -- the heading as it is, with the names of the fields that are added
 abbrev pub heading_line : Bool → Separator → List ℕ → List ℕ
@@ -168,22 +187,22 @@ IsHeadingReply kept S line r = RefusesReturn kept S line r
     ⊎ HasNoReturn S line ((r.bytes ≡ heading_line kept S line) × (r.refused ≡ false))
 
 -- the line that is owed for a heading or a row
-abbrev pub IsReplyAmong : Separator → List EntryParts → RowForm → (heading : Bool) → List ℕ → Reply → Type 0
-IsReplyAmong S R row true line r = IsHeadingReply row.is_kept S line r
-IsReplyAmong S R row false line r = IsRowReply S R row line r
+abbrev pub IsReplyAmong : Separator → Ground → RowForm → (heading : Bool) → List ℕ → Reply → Type 0
+IsReplyAmong S G row true line r = IsHeadingReply row.is_kept S line r
+IsReplyAmong S G row false line r = IsRowReply S G row line r
 
 -- ---- lines
 
 -- what is owed for a line, which may be the first, and so a heading; a carriage return that ends a tag is no part of it
-abbrev pub IsReplyIn : List EntryParts → LineForm → Bool → List ℕ → Reply → Type 0
-IsReplyIn R forms.Tag first line r = IsTextReply R (content_of line) r
-IsReplyIn R (forms.Row row) first line r = IsReplyAmong separators.Tab R row (row.has_heading && first) line r
-IsReplyIn R (forms.Csv row delimiter) first line r =
-    IsReplyAmong (separators.Delimiter delimiter) R row (row.has_heading && first) line r
+abbrev pub IsReplyIn : Ground → LineForm → Bool → List ℕ → Reply → Type 0
+IsReplyIn G forms.Tag first line r = IsTextReply G.entries (replaced G.codes (content_of line)) r
+IsReplyIn G (forms.Row row) first line r = IsReplyAmong separators.Tab G row (row.has_heading && first) line r
+IsReplyIn G (forms.Csv row delimiter) first line r =
+    IsReplyAmong (separators.Delimiter delimiter) G row (row.has_heading && first) line r
 
 -- the same by what lines are answered by
 abbrev pub IsReplyTo : Terms → Bool → List ℕ → Reply → Type 0
-IsReplyTo T first line r = IsReplyIn T.entries T.form first line r
+IsReplyTo T first line r = IsReplyIn T.ground T.form first line r
 
 -- an answer is owed for each line, in order, of which the first may be the first of all
 abbrev pub AreRepliesFrom : Terms → Bool → List (List ℕ) → List Reply → Type 0
@@ -226,10 +245,6 @@ place_of (forms.Csv row delimiter) text = place_at delimiter places.Fresh text
 -- whether a line goes on after a line feed: a record does where it ends within quotes
 abbrev pub is_open : LineForm → List ℕ → Bool
 is_open form text = is_quoted (place_of form text)
-
--- the most bytes of a row or a record
-abbrev pub longest_row : ℕ
-longest_row = 16777216
 
 -- it is not too long to be kept whole; of a tag no more is kept than says that it is too long
 abbrev pub IsShort : LineForm → List ℕ → Type 0

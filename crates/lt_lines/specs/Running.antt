@@ -1,20 +1,17 @@
 -- What a run over the lines of a reader read and wrote, and how it ended.
 use Rattle.std.specs.Prelude.{◌≡◌, ◌<◌, ◌≤◌, ◌⊎◌, ℕ, List, [], length, Option, Result, Ok, Err}
 use Rattle.std.specs.Io.KnownBytes.{Appends, Consumes, IsAtEnd}
-use Rattle.lt_jar.specs.Devices.{HasFailed, after_reads, failures_of, inner_of, last_given_of, reads_of}
+use Rattle.lt_jar.specs.Devices.{HasFailed, failures_of, inner_of, last_given_of}
 use Rattle.lt_jar.specs.Sources.{most_reads}
 use Rattle.lt_jar.specs.declared.devices.Device.{Device}
 use Rattle.lt_rows.specs.Marks.{IsWide}
 use Rattle.lt_lines.specs.Owed.{AfterMark, IsBegunText, Terms, long_fault}
 use Rattle.lt_lines.specs.Tallied.{OwesAll, TalliesInQuotes, TalliesToLastFeed, TalliesTooLong}
-use Rattle.lt_lines.specs.declared.faults.ToolFault.{ToolFault}
-use Rattle.lt_lines.specs.declared.faults.ToolFault.TheVariants as faults
+use Rattle.lt_stream.specs.Running.{HasRead}
+use Rattle.lt_stream.specs.declared.faults.ToolFault.{ToolFault}
+use Rattle.lt_stream.specs.declared.faults.ToolFault.TheVariants as faults
 use Rattle.lt_lines.specs.declared.runs.Counts.{Counts}
 use Rattle.lt_tallies.specs.declared.Tally.{Tally}
-
--- this many reads were made
-abbrev pub HasRead : {T : Type 0} → Device T → Device T → ℕ → Type 0
-HasRead before after reads = reads_of after ≡ after_reads (reads_of before) reads
 
 -- the reader was read to its end, all that is owed was written, and what was refused is in the tallies
 pub record IsDone {I : Type 0} (T : Terms) (remaining : I → Option (List ℕ)) (input' : Device I)

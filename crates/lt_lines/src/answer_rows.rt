@@ -5,13 +5,14 @@ ghost use Rattle.lt_rows.specs.Looks.{HasTextAt, IsLookAt};
 ghost use Rattle.lt_rows.specs.Rows.{HasReturn};
 ghost use Rattle.lt_lines.specs.Answering.{AppendsHeadingReply, AppendsKept, AppendsReplyAmong, AppendsRowReply, AreRecent, EndsRefused};
 ghost use Rattle.lt_lines.specs.Looks.{IsRowLook};
-ghost use Rattle.lt_lines.specs.Owed.{end_of, row_line, terms, with_canonical};
+ghost use Rattle.lt_lines.specs.Owed.{end_of, ground_of, row_line, with_canonical};
 
 use crate::answer_lines::{append_told, without_return};
+use crate::bases::Basis;
 use crate::forms::{LineForm, RowForm};
 use crate::line_looks::{UNKNOWN, look_at_row};
 use crate::recent_answers::{RecentAnswers, append_field};
-use lt_canon::{Checked, TextRefusal};
+use lt_canon::TextRefusal;
 use lt_registry::Lookup;
 use lt_rows::{Found, Look, Separator, TextAt, has_return};
 use lt_tag::OutOfMemory;
@@ -97,7 +98,7 @@ fn end_refused(
 fn append_kept<L: Lookup>(
     lines: &mut Vec<u8>,
     alloc: Global,
-    checked: &Checked<L>,
+    basis: &Basis<'_, L>,
     separator: Separator,
     form: RowForm,
     recent: &mut RecentAnswers,
@@ -106,14 +107,14 @@ fn append_kept<L: Lookup>(
     line: &[u8],
 ) -> Result<bool, OutOfMemory>
     requires { count ≤ length text.now }
-    ensures owed { IfOk result (λ refused. AreRecent (terms (L.listed checked.now) (LineForm.Row form)) recent.old
-        → AppendsKept separator (L.listed checked.now) (take count text.now) line.now lines.old.items lines.new.items refused) }
-    ensures recent { OnOk result (AreRecent (terms (L.listed checked.now) (LineForm.Row form)) recent.old
-        → AreRecent (terms (L.listed checked.now) (LineForm.Row form)) recent.new) }
+    ensures owed { IfOk result (λ refused. AreRecent (L.listed basis.now.checked.now) (LineForm.Row form) recent.old
+        → AppendsKept separator (ground_of L.listed basis.now) (take count text.now) line.now lines.old.items lines.new.items refused) }
+    ensures recent { OnOk result (AreRecent (L.listed basis.now.checked.now) (LineForm.Row form) recent.old
+        → AreRecent (L.listed basis.now.checked.now) (LineForm.Row form) recent.new) }
 {
     lines.extend_from_slice(without_return(line))?;
     lines.push(separator.byte())?;
-    match append_field(lines, alloc, checked, form, recent, text, count)? {
+    match append_field(lines, alloc, basis, form, recent, text, count)? {
         None => {
             end_answered(lines, separator, b"", line)?;
             Ok(false)
@@ -131,7 +132,7 @@ fn append_kept<L: Lookup>(
 fn append_found<L: Lookup>(
     lines: &mut Vec<u8>,
     alloc: Global,
-    checked: &Checked<L>,
+    basis: &Basis<'_, L>,
     separator: Separator,
     form: RowForm,
     recent: &mut RecentAnswers,
@@ -142,10 +143,10 @@ fn append_found<L: Lookup>(
     requires count { count ≤ length text.now }
     requires place { HasTextAt separator form.before (content_of (take count text.now)) place }
     requires none { HasReturn separator (content_of (take count text.now)) → ⊥ }
-    ensures owed { IfOk result (λ refused. AreRecent (terms (L.listed checked.now) (LineForm.Row form)) recent.old
-        → AppendsRowReply separator (L.listed checked.now) form (take count text.now) lines.old.items lines.new.items refused) }
-    ensures recent { OnOk result (AreRecent (terms (L.listed checked.now) (LineForm.Row form)) recent.old
-        → AreRecent (terms (L.listed checked.now) (LineForm.Row form)) recent.new) }
+    ensures owed { IfOk result (λ refused. AreRecent (L.listed basis.now.checked.now) (LineForm.Row form) recent.old
+        → AppendsRowReply separator (ground_of L.listed basis.now) form (take count text.now) lines.old.items lines.new.items refused) }
+    ensures recent { OnOk result (AreRecent (L.listed basis.now.checked.now) (LineForm.Row form) recent.old
+        → AreRecent (L.listed basis.now.checked.now) (LineForm.Row form) recent.new) }
 {
     let line = &text[..count];
     let row = without_return(line);
@@ -153,11 +154,11 @@ fn append_found<L: Lookup>(
     let length = place.end - place.start;
     if form.is_kept {
         return append_kept(
-            lines, alloc, checked, separator, form, recent, field, length, line,
+            lines, alloc, basis, separator, form, recent, field, length, line,
         );
     }
     lines.extend_from_slice(&row[..place.start])?;
-    match append_field(lines, alloc, checked, form, recent, field, length)? {
+    match append_field(lines, alloc, basis, form, recent, field, length)? {
         None => {
             end_answered(lines, separator, &row[place.end..], line)?;
             Ok(false)
@@ -203,7 +204,7 @@ fn looked_at(
 fn append_row<L: Lookup>(
     lines: &mut Vec<u8>,
     alloc: Global,
-    checked: &Checked<L>,
+    basis: &Basis<'_, L>,
     separator: Separator,
     form: RowForm,
     recent: &mut RecentAnswers,
@@ -213,10 +214,10 @@ fn append_row<L: Lookup>(
 ) -> Result<bool, OutOfMemory>
     requires count { count ≤ length text.now }
     requires look { IsRowLook separator form.before (take count text.now) look.now }
-    ensures owed { IfOk result (λ refused. AreRecent (terms (L.listed checked.now) (LineForm.Row form)) recent.old
-        → AppendsRowReply separator (L.listed checked.now) form (take count text.now) lines.old.items lines.new.items refused) }
-    ensures recent { OnOk result (AreRecent (terms (L.listed checked.now) (LineForm.Row form)) recent.old
-        → AreRecent (terms (L.listed checked.now) (LineForm.Row form)) recent.new) }
+    ensures owed { IfOk result (λ refused. AreRecent (L.listed basis.now.checked.now) (LineForm.Row form) recent.old
+        → AppendsRowReply separator (ground_of L.listed basis.now) form (take count text.now) lines.old.items lines.new.items refused) }
+    ensures recent { OnOk result (AreRecent (L.listed basis.now.checked.now) (LineForm.Row form) recent.old
+        → AreRecent (L.listed basis.now.checked.now) (LineForm.Row form) recent.new) }
 {
     let line = &text[..count];
     let row = without_return(line);
@@ -230,7 +231,7 @@ fn append_row<L: Lookup>(
             Ok(true)
         }
         Found::Text(place) => append_found(
-            lines, alloc, checked, separator, form, recent, place, text, count,
+            lines, alloc, basis, separator, form, recent, place, text, count,
         ),
     }
 }
@@ -268,7 +269,7 @@ fn append_heading(
 pub(crate) fn append_among<L: Lookup>(
     lines: &mut Vec<u8>,
     alloc: Global,
-    checked: &Checked<L>,
+    basis: &Basis<'_, L>,
     separator: Separator,
     form: RowForm,
     is_first: bool,
@@ -279,16 +280,16 @@ pub(crate) fn append_among<L: Lookup>(
 ) -> Result<bool, OutOfMemory>
     requires count { count ≤ length text.now }
     requires look { IsRowLook separator form.before (take count text.now) look.now }
-    ensures owed { IfOk result (λ refused. AreRecent (terms (L.listed checked.now) (LineForm.Row form)) recent.old
-        → AppendsReplyAmong separator (L.listed checked.now) form (form.has_heading && is_first) (take count text.now) lines.old.items lines.new.items refused) }
-    ensures recent { OnOk result (AreRecent (terms (L.listed checked.now) (LineForm.Row form)) recent.old
-        → AreRecent (terms (L.listed checked.now) (LineForm.Row form)) recent.new) }
+    ensures owed { IfOk result (λ refused. AreRecent (L.listed basis.now.checked.now) (LineForm.Row form) recent.old
+        → AppendsReplyAmong separator (ground_of L.listed basis.now) form (form.has_heading && is_first) (take count text.now) lines.old.items lines.new.items refused) }
+    ensures recent { OnOk result (AreRecent (L.listed basis.now.checked.now) (LineForm.Row form) recent.old
+        → AreRecent (L.listed basis.now.checked.now) (LineForm.Row form) recent.new) }
 {
     if form.has_heading && is_first {
         let refused = append_heading(lines, form.is_kept, separator, &text[..count])?;
         return Ok(refused);
     }
     append_row(
-        lines, alloc, checked, separator, form, recent, look, text, count,
+        lines, alloc, basis, separator, form, recent, look, text, count,
     )
 }

@@ -1,7 +1,8 @@
 //! Answering lines that come in pieces.
 ghost use Rattle.std.specs.Prelude.{◌≡◌, ◌≤◌, ◌+◌, ◌++◌, ◌∷◌, ◌↔◌, List, ℕ, [], false, IfOk, IsTrue, OnOk, length, take, vec_len};
 ghost use Rattle.lt_jar.specs.Lines.{IsOneLine};
-ghost use Rattle.lt_lines.specs.Owed.{Terms, terms};
+ghost use Rattle.lt_registry.specs.Parts.{EntryParts};
+ghost use Rattle.lt_lines.specs.Owed.{ground_of, terms};
 ghost use Rattle.lt_rows.specs.Looks.{LacksIn};
 ghost use Rattle.lt_rows.specs.Quotes.{is_quoted};
 ghost use Rattle.lt_lines.specs.Tallied.{line_at as at_line};
@@ -11,25 +12,24 @@ ghost use Rattle.lt_lines.specs.Owed as owed;
 
 use crate::answer_lines::without_return;
 use crate::answer_rows::append_among;
-use crate::device_output::write_text;
-use crate::faults::ToolFault;
+use crate::bases::Basis;
 use crate::forms::LineForm;
 use crate::line_looks::{is_open, lacks_in, look_ahead, place_then};
 use crate::recent_answers::{RecentAnswers, append_again};
 use crate::runs::Counts;
 use crate::tallying::count_if;
-use lt_canon::Checked;
 use lt_jar::Device;
 use lt_registry::Lookup;
 use lt_rows::{Lacks, Look, Place, Separator, split_first};
+use lt_stream::{ToolFault, write_text};
 use lt_tag::OutOfMemory;
 use lt_tallies::Tallies;
 use std::alloc::{AllocError, Global};
 use std::io::Write;
 
-/// The most bytes that are kept of a line that is a tag. A longer one is too long, whatever follows: 1,025 bytes and a
-/// carriage return.
-const LONGEST_KEPT: usize = 1026;
+/// The most bytes that are kept of a line that is a tag. A longer one is too long, whatever follows: 1,026 bytes, of which
+/// what is registered for the first subtag may take one less, and a carriage return.
+const LONGEST_KEPT: usize = 1027;
 
 /// The most bytes of a row or a record, which is kept whole: 16 MiB.
 const LONGEST_ROW: usize = 16_777_216;
@@ -83,7 +83,7 @@ fn long_fault(form: LineForm, line: u64) -> ToolFault
 fn append_reply<L: Lookup>(
     lines: &mut Vec<u8>,
     alloc: Global,
-    checked: &Checked<L>,
+    basis: &Basis<'_, L>,
     form: LineForm,
     is_first: bool,
     recent: &mut RecentAnswers,
@@ -93,15 +93,15 @@ fn append_reply<L: Lookup>(
 ) -> Result<bool, OutOfMemory>
     requires count { count ≤ length text.now }
     requires look { IsLook form (take count text.now) look.now }
-    ensures owed { IfOk result (λ refused. spec.AreRecent (terms (L.listed checked.now) form) recent.old
-        → spec.AppendsReply (terms (L.listed checked.now) form) is_first (take count text.now) lines.old.items lines.new.items refused) }
-    ensures recent { OnOk result (spec.AreRecent (terms (L.listed checked.now) form) recent.old → spec.AreRecent (terms (L.listed checked.now) form) recent.new) }
+    ensures owed { IfOk result (λ refused. spec.AreRecent (L.listed basis.now.checked.now) form recent.old
+        → spec.AppendsReply (terms (ground_of L.listed basis.now) form) is_first (take count text.now) lines.old.items lines.new.items refused) }
+    ensures recent { OnOk result (spec.AreRecent (L.listed basis.now.checked.now) form recent.old → spec.AreRecent (L.listed basis.now.checked.now) form recent.new) }
 {
     match form {
         LineForm::Tag => append_again(
             lines,
             alloc,
-            checked,
+            basis,
             recent,
             text,
             without_return(&text[..count]).len(),
@@ -109,7 +109,7 @@ fn append_reply<L: Lookup>(
         LineForm::Row(row) => append_among(
             lines,
             alloc,
-            checked,
+            basis,
             Separator::Tab,
             row,
             is_first,
@@ -121,7 +121,7 @@ fn append_reply<L: Lookup>(
         LineForm::Csv(row, delimiter) => append_among(
             lines,
             alloc,
-            checked,
+            basis,
             Separator::Delimiter(delimiter),
             row,
             is_first,
@@ -138,7 +138,7 @@ fn append_reply<L: Lookup>(
 fn append_line<L: Lookup>(
     lines: &mut Vec<u8>,
     alloc: Global,
-    checked: &Checked<L>,
+    basis: &Basis<'_, L>,
     form: LineForm,
     is_first: bool,
     recent: &mut RecentAnswers,
@@ -149,21 +149,22 @@ fn append_line<L: Lookup>(
 ) -> Result<bool, OutOfMemory>
     requires count { count ≤ length text.now }
     requires look { IsAhead form kept.old.items (take count text.now) look.now }
-    ensures owed { IfOk result (λ refused. spec.AreRecent (terms (L.listed checked.now) form) recent.old
-        → spec.AppendsLine (terms (L.listed checked.now) form) is_first kept.old.items (take count text.now) lines.old.items lines.new.items refused) }
+    ensures owed { IfOk result (λ refused. spec.AreRecent (L.listed basis.now.checked.now) form recent.old
+        → spec.AppendsLine (terms (ground_of L.listed basis.now) form) is_first kept.old.items (take count text.now) lines.old.items lines.new.items refused) }
     ensures kept { OnOk result (spec.KeepsPart form kept.old.items (take count text.now) kept.new.items) }
-    ensures recent { OnOk result (spec.AreRecent (terms (L.listed checked.now) form) recent.old → spec.AreRecent (terms (L.listed checked.now) form) recent.new) }
+    ensures recent { OnOk result (spec.AreRecent (L.listed basis.now.checked.now) form recent.old → spec.AreRecent (L.listed basis.now.checked.now) form recent.new) }
 {
     if kept.is_empty() {
         return append_reply(
-            lines, alloc, checked, form, is_first, recent, look, text, count,
+            lines, alloc, basis, form, is_first, recent, look, text, count,
         );
     }
     keep(form, kept, &text[..count])?;
+    basis.know_codes();
     append_reply(
         lines,
         alloc,
-        checked,
+        basis,
         form,
         is_first,
         recent,
@@ -187,7 +188,7 @@ impl Answering {
         ensures place { (result.place ≡ Place.Fresh) × (result.feeds ≡ 0) }
         ensures counts { (result.counts.lines ≡ 0) × (result.counts.refused ≡ 0) }
         ensures tallies { result.tallies ≡ [] }
-        ensures recent { (terms : Terms) → spec.AreRecent terms result.recent }
+        ensures recent { (R : List EntryParts) (form : LineForm) → spec.AreRecent R form result.recent }
     {
         Answering {
             kept: Vec::new(alloc),
@@ -208,7 +209,7 @@ impl Answering {
     fn answer_line<L: Lookup>(
         &mut self,
         alloc: Global,
-        checked: &Checked<L>,
+        basis: &Basis<'_, L>,
         form: LineForm,
         look: &Option<Look>,
         text: &[u8],
@@ -217,8 +218,8 @@ impl Answering {
         requires room { spec.HasRoom self.old 1 }
         requires count { count ≤ length text.now }
         requires look { IsAhead form self.old.kept.items (take count text.now) look.now }
-        ensures taken { OnOk result ((bytes out : List ℕ) → spec.IsWholeAfter form self.old.kept.items self.old.place (take count text.now) → spec.IsTaken (terms (L.listed checked.now) form) bytes out self.old
-            → spec.IsTaken (terms (L.listed checked.now) form) (bytes ++ (take count text.now ++ 10 ∷ [])) out self.new) }
+        ensures taken { OnOk result ((bytes out : List ℕ) → spec.IsWholeAfter form self.old.kept.items self.old.place (take count text.now) → spec.IsTaken (terms (ground_of L.listed basis.now) form) bytes out self.old
+            → spec.IsTaken (terms (ground_of L.listed basis.now) form) (bytes ++ (take count text.now ++ 10 ∷ [])) out self.new) }
         ensures kept { OnOk result (self.new.kept.items ≡ []) }
         ensures counted { OnOk result (spec.CountsFeed self.old self.new) }
     {
@@ -226,7 +227,7 @@ impl Answering {
         let refused = append_line(
             &mut self.owed,
             alloc,
-            checked,
+            basis,
             form,
             self.counts.lines == 0,
             &mut self.recent,
@@ -270,7 +271,7 @@ impl Answering {
     fn end_row<L: Lookup>(
         &mut self,
         alloc: Global,
-        checked: &Checked<L>,
+        basis: &Basis<'_, L>,
         form: LineForm,
         lacks: Lacks,
         text: &[u8],
@@ -279,8 +280,8 @@ impl Answering {
         requires room { spec.HasRoom self.old 1 }
         requires count { count ≤ length text.now }
         requires lacks { LacksIn (take count text.now) lacks }
-        ensures taken { OnOk result ((bytes out : List ℕ) → IsOneLine (take count text.now) → (spec.IsLongBy form (length self.old.kept.items) (length (take count text.now)) → ⊥) → spec.IsTaken (terms (L.listed checked.now) form) bytes out self.old
-            → spec.IsTaken (terms (L.listed checked.now) form) (bytes ++ (take count text.now ++ 10 ∷ [])) out self.new) }
+        ensures taken { OnOk result ((bytes out : List ℕ) → IsOneLine (take count text.now) → (spec.IsLongBy form (length self.old.kept.items) (length (take count text.now)) → ⊥) → spec.IsTaken (terms (ground_of L.listed basis.now) form) bytes out self.old
+            → spec.IsTaken (terms (ground_of L.listed basis.now) form) (bytes ++ (take count text.now ++ 10 ∷ [])) out self.new) }
         ensures counted { OnOk result (spec.CountsFeed self.old self.new) }
     {
         let part = &text[..count];
@@ -288,7 +289,7 @@ impl Answering {
         if is_open(form, &look, self.place, part) {
             return self.go_on(form, part);
         }
-        self.answer_line(alloc, checked, form, &look, text, count)
+        self.answer_line(alloc, basis, form, &look, text, count)
     }
 
     /// Answers the line that the first `count` bytes of a text end, unless the line feed after them is within quotes.
@@ -296,7 +297,7 @@ impl Answering {
     fn end_line<L: Lookup>(
         &mut self,
         alloc: Global,
-        checked: &Checked<L>,
+        basis: &Basis<'_, L>,
         form: LineForm,
         lacks: Lacks,
         text: &[u8],
@@ -305,14 +306,14 @@ impl Answering {
         requires room { spec.HasRoom self.old 1 }
         requires count { count ≤ length text.now }
         requires lacks { LacksIn (take count text.now) lacks }
-        ensures taken { OnOk result ((bytes out : List ℕ) → IsOneLine (take count text.now) → (spec.IsLongBy form (length self.old.kept.items) (length (take count text.now)) → ⊥) → spec.IsTaken (terms (L.listed checked.now) form) bytes out self.old
-            → spec.IsTaken (terms (L.listed checked.now) form) (bytes ++ (take count text.now ++ 10 ∷ [])) out self.new) }
+        ensures taken { OnOk result ((bytes out : List ℕ) → IsOneLine (take count text.now) → (spec.IsLongBy form (length self.old.kept.items) (length (take count text.now)) → ⊥) → spec.IsTaken (terms (ground_of L.listed basis.now) form) bytes out self.old
+            → spec.IsTaken (terms (ground_of L.listed basis.now) form) (bytes ++ (take count text.now ++ 10 ∷ [])) out self.new) }
         ensures counted { OnOk result (spec.CountsFeed self.old self.new) }
     {
         match form {
-            LineForm::Tag => self.answer_line(alloc, checked, form, &None, text, count),
+            LineForm::Tag => self.answer_line(alloc, basis, form, &None, text, count),
             LineForm::Row(_) | LineForm::Csv(_, _) => {
-                self.end_row(alloc, checked, form, lacks, text, count)
+                self.end_row(alloc, basis, form, lacks, text, count)
             }
         }
     }
@@ -375,13 +376,13 @@ impl Answering {
     pub(crate) fn take_piece<L: Lookup, W: Write>(
         &mut self,
         alloc: Global,
-        checked: &Checked<L>,
+        basis: &Basis<'_, L>,
         form: LineForm,
         piece: &[u8],
         output: &mut Device<W>,
     ) -> Result<(), ToolFault>
         requires { spec.HasRoom self.old (length piece.now + 1) }
-        ensures { spec.TakesPiece (terms (L.listed checked.now) form) W.contents piece.now self.old self.new output.old output.new result }
+        ensures { spec.TakesPiece (terms (ground_of L.listed basis.now) form) W.contents piece.now self.old self.new output.old output.new result }
     {
         let lacks = lacks_in(form, piece);
         let mut rest = piece;
@@ -389,7 +390,7 @@ impl Answering {
             if self.is_too_long(form, line.len()) {
                 return Err(self.stop_long(form, output));
             }
-            self.end_line(alloc, checked, form, lacks, rest, line.len())?;
+            self.end_line(alloc, basis, form, lacks, rest, line.len())?;
             self.write_much(output)?;
             rest = after;
         }
@@ -405,33 +406,33 @@ impl Answering {
     fn end_last<L: Lookup>(
         &mut self,
         alloc: Global,
-        checked: &Checked<L>,
+        basis: &Basis<'_, L>,
         form: LineForm,
     ) -> Result<(), OutOfMemory>
         requires room { spec.HasRoom self.old 1 }
         requires closed { is_quoted self.old.place ≡ false }
-        ensures { OnOk result ((bytes out : List ℕ) → spec.IsTaken (terms (L.listed checked.now) form) bytes out self.old
-            → spec.IsAnswered (terms (L.listed checked.now) form) bytes out self.new) }
+        ensures { OnOk result ((bytes out : List ℕ) → spec.IsTaken (terms (ground_of L.listed basis.now) form) bytes out self.old
+            → spec.IsAnswered (terms (ground_of L.listed basis.now) form) bytes out self.new) }
     {
         if self.kept.is_empty() {
             return Ok(());
         }
-        self.answer_line(alloc, checked, form, &None, &[], 0)
+        self.answer_line(alloc, basis, form, &None, &[], 0)
     }
 
     /// Ends the lines, and writes what is owed; no quote is open.
     fn finish_closed<L: Lookup, W: Write>(
         &mut self,
         alloc: Global,
-        checked: &Checked<L>,
+        basis: &Basis<'_, L>,
         form: LineForm,
         output: &mut Device<W>,
     ) -> Result<Counts, ToolFault>
         requires room { spec.HasRoom self.old 1 }
         requires closed { is_quoted self.old.place ≡ false }
-        ensures { spec.FinishesLines (terms (L.listed checked.now) form) W.contents self.old self.new output.old output.new result }
+        ensures { spec.FinishesLines (terms (ground_of L.listed basis.now) form) W.contents self.old self.new output.old output.new result }
     {
-        self.end_last(alloc, checked, form)?;
+        self.end_last(alloc, basis, form)?;
         self.write(output)?;
         Ok(self.counts)
     }
@@ -440,16 +441,16 @@ impl Answering {
     pub(crate) fn finish<L: Lookup, W: Write>(
         &mut self,
         alloc: Global,
-        checked: &Checked<L>,
+        basis: &Basis<'_, L>,
         form: LineForm,
         output: &mut Device<W>,
     ) -> Result<Counts, ToolFault>
         requires { spec.HasRoom self.old 1 }
-        ensures { spec.FinishesLines (terms (L.listed checked.now) form) W.contents self.old self.new output.old output.new result }
+        ensures { spec.FinishesLines (terms (ground_of L.listed basis.now) form) W.contents self.old self.new output.old output.new result }
     {
         if self.place.is_quoted() {
             return Err(ToolFault::BadCsv(self.kept_from()));
         }
-        self.finish_closed(alloc, checked, form, output)
+        self.finish_closed(alloc, basis, form, output)
     }
 }

@@ -5,8 +5,7 @@
 mod answer_lines;
 mod answer_rows;
 mod answering;
-mod device_output;
-mod faults;
+mod bases;
 mod forms;
 mod line_looks;
 mod marked;
@@ -15,8 +14,8 @@ mod runs;
 mod tallying;
 
 pub use answer_lines::append_refusal;
-pub use device_output::{write_fault, write_text};
-pub use faults::ToolFault;
+pub use bases::Basis;
 pub use forms::{LineForm, RowForm};
+pub use lt_stream::{ToolFault, write_fault, write_text};
 pub use lt_tallies::{Tallies, Tally};
 pub use runs::{Counts, run_lines};

@@ -1,17 +1,16 @@
 //! Answering a text that may begin with a byte order mark.
 ghost use Rattle.std.specs.Prelude.{◌+◌, length};
 ghost use Rattle.lt_lines.specs.Marked.{BeginsText, FinishesText, HasRoomFor, IsNew, TakesText};
-ghost use Rattle.lt_lines.specs.Owed.{SplitsText, Terms, terms};
+ghost use Rattle.lt_lines.specs.Owed.{SplitsText, Terms, ground_of, terms};
 
 use crate::answering::Answering;
-use crate::device_output::write_text;
-use crate::faults::ToolFault;
+use crate::bases::Basis;
 use crate::forms::LineForm;
 use crate::runs::Counts;
-use lt_canon::Checked;
 use lt_jar::Device;
 use lt_registry::Lookup;
 use lt_rows::{is_wide, may_be_mark, split_mark};
+use lt_stream::{ToolFault, write_text};
 use std::alloc::Global;
 use std::io::Write;
 
@@ -53,18 +52,17 @@ impl Marked {
     fn begin<L: Lookup, W: Write>(
         &mut self,
         alloc: Global,
-        checked: &Checked<L>,
+        basis: &Basis<'_, L>,
         form: LineForm,
         output: &mut Device<W>,
     ) -> Result<(), ToolFault>
         requires { HasRoomFor self.old 1 }
-        ensures { BeginsText (terms (L.listed checked.now) form) W.contents self.old self.new output.old output.new result }
+        ensures { BeginsText (terms (ground_of L.listed basis.now) form) W.contents self.old self.new output.old output.new result }
     {
         let (mark, text) = split_text(form, &self.front);
         write_text(mark, output)?;
         self.is_begun = true;
-        self.answering
-            .take_piece(alloc, checked, form, text, output)?;
+        self.answering.take_piece(alloc, basis, form, text, output)?;
         self.front.clear();
         Ok(())
     }
@@ -73,18 +71,16 @@ impl Marked {
     pub(crate) fn take_piece<L: Lookup, W: Write>(
         &mut self,
         alloc: Global,
-        checked: &Checked<L>,
+        basis: &Basis<'_, L>,
         form: LineForm,
         piece: &[u8],
         output: &mut Device<W>,
     ) -> Result<(), ToolFault>
         requires { HasRoomFor self.old (length piece.now + 1) }
-        ensures { TakesText (terms (L.listed checked.now) form) W.contents piece.now self.old self.new output.old output.new result }
+        ensures { TakesText (terms (ground_of L.listed basis.now) form) W.contents piece.now self.old self.new output.old output.new result }
     {
         if self.is_begun {
-            return self
-                .answering
-                .take_piece(alloc, checked, form, piece, output);
+            return self.answering.take_piece(alloc, basis, form, piece, output);
         }
         self.front.extend_from_slice(piece)?;
         if is_wide(&self.front) {
@@ -93,24 +89,24 @@ impl Marked {
         if may_be_mark(&self.front) {
             return Ok(());
         }
-        self.begin(alloc, checked, form, output)
+        self.begin(alloc, basis, form, output)
     }
 
     /// Ends the lines, and writes what is owed.
     pub(crate) fn finish<L: Lookup, W: Write>(
         &mut self,
         alloc: Global,
-        checked: &Checked<L>,
+        basis: &Basis<'_, L>,
         form: LineForm,
         output: &mut Device<W>,
     ) -> Result<Counts, ToolFault>
         requires { HasRoomFor self.old 1 }
-        ensures { FinishesText (terms (L.listed checked.now) form) W.contents self.old self.new output.old output.new result }
+        ensures { FinishesText (terms (ground_of L.listed basis.now) form) W.contents self.old self.new output.old output.new result }
     {
         if self.is_begun {
-            return self.answering.finish(alloc, checked, form, output);
+            return self.answering.finish(alloc, basis, form, output);
         }
-        self.begin(alloc, checked, form, output)?;
-        self.answering.finish(alloc, checked, form, output)
+        self.begin(alloc, basis, form, output)?;
+        self.answering.finish(alloc, basis, form, output)
     }
 }

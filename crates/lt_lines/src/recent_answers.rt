@@ -1,16 +1,20 @@
 //! Answers that were given lately, which are given again.
-ghost use Rattle.std.specs.Prelude.{◌≡◌, ◌≤◌, false, IfOk, IsTrue, OnOk, length, take};
+ghost use Rattle.std.specs.Prelude.{◌≡◌, ◌≤◌, false, IfOk, IsTrue, List, MatchOption, OnOk, length, take};
+ghost use Rattle.lt_registry.specs.Parts.{EntryParts};
+ghost use Rattle.lt_codes.specs.Codes.{replaced};
 ghost use Rattle.lt_lines.specs.Answering.{AppendsTextReply, AreRecent, FieldReply};
-ghost use Rattle.lt_lines.specs.Owed.{Terms, terms};
+ghost use Rattle.lt_lines.specs.Owed.{codes_in};
 
 use crate::answer_lines::append_answer;
+use crate::bases::Basis;
 use crate::forms::{LineForm, RowForm};
 use lt_canon::{Checked, TextRefusal, append_usual_text};
+use lt_codes::CodeTable;
 use lt_ends::RecentEnds;
 use lt_recent::Recent;
 use lt_registry::Lookup;
 use lt_tag::OutOfMemory;
-use std::alloc::Global;
+use std::alloc::{AllocError, Global};
 
 /// Answers that were given lately: those of whole lines, and ends of canonical texts.
 #[derive(Drop)]
@@ -22,7 +26,7 @@ pub(crate) struct RecentAnswers {
 impl RecentAnswers {
     /// None so far.
     pub(crate) fn new(alloc: Global) -> RecentAnswers
-        ensures { (terms : Terms) → AreRecent terms result }
+        ensures { (R : List EntryParts) (form : LineForm) → AreRecent R form result }
     {
         RecentAnswers {
             whole: Recent::new(alloc),
@@ -31,10 +35,71 @@ impl RecentAnswers {
     }
 }
 
-/// Appends what is owed for the first `count` bytes of a text, and tells whether they were refused. A text whose subtags
-/// stay as they are is answered at once. Another answer that was given lately is not worked out again: where 32 bytes are
-/// left of the text, they are looked for without a copy.
+/// The text with what is registered for its first subtag in the place of that, if the table has it.
+fn replaced_text(
+    alloc: Global,
+    codes: &CodeTable,
+    text: &[u8],
+) -> Result<Option<Vec<u8>>, AllocError>
+    ensures { IfOk result (λ found. MatchOption found (replaced codes.now text.now ≡ text.now) (λ other. other.items ≡ replaced codes.now text.now)) }
+{
+    let mut other = Vec::new(alloc);
+    if codes.replace(text, &mut other)? {
+        Ok(Some(other))
+    } else {
+        Ok(None)
+    }
+}
+
+/// Appends what is owed for the first `count` bytes of a text, and tells whether they were refused.
 pub(crate) fn append_again<L: Lookup>(
+    lines: &mut Vec<u8>,
+    alloc: Global,
+    basis: &Basis<'_, L>,
+    recent: &mut RecentAnswers,
+    text: &[u8],
+    count: usize,
+) -> Result<bool, OutOfMemory>
+    requires { count ≤ length text.now }
+    ensures owed { IfOk result (λ refused. AreRecent (L.listed basis.now.checked.now) LineForm.Tag recent.old
+        → AppendsTextReply (L.listed basis.now.checked.now) (replaced (codes_in basis.now.codes) (take count text.now)) lines.old.items lines.new.items refused) }
+    ensures recent { OnOk result (AreRecent (L.listed basis.now.checked.now) LineForm.Tag recent.old
+        → AreRecent (L.listed basis.now.checked.now) LineForm.Tag recent.new) }
+{
+    match basis.codes {
+        None => append_read(lines, alloc, basis.checked, recent, text, count),
+        Some(codes) => append_replaced(lines, alloc, basis.checked, codes, recent, text, count),
+    }
+}
+
+/// The same by the codes of a table.
+#[inline(never)]
+fn append_replaced<L: Lookup>(
+    lines: &mut Vec<u8>,
+    alloc: Global,
+    checked: &Checked<L>,
+    codes: &CodeTable,
+    recent: &mut RecentAnswers,
+    text: &[u8],
+    count: usize,
+) -> Result<bool, OutOfMemory>
+    requires { count ≤ length text.now }
+    ensures owed { IfOk result (λ refused. AreRecent (L.listed checked.now) LineForm.Tag recent.old
+        → AppendsTextReply (L.listed checked.now) (replaced codes.now (take count text.now)) lines.old.items lines.new.items refused) }
+    ensures recent { OnOk result (AreRecent (L.listed checked.now) LineForm.Tag recent.old
+        → AreRecent (L.listed checked.now) LineForm.Tag recent.new) }
+{
+    match replaced_text(alloc, codes, &text[..count])? {
+        None => append_read(lines, alloc, checked, recent, text, count),
+        Some(other) => append_read(lines, alloc, checked, recent, &other, other.len()),
+    }
+}
+
+/// Appends what is owed for the first `count` bytes of a text as they are, and tells whether they were refused. A text whose
+/// subtags stay as they are is answered at once. Another answer that was given lately is not worked out again: where 32 bytes
+/// are left of the text, they are looked for without a copy.
+#[inline(always)]
+fn append_read<L: Lookup>(
     lines: &mut Vec<u8>,
     alloc: Global,
     checked: &Checked<L>,
@@ -43,10 +108,10 @@ pub(crate) fn append_again<L: Lookup>(
     count: usize,
 ) -> Result<bool, OutOfMemory>
     requires { count ≤ length text.now }
-    ensures owed { IfOk result (λ refused. AreRecent (terms (L.listed checked.now) LineForm.Tag) recent.old
+    ensures owed { IfOk result (λ refused. AreRecent (L.listed checked.now) LineForm.Tag recent.old
         → AppendsTextReply (L.listed checked.now) (take count text.now) lines.old.items lines.new.items refused) }
-    ensures recent { OnOk result (AreRecent (terms (L.listed checked.now) LineForm.Tag) recent.old
-        → AreRecent (terms (L.listed checked.now) LineForm.Tag) recent.new) }
+    ensures recent { OnOk result (AreRecent (L.listed checked.now) LineForm.Tag recent.old
+        → AreRecent (L.listed checked.now) LineForm.Tag recent.new) }
 {
     if append_usual_answer(lines, checked, &text[..count])? {
         return Ok(false);
@@ -83,10 +148,10 @@ fn append_found<L: Lookup>(
     count: usize,
 ) -> Result<bool, OutOfMemory>
     requires { count ≤ length text.now }
-    ensures owed { IfOk result (λ refused. AreRecent (terms (L.listed checked.now) LineForm.Tag) recent.old
+    ensures owed { IfOk result (λ refused. AreRecent (L.listed checked.now) LineForm.Tag recent.old
         → AppendsTextReply (L.listed checked.now) (take count text.now) lines.old.items lines.new.items refused) }
-    ensures recent { OnOk result (AreRecent (terms (L.listed checked.now) LineForm.Tag) recent.old
-        → AreRecent (terms (L.listed checked.now) LineForm.Tag) recent.new) }
+    ensures recent { OnOk result (AreRecent (L.listed checked.now) LineForm.Tag recent.old
+        → AreRecent (L.listed checked.now) LineForm.Tag recent.new) }
 {
     if let Some(found) = recent.whole.find(text, count) {
         found.answer.append_to(lines)?;
@@ -99,11 +164,62 @@ fn append_found<L: Lookup>(
     Ok(refused)
 }
 
-/// Appends the canonical text of a field, the first `count` bytes of the rest of a text, or tells why it is refused. A field
-/// whose subtags stay as they are is answered at once, and another canonical text that was found lately is not worked out
-/// again: where the rest has 32 bytes, it is looked for without a copy.
+/// Appends the canonical text of a field, the first `count` bytes of the rest of a text, or tells why it is refused.
 #[inline(always)]
 pub(crate) fn append_field<L: Lookup>(
+    lines: &mut Vec<u8>,
+    alloc: Global,
+    basis: &Basis<'_, L>,
+    row: RowForm,
+    recent: &mut RecentAnswers,
+    rest: &[u8],
+    count: usize,
+) -> Result<Option<TextRefusal>, OutOfMemory>
+    requires { count ≤ length rest.now }
+    ensures owed { IfOk result (λ refusal. AreRecent (L.listed basis.now.checked.now) (LineForm.Row row) recent.old
+        → FieldReply (L.listed basis.now.checked.now) (replaced (codes_in basis.now.codes) (take count rest.now)) lines.old.items lines.new.items refusal) }
+    ensures recent { OnOk result (AreRecent (L.listed basis.now.checked.now) (LineForm.Row row) recent.old
+        → AreRecent (L.listed basis.now.checked.now) (LineForm.Row row) recent.new) }
+{
+    match basis.codes {
+        None => append_read_field(lines, alloc, basis.checked, row, recent, rest, count),
+        Some(codes) => {
+            append_replaced_field(lines, alloc, basis.checked, codes, row, recent, rest, count)
+        }
+    }
+}
+
+/// The same by the codes of a table.
+#[inline(never)]
+fn append_replaced_field<L: Lookup>(
+    lines: &mut Vec<u8>,
+    alloc: Global,
+    checked: &Checked<L>,
+    codes: &CodeTable,
+    row: RowForm,
+    recent: &mut RecentAnswers,
+    rest: &[u8],
+    count: usize,
+) -> Result<Option<TextRefusal>, OutOfMemory>
+    requires { count ≤ length rest.now }
+    ensures owed { IfOk result (λ refusal. AreRecent (L.listed checked.now) (LineForm.Row row) recent.old
+        → FieldReply (L.listed checked.now) (replaced codes.now (take count rest.now)) lines.old.items lines.new.items refusal) }
+    ensures recent { OnOk result (AreRecent (L.listed checked.now) (LineForm.Row row) recent.old
+        → AreRecent (L.listed checked.now) (LineForm.Row row) recent.new) }
+{
+    match replaced_text(alloc, codes, &rest[..count])? {
+        None => append_read_field(lines, alloc, checked, row, recent, rest, count),
+        Some(other) => {
+            append_read_field(lines, alloc, checked, row, recent, &other, other.len())
+        }
+    }
+}
+
+/// Appends the canonical text of a field as it is, the first `count` bytes of the rest of a text, or tells why it is refused.
+/// A field whose subtags stay as they are is answered at once, and another canonical text that was found lately is not worked
+/// out again: where the rest has 32 bytes, it is looked for without a copy.
+#[inline(always)]
+fn append_read_field<L: Lookup>(
     lines: &mut Vec<u8>,
     alloc: Global,
     checked: &Checked<L>,
@@ -113,10 +229,10 @@ pub(crate) fn append_field<L: Lookup>(
     count: usize,
 ) -> Result<Option<TextRefusal>, OutOfMemory>
     requires { count ≤ length rest.now }
-    ensures owed { IfOk result (λ refusal. AreRecent (terms (L.listed checked.now) (LineForm.Row row)) recent.old
+    ensures owed { IfOk result (λ refusal. AreRecent (L.listed checked.now) (LineForm.Row row) recent.old
         → FieldReply (L.listed checked.now) (take count rest.now) lines.old.items lines.new.items refusal) }
-    ensures recent { OnOk result (AreRecent (terms (L.listed checked.now) (LineForm.Row row)) recent.old
-        → AreRecent (terms (L.listed checked.now) (LineForm.Row row)) recent.new) }
+    ensures recent { OnOk result (AreRecent (L.listed checked.now) (LineForm.Row row) recent.old
+        → AreRecent (L.listed checked.now) (LineForm.Row row) recent.new) }
 {
     if append_usual_text(checked, &rest[..count], lines)? {
         return Ok(None);
@@ -136,10 +252,10 @@ fn append_found_field<L: Lookup>(
     count: usize,
 ) -> Result<Option<TextRefusal>, OutOfMemory>
     requires { count ≤ length rest.now }
-    ensures owed { IfOk result (λ refusal. AreRecent (terms (L.listed checked.now) (LineForm.Row row)) recent.old
+    ensures owed { IfOk result (λ refusal. AreRecent (L.listed checked.now) (LineForm.Row row) recent.old
         → FieldReply (L.listed checked.now) (take count rest.now) lines.old.items lines.new.items refusal) }
-    ensures recent { OnOk result (AreRecent (terms (L.listed checked.now) (LineForm.Row row)) recent.old
-        → AreRecent (terms (L.listed checked.now) (LineForm.Row row)) recent.new) }
+    ensures recent { OnOk result (AreRecent (L.listed checked.now) (LineForm.Row row) recent.old
+        → AreRecent (L.listed checked.now) (LineForm.Row row) recent.new) }
 {
     if let Some(found) = recent.whole.find(rest, count) {
         found.answer.append_to(lines)?;

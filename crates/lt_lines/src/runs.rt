@@ -1,26 +1,20 @@
 //! Runs over the lines of a reader.
 ghost use Rattle.std.specs.Prelude.{◌≡◌, ◌<◌, ◌+◌, ◌^◌};
 ghost use Rattle.lt_lines.specs.Answering.{one_if};
-ghost use Rattle.lt_lines.specs.Marked.{IsNew};
-ghost use Rattle.lt_lines.specs.Owed.{terms};
+ghost use Rattle.lt_lines.specs.Reading as spec;
+ghost use Rattle.lt_lines.specs.Owed.{ground_of, terms};
 ghost use Rattle.lt_lines.specs.Running.{RunsLines};
 
-use crate::faults::ToolFault;
+use crate::bases::Basis;
 use crate::forms::LineForm;
 use crate::marked::Marked;
-use lt_canon::Checked;
 use lt_jar::Device;
 use lt_registry::Lookup;
+use lt_stream::{Pieces, ToolFault, run_pieces};
 use lt_tallies::Tallies;
 use std::alloc::Global;
 use std::io::{Read, Write};
 use std::mem;
-
-/// The most reads of one run.
-const MOST_READS: u32 = 10_000_000;
-
-/// The most bytes that a read is asked for.
-const PIECE: usize = 65536;
 
 /// What a run over lines did.
 #[derive(Clone, Copy, Debug, PartialEq, Eq)]
@@ -45,9 +39,44 @@ impl Counts {
     }
 }
 
+/// A text that is read, and by what its lines are answered.
+#[derive(Drop)]
+struct Reading<'a, L: Lookup> {
+    basis: &'a Basis<'a, L>,
+    form: LineForm,
+    text: Marked,
+}
+
+impl<'a, L: Lookup, W: Write> Pieces<Device<W>> for Reading<'a, L> {
+    type Answer = Counts;
+
+    ghost taken = { λ first start now read here. (terms (ground_of L.listed here.basis.now) here.form ≡ terms (ground_of L.listed first.basis.now) first.form)
+        × spec.IsReading (terms (ground_of L.listed first.basis.now) first.form) W.contents start now read here.text };
+
+    ghost stopped = { λ first start now read here result. spec.StopsReading (terms (ground_of L.listed first.basis.now) first.form) W.contents start now read here.text.answering.tallies result };
+
+    ghost finished = { λ first start now read here result. spec.EndsReading (terms (ground_of L.listed first.basis.now) first.form) W.contents start now read here.text.answering.tallies result };
+
+    fn take_piece(
+        &mut self,
+        alloc: Global,
+        piece: &[u8],
+        output: &mut Device<W>,
+    ) -> Result<Option<Counts>, ToolFault> {
+        self.text
+            .take_piece(alloc, self.basis, self.form, piece, output)?;
+        Ok(None)
+    }
+
+    fn finish(&mut self, alloc: Global, output: &mut Device<W>) -> Result<Counts, ToolFault> {
+        self.text.finish(alloc, self.basis, self.form, output)
+    }
+}
+
 /// Answers each line of a reader by one line, in order, each ended by a line feed, as its form says: a tag by
 /// its canonical text, or by `! `, the name of the fault and its place, or by `! ReplacementRepeats ` and the
-/// variant in lower case.
+/// variant in lower case. Where the basis has codes, a text is read with what is registered for its first subtag in the place
+/// of that; what is refused is shown as it is.
 ///
 /// A line feed ends a line, in CSV where it is not within quotes, and what follows the last one is a line if it is
 /// anything. What is owed for the lines of the bytes that were read is written before the next read. A row or a record
@@ -65,39 +94,20 @@ impl Counts {
 ///   written.
 pub fn run_lines<L: Lookup, R: Read, W: Write>(
     alloc: Global,
-    checked: &Checked<L>,
+    basis: &Basis<'_, L>,
     form: LineForm,
     input: &mut Device<R>,
     output: &mut Device<W>,
     tallies: &mut Tallies,
 ) -> Result<Counts, ToolFault>
-    ensures { RunsLines (terms (L.listed checked.now) form) R.remaining W.contents input.old input.new output.old output.new tallies.new result }
+    ensures { RunsLines (terms (ground_of L.listed basis.now) form) R.remaining W.contents input.old input.new output.old output.new tallies.new result }
 {
-    let mut text = Marked::new(alloc);
-    let end = answer_all(alloc, checked, form, input, output, &mut text);
-    mem::swap(tallies, &mut text.answering.tallies);
+    let mut reading = Reading {
+        basis,
+        form,
+        text: Marked::new(alloc),
+    };
+    let end = run_pieces(alloc, &mut reading, input, output);
+    mem::swap(tallies, &mut reading.text.answering.tallies);
     end
-}
-
-/// Answers each line of a reader.
-fn answer_all<L: Lookup, R: Read, W: Write>(
-    alloc: Global,
-    checked: &Checked<L>,
-    form: LineForm,
-    input: &mut Device<R>,
-    output: &mut Device<W>,
-    text: &mut Marked,
-) -> Result<Counts, ToolFault>
-    requires { IsNew (terms (L.listed checked.now) form) text.old }
-    ensures { RunsLines (terms (L.listed checked.now) form) R.remaining W.contents input.old input.new output.old output.new text.new.answering.tallies result }
-{
-    let mut buffer = vec![in alloc; 0u8; PIECE]?;
-    for _read in 0..MOST_READS {
-        match input.read(&mut buffer) {
-            Ok(0) => return text.finish(alloc, checked, form, output),
-            Ok(count) => { text.take_piece(alloc, checked, form, &buffer[..count], output)? }
-            Err(_) => return Err(ToolFault::Read),
-        }
-    }
-    Err(ToolFault::TooManyTurns)
 }

@@ -1,4 +1,4 @@
-//! Tests of `lt_match`, over what it makes public.
+//! Tests of `lt_match` and `lt_select`, over what they make public.
 #![tactic(auto)]
 
 #[cfg(test)]

@@ -1,5 +1,6 @@
 //! Matching by the registry of the sample, and what a call does where a growth of memory is refused.
 mod growths;
+mod lines;
 mod matching;
 mod refusals;
 

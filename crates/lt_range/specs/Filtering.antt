@@ -15,7 +15,7 @@ abbrev pub Matches : Scheme → RangeParts → List (List ℕ) → Type 0
 Matches schemes.Basic range tag = MatchesBasic range tag
 Matches schemes.Extended range tag = MatchesExtended range tag
 
--- these are the places, counted from one, of the tags of which something holds, in their order
+-- these are the places, counted from this one on, of the tags of which something holds, in their order
 abbrev pub ArePlaces : (List (List ℕ) → Type 0) → ℕ → List (List (List ℕ)) → List ℕ → Type 0
 ArePlaces P place [] found = found ≡ []
 ArePlaces P place (t ∷ ts) found =

@@ -1,2 +1,3 @@
 pub mod Padded
+pub mod Places
 pub mod Recent

@@ -4,6 +4,7 @@
 #![tactic(auto)]
 
 ghost use Rattle.std.specs.Prelude.{◌≡◌, ◌≤◌, length, take, IfSome, IfOk};
+ghost use Rattle.lt_recent.specs.Places.{blank_places};
 ghost use Rattle.lt_recent.specs.Recent.{Holds, IsBlank, PutsIn};
 
 mod short_texts;
@@ -33,24 +34,28 @@ pub struct Found<'t> {
 }
 
 /// The answers that were given lately, each in one of the two places that its line gives: the first has what was put
-/// last, and the second what was put before. A table without memory has no place: it keeps nothing.
+/// last, and the second what was put before. Its places are made for the first answer. Where there is no memory for
+/// them, it keeps nothing.
 #[derive(Drop)]
 pub struct Recent {
+    alloc: Global,
+    /// None until an answer is put.
     places: Vec<Option<Kept>>,
 }
 
 impl Model for Recent {
     ghost use Rattle.std.specs.Prelude.{List, Option};
     ghost use Rattle.lt_recent.specs.declared.Kept.{Kept};
+    ghost use Rattle.lt_recent.specs.Places.{made};
 
     ghost Value = { List (Option Kept) };
 
-    ghost view = { λ table. table.places.items };
+    ghost view = { λ table. made table.places.items };
 }
 
 /// Places that hold nothing.
 fn blank(alloc: Global) -> Result<Vec<Option<Kept>>, AllocError>
-    ensures { IfOk result (λ places. IsBlank places.items) }
+    ensures { IfOk result (λ places. places.items ≡ blank_places) }
 {
     let mut places = Vec::with_capacity(alloc, 2 * PAIRS)?;
     for _place in 0..2 * PAIRS {
@@ -60,15 +65,24 @@ fn blank(alloc: Global) -> Result<Vec<Option<Kept>>, AllocError>
 }
 
 impl Recent {
-    /// A table that holds nothing. Where there is no memory for it, it stays so.
+    /// A table that holds nothing. It takes no memory yet.
     pub fn new(alloc: Global) -> Recent
         ensures { IsBlank result }
     {
-        match blank(alloc) {
-            Ok(places) => Recent { places },
-            Err(_) => Recent {
-                places: Vec::new(alloc),
-            },
+        Recent {
+            alloc,
+            places: Vec::new(alloc),
+        }
+    }
+
+    /// Makes the places, if there are none and there is memory for them.
+    fn make_places(&mut self)
+        ensures { self.new ≡ self.old }
+    {
+        if self.places.is_empty() {
+            if let Ok(places) = blank(self.alloc) {
+                self.places = places;
+            }
         }
     }
 
@@ -110,6 +124,7 @@ impl Recent {
         ) else {
             return;
         };
+        self.make_places();
         let first = 2 * (line.hash() % PAIRS);
         if first + 1 < self.places.len() {
             self.places.swap(first, first + 1);

@@ -1,5 +1,5 @@
 -- What is found among the fields of a record, one field after another.
-use Rattle.std.proofs.Common.{◌≡◌, ◌≢◌, ℕ, suc, ◌+◌, ◌-◌, ◌≤◌, Bool, true, false, ◌||◌, List, [], ◌∷◌, ◌++◌, length, Option, Some, None, refl, sym, ap, ◌∙◌, arith}
+use Rattle.std.proofs.Common.{get_or, ◌≡◌, ◌≢◌, ℕ, suc, ◌+◌, ◌-◌, ◌≤◌, Bool, true, false, ◌||◌, List, [], ◌∷◌, ◌++◌, length, Option, Some, None, refl, sym, ap, ◌∙◌, arith}
 use Rattle.std.specs.Prelude.{find, is_some, nat_lt, cond, count_by, option_map, if◌then◌else◌}
 use Rattle.std.specs.Cmp.Lexicographic.{bytes_decides}
 use Rattle.std.specs.List.{position_from, slice_get}
@@ -12,8 +12,9 @@ use Rattle.std.proofs.lemmas.List.{length-map}
 use Rattle.std.proofs.lemmas.List.Folds.{find-append}
 use Rattle.std.proofs.lemmas.List.Sums.{sum_by-append, sum_by-cons}
 use Rattle.lt_jar.specs.Records.{Field}
-use Rattle.lt_registry.specs.Records.{body, date_name, is_called, is_repeated, subtag_name, tag_name, type_name, value_name}
+use Rattle.lt_registry.specs.Records.{body, date_name, is_called, is_repeated, kind_of, subtag_name, tag_name, type_name, value_name}
 use Rattle.lt_registry.specs.RecordSteps.{HasFound, IsPlace, field_told}
+use Rattle.lt_registry.specs.declared.entries.Kind.TheVariants as kinds
 use Rattle.lt_registry.specs.declared.fields.FieldName.{FieldName}
 use Rattle.lt_registry.specs.declared.fields.FieldName.TheVariants as told
 use Rattle.lt_registry.specs.declared.fields.Found.{Found}
@@ -321,3 +322,19 @@ module _ (r : List Field) (f : Field) (place : ℕ) (old : Found) (l : length r 
   found_other t =
       let no = by_none (is_called type_name f) (is_called subtag_name f) (is_called tag_name f) (is_called value_name f) (is_called date_name f) t in
       passed no.0 no.1 no.2 no.3 old.is_dated (h.dated ∙ sym (some_same date_name r f no.4))
+
+-- The type of a language, as it is written in most records.
+
+pub language_spelled : (s : List ℕ) → length s ≡ 8 → get_or s 0 0 ≡ 108 → get_or s 1 0 ≡ 97 → get_or s 2 0 ≡ 110 → get_or s 3 0 ≡ 103
+    → get_or s 4 0 ≡ 117 → get_or s 5 0 ≡ 97 → get_or s 6 0 ≡ 103 → get_or s 7 0 ≡ 101 → kind_of s ≡ Some kinds.Language
+language_spelled [] long = absurd (omega (arith, long))
+language_spelled (a ∷ []) long = absurd (omega (arith, long))
+language_spelled (a ∷ b ∷ []) long = absurd (omega (arith, long))
+language_spelled (a ∷ b ∷ c ∷ []) long = absurd (omega (arith, long))
+language_spelled (a ∷ b ∷ c ∷ d ∷ []) long = absurd (omega (arith, long))
+language_spelled (a ∷ b ∷ c ∷ d ∷ e ∷ []) long = absurd (omega (arith, long))
+language_spelled (a ∷ b ∷ c ∷ d ∷ e ∷ f ∷ []) long = absurd (omega (arith, long))
+language_spelled (a ∷ b ∷ c ∷ d ∷ e ∷ f ∷ g ∷ []) long = absurd (omega (arith, long))
+language_spelled (a ∷ b ∷ c ∷ d ∷ e ∷ f ∷ g ∷ h ∷ []) long =
+    λ is_a is_b is_c is_d is_e is_f is_g is_h. rw (is_a, is_b, is_c, is_d, is_e, is_f, is_g, is_h) refl
+language_spelled (a ∷ b ∷ c ∷ d ∷ e ∷ f ∷ g ∷ h ∷ x ∷ s) long = absurd (omega (arith, long))

@@ -531,6 +531,12 @@ module _ {W : Type 0} (row : ℕ → EntryParts → Option W) (place : W → ℕ
             ];
       }
 
+  -- an entry more, and the row that it may have
+  pub rows_turned : (i : ℕ) (e : EntryParts) (o : Option W) (rows new : List W) → ((w : W) → row i e ≡ Some w → place w ≡ i) → i < length R → e ≡ get_or R i e → row i e ≡ o
+      → new ≡ rows ++ cons_option o [] → AreRows row place R i rows → AreRows row place R (i + 1) new
+  rows_turned i e None rows new placed l is none same g = rows_skipped i e rows new l is none (same ∙ append-nil rows) g
+  rows_turned i e (Some v) rows new placed l is some same g = rows_more i e v rows new l is some (placed v some) same g
+
 -- a row that is made for a place says it
 placed_at : {A W : Type 0} (place : W → ℕ) (make : A → W) (p : ℕ) → ((a : A) → place (make a) ≡ p) → (b : Bool) (o : Option A) (w : W) → cond b (option_map make o) None ≡ Some w → place w ≡ p
 placed_at place make p at true (Some a) w h = let same : make a ≡ w = cc in ap place (sym same) ∙ at a
@@ -1066,16 +1072,10 @@ module _ (kind : Kind) where
       before None ys zs = refl
       before (Some y) ys zs = refl
 
-  rows_turn : (R : List EntryParts) (i : ℕ) (e : EntryParts) (o : Option RangeRow) → i < length R → e ≡ get_or R i e → range_row kind i e ≡ o → range_rows kind 0 (take (i + 1) R) ≡ range_rows kind 0 (take i R) ++ cons_option o []
+  pub rows_turn : (R : List EntryParts) (i : ℕ) (e : EntryParts) (o : Option RangeRow) → i < length R → e ≡ get_or R i e → range_row kind i e ≡ o → range_rows kind 0 (take (i + 1) R) ≡ range_rows kind 0 (take i R) ++ cons_option o []
   rows_turn R i e o l is row =
       ap (range_rows kind 0) (take_turn R i e l is) ∙ rows_append 0 (take i R) e
       ∙ ap (λ k. range_rows kind 0 (take i R) ++ cons_option (range_row kind k e) []) (omega (arith, length-take i R)) ∙ ap (λ p. range_rows kind 0 (take i R) ++ cons_option p []) row
-
-  pub row_added : (R : List EntryParts) (i : ℕ) (e : EntryParts) (row : RangeRow) → i < length R → e ≡ get_or R i e → range_row kind i e ≡ Some row → range_rows kind 0 (take (i + 1) R) ≡ range_rows kind 0 (take i R) ++ row ∷ []
-  row_added R i e row l is some = rows_turn R i e (Some row) l is some
-
-  pub row_skipped : (R : List EntryParts) (i : ℕ) (e : EntryParts) → i < length R → e ≡ get_or R i e → range_row kind i e ≡ None → range_rows kind 0 (take (i + 1) R) ≡ range_rows kind 0 (take i R)
-  row_skipped R i e l is none = rows_turn R i e None l is none ∙ append-nil (range_rows kind 0 (take i R))
 
 -- a range holds what its ranks lie around
 

@@ -6,8 +6,8 @@ ghost use Rattle.lt_registry.specs.Entries.{IsEntry, IsPrefix, has_prefix};
 ghost use Rattle.lt_registry.specs.Same.{same_list};
 
 use crate::prefixes::Prefixes;
+use crate::whole_tags::WholeTag;
 use lt_subtag::Subtag;
-use lt_tag::Tag;
 use std::marker::Model;
 
 /// The type of a record (RFC 5646, 3.1.3).
@@ -38,7 +38,7 @@ pub enum EntryName {
     /// The subtags of one length from the first to the last, both included: `Subtag: qaa..qtz`.
     Range(Subtag, Subtag),
     /// A whole tag, grandfathered or redundant: `Tag: i-klingon`.
-    Whole(Tag),
+    Whole(WholeTag),
 }
 
 /// The `Preferred-Value` of a record: one subtag, or a whole tag (RFC 5646, 3.1.7).
@@ -47,7 +47,7 @@ pub enum EntryValue {
     /// One subtag, of a record that names subtags.
     One(Subtag),
     /// A whole tag, of a grandfathered or redundant record.
-    Whole(Tag),
+    Whole(WholeTag),
 }
 
 /// The subtags of a `Prefix` (RFC 5646, 3.1.8), as `zh` of the extlang `yue`.

@@ -41,8 +41,19 @@ pub(crate) enum FieldName {
     Other,
 }
 
-/// The field that has a name. Texts of another length are no further compared.
+/// The field that has a name. The names of most records are looked for as they are written there.
 fn field_name(text: &str) -> FieldName
+    ensures { result ≡ steps.field_told text.now }
+{
+    match text.as_bytes() {
+        b"Type" => FieldName::Type,
+        b"Subtag" => FieldName::Subtag,
+        _ => field_name_in_any_case(text),
+    }
+}
+
+/// The same, letter case aside. Texts of another length are no further compared.
+fn field_name_in_any_case(text: &str) -> FieldName
     ensures { result ≡ steps.field_told text.now }
 {
     if same_text(text, "Type") {
@@ -87,38 +98,31 @@ impl Found {
         }
     }
 
-    /// What is found with a field more, which has this place and name.
-    fn with_field(self, place: usize, name: &str) -> Found
+    /// Looks at a field more, which has this place and name.
+    fn put(&mut self, place: usize, name: &str)
         ensures { (r : List Field) (f : Field) → length r ≡ place → f.0 ≡ name.now
-            → steps.HasFound r self → steps.HasFound (r ++ f ∷ []) result }
+            → steps.HasFound r self.old → steps.HasFound (r ++ f ∷ []) self.new }
     {
         let here = Some(place);
         match field_name(name) {
-            FieldName::Type => Found {
-                kind: self.kind.or(here),
-                repeats: self.repeats | self.kind.is_some(),
-                ..self
-            },
-            FieldName::Subtag => Found {
-                subtag: self.subtag.or(here),
-                repeats: self.repeats | self.subtag.is_some(),
-                ..self
-            },
-            FieldName::Tag => Found {
-                tag: self.tag.or(here),
-                repeats: self.repeats | self.tag.is_some(),
-                ..self
-            },
-            FieldName::PreferredValue => Found {
-                value: self.value.or(here),
-                repeats: self.repeats | self.value.is_some(),
-                ..self
-            },
-            FieldName::FileDate => Found {
-                is_dated: true,
-                ..self
-            },
-            FieldName::Other => self,
+            FieldName::Type => {
+                self.repeats |= self.kind.is_some();
+                self.kind = self.kind.or(here);
+            }
+            FieldName::Subtag => {
+                self.repeats |= self.subtag.is_some();
+                self.subtag = self.subtag.or(here);
+            }
+            FieldName::Tag => {
+                self.repeats |= self.tag.is_some();
+                self.tag = self.tag.or(here);
+            }
+            FieldName::PreferredValue => {
+                self.repeats |= self.value.is_some();
+                self.value = self.value.or(here);
+            }
+            FieldName::FileDate => self.is_dated = true,
+            FieldName::Other => {}
         }
     }
 
@@ -129,7 +133,7 @@ impl Found {
     {
         let mut found = Found::none();
         for (place, field) in fields.iter().enumerate() {
-            found = found.with_field(place, field.name());
+            found.put(place, field.name());
         }
         found
     }
@@ -231,8 +235,18 @@ pub(crate) fn is_whole_kind(kind: Kind) -> bool
     }
 }
 
-/// The kind that a type names.
+/// The kind that a type names. That of most records is looked for as it is written there.
 pub(crate) fn kind_of(text: &str) -> Option<Kind>
+    ensures { result ≡ record_words.kind_of text.now }
+{
+    match text.as_bytes() {
+        b"language" => Some(Kind::Language),
+        _ => kind_in_any_case(text),
+    }
+}
+
+/// The same, letter case aside.
+fn kind_in_any_case(text: &str) -> Option<Kind>
     ensures { result ≡ record_words.kind_of text.now }
 {
     if same_text(text, "language") {

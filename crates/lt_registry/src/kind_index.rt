@@ -1,5 +1,5 @@
 //! The records of one kind, sorted for a search.
-ghost use Rattle.std.specs.Prelude.{◌≡◌, ◌&&◌, length, find, All, IfOk};
+ghost use Rattle.std.specs.Prelude.{◌≡◌, ◌&&◌, List, length, find, All, IfOk};
 ghost use Rattle.std.specs.Option.{option_copied};
 ghost use Rattle.lt_registry.specs.Parts.{EntryParts};
 ghost use Rattle.lt_registry.specs.Same as same;
@@ -7,10 +7,11 @@ ghost use Rattle.lt_registry.specs.Entries.{IsEntry};
 ghost use Rattle.lt_registry.specs.Entries as forms;
 ghost use Rattle.lt_registry.specs.Sorted as sorted;
 
-use crate::entries::{Entry, EntryName, Kind};
+use crate::entries::{Entry, Kind};
 use crate::indexes::entry_at;
+use crate::kind_rows::KindRows;
 use crate::names::is_alphabetic;
-use crate::ranges::{place_in, range_rows, stretches};
+use crate::ranges::{place_in, stretches};
 use crate::rows::{Row, Stretch};
 use crate::subtag_numbers::{number_of, rank_of};
 use lt_subtag::Subtag;
@@ -36,10 +37,10 @@ impl KindIndex {
         ensures kind { IfOk result (λ index. index.kind ≡ kind) }
         ensures index { IfOk result (sorted.IsKindIndex entries.now) }
     {
-        let singles = singles(alloc, entries, kind)?;
+        let KindRows { singles, ranges } = KindRows::of_entries(alloc, entries, kind)?;
+        let singles = sorted_rows(singles)?;
         let starts = starts(alloc, &singles)?;
-        let rows = range_rows(alloc, entries, kind)?;
-        let ranges = stretches(alloc, &rows)?;
+        let ranges = stretches(alloc, &ranges)?;
         Ok(KindIndex {
             kind,
             singles,
@@ -99,11 +100,11 @@ impl KindIndex {
     }
 }
 
-/// The records of one subtag, of a kind, in the order of the subtags; the first alone for each subtag.
-fn singles(alloc: Global, entries: &[Entry], kind: Kind) -> Result<Vec<Row>, AllocError>
-    ensures { IfOk result (λ rows. sorted.IsSingles entries.now kind rows.items) }
+/// The rows of single records in the order of the subtags; the first alone for each subtag.
+fn sorted_rows(mut rows: Vec<Row>) -> Result<Vec<Row>, AllocError>
+    ensures { IfOk result (λ singles. (R : List EntryParts) (kind : Kind) → sorted.AreRows (sorted.single_row kind) (λ (row : Row). row.place) R (length R) rows.items
+        → sorted.IsSingles R kind singles.items) }
 {
-    let mut rows = single_rows(alloc, entries, kind)?;
     // Not unstable: a file has them in a few rising runs, which are merged.
     rows.sort()?;
     rows.dedup_by_key(|row| row.number);
@@ -142,30 +143,4 @@ fn starts(alloc: Global, rows: &[Row]) -> Result<Vec<usize>, AllocError>
     }
     starts.push(rows.len())?;
     Ok(starts)
-}
-
-/// The single records of a kind in the order of the file.
-fn single_rows(alloc: Global, entries: &[Entry], kind: Kind) -> Result<Vec<Row>, AllocError>
-    ensures { IfOk result (λ rows. sorted.AreRows (sorted.single_row kind) (λ (row : Row). row.place) entries.now (length entries.now) rows.items) }
-{
-    let mut rows = Vec::new(alloc);
-    for (place, entry) in entries.iter().enumerate() {
-        if let Some(row) = single_row(entry, kind, place) {
-            rows.push(row)?;
-        }
-    }
-    Ok(rows)
-}
-
-/// The row of an entry at a place, if it is a single record of the kind.
-fn single_row(entry: &Entry, kind: Kind, place: usize) -> Option<Row>
-    ensures { result ≡ sorted.single_row kind place entry.now }
-{
-    match entry.name() {
-        EntryName::Single(subtag) if entry.kind() == kind => Some(Row {
-            number: number_of(subtag),
-            place,
-        }),
-        _ => None,
-    }
 }

@@ -9,6 +9,7 @@ mod faults;
 mod fields;
 mod indexes;
 mod kind_index;
+mod kind_rows;
 pub mod laws;
 mod list_table;
 mod lookup;
@@ -23,6 +24,7 @@ mod subtag_numbers;
 mod validity;
 mod variants;
 mod whole_index;
+mod whole_tags;
 
 pub use entries::{Entry, EntryName, EntryValue, Kind, Prefix};
 pub use faults::{
@@ -34,3 +36,4 @@ pub use registry::Registry;
 pub use sorted_table::SortedTable;
 pub use validity::{proper, validate};
 pub use variants::are_distinct;
+pub use whole_tags::WholeTag;

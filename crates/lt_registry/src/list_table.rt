@@ -85,7 +85,7 @@ fn is_whole(name: &EntryName, tag: &Tag) -> bool
     ensures { result ≡ forms.is_whole tag.now name.now }
 {
     match name {
-        EntryName::Whole(whole) => whole == tag,
+        EntryName::Whole(whole) => whole.tag() == tag,
         _ => false,
     }
 }

@@ -16,9 +16,10 @@ use crate::faults::RecordFaultKind;
 use crate::fields::{RecordFields, ends_of, is_called, is_whole_kind, kind_of, read_prefix};
 use crate::names::{is_alphabetic, is_up_to};
 use crate::prefixes::Prefixes;
+use crate::whole_tags::WholeTag;
 use lt_jar::JarField;
 use lt_subtag::Subtag;
-use lt_tag::{OutOfMemory, Tag, TagFaultKind, read_tag};
+use lt_tag::{OutOfMemory, TagFaultKind, read_tag};
 use std::alloc::Global;
 
 /// The entry of a record, which has this number in the file; or the first of what is wrong with it.
@@ -74,14 +75,14 @@ fn read_name(
 }
 
 /// The tag of a text, if it is well-formed.
-fn read_whole(alloc: Global, text: &[u8]) -> Result<Option<Tag>, OutOfMemory>
+fn read_whole(alloc: Global, text: &[u8]) -> Result<Option<WholeTag>, OutOfMemory>
     ensures tag { IfOk result (IsTagOf text.now) }
     ensures value { IfOk result (λ tag. IfSome tag IsTagValue) }
 {
     match read_tag(alloc, text) {
         Ok(tag) => {
             let _ = tag.core();
-            Ok(Some(tag))
+            Ok(Some(WholeTag::of_tag(alloc, tag)?))
         }
         Err(fault) => match fault.kind {
             TagFaultKind::OutOfMemory => Err(OutOfMemory),

@@ -66,8 +66,8 @@ fn whole_row(entry: &Entry, place: usize) -> Option<Row>
     ensures { result ≡ sorted.whole_row place entry.now }
 {
     match entry.name() {
-        EntryName::Whole(tag) => Some(Row {
-            number: language_number(tag),
+        EntryName::Whole(whole) => Some(Row {
+            number: language_number(whole.tag()),
             place,
         }),
         _ => None,
@@ -89,7 +89,7 @@ fn tag_at(entries: &[Entry], place: usize) -> Option<&Tag>
     ensures { option_copied result ≡ sorted.tag_at entries.now place }
 {
     match entry_at(entries, place)?.name() {
-        EntryName::Whole(tag) => Some(tag),
+        EntryName::Whole(whole) => Some(whole.tag()),
         _ => None,
     }
 }

@@ -81,15 +81,13 @@ HasFittingVariantValue R e =
 -- subtag, a final language (C6; RFC 5646, 3.1.8).
 abbrev pub HasFinalPrefixes : List EntryParts → EntryParts → Type 0
 HasFinalPrefixes R e =
-    e.kind ≡ kinds.Variant → (v : List ℕ) → one_of e.value ≡ Some v → is_short v ≡ true →
-    (e.prefixes ≢ [])
+    e.kind ≡ kinds.Variant → (v : List ℕ) → one_of e.value ≡ Some v → is_short v ≡ true → (e.prefixes ≢ [])
     × AllByRecursion (λ (p : List (List ℕ)). (l : List ℕ) × (p ≡ l ∷ []) × IsFinalLanguage R l) e.prefixes
 
 -- Whatever Prefix a variant names is a langtag and a core alone (C7; RFC 5646, 3.1.8).
 abbrev pub HasLangtagPrefixes : List EntryParts → EntryParts → Type 0
 HasLangtagPrefixes R e =
-    e.kind ≡ kinds.Variant →
-    AllByRecursion
+    e.kind ≡ kinds.Variant → AllByRecursion
     (λ (p : List (List ℕ)). (c : CoreParts) × IsCore c × (spell_core c ≡ p) × IsNotGrandfathered p) e.prefixes
 
 -- the entry of the second subtag of a core of two, an extlang or a variant (RFC 5646, 2.2.8)

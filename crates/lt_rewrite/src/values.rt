@@ -27,7 +27,7 @@ pub fn tag_value(entry: &Entry) -> Option<&Tag>
     ensures { option_copied result ≡ tag_of entry.now.value }
 {
     match entry.value() {
-        Some(EntryValue::Whole(value)) => Some(value),
+        Some(EntryValue::Whole(value)) => Some(value.tag()),
         _ => None,
     }
 }
@@ -39,7 +39,7 @@ pub fn tag_and_value(entry: &Entry) -> Option<(&Tag, &Tag)>
         (λ pair. (entry.now.name ≡ names.Whole pair.0.now) × (tag_of entry.now.value ≡ Some pair.1.now)) }
 {
     match (entry.name(), entry.value()) {
-        (EntryName::Whole(tag), Some(EntryValue::Whole(value))) => Some((tag, value)),
+        (EntryName::Whole(tag), Some(EntryValue::Whole(value))) => Some((tag.tag(), value.tag())),
         _ => None,
     }
 }

@@ -1,6 +1,7 @@
 -- Lemmas on rows of text.
 pub mod SplitLemmas
 pub mod NearLemmas
+pub mod LaneLemmas
 pub mod RowLemmas
 pub mod StopLemmas
 pub mod FieldLemmas

@@ -2,14 +2,17 @@
 //! program `langtag`; a program of your own begins with the crate `bcp47`.
 #![tactic(auto)]
 
+mod lanes;
 mod looks;
 mod marks;
 mod plain_rows;
 mod quotes;
 mod records;
 mod rows;
+mod short_rows;
 mod splitting;
 
+pub use lanes::count_of;
 pub use looks::{Found, Lacks, Look, TextAt, lacks_of, look_at};
 pub use marks::{is_wide, may_be_mark, split_mark};
 pub use quotes::{Place, after_text};

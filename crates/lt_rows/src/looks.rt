@@ -7,6 +7,7 @@ ghost use Rattle.lt_rows.specs.Quotes.{is_quoted, place_at};
 ghost use Rattle.lt_rows.specs.Splitting.{IsFreeOf};
 ghost use Rattle.lt_rows.specs.declared.quotes.Place.TheVariants as places;
 
+use crate::lanes::free_front;
 use crate::quotes::{Place, after_text};
 use crate::rows::{Separator, field_at, has_return, text_in};
 use crate::splitting::{is_free_of_both, place_within, split_first};
@@ -59,19 +60,22 @@ fn is_free_of(byte: u8, text: &[u8]) -> bool
     }
 }
 
+/// Whether such a byte is nowhere in a text, of which the first `front` bytes are known to lack it.
+fn is_free_from(byte: u8, text: &[u8], front: usize) -> bool
+    requires { (front ≤ length text.now) × IsFreeOf byte (take front text.now) }
+    ensures { IsTrue result ↔ IsFreeOf byte text.now }
+{
+    is_free_of(byte, &text[front..])
+}
+
 /// Which bytes a text lacks.
 pub fn lacks_of(text: &[u8]) -> Lacks
     ensures { AreLackedIn text.now result }
 {
-    if is_free_of_both(b'\r', b'"', text, text.len()) {
-        return Lacks {
-            returns: true,
-            quotes: true,
-        };
-    }
+    let front = free_front(b'\r', b'"', text);
     Lacks {
-        returns: is_free_of(b'\r', text),
-        quotes: is_free_of(b'"', text),
+        returns: is_free_from(b'\r', text, front),
+        quotes: is_free_from(b'"', text, front),
     }
 }
 

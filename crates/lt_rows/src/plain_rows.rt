@@ -5,7 +5,9 @@ ghost use Rattle.lt_rows.specs.Plain.{IsNextPlace, IsPlain};
 ghost use Rattle.lt_rows.specs.Rows.{HasFewer, IsFieldAt};
 ghost use Rattle.lt_rows.specs.Splitting.{IsNear};
 
+use crate::lanes::LANES;
 use crate::rows::Separator;
+use crate::short_rows::short_field_at;
 use crate::splitting::TOGETHER;
 use memchr::{Memchr, memchr_iter};
 
@@ -46,6 +48,9 @@ pub(crate) fn plain_field_at(
     requires plain { IsPlain separator (take count text.now) }
     ensures { MatchOption result (HasFewer separator before (take count text.now)) (λ p. IsFieldAt separator before (take count text.now) p.0 p.1) }
 {
+    if count < LANES && LANES <= text.len() {
+        return short_field_at(separator, text, count, before);
+    }
     let near = with_more(text, count);
     let mut places = memchr_iter(separator.byte(), near);
     let mut start = 0;

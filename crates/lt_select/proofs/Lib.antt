@@ -1,6 +1,6 @@
 -- Lemmas on selecting lines.
 pub mod SelectionLemmas
-pub mod TakenLemmas
 pub mod MatchedLemmas
-pub mod PieceLemmas
 pub mod RunLemmas
+pub mod ClosestLemmas
+pub mod LookingLemmas

@@ -7,58 +7,70 @@ use Rattle.lt_tag.specs.Faults.{HasTag}
 use Rattle.lt_tag.specs.Parts.{TagForm}
 use Rattle.lt_tag.proofs.OneTagLemmas.{one_tag_of_text}
 use Rattle.lt_registry.specs.Parts.{EntryParts}
-use Rattle.lt_canon.specs.Texts.{IsTextRefusal, ReadsAs}
+use Rattle.lt_canon.specs.Texts.{IsTextRefusal}
 use Rattle.lt_canon.specs.declared.refusals.TextRefusal.{TextRefusal}
 use Rattle.lt_canon.specs.declared.refusals.TextRefusal.TheVariants as refusals
 use Rattle.lt_canon.proofs.CanonicalForms.{text_repeats_answered}
 use Rattle.lt_range.specs.Ranges.{RangeParts}
 use Rattle.lt_match.specs.Laws.{MatchingIsDetermined}
 use Rattle.lt_match.specs.Matched.{HasCanonicalList}
-use Rattle.lt_select.proofs.TakenLemmas.{TellsByFront}
-use Rattle.lt_select.specs.Selecting.{longest_kept}
-use Rattle.lt_select.specs.Selection.{AnyMatches, IsMatched, IsSelected, scheme_of}
+use Rattle.lt_select.specs.LookedUp.{HasNoSubtags, HasSubtags}
+use Rattle.lt_select.specs.Selection.{AnyMatches, IsMatched, IsSelected, Selection, longest_kept, scheme_of}
 use Rattle.lt_select.specs.declared.schemes.Scheme.{Scheme}
 
 -- ---- texts
 
-module _ (R : List EntryParts) (scheme : Scheme) (ranges : List RangeParts) (text : List ℕ) where
-  -- the tag that the text is read as has the list that is matched
-  same_tag : (tag : TagForm) → HasTag text tag → (m : IsMatched R scheme ranges text) → HasCanonicalList R tag m.list
-  same_tag tag read m = subst (λ (t : TagForm). HasCanonicalList R t m.list) (one_tag_of_text text m.tag tag m.read read) m.canonical
+module _ (R : List EntryParts) (text : List ℕ) where
+  -- the tag that the text is read as has these subtags
+  same_tag : (tag : TagForm) → HasTag text tag → (list : List (List ℕ)) → HasSubtags R text list → HasCanonicalList R tag list
+  same_tag tag read list h = subst (λ (t : TagForm). HasCanonicalList R t list) (one_tag_of_text text h.tag tag h.read read) h.holds
 
-  -- a text with these subtags is matched where they are
-  pub matched_as : (list : List (List ℕ)) (matched : Bool) → MatchingIsDetermined R → ReadsAs text (λ tag. HasCanonicalList R tag list) → IsTrue matched ↔ AnyMatches (scheme_of scheme) ranges list
-      → IsTrue matched ↔ IsMatched R scheme ranges text
-  matched_as list matched one reads tells = (
-    λ is. record { tag = reads.tag; read = reads.read; list = list; canonical = reads.holds; matches = tells.0 is },
-    λ m. tells.1 (subst (AnyMatches (scheme_of scheme) ranges) (one.list reads.tag m.list list (same_tag reads.tag reads.read m) reads.holds) m.matches),
-  )
-
-  -- a text that is refused is matched by none
-  pub refused_unmatched : (refusal : TextRefusal) → IsTextRefusal R text refusal → (refusal ≡ refusals.OutOfMemory → ⊥) → IsMatched R scheme ranges text → ⊥
-  refused_unmatched (refusals.NotATag fault) owed other m = text_repeats_answered R text (refusals.NotATag fault) owed m.tag m.read
-  refused_unmatched (refusals.Invalid fault) owed other m =
+  -- a text that is refused has none
+  refused_none : (refusal : TextRefusal) → IsTextRefusal R text refusal → (refusal ≡ refusals.OutOfMemory → ⊥) → HasNoSubtags R text
+  refused_none (refusals.NotATag fault) owed other = λ list h. text_repeats_answered R text (refusals.NotATag fault) owed h.tag h.read
+  refused_none (refusals.Invalid fault) owed other = λ list h.
       let a = text_repeats_answered R text (refusals.Invalid fault) owed in
-      a.2 (same_tag a.0 a.1 m).is_form.valid
-  refused_unmatched (refusals.ReplacementRepeats v) owed other m =
+      a.2 (same_tag a.0 a.1 list h).is_form.valid
+  refused_none (refusals.ReplacementRepeats v) owed other = λ list h.
       let a = text_repeats_answered R text (refusals.ReplacementRepeats v) owed in
-      (same_tag a.0 a.1 m).is_form.repeats_none a.3
-  refused_unmatched refusals.OutOfMemory owed other m = absurd (other refl)
+      (same_tag a.0 a.1 list h).is_form.repeats_none a.3
+  refused_none refusals.OutOfMemory owed other = absurd (other refl)
 
-  pub none_matched : (refusal kind : TextRefusal) → refusal ≡ kind → IsTextRefusal R text refusal → (kind ≡ refusals.OutOfMemory → ⊥) → IsTrue false ↔ IsMatched R scheme ranges text
-  none_matched refusal kind is owed other = (
-    λ no. let bad : false ≡ true = no in cc,
-    λ m. absurd (refused_unmatched refusal owed (λ e. other (sym is ∙ e)) m),
-  )
+  pub none_of : (refusal kind : TextRefusal) → refusal ≡ kind → IsTextRefusal R text refusal → (kind ≡ refusals.OutOfMemory → ⊥) → HasNoSubtags R text
+  none_of refusal kind is owed other = refused_none refusal owed (λ e. other (sym is ∙ e))
+
+  module _ (scheme : Scheme) (ranges : List RangeParts) where
+    has_subtags : (m : IsMatched R scheme ranges text) → HasSubtags R text m.list
+    has_subtags m = record { tag = m.tag; read = m.read; holds = m.canonical }
+
+    -- a text with these subtags is matched where they are
+    pub matched_as : (list : List (List ℕ)) (matched : Bool) → MatchingIsDetermined R → HasSubtags R text list → IsTrue matched ↔ AnyMatches (scheme_of scheme) ranges list
+        → IsTrue matched ↔ IsMatched R scheme ranges text
+    matched_as list matched one reads tells = (
+      λ is. record { tag = reads.tag; read = reads.read; list = list; canonical = reads.holds; matches = tells.0 is },
+      λ m. tells.1 (subst (AnyMatches (scheme_of scheme) ranges) (one.list reads.tag m.list list (same_tag reads.tag reads.read m.list (has_subtags m)) reads.holds) m.matches),
+    )
+
+    -- one without is matched by none
+    pub none_matched : HasNoSubtags R text → IsTrue false ↔ IsMatched R scheme ranges text
+    none_matched none = (
+      λ no. let bad : false ≡ true = no in cc,
+      λ m. absurd (none m.list (has_subtags m)),
+    )
 
 -- ---- long lines
 
 -- a line has at most one byte more than its content
-content-length : (line : List ℕ) → length line ≤ length (content_of line) + 1
+pub content-length : (line : List ℕ) → length line ≤ length (content_of line) + 1
 content-length line = elim (ends_with_byte 13 line) as (λ t. length line ≤ length (if t then take (length line - 1) line else line) + 1) [
   | true ↦ omega (arith, length-take-le (length line - 1) line (omega arith))
   | false ↦ omega arith
 ]
+
+-- of which all is kept that tells whether it is selected
+pub record TellsByFront (P : Selection) : Type 0 where
+  pub short : (line : List ℕ) → P line → length line ≤ longest_kept
+  pub front : (line : List ℕ) → P (take longest_kept line) → length line ≤ longest_kept
 
 -- a line that is selected is not too long to be kept whole
 pub selected_short : (R : List EntryParts) (scheme : Scheme) (ranges : List RangeParts) (line : List ℕ) → IsSelected R scheme ranges line → length line ≤ longest_kept

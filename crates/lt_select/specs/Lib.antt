@@ -1,5 +1,6 @@
 -- What the contracts of selecting lines cite.
 pub mod Selection
-pub mod Selecting
 pub mod Running
+pub mod LookedUp
+pub mod Closest
 pub mod Laws

@@ -44,12 +44,20 @@ AreSelected P (line ∷ lines) selected =
     (P line × (rest : List (List ℕ)) × (selected ≡ line ∷ rest) × AreSelected P lines rest)
     ⊎ ((P line → ⊥) × AreSelected P lines selected)
 
--- all that is owed for the bytes was written: their lines that are selected, each with a line feed; and they are so many
-pub record IsOwed (P : Selection) (bytes written : List ℕ) (count : ℕ) : Type 0 where
+-- a longer line is too long for a tag, whatever follows: 1,025 bytes and a carriage return
+abbrev pub longest_kept : ℕ
+longest_kept = 1026
+
+-- these bytes are owed for the lines: those that are selected, each with a line feed; and they are so many
+pub record AreOwed (P : Selection) (lines : List (List ℕ)) (written : List ℕ) (count : ℕ) : Type 0 where
   pub selected : List (List ℕ)
-  pub are : AreSelected P (lines_of bytes) selected
+  pub are : AreSelected P lines selected
   pub all : written ≡ whole_lines selected
   pub counted : count ≡ length selected
+
+-- all that is owed for the bytes was written: their lines that are selected, each with a line feed; and they are so many
+abbrev pub IsOwed : Selection → (bytes written : List ℕ) → ℕ → Type 0
+IsOwed P bytes written count = AreOwed P (lines_of bytes) written count
 
 -- what was written is what is owed for the bytes up to the last line feed
 pub record IsOwedToLastFeed (P : Selection) (bytes written : List ℕ) : Type 0 where

@@ -1,12 +1,14 @@
-//! Selects lines of a reader, each a tag, by language ranges (RFC 4647, 3.3) over canonical forms, so that `zh-yue`
-//! selects `yue-HK`. A program that handles tags one by one begins with the crate `bcp47`.
+//! Selects lines of a reader, each a tag, by language ranges (RFC 4647, 3.3 and 3.4) over canonical forms, so that
+//! `zh-yue` selects `yue-HK`. A program that handles tags one by one begins with the crate `bcp47`.
 #![tactic(auto)]
 
+mod closest;
 pub mod laws;
+mod looking;
 mod matching;
 mod runs;
 mod schemes;
-mod selecting;
 
+pub use looking::look_up_line;
 pub use runs::select_lines;
 pub use schemes::Scheme;

@@ -1,8 +1,9 @@
 //! Whether a line is selected.
-ghost use Rattle.std.specs.Prelude.{◌≡◌, ◌↔◌, IsTrue, IfOk, IfErr};
+ghost use Rattle.std.specs.Prelude.{◌≡◌, ◌↔◌, IsTrue, IfOk, IfErr, MatchOption};
 ghost use Rattle.lt_jar.specs.Lines.{content_of};
 ghost use Rattle.lt_canon.specs.Texts.{ReadsAs, IsTextRefusal};
 ghost use Rattle.lt_match.specs.Matched.{HasCanonicalList};
+ghost use Rattle.lt_select.specs.LookedUp.{HasNoSubtags, HasSubtags};
 ghost use Rattle.lt_select.specs.Selection.{IsMatched, IsSelected};
 
 use crate::schemes::Scheme;
@@ -14,7 +15,7 @@ use lt_tag::{OutOfMemory, read_tag};
 use std::alloc::Global;
 
 /// The line without the carriage return that may end it.
-fn without_return(line: &[u8]) -> &[u8]
+pub(crate) fn without_return(line: &[u8]) -> &[u8]
     ensures { result.now ≡ content_of line.now }
 {
     match line.last() {
@@ -37,6 +38,23 @@ fn subtags_of_text<L: Lookup>(
     Ok(canonical_subtags(alloc, checked, &tag)?)
 }
 
+/// The subtags by which a text is matched, if it is a tag that has them.
+pub(crate) fn subtags_of<L: Lookup>(
+    alloc: Global,
+    checked: &Checked<L>,
+    text: &[u8],
+) -> Result<Option<TagSubtags>, OutOfMemory>
+    ensures { IfOk result (λ found. MatchOption found (HasNoSubtags (L.listed checked.now) text.now) (HasSubtags (L.listed checked.now) text.now)) }
+{
+    match subtags_of_text(alloc, checked, text) {
+        Ok(subtags) => Ok(Some(subtags)),
+        Err(TextRefusal::NotATag(_)) => Ok(None),
+        Err(TextRefusal::Invalid(_)) => Ok(None),
+        Err(TextRefusal::ReplacementRepeats(_)) => Ok(None),
+        Err(TextRefusal::OutOfMemory) => Err(OutOfMemory),
+    }
+}
+
 /// Whether a text is a tag that one of the ranges matches.
 fn is_matched<L: Lookup>(
     alloc: Global,
@@ -49,12 +67,9 @@ fn is_matched<L: Lookup>(
 {
     let _ = checked.table();
     matching_is_determined();
-    match subtags_of_text(alloc, checked, text) {
-        Ok(subtags) => Ok(scheme.any_matches(ranges, &subtags)),
-        Err(TextRefusal::NotATag(_)) => Ok(false),
-        Err(TextRefusal::Invalid(_)) => Ok(false),
-        Err(TextRefusal::ReplacementRepeats(_)) => Ok(false),
-        Err(TextRefusal::OutOfMemory) => Err(OutOfMemory),
+    match subtags_of(alloc, checked, text)? {
+        Some(subtags) => Ok(scheme.any_matches(ranges, &subtags)),
+        None => Ok(false),
     }
 }
 

@@ -1,22 +1,58 @@
 //! Runs over the lines of a reader.
+ghost use Rattle.std.specs.Prelude.{◌≡◌};
 ghost use Rattle.lt_select.specs.Running.{SelectsLines};
-ghost use Rattle.lt_select.specs.Selection.{IsSelected};
+ghost use Rattle.lt_select.specs.Selection.{AreOwed, IsSelected, longest_kept};
 
+use crate::matching::is_selected;
 use crate::schemes::Scheme;
-use crate::selecting::Selecting;
 use lt_canon::Checked;
 use lt_jar::Device;
-use lt_lines::ToolFault;
 use lt_match::LanguageRange;
 use lt_registry::Lookup;
+use lt_stream::{Lines, ToolFault, run_lines};
+use lt_tag::OutOfMemory;
 use std::alloc::Global;
 use std::io::{Read, Write};
 
-/// The most reads of one run.
-const MOST_READS: u32 = 10_000_000;
+/// The most bytes that are kept of a line. A longer one is too long for a tag, whatever follows: 1,025 bytes and a
+/// carriage return.
+pub(crate) const LONGEST_KEPT: usize = 1026;
 
-/// The most bytes that a read is asked for.
-const PIECE: usize = 65536;
+/// What selects lines.
+#[derive(Drop)]
+struct Selecting<'a, L: Lookup> {
+    checked: &'a Checked<L>,
+    scheme: Scheme,
+    ranges: &'a [LanguageRange],
+    /// How many lines are selected.
+    count: u64,
+}
+
+impl<'a, L: Lookup> Lines for Selecting<'a, L> {
+    ghost longest = { longest_kept };
+
+    ghost answered = { λ first here lines bytes. (here.checked.now ≡ first.checked.now) × (here.scheme ≡ first.scheme) × (here.ranges.now ≡ first.ranges.now)
+        × AreOwed (IsSelected (L.listed here.checked.now) here.scheme here.ranges.now) lines bytes here.count };
+
+    fn longest(&self) -> usize {
+        LONGEST_KEPT
+    }
+
+    fn take_line(
+        &mut self,
+        alloc: Global,
+        line: &[u8],
+        owed: &mut Vec<u8>,
+    ) -> Result<(), OutOfMemory> {
+        if !is_selected(alloc, self.checked, self.scheme, self.ranges, line)? {
+            return Ok(());
+        }
+        owed.extend_from_slice(line)?;
+        owed.push(b'\n')?;
+        self.count += 1;
+        Ok(())
+    }
+}
 
 /// Writes the lines of a reader that one of the ranges matches by the scheme, in their order and as they stand, each
 /// ended by a line feed, and tells how many they are. A line is matched as the tag that it is, by the subtags of the
@@ -40,16 +76,13 @@ pub fn select_lines<L: Lookup, R: Read, W: Write>(
 ) -> Result<u64, ToolFault>
     ensures { SelectsLines (IsSelected (L.listed checked.now) scheme ranges.now) R.remaining W.contents input.old input.new output.old output.new result }
 {
-    let mut buffer = vec![in alloc; 0u8; PIECE]?;
-    let mut selecting = Selecting::new(alloc);
-    for _read in 0..MOST_READS {
-        match input.read(&mut buffer) {
-            Ok(0) => return selecting.finish(alloc, checked, scheme, ranges, output),
-            Ok(count) => {
-                selecting.take_piece(alloc, checked, scheme, ranges, &buffer[..count], output)?
-            }
-            Err(_) => return Err(ToolFault::Read),
-        }
-    }
-    Err(ToolFault::TooManyTurns)
+    let selecting = Selecting {
+        checked,
+        scheme,
+        ranges,
+        count: 0,
+    };
+    let (selecting, end) = run_lines(alloc, selecting, input, output);
+    end?;
+    Ok(selecting.count)
 }

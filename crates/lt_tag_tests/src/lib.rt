@@ -1,4 +1,4 @@
-//! Tests of `lt_subtag` and `lt_tag`, over what they make public.
+//! Tests of `lt_subtag`, `lt_tag`, `lt_parts`, `lt_range` and `lt_accept`, over what they make public.
 #![tactic(auto)]
 
 #[cfg(test)]

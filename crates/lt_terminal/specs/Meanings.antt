@@ -60,6 +60,15 @@ record_faults =
     codes "BadPrefix: A Prefix that is no list of subtags: mend it." ∷
     []
 
+-- a file that is no table of codes
+abbrev pub table_faults : List (List ℕ)
+table_faults =
+    codes "BadRow: A line of the table of codes has not five fields: see whether it is ISO-639-2_utf-8.txt." ∷
+    codes "BadCode: A code of the table has not three letters, or in the third field two: mend the line." ∷
+    codes "RepeatedCode: An earlier line of the table of codes has a code for another language: remove one of the two." ∷
+    codes "TableTooLong: The table of codes has more than 1,048,576 bytes: see whether it is one." ∷
+    []
+
 -- a condition that fails
 abbrev pub conditions : List (List ℕ)
 conditions =
@@ -98,7 +107,7 @@ stream_faults =
 
 -- all messages, in the order in which they are looked through
 abbrev pub messages : List (List ℕ)
-messages = tag_faults ++ explanation_faults ++ file_faults ++ record_faults ++ conditions ++ stream_faults
+messages = tag_faults ++ explanation_faults ++ file_faults ++ record_faults ++ table_faults ++ conditions ++ stream_faults
 
 -- whether a message is that of the fault that a word names
 abbrev pub is_of : (message word : List ℕ) → Bool

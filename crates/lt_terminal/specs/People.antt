@@ -20,8 +20,10 @@ use Rattle.lt_tool.specs.declared.answered.Answered.{Answered}
 -- what a command answers one by one, if it does: lines, or records
 abbrev pub unit_of : Command → Option (List ℕ)
 unit_of (command.Canon run) = Some (codes "line")
+unit_of (command.Codes run table) = Some (codes "line")
 unit_of (command.Tsv run column) = Some (codes "line")
 unit_of (command.Csv run column delimiter) = Some (codes "record")
+unit_of (command.Json file) = Some (codes "line")
 unit_of _ = None
 
 -- whether a person is told of a run of this command: at a terminal, or where the words ask for a summary

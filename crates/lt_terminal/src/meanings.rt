@@ -3,7 +3,7 @@ ghost use Rattle.std.specs.Prelude.{◌≡◌, find, map, option_map};
 ghost use Rattle.lt_terminal.specs.Meanings as spec;
 
 /// A message for each name that is printed: the name, a colon, a space, what it means, and what to do.
-const MESSAGES: [&str; 64] = [
+const MESSAGES: [&str; 68] = [
     "BadByte: A byte that is no ASCII letter, digit or hyphen: write zh-Hant for zh_Hant; remove quotes, spaces, a byte order mark.",
     "EmptySubtag: Nothing between two hyphens, or an empty text: remove a hyphen too many, or the empty line.",
     "LongSubtag: A subtag of more than 8 letters and digits: put a hyphen where subtags meet.",
@@ -42,6 +42,10 @@ const MESSAGES: [&str; 64] = [
     "BadTag: A Tag without the form of its Type: mend it.",
     "BadPreferred: A Preferred-Value without the form of its Type: mend it.",
     "BadPrefix: A Prefix that is no list of subtags: mend it.",
+    "BadRow: A line of the table of codes has not five fields: see whether it is ISO-639-2_utf-8.txt.",
+    "BadCode: A code of the table has not three letters, or in the third field two: mend the line.",
+    "RepeatedCode: An earlier line of the table of codes has a code for another language: remove one of the two.",
+    "TableTooLong: The table of codes has more than 1,048,576 bytes: see whether it is one.",
     "C1: An earlier record has the same kind and name, or the same tag: remove one of the two.",
     "C2: The value of a language, script or region is not registered as the same kind: register it, or mend the Preferred-Value.",
     "C3: The preferred values lead round in a circle: mend one of them.",

@@ -10,6 +10,7 @@ ghost use Rattle.lt_tool.specs.Streams.{stream};
 
 use crate::telling::say;
 use lt_jar::Device;
+use lt_rows::count_of;
 use std::alloc::Global;
 use std::io::{self, Write};
 
@@ -82,7 +83,7 @@ impl<W: Write, T: Write> Write for Progress<W, T> {
         match self.inner.write(buf) {
             Ok(count) => {
                 let before = self.lines;
-                let feeds = buf[..count].iter().filter(|byte| **byte == b'\n').count();
+                let feeds = count_of(b'\n', &buf[..count]);
                 self.lines = before.saturating_add(feeds as u64);
                 tell_progress(
                     self.alloc,

@@ -13,8 +13,8 @@ use crate::openings::Openings;
 use crate::table::{append_counts, append_shown, append_tallies};
 use crate::watched::Watched;
 use lt_jar::Device;
-use lt_lines::write_text;
 use lt_rows::split_first;
+use lt_stream::write_text;
 use lt_tool::{Answered, Command, Status, WordsFault, read_words};
 use std::alloc::{AllocError, Global};
 use std::io::{self, Read, Write};
@@ -24,7 +24,8 @@ pub(crate) fn unit_of(command: &Command) -> Option<&'static str>
     ensures { option_map (λ unit. unit.now) result ≡ spec.unit_of command.now }
 {
     match command {
-        Command::Canon(_) | Command::Tsv(_, _) => Some("line"),
+        Command::Canon(_) | Command::Codes(_, _) => Some("line"),
+        Command::Tsv(_, _) | Command::Json(_) => Some("line"),
         Command::Csv(_, _, _) => Some("record"),
         _ => None,
     }

@@ -37,6 +37,7 @@ fn text_named(name: &str) -> io::Result<&'static [u8]> {
         "new" => Ok(NEW),
         "empty" => Ok(b""),
         "other" => Ok(b"no registry\n"),
+        "table" => Ok(b"eng||en|English|anglais\n"),
         "region" => Ok(REGION),
         "nameless" => Ok(NAMELESS),
         "hostile" => Ok(HOSTILE),
@@ -137,7 +138,7 @@ fn told_of(alloc: Global, words: &[&str]) -> (Vec<u8>, Vec<u8>) {
 }
 
 /// Runs over lines, rows and records.
-const COUNTED: [Run; 14] = [
+const COUNTED: [Run; 16] = [
     (
         &["canon", "new"],
         "EN\nen\n",
@@ -240,6 +241,22 @@ const COUNTED: [Run; 14] = [
         "jar BadLine line 1\n",
         "",
         BAD_LINE,
+        Status::RegistryRefused,
+    ),
+    (
+        &["codes", "table", "new"],
+        "ENG-x-a\nfre\n",
+        "en-x-a\n! UnknownLanguage 1\n",
+        "",
+        "2 lines, 1 refused\n1 UnknownLanguage, first in line 2: fre\n  fre: BCP 47 writes fr.\n",
+        Status::Refused,
+    ),
+    (
+        &["codes", "other", "new"],
+        "EN\n",
+        "codes BadRow line 1\n",
+        "",
+        "BadRow: A line of the table of codes has not five fields: see whether it is ISO-639-2_utf-8.txt.\n",
         Status::RegistryRefused,
     ),
     (

@@ -3,8 +3,8 @@ use Rattle.std.proofs.Common.{◌≡◌, inl, inr, ℕ, List, Result, Ok, Err, I
 use Rattle.lt_tag.specs.declared.faults.OutOfMemory.{OutOfMemory}
 use Rattle.lt_registry.specs.Parts.{EntryParts}
 use Rattle.lt_registry.specs.ReadRegistry.{Reading}
-use Rattle.lt_lines.specs.DeviceOutput.{WritesText}
-use Rattle.lt_lines.specs.declared.faults.ToolFault.{ToolFault}
+use Rattle.lt_stream.specs.DeviceOutput.{WritesText}
+use Rattle.lt_stream.specs.declared.faults.ToolFault.{ToolFault}
 use Rattle.lt_tool.specs.Printed.{PrintsOrLacks, PrintsResult}
 use Rattle.lt_tool.specs.Registries.{Answers, ByRegistry, IsJudged, IsRegistryLine, IsRegistryRefusal, ReadsFile, RefusesRegistry, refused_end}
 use Rattle.lt_tool.specs.Streams.{Stream}

@@ -12,12 +12,12 @@ use Rattle.lt_canon.specs.ExplanationTexts.{AppendsEnd, AppendsStep, IsWholeLeft
 use Rattle.lt_canon.specs.Texts.{IsTextRefusal}
 use Rattle.lt_canon.specs.declared.refusals.TextRefusal.{TextRefusal}
 use Rattle.lt_canon.proofs.LinesLeft.{HasGiven, given_all, given_front, given_none, given_step, whole_text}
-use Rattle.lt_lines.specs.DeviceOutput.{WritesText}
-use Rattle.lt_lines.specs.Faults.{fault_said}
+use Rattle.lt_stream.specs.DeviceOutput.{WritesText}
+use Rattle.lt_stream.specs.Faults.{fault_said}
 use Rattle.lt_lines.specs.Refusals.{IsRefusalLine}
-use Rattle.lt_lines.specs.declared.faults.ToolFault.{ToolFault}
-use Rattle.lt_lines.specs.declared.faults.ToolFault.TheVariants as faults
-use Rattle.lt_lines.proofs.DeviceLemmas.{failed_from}
+use Rattle.lt_stream.specs.declared.faults.ToolFault.{ToolFault}
+use Rattle.lt_stream.specs.declared.faults.ToolFault.TheVariants as faults
+use Rattle.lt_stream.proofs.DeviceLemmas.{failed_from}
 use Rattle.lt_tool.specs.Codes.{code_of}
 use Rattle.lt_tool.specs.Printed.{ExplainsText}
 use Rattle.lt_tool.specs.Streams.{IsUntouched, Stream}

@@ -4,3 +4,4 @@ pub mod AnswerLemmas
 pub mod VerdictLemmas
 pub mod ExplainedLemmas
 pub mod RangeLemmas
+pub mod ShownLemmas

@@ -1,11 +1,11 @@
 -- Texts that are read as ranges.
-use Rattle.std.proofs.Common.{◌≡◌, ◌<◌, ◌+◌, ◌++◌, ◌∷◌, ◌∙◌, ℕ, List, [], ap, drop, get_or, length, map, refl, subst, sym, take}
-use Rattle.std.proofs.lemmas.List.{drop_more, map-append, take-append-drop, take_more}
+use Rattle.std.proofs.Common.{◌≡◌, ◌<◌, ◌+◌, ◌++◌, ◌∷◌, ◌∙◌, ℕ, List, [], ap, arith, drop, get_or, length, map, refl, subst, sym, take}
+use Rattle.std.proofs.lemmas.List.{drop_more, length-map, length-take-le, map-append, take-append-drop, take_more}
 use Rattle.lt_registry.specs.Parts.{EntryParts}
 use Rattle.lt_range.specs.Ranges.{RangeParts}
 use Rattle.lt_match.specs.Matched.{IsCanonicalRange}
 use Rattle.lt_match.specs.Refusals.{IsRangeRefusal}
-use Rattle.lt_match.specs.declared.refusals.RangeRefusal.{RangeRefusal}
+use Rattle.lt_tool.specs.declared.selecting.RefusedRange.{RefusedRange}
 use Rattle.lt_tool.specs.Selected.{AreRanges, RefusesRange}
 
 -- one range more
@@ -28,6 +28,15 @@ module _ {X : Type 0} (f : X → List ℕ) (xs : List X) (i : ℕ) (x : X) (with
   pub next_range : (R : List EntryParts) (ranges : List RangeParts) (range : RangeParts) → AreRanges R (map f (take i xs)) ranges → IsCanonicalRange R (f x) range → AreRanges R (map f (take (i + 1) xs)) (ranges ++ range ∷ [])
   next_range R ranges range are is_range = subst (λ (l : List (List ℕ)). AreRanges R l (ranges ++ range ∷ [])) (sym front_more) (ranges_more R (map f (take i xs)) ranges (f x) range are is_range)
 
-  pub range_refused : (R : List EntryParts) (ranges : List RangeParts) (refusal : RangeRefusal) → AreRanges R (map f (take i xs)) ranges → IsRangeRefusal R (f x) refusal → RefusesRange R (map f xs) refusal
-  range_refused R ranges refusal are is_refusal =
-      record { before = map f (take i xs); text = f x; after = map f (drop (i + 1) xs); there = all_parts; ranges = ranges; are = are; is_refusal = is_refusal }
+  pub range_refused : (R : List EntryParts) (ranges : List RangeParts) (refused : RefusedRange) → AreRanges R (map f (take i xs)) ranges → refused.number ≡ i + 1 → IsRangeRefusal R (f x) refused.refusal
+      → RefusesRange R (map f xs) refused
+  range_refused R ranges refused are numbered is_refusal = record {
+    before = map f (take i xs);
+    text = f x;
+    after = map f (drop (i + 1) xs);
+    there = all_parts;
+    ranges = ranges;
+    are = are;
+    numbered = omega (arith, numbered, length-map (take i xs) f, length-take-le i xs (omega (arith, within)));
+    is_refusal = is_refusal;
+  }

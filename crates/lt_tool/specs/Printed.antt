@@ -1,5 +1,5 @@
 -- What the program prints, and how it ends.
-use Rattle.std.specs.Prelude.{◌≡◌, ◌⊎◌, ◌-◌, ℕ, List, [], ◌∷◌, ◌++◌, ◌==◌, if◌then◌else◌, Option, Some, Result, Ok, Err, codes, string_bytes}
+use Rattle.std.specs.Prelude.{◌≡◌, ◌⊎◌, ◌-◌, ℕ, Bool, true, false, List, [], ◌∷◌, ◌++◌, ◌==◌, if◌then◌else◌, Option, Some, Result, Ok, Err, MatchResult, is_some, string_bytes}
 use Rattle.std.specs.Borrow.{Bor, MutBor}
 use Rattle.std.specs.Io.Chain.{chain_remaining}
 use Rattle.std.specs.Io.KnownBytes.{Keeps}
@@ -13,21 +13,22 @@ use Rattle.lt_tag.specs.Faults.{HasFault, HasTag}
 use Rattle.lt_tag.specs.Parts.{TagForm}
 use Rattle.lt_tag.specs.WellFormed.{spell}
 use Rattle.lt_tag.specs.declared.faults.TagFault.{TagFault}
-use Rattle.lt_tag.specs.declared.tags.Class.{Class}
-use Rattle.lt_tag.specs.declared.tags.Class.TheVariants as classes
 use Rattle.lt_registry.specs.Parts.{EntryParts}
 use Rattle.lt_registry.specs.ReadRegistry.{Reading}
+use Rattle.lt_codes.specs.declared.codes.Code.{Code}
+use Rattle.lt_codes.specs.declared.faults.TableFault.{TableFault}
 use Rattle.lt_canon.specs.ExplanationTexts.{IsExplanationTextOf}
 use Rattle.lt_canon.specs.declared.refusals.TextRefusal.TheVariants as refusals
-use Rattle.lt_lines.specs.Faults.{fault_said}
+use Rattle.lt_stream.specs.Faults.{fault_said}
+use Rattle.lt_json.specs.Tags.{class_word}
 use Rattle.lt_lines.specs.Refusals.{IsRefusalLine}
 use Rattle.lt_lines.specs.Owed.{terms}
 use Rattle.lt_lines.specs.Running.{RunsLines}
 use Rattle.lt_lines.specs.declared.forms.LineForm.{LineForm}
 use Rattle.lt_lines.specs.declared.forms.LineForm.TheVariants as forms
 use Rattle.lt_lines.specs.declared.forms.RowForm.{RowForm}
-use Rattle.lt_lines.specs.declared.faults.ToolFault.{ToolFault}
-use Rattle.lt_lines.specs.declared.faults.ToolFault.TheVariants as faults
+use Rattle.lt_stream.specs.declared.faults.ToolFault.{ToolFault}
+use Rattle.lt_stream.specs.declared.faults.ToolFault.TheVariants as faults
 use Rattle.lt_lines.specs.declared.runs.Counts.{Counts}
 use Rattle.lt_tallies.specs.declared.Tally.{Tally}
 use Rattle.lt_rows.specs.declared.rows.Separator.{Separator}
@@ -45,22 +46,21 @@ use Rattle.lt_words.specs.declared.faults.WordsFault.{WordsFault}
 use Rattle.lt_words.specs.declared.faults.WordsFault.TheVariants as fault
 use Rattle.lt_tool.specs.Codes.{code_of}
 use Rattle.lt_tool.specs.Registries.{ByRegistry, Checks, HoldsRegistry, ReadsFile, RefusesRegistry}
+use Rattle.lt_tool.specs.Tables.{ReadsCodes, RefusesCodes}
+use Rattle.lt_tool.specs.declared.answering.Lines.{Lines}
+use Rattle.lt_tool.specs.declared.answering.Lines.TheVariants as lines
 use Rattle.lt_tool.specs.declared.lines.Answer.{Answer}
 use Rattle.lt_tag.specs.declared.faults.OutOfMemory.{OutOfMemory}
 use Rattle.lt_tool.specs.TagCommands.{Compares, Explains, FormsExtlang}
 use Rattle.lt_tool.specs.UpgradeCommand.{UpgradesFiles}
 use Rattle.lt_tool.specs.Selected.{Selects}
+use Rattle.lt_tool.specs.Shown.{ReadsKept, ShowsBy}
 use Rattle.lt_tool.specs.Verified.{Verifies}
+use Rattle.lt_tool.specs.JsonObjects.{AnswersInJson}
 use Rattle.lt_tool.specs.Streams.{IsUntouched, HandsNone, Stream, Handed, stream}
 use Rattle.lt_tool.specs.Written.{LacksMemory, LacksRest, Prints, Says}
 use Rattle.lt_tool.specs.declared.status.Status.{Status}
 use Rattle.lt_tool.specs.declared.status.Status.TheVariants as status
-
--- the word for a class
-abbrev pub class_word : Class → List ℕ
-class_word classes.LangTag = codes "langtag"
-class_word classes.PrivateUse = codes "privateuse"
-class_word classes.Grandfathered = codes "grandfathered"
 
 -- the class of a tag and its text in conventional case, ended by a line feed
 abbrev pub class_line : TagForm → List ℕ
@@ -106,24 +106,18 @@ tallies_after (Err faults.Write) tallies = []
 tallies_after (Err faults.OutOfMemory) tallies = []
 tallies_after end tallies = tallies
 
--- the lines of the input were answered by the registry of the file
-pub record RunsCanon {I O E : Type 0} (form : LineForm) (reading : Reading)
+-- the lines of the input were answered by the registry of the file, and by these codes
+pub record RunsCanon {I O E : Type 0} (form : LineForm) (codes : List Code) (reading : Reading)
     (input : Stream I) (output : Stream O) (errors : Stream E) (answered : Handed) (result : ℕ) : Type 0 where
   pub entries : List EntryParts
   pub registry : HoldsRegistry reading entries
   pub end : Result Counts ToolFault
   pub tallies : List Tally
-  pub runs : RunsLines (terms entries form) input.bytes output.bytes
+  pub runs : RunsLines (terms (record { entries = entries; codes = codes }) form) input.bytes output.bytes
       input.before input.after output.before output.after tallies end
   pub handed : answered.after.tallies ≡ tallies_after end tallies
   pub counts : answered.after.counts ≡ result_ok end
   pub ends : EndsRun errors end result
-
--- what a run wrote that answers lines, by what the reading of the file gave
-abbrev pub Canonicalises : {I O E : Type 0} → LineForm → Stream I → Stream O → Stream E → Handed → ℕ → Reading → Type 0
-Canonicalises form input output errors answered result reading =
-    (IsUntouched input × HandsNone answered × PrintsOrLacks (RefusesRegistry reading) output errors result)
-    ⊎ RunsCanon form reading input output errors answered result
 
 -- ---- rows
 
@@ -145,12 +139,12 @@ abbrev pub bytes_ahead : {I : Type 0} → (I → Option (List ℕ)) → Ahead I 
 bytes_ahead bytes ahead = chain_remaining (λ front. Some front.now) (λ rest. bytes (inner_of rest.now)) ahead
 
 -- the lines of these bytes, where they are known, were answered, some of which were read ahead
-pub record RunsAfter {I O E : Type 0} (form : LineForm) (reading : Reading) (bytes : I → Option (List ℕ))
+pub record RunsAfter {I O E : Type 0} (form : LineForm) (codes : List Code) (reading : Reading) (bytes : I → Option (List ℕ))
     (all : Option (List ℕ)) (output : Stream O) (errors : Stream E) (answered : Handed) (result : ℕ) : Type 0 where
   pub before : Device (Ahead I)
   pub after : Device (Ahead I)
   pub same : Keeps all (bytes_ahead bytes (inner_of before))
-  pub runs : RunsCanon form reading (stream (bytes_ahead bytes) before after) output errors answered result
+  pub runs : RunsCanon form codes reading (stream (bytes_ahead bytes) before after) output errors answered result
 
 -- a run that can't go on says why on its errors, and has printed nothing
 pub record SaysUsage {O E : Type 0} (output : Stream O) (errors : Stream E) (text : List ℕ) (result : ℕ) : Type 0 where
@@ -160,32 +154,60 @@ pub record SaysUsage {O E : Type 0} (output : Stream O) (errors : Stream E) (tex
 
 -- how a run ended by what was found of the column: the lines of all bytes of the input were answered by its number; or no
 -- more was read, and the errors say why
-abbrev pub EndsNamed : {I O E : Type 0} → Separator → Rows → Reading → Stream I → (between : Device I) → Stream O → Stream E
-    → Handed → ℕ → Result FoundColumn ColumnFault → Type 0
-EndsNamed S rows reading input between output errors answered result (Ok found) =
-    RunsAfter (line_form S rows found.number) reading input.bytes (input.bytes (inner_of input.before)) output errors answered result
-EndsNamed S rows reading input between output errors answered result (Err (column_faults.Name line)) =
+abbrev pub EndsNamed : {I O E : Type 0} → Separator → Rows → List Code → Reading → Stream I → (between : Device I) → Stream O
+    → Stream E → Handed → ℕ → Result FoundColumn ColumnFault → Type 0
+EndsNamed S rows codes reading input between output errors answered result (Ok found) =
+    RunsAfter (line_form S rows found.number) codes reading input.bytes (input.bytes (inner_of input.before)) output errors
+    answered result
+EndsNamed S rows codes reading input between output errors answered result (Err (column_faults.Name line)) =
     (input.after ≡ between) × HandsNone answered × SaysUsage output errors (string_bytes line) result
-EndsNamed S rows reading input between output errors answered result (Err (column_faults.Heading f)) =
+EndsNamed S rows codes reading input between output errors answered result (Err (column_faults.Heading f)) =
     (input.after ≡ between) × HandsNone answered × IsUntouched output × EndsRun errors (Err f) result
 
 -- the column of a name was looked for in the heading of the input
-pub record RunsNamed {I O E : Type 0} (S : Separator) (rows : Rows) (name : List ℕ) (reading : Reading)
+pub record RunsNamed {I O E : Type 0} (S : Separator) (rows : Rows) (name : List ℕ) (codes : List Code) (reading : Reading)
     (input : Stream I) (output : Stream O) (errors : Stream E) (answered : Handed) (result : ℕ) : Type 0 where
   pub entries : List EntryParts
   pub registry : HoldsRegistry reading entries
   pub between : Device I
   pub found : Result FoundColumn ColumnFault
   pub finds : FindsColumn S name input.bytes input.before between found
-  pub ends : EndsNamed S rows reading input between output errors answered result found
+  pub ends : EndsNamed S rows codes reading input between output errors answered result found
 
--- what a run wrote that answers rows by a column, by what the reading of the file gave
-abbrev pub AnswersRows : {I O E : Type 0} → Separator → Rows → Column → Stream I → Stream O → Stream E → Handed → ℕ → Reading → Type 0
-AnswersRows S rows (columns.Number number) input output errors answered result reading =
-    Canonicalises (line_form S rows number) input output errors answered result reading
-AnswersRows S rows (columns.Name name) input output errors answered result reading =
-    (IsUntouched input × HandsNone answered × PrintsOrLacks (RefusesRegistry reading) output errors result)
-    ⊎ RunsNamed S rows (string_bytes name) reading input output errors answered result
+-- the rows of the input were answered by a column, by the registry of the file and by these codes
+abbrev pub RunsRows : {I O E : Type 0} → Separator → Rows → Column → List Code → Reading → Stream I → Stream O → Stream E → Handed
+    → ℕ → Type 0
+RunsRows S rows (columns.Number number) codes reading input output errors answered result =
+    RunsCanon (line_form S rows number) codes reading input output errors answered result
+RunsRows S rows (columns.Name name) codes reading input output errors answered result =
+    RunsNamed S rows (string_bytes name) codes reading input output errors answered result
+
+-- ---- a registry, and a table of codes where one is named
+
+-- what the lines are was answered by them
+abbrev pub RunsAs : {I O E : Type 0} → Lines → List Code → Reading → Stream I → Stream O → Stream E → Handed → ℕ → Type 0
+RunsAs lines.Tags codes reading input output errors answered result =
+    RunsCanon forms.Tag codes reading input output errors answered result
+RunsAs (lines.Rows S rows) codes reading input output errors answered result =
+    RunsRows S rows.now rows.now.column codes reading input output errors answered result
+
+-- a file is refused: no line is read, and this line says why
+abbrev pub RefusesRun : {I O E : Type 0} → (List ℕ → Status → Type 0) → Stream I → Stream O → Stream E → Handed → ℕ → Type 0
+RefusesRun IsLine input output errors answered result =
+    IsUntouched input × HandsNone answered × PrintsOrLacks IsLine output errors result
+
+-- the run by the codes of a table, if one is named, or its refusal; else by none, and the table is left as it is
+abbrev pub RunsBy : {G : Type 0} → (named : Bool) → (List Code → Type 0) → (TableFault → Type 0) → Stream G → Type 0
+RunsBy false Runs Refuses table = IsUntouched table × Runs []
+RunsBy true Runs Refuses table = ReadsCodes table (λ reading. MatchResult reading Runs Refuses)
+
+-- The registry is read and judged first. Where it is refused, the table is left as it is.
+abbrev pub AnswersLines : {F G I O E : Type 0} → (List Code → Reading → Type 0) → (named : Bool) → Stream F → Stream G → Stream I
+    → Stream O → Stream E → Handed → ℕ → Type 0
+AnswersLines Runs named first second input output errors answered result = ReadsFile first (λ reading.
+    (IsUntouched second × RefusesRun (RefusesRegistry reading) input output errors answered result)
+    ⊎ ((R : List EntryParts) × HoldsRegistry reading R × RunsBy named (λ codes. Runs codes reading)
+    (λ fault. RefusesRun (RefusesCodes fault) input output errors answered result) second))
 
 -- ---- commands
 
@@ -216,12 +238,17 @@ Performs (command.Classify tag) first second input output errors answered result
 Performs (command.Check name) first second input output errors answered result =
     HandsNone answered × IsUntouched second × IsUntouched input × PrintsByFile Checks first output errors result
 Performs (command.Canon run) first second input output errors answered result =
-    IsUntouched second × ReadsFile first (Canonicalises forms.Tag input output errors answered result)
+    AnswersLines (λ codes reading. RunsCanon forms.Tag codes reading input output errors answered result) false
+    first second input output errors answered result
+Performs (command.Codes run table) first second input output errors answered result =
+    AnswersLines (λ codes reading. RunsCanon forms.Tag codes reading input output errors answered result) true
+    first second input output errors answered result
 Performs (command.Tsv run rows) first second input output errors answered result =
-    IsUntouched second × ReadsFile first (AnswersRows separators.Tab rows rows.column input output errors answered result)
+    AnswersLines (λ codes reading. RunsRows separators.Tab rows rows.column codes reading input output errors answered result)
+    (is_some rows.codes) first second input output errors answered result
 Performs (command.Csv run rows delimiter) first second input output errors answered result =
-    IsUntouched second
-    × ReadsFile first (AnswersRows (separators.Delimiter delimiter) rows rows.column input output errors answered result)
+    AnswersLines (λ codes reading. RunsRows (separators.Delimiter delimiter) rows rows.column codes reading input output errors
+    answered result) (is_some rows.codes) first second input output errors answered result
 Performs (command.Match name ranges) first second input output errors answered result =
     HandsNone answered × IsUntouched second
     × ReadsFile first (Selects (λ IsAnswer. PrintsOrLacks IsAnswer output errors result)
@@ -241,6 +268,12 @@ Performs (command.Verify name tag) first second input output errors answered res
     (string_bytes tag) input output errors result)
 Performs (command.Upgrade old new) first second input output errors answered result =
     HandsNone answered × IsUntouched input × UpgradesFiles first second (λ IsAnswer. PrintsOrLacks IsAnswer output errors result)
+Performs (command.Show file tags) first second input output errors answered result =
+    HandsNone answered × IsUntouched second × IsUntouched input
+    × ReadsKept first (λ reading. PrintsOrLacks (ShowsBy tags reading) output errors result)
+Performs (command.Json name) first second input output errors answered result =
+    HandsNone answered × IsUntouched second
+    × ReadsFile first (AnswersInJson (λ IsAnswer. PrintsOrLacks IsAnswer output errors result) input output errors result)
 
 -- what a run whose words ask for no command wrote, and its exit status
 abbrev pub Reports : {O E : Type 0} → WordsFault → Stream O → Stream E → ℕ → Type 0

@@ -1,9 +1,10 @@
 -- What the command `match` reads, and what it prints.
-use Rattle.std.specs.Prelude.{◌≡◌, ◌⊎◌, ◌==◌, ℕ, Bool, true, false, List, [], ◌∷◌, ◌++◌, Result, Ok, Err, codes, if◌then◌else◌, map, string_bytes}
+use Rattle.std.specs.Prelude.{◌≡◌, ◌⊎◌, ◌==◌, ◌+◌, ℕ, List, [], ◌∷◌, ◌++◌, Option, Some, None, Result, Ok, Err, codes, if◌then◌else◌, length, map, string_bytes}
+use Rattle.std.specs.Fmt.{decimal}
 use Rattle.lt_registry.specs.Parts.{EntryParts}
 use Rattle.lt_registry.specs.ReadRegistry.{Reading}
-use Rattle.lt_lines.specs.Faults.{fault_said}
-use Rattle.lt_lines.specs.declared.faults.ToolFault.{ToolFault}
+use Rattle.lt_stream.specs.Faults.{fault_said}
+use Rattle.lt_stream.specs.declared.faults.ToolFault.{ToolFault}
 use Rattle.lt_range.specs.Ranges.{RangeParts}
 use Rattle.lt_match.specs.Matched.{IsCanonicalRange}
 use Rattle.lt_match.specs.Refusals.{IsRangeRefusal, name_of}
@@ -13,12 +14,16 @@ use Rattle.lt_select.specs.Running.{SelectsLines}
 use Rattle.lt_select.specs.Selection.{IsSelected}
 use Rattle.lt_select.specs.declared.schemes.Scheme.{Scheme}
 use Rattle.lt_select.specs.declared.schemes.Scheme.TheVariants as schemes
+use Rattle.lt_words.specs.declared.commands.Matching.{Matching}
+use Rattle.lt_words.specs.declared.commands.Matching.TheVariants as matchings
 use Rattle.lt_words.specs.declared.commands.Ranges.{Ranges}
 use Rattle.lt_tool.specs.Codes.{code_of}
+use Rattle.lt_tool.specs.LookedUp.{LooksUpBy}
 use Rattle.lt_tool.specs.Registries.{HoldsRegistry, RefusesRegistry}
 use Rattle.lt_tool.specs.Streams.{IsUntouched, Stream}
 use Rattle.lt_tool.specs.Verified.{Printing}
 use Rattle.lt_tool.specs.Written.{LacksMemory, Says}
+use Rattle.lt_tool.specs.declared.selecting.RefusedRange.{RefusedRange}
 use Rattle.lt_tool.specs.declared.status.Status.TheVariants as status
 
 -- these are the ranges by which the texts match, in their order
@@ -27,41 +32,44 @@ AreRanges R [] ranges = ranges ≡ []
 AreRanges R (text ∷ texts) ranges =
     (range : RangeParts) × (more : List RangeParts) × IsCanonicalRange R text range × (ranges ≡ range ∷ more) × AreRanges R texts more
 
--- the first of the texts that matches as no range, and why; running out of memory aside
-pub record RefusesRange (R : List EntryParts) (texts : List (List ℕ)) (refusal : RangeRefusal) : Type 0 where
+-- the first of the texts that matches as no range, its number, counted from 1, and why; running out of memory aside
+pub record RefusesRange (R : List EntryParts) (texts : List (List ℕ)) (refused : RefusedRange) : Type 0 where
   pub before : List (List ℕ)
   pub text : List ℕ
   pub after : List (List ℕ)
   pub there : texts ≡ before ++ text ∷ after
   pub ranges : List RangeParts
   pub are : AreRanges R before ranges
-  pub is_refusal : IsRangeRefusal R text refusal
+  pub numbered : refused.number ≡ length before + 1
+  pub is_refusal : IsRangeRefusal R text refused.refusal
 
 -- the texts are ranges, or one of them is refused
-abbrev pub AreRead : List EntryParts → List (List ℕ) → Result (List RangeParts) RangeRefusal → Type 0
+abbrev pub AreRead : List EntryParts → List (List ℕ) → Result (List RangeParts) RefusedRange → Type 0
 AreRead R texts (Ok ranges) = AreRanges R texts ranges
-AreRead R texts (Err refusal) = RefusesRange R texts refusal
+AreRead R texts (Err refused) = RefusesRange R texts refused
 
--- the scheme that the words ask for
-abbrev pub scheme_for : Bool → Scheme
-scheme_for false = schemes.Basic
-scheme_for true = schemes.Extended
+-- the scheme of filtering that the words ask for, if it is not lookup
+abbrev pub scheme_for : Matching → Option Scheme
+scheme_for matchings.Basic = Some schemes.Basic
+scheme_for matchings.Extended = Some schemes.Extended
+scheme_for matchings.Lookup = None
 
--- the line for a range that is refused
-abbrev pub range_line : RangeRefusal → List ℕ
-range_line refusal = codes "! " ++ name_of refusal ++ 10 ∷ []
+-- the line for a range that is refused, which has this number
+abbrev pub range_line : (number : ℕ) → RangeRefusal → List ℕ
+range_line number refusal = codes "! " ++ name_of refusal ++ codes " range " ++ decimal number ++ 10 ∷ []
 
 -- a run that can't go on says why on its errors, and has printed nothing
-pub record SaysRange {O E : Type 0} (output : Stream O) (errors : Stream E) (refusal : RangeRefusal) (result : ℕ)
-    : Type 0 where
+pub record SaysRange {O E : Type 0} (output : Stream O) (errors : Stream E) (number : ℕ) (refusal : RangeRefusal)
+    (result : ℕ) : Type 0 where
   pub usage : result ≡ code_of status.Usage
   pub printed : IsUntouched output
-  pub said : Says errors (range_line refusal)
+  pub said : Says errors (range_line number refusal)
 
 -- a range was refused, and the errors say why, or that there was no memory
-abbrev pub EndsRefused : {O E : Type 0} → Stream O → Stream E → RangeRefusal → ℕ → Type 0
-EndsRefused output errors refusals.OutOfMemory result = LacksMemory output errors result
-EndsRefused output errors refusal result = LacksMemory output errors result ⊎ SaysRange output errors refusal result
+abbrev pub EndsRefused : {O E : Type 0} → Stream O → Stream E → (number : ℕ) → RangeRefusal → ℕ → Type 0
+EndsRefused output errors number refusals.OutOfMemory result = LacksMemory output errors result
+EndsRefused output errors number refusal result =
+    LacksMemory output errors result ⊎ SaysRange output errors number refusal result
 
 -- how a run ends that printed so many lines: it has found some, or none; what ended it early is said on the errors
 abbrev pub EndsSelecting : {E : Type 0} → Stream E → Result ℕ ToolFault → ℕ → Type 0
@@ -77,28 +85,35 @@ pub record SelectsBy {I O E : Type 0} (R : List EntryParts) (scheme : Scheme) (r
       input.before input.after output.before output.after end
   pub ends : EndsSelecting errors end result
 
--- by what the reading of the ranges gave, the lines were printed, or the errors say why they were not read
-abbrev pub GoesOnWith : {I O E : Type 0} → List EntryParts → Scheme → Stream I → Stream O → Stream E → ℕ
-    → Result (List RangeParts) RangeRefusal → Type 0
-GoesOnWith R scheme input output errors result (Ok ranges) = SelectsBy R scheme ranges input output errors result
-GoesOnWith R scheme input output errors result (Err refusal) =
-    IsUntouched input × EndsRefused output errors refusal result
+-- the lines that a scheme of filtering selects were printed, or where there is none the line that lookup finds
+abbrev pub MatchesBy : {I O E : Type 0} → Printing → List EntryParts → List RangeParts → Stream I → Stream O → Stream E → ℕ
+    → Option Scheme → Type 0
+MatchesBy Prints R ranges input output errors result (Some scheme) = SelectsBy R scheme ranges input output errors result
+MatchesBy Prints R ranges input output errors result None = LooksUpBy Prints R ranges input output errors result
+
+-- by what the reading of the ranges gave, lines were printed, or the errors say why they were not read
+abbrev pub GoesOnWith : {I O E : Type 0} → Printing → List EntryParts → Matching → Stream I → Stream O → Stream E → ℕ
+    → Result (List RangeParts) RefusedRange → Type 0
+GoesOnWith Prints R matching input output errors result (Ok ranges) =
+    MatchesBy Prints R ranges input output errors result (scheme_for matching)
+GoesOnWith Prints R matching input output errors result (Err refused) =
+    IsUntouched input × EndsRefused output errors refused.number refused.refusal result
 
 -- what a run did by a registry
-pub record SelectsTexts {I O E : Type 0} (R : List EntryParts) (ranges : Ranges)
+pub record SelectsTexts {I O E : Type 0} (Prints : Printing) (R : List EntryParts) (ranges : Ranges)
     (input : Stream I) (output : Stream O) (errors : Stream E) (result : ℕ) : Type 0 where
-  pub read : Result (List RangeParts) RangeRefusal
+  pub read : Result (List RangeParts) RefusedRange
   pub are_read : AreRead R (map string_bytes ranges.texts.items) read
-  pub goes_on : GoesOnWith R (scheme_for ranges.extended) input output errors result read
+  pub goes_on : GoesOnWith Prints R ranges.matching input output errors result read
 
 -- the file holds a registry
-pub record SelectsByFile {I O E : Type 0} (ranges : Ranges) (reading : Reading)
+pub record SelectsByFile {I O E : Type 0} (Prints : Printing) (ranges : Ranges) (reading : Reading)
     (input : Stream I) (output : Stream O) (errors : Stream E) (result : ℕ) : Type 0 where
   pub entries : List EntryParts
   pub registry : HoldsRegistry reading entries
-  pub selects : SelectsTexts entries ranges input output errors result
+  pub selects : SelectsTexts Prints entries ranges input output errors result
 
 -- what a run did that prints the lines that ranges match, by what the reading of the file gave
 abbrev pub Selects : {I O E : Type 0} → Printing → Ranges → Stream I → Stream O → Stream E → ℕ → Reading → Type 0
 Selects Prints ranges input output errors result reading =
-    (IsUntouched input × Prints (RefusesRegistry reading)) ⊎ SelectsByFile ranges reading input output errors result
+    (IsUntouched input × Prints (RefusesRegistry reading)) ⊎ SelectsByFile Prints ranges reading input output errors result

@@ -8,9 +8,9 @@ use Rattle.lt_registry.specs.ReadRegistry.{Reading}
 use Rattle.lt_registry.specs.Validity.{IsValid}
 use Rattle.lt_canon.specs.TextAnswers.{IsValidityRefusal}
 use Rattle.lt_canon.specs.declared.refusals.TextRefusal.{TextRefusal}
-use Rattle.lt_lines.specs.Faults.{fault_said}
+use Rattle.lt_stream.specs.Faults.{fault_said}
 use Rattle.lt_lines.specs.Refusals.{IsRefusalLine}
-use Rattle.lt_lines.specs.declared.faults.ToolFault.{ToolFault}
+use Rattle.lt_stream.specs.declared.faults.ToolFault.{ToolFault}
 use Rattle.lt_verify.specs.Verifying.{VerifiesLines}
 use Rattle.lt_verify.specs.declared.verdicts.Verdict.{Verdict}
 use Rattle.lt_verify.specs.declared.verdicts.Verdict.TheVariants as verdicts

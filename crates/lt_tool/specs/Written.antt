@@ -5,8 +5,8 @@ use Rattle.lt_jar.specs.Devices.{HasFailed, failures_of, inner_of}
 use Rattle.lt_jar.specs.declared.devices.Device.{Device}
 use Rattle.lt_canon.specs.ExplanationTexts.{AreLinesLeft, StepsLeft}
 use Rattle.lt_lines.specs.Answering.{IsStop}
-use Rattle.lt_lines.specs.DeviceOutput.{IsFrontOf}
-use Rattle.lt_lines.specs.declared.faults.ToolFault.{ToolFault}
+use Rattle.lt_stream.specs.DeviceOutput.{IsFrontOf}
+use Rattle.lt_stream.specs.declared.faults.ToolFault.{ToolFault}
 use Rattle.lt_tool.specs.Codes.{code_of}
 use Rattle.lt_tool.specs.Streams.{IsUntouched, Stream}
 use Rattle.lt_tool.specs.declared.status.Status.{Status}

@@ -12,8 +12,8 @@ use crate::registries::{read_registry, refuse};
 use crate::status::Status;
 use lt_canon::{Checked, ExplanationLines};
 use lt_jar::Device;
-use lt_lines::{ToolFault, write_text};
 use lt_registry::Lookup;
+use lt_stream::{ToolFault, write_text};
 use std::alloc::Global;
 use std::io::{Read, Write};
 

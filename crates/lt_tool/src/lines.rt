@@ -1,13 +1,14 @@
 //! The lines that the program prints.
 ghost use Rattle.std.specs.Prelude.{◌≡◌, IfOk};
 ghost use Rattle.lt_lines.specs.Refusals.{IsRefusalLine};
-ghost use Rattle.lt_tool.specs.Printed.{class_line, class_word, Classifies};
+ghost use Rattle.lt_tool.specs.Printed.{class_line, Classifies};
 ghost use Rattle.lt_tool.specs.declared.status.Status.TheVariants.{Refused};
 
 use crate::status::Status;
 use lt_canon::TextRefusal;
+use lt_json::class_name;
 use lt_lines::append_refusal;
-use lt_tag::{Class, OutOfMemory, Tag, TagFaultKind, read_tag, write_tag};
+use lt_tag::{OutOfMemory, Tag, TagFaultKind, read_tag, write_tag};
 use std::alloc::Global;
 
 /// A line, and the status of a run that prints it.
@@ -17,17 +18,6 @@ pub struct Answer {
     pub line: Vec<u8>,
     /// How the run ends.
     pub status: Status,
-}
-
-/// The word for a class: `langtag`, `privateuse` or `grandfathered`.
-fn class_name(class: Class) -> &'static str
-    ensures { result.now ≡ class_word class }
-{
-    match class {
-        Class::LangTag => "langtag",
-        Class::PrivateUse => "privateuse",
-        Class::Grandfathered => "grandfathered",
-    }
 }
 
 /// The class of a tag, and the tag in conventional case.

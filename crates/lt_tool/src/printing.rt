@@ -1,29 +1,28 @@
 //! What a run of the program writes.
 ghost use Rattle.std.specs.Prelude.{◌≡◌};
-ghost use Rattle.lt_lines.specs.Faults.{fault_said};
+ghost use Rattle.lt_stream.specs.Faults.{fault_said};
 ghost use Rattle.lt_tool.specs.Codes.{code_of};
 ghost use Rattle.lt_tool.specs.Streams.{handed, stream};
 ghost use Rattle.lt_tool.specs.Written.{Prints, Says, file_line, memory_line};
-ghost use Rattle.lt_registry.specs.ReadRegistry.{Reading};
-ghost use Rattle.lt_tool.specs.Registries.{HoldsRegistry, ReadsFile};
-ghost use Rattle.lt_tool.specs.Printed.{Canonicalises, EndsRun, Performs, PrintsResult, Reports, RunsCanon, tallies_after};
+ghost use Rattle.lt_tool.specs.Printed.{EndsRun, Performs, PrintsResult, Reports, tallies_after};
 ghost use Rattle.lt_tool.specs.declared.status.Status.TheVariants.{Failed};
 
 use crate::answered::Answered;
+use crate::answering::{Lines, answer_lines};
 use crate::explaining::explain;
+use crate::json_objects::json;
 use crate::lines::{Answer, classify};
-use crate::registries::{check, read_registry, refuse};
-use crate::rows::answer_rows;
+use crate::registries::check;
 use crate::selecting::select;
+use crate::showing::show;
 use crate::status::Status;
 use crate::tag_commands::{equal, extlang};
 use crate::upgrade_command::upgrade;
 use crate::verifying::verify;
-use lt_canon::Checked;
 use lt_jar::Device;
-use lt_lines::{Counts, LineForm, Tallies, ToolFault, run_lines, write_fault, write_text};
-use lt_registry::Lookup;
+use lt_lines::{Counts, Tallies};
 use lt_rows::Separator;
+use lt_stream::{ToolFault, write_fault, write_text};
 use lt_tag::OutOfMemory;
 use lt_words::{Command, WordsFault};
 use std::alloc::Global;
@@ -71,7 +70,7 @@ pub(crate) fn report_memory<E: Write>(errors: &mut Device<E>) -> Status
 }
 
 /// Says how a run over lines ended.
-fn end_run<E: Write>(end: Result<Counts, ToolFault>, errors: &mut Device<E>) -> Status
+pub(crate) fn end_run<E: Write>(end: Result<Counts, ToolFault>, errors: &mut Device<E>) -> Status
     ensures { EndsRun (stream E.contents errors.old errors.new) end (code_of result) }
 {
     match end {
@@ -99,50 +98,11 @@ pub(crate) fn print_answer<O: Write, E: Write>(
 }
 
 /// Lets go of the tallies of a run of which it is not known which answers were written.
-fn drop_unknown(alloc: Global, end: Result<Counts, ToolFault>, tallies: &mut Tallies)
+pub(crate) fn drop_unknown(alloc: Global, end: Result<Counts, ToolFault>, tallies: &mut Tallies)
     ensures { tallies.new ≡ tallies_after end tallies.old }
 {
     if let Err(ToolFault::Write | ToolFault::OutOfMemory) = end {
         *tallies = Tallies::new(alloc);
-    }
-}
-
-/// Answers the lines of the input by a registry.
-pub(crate) fn run_by_registry<L: Lookup, I: Read, O: Write, E: Write>(
-    alloc: Global,
-    checked: &Checked<L>,
-    form: LineForm,
-    input: &mut Device<I>,
-    output: &mut Device<O>,
-    errors: &mut Device<E>,
-    answered: &mut Answered,
-) -> Status
-    ensures { (reading : Reading) → HoldsRegistry reading (L.listed checked.now) → RunsCanon form reading (stream I.remaining input.old input.new)
-        (stream O.contents output.old output.new) (stream E.contents errors.old errors.new) (handed answered.old answered.new) (code_of result) }
-{
-    let tallies = &mut answered.tallies;
-    let end = run_lines(alloc, checked, form, input, output, tallies);
-    drop_unknown(alloc, end, tallies);
-    answered.counts = end.ok();
-    end_run(end, errors)
-}
-
-/// Answers the lines of the input by the registry of a file.
-pub(crate) fn answer_lines<F: Read, I: Read, O: Write, E: Write>(
-    alloc: Global,
-    form: LineForm,
-    file: &mut Device<F>,
-    input: &mut Device<I>,
-    output: &mut Device<O>,
-    errors: &mut Device<E>,
-    answered: &mut Answered,
-) -> Status
-    ensures { ReadsFile (stream F.remaining file.old file.new) (Canonicalises form (stream I.remaining input.old input.new)
-        (stream O.contents output.old output.new) (stream E.contents errors.old errors.new) (handed answered.old answered.new) (code_of result)) }
-{
-    match read_registry(alloc, file) {
-        Ok(checked) => run_by_registry(alloc, &checked, form, input, output, errors, answered),
-        Err(refusal) => print_answer(refuse(alloc, &refusal), output, errors),
     }
 }
 
@@ -164,29 +124,30 @@ fn run<F: Read, G: Read, I: Read, O: Write, E: Write>(
     match command {
         Command::Classify(tag) => print_answer(classify(alloc, tag.as_bytes()), output, errors),
         Command::Check(_) => print_answer(check(alloc, first), output, errors),
-        Command::Canon(_) => answer_lines(
-            alloc,
-            LineForm::Tag,
-            first,
-            input,
-            output,
-            errors,
-            answered,
-        ),
-        Command::Tsv(_, rows) => answer_rows(
-            alloc,
-            Separator::Tab,
-            rows,
-            first,
-            input,
-            output,
-            errors,
-            answered,
-        ),
+        Command::Canon(_) => {
+            let lines = Lines::Tags;
+            answer_lines(
+                alloc, &lines, false, first, second, input, output, errors, answered,
+            )
+        }
+        Command::Codes(_, _) => {
+            let lines = Lines::Tags;
+            answer_lines(
+                alloc, &lines, true, first, second, input, output, errors, answered,
+            )
+        }
+        Command::Tsv(_, rows) => {
+            let lines = Lines::Rows(Separator::Tab, rows);
+            let named = rows.codes.is_some();
+            answer_lines(
+                alloc, &lines, named, first, second, input, output, errors, answered,
+            )
+        }
         Command::Csv(_, rows, delimiter) => {
-            let separator = Separator::Delimiter(*delimiter);
-            answer_rows(
-                alloc, separator, rows, first, input, output, errors, answered,
+            let lines = Lines::Rows(Separator::Delimiter(*delimiter), rows);
+            let named = rows.codes.is_some();
+            answer_lines(
+                alloc, &lines, named, first, second, input, output, errors, answered,
             )
         }
         Command::Match(_, ranges) => select(alloc, ranges, first, input, output, errors),
@@ -200,16 +161,18 @@ fn run<F: Read, G: Read, I: Read, O: Write, E: Write>(
         Command::Explain(_, tag) => explain(alloc, first, tag.as_bytes(), output, errors),
         Command::Verify(_, tag) => verify(alloc, first, tag.as_bytes(), input, output, errors),
         Command::Upgrade(_, _) => print_answer(upgrade(alloc, first, second), output, errors),
+        Command::Show(_, tags) => print_answer(show(alloc, first, tags), output, errors),
+        Command::Json(_) => json(alloc, first, input, output, errors),
     }
 }
 
 /// Does what a command asks for, and answers the exit status, 0 to 4.
 ///
-/// `first` and `second` are the files that the command names, in order; one that it does not name is left as it
-/// is, and so is the second of `upgrade` where the first is refused. A file is read record by record, up to its
-/// end or the first line at fault. The answer is written to `output` at once, but by `explain` as its lines are made;
-/// `canon`, `tsv` and `csv` answer the lines or records of `input` as they come, `match` prints those of its lines that a
-/// range matches, and `verify` reads them up to the first that settles its answer.
+/// `first` and `second` are the files that the command names, in order, but that a registry is before a table of codes; one that
+/// it does not name is left as it is, and so is the second where the first is refused. A registry is read record by record, up
+/// to its end or the first line at fault. The answer is written to `output` at once, but by `explain` as its lines are made;
+/// `canon`, `codes`, `tsv`, `csv` and `json` answer the lines or records of `input` as they come, `match` prints those of its lines that a
+/// range matches, or the one that lookup finds, and `verify` reads them up to the first that settles its answer.
 ///
 /// A read of a file that fails, or is one too many, is answered as a fault of the file. A write to `output`
 /// that fails, a read of `input` that fails, its end within quotes, and an allocation that fails are named on `errors`; a write there

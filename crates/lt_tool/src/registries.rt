@@ -60,7 +60,10 @@ impl From<RegistryFault> for RegistryRefusal {
 }
 
 /// The entries, if they pass the check.
-fn check_entries(alloc: Global, registry: Registry) -> Result<Checked<SortedTable>, RegistryRefusal>
+pub(crate) fn check_entries(
+    alloc: Global,
+    registry: Registry,
+) -> Result<Checked<SortedTable>, RegistryRefusal>
     ensures { IsJudged (Ok registry) result }
 {
     let Ok(table) = SortedTable::new(alloc, registry) else {

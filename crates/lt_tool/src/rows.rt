@@ -3,20 +3,20 @@ ghost use Rattle.std.specs.Prelude.{◌≡◌};
 ghost use Rattle.std.specs.Io.KnownBytes.{prepend_known};
 ghost use Rattle.lt_jar.specs.Devices.{inner_of};
 ghost use Rattle.lt_registry.specs.ReadRegistry.{Reading};
+ghost use Rattle.lt_lines.specs.Owed.{codes_in};
 ghost use Rattle.lt_tool.specs.Codes.{code_of};
 ghost use Rattle.lt_tool.specs.Printed as spec;
-ghost use Rattle.lt_tool.specs.Printed.{AnswersRows, RunsAfter, RunsNamed};
-ghost use Rattle.lt_tool.specs.Registries.{HoldsRegistry, ReadsFile};
+ghost use Rattle.lt_tool.specs.Printed.{RunsAfter, RunsNamed, RunsRows};
+ghost use Rattle.lt_tool.specs.Registries.{HoldsRegistry};
 ghost use Rattle.lt_tool.specs.Streams.{handed, stream};
 
 use crate::answered::Answered;
-use crate::printing::{answer_lines, print_answer, run_by_registry, say, say_fault};
-use crate::registries::{read_registry, refuse};
+use crate::answering::run_by_registry;
+use crate::printing::{say, say_fault};
 use crate::status::Status;
-use lt_canon::Checked;
 use lt_heading::{ColumnFault, find_column};
 use lt_jar::Device;
-use lt_lines::{LineForm, RowForm};
+use lt_lines::{Basis, LineForm, RowForm};
 use lt_registry::Lookup;
 use lt_rows::Separator;
 use lt_words::{Column, Rows};
@@ -48,7 +48,7 @@ fn line_form(separator: Separator, rows: &Rows, number: usize) -> LineForm
 /// Answers these bytes and then those of the input.
 fn answer_after<L: Lookup, I: Read, O: Write, E: Write>(
     alloc: Global,
-    checked: &Checked<L>,
+    basis: &Basis<'_, L>,
     form: LineForm,
     front: &[u8],
     input: &mut Device<I>,
@@ -56,17 +56,17 @@ fn answer_after<L: Lookup, I: Read, O: Write, E: Write>(
     errors: &mut Device<E>,
     answered: &mut Answered,
 ) -> Status
-    ensures { (reading : Reading) → HoldsRegistry reading (L.listed checked.now) → RunsAfter form reading I.remaining (prepend_known front.now (I.remaining (inner_of input.old)))
+    ensures { (reading : Reading) → HoldsRegistry reading (L.listed basis.now.checked.now) → RunsAfter form (codes_in basis.now.codes) reading I.remaining (prepend_known front.now (I.remaining (inner_of input.old)))
         (stream O.contents output.old output.new) (stream E.contents errors.old errors.new) (handed answered.old answered.new) (code_of result) }
 {
     let mut ahead = Device::new(front.chain(input));
-    run_by_registry(alloc, checked, form, &mut ahead, output, errors, answered)
+    run_by_registry(alloc, basis, form, &mut ahead, output, errors, answered)
 }
 
 /// Answers the rows of the input by the column of this name and by a registry.
 fn answer_named<L: Lookup, I: Read, O: Write, E: Write>(
     alloc: Global,
-    checked: &Checked<L>,
+    basis: &Basis<'_, L>,
     separator: Separator,
     rows: &Rows,
     name: &str,
@@ -75,7 +75,7 @@ fn answer_named<L: Lookup, I: Read, O: Write, E: Write>(
     errors: &mut Device<E>,
     answered: &mut Answered,
 ) -> Status
-    ensures { (reading : Reading) → HoldsRegistry reading (L.listed checked.now) → RunsNamed separator rows.now name.now reading (stream I.remaining input.old input.new)
+    ensures { (reading : Reading) → HoldsRegistry reading (L.listed basis.now.checked.now) → RunsNamed separator rows.now name.now (codes_in basis.now.codes) reading (stream I.remaining input.old input.new)
         (stream O.contents output.old output.new) (stream E.contents errors.old errors.new) (handed answered.old answered.new) (code_of result) }
 {
     match find_column(alloc, separator, name, input) {
@@ -83,7 +83,7 @@ fn answer_named<L: Lookup, I: Read, O: Write, E: Write>(
             let form = line_form(separator, rows, found.number);
             answer_after(
                 alloc,
-                checked,
+                basis,
                 form,
                 &found.front,
                 input,
@@ -103,30 +103,27 @@ fn answer_named<L: Lookup, I: Read, O: Write, E: Write>(
     }
 }
 
-/// Answers the rows of the input by their column and by the registry of a file.
-pub(crate) fn answer_rows<F: Read, I: Read, O: Write, E: Write>(
+/// Answers the rows of the input by their column.
+pub(crate) fn answer_rows<L: Lookup, I: Read, O: Write, E: Write>(
     alloc: Global,
+    basis: &Basis<'_, L>,
     separator: Separator,
     rows: &Rows,
-    file: &mut Device<F>,
     input: &mut Device<I>,
     output: &mut Device<O>,
     errors: &mut Device<E>,
     answered: &mut Answered,
 ) -> Status
-    ensures { ReadsFile (stream F.remaining file.old file.new) (AnswersRows separator rows.now rows.now.column (stream I.remaining input.old input.new)
-        (stream O.contents output.old output.new) (stream E.contents errors.old errors.new) (handed answered.old answered.new) (code_of result)) }
+    ensures { (reading : Reading) → HoldsRegistry reading (L.listed basis.now.checked.now) → RunsRows separator rows.now rows.now.column (codes_in basis.now.codes) reading (stream I.remaining input.old input.new)
+        (stream O.contents output.old output.new) (stream E.contents errors.old errors.new) (handed answered.old answered.new) (code_of result) }
 {
     match &rows.column {
         Column::Number(number) => {
             let form = line_form(separator, rows, *number);
-            answer_lines(alloc, form, file, input, output, errors, answered)
+            run_by_registry(alloc, basis, form, input, output, errors, answered)
         }
-        Column::Name(name) => match read_registry(alloc, file) {
-            Ok(checked) => answer_named(
-                alloc, &checked, separator, rows, name, input, output, errors, answered,
-            ),
-            Err(refusal) => print_answer(refuse(alloc, &refusal), output, errors),
-        },
+        Column::Name(name) => answer_named(
+            alloc, basis, separator, rows, name, input, output, errors, answered,
+        ),
     }
 }

@@ -1,31 +1,71 @@
-//! The lines of the input that language ranges match.
+//! The lines of the input that language ranges match, or the one that lookup by them finds.
 ghost use Rattle.std.specs.Prelude.{◌≡◌, ◌++◌, ◌∷◌, [], IfErr, IfOk, OnOk, map, string_bytes};
+ghost use Rattle.lt_match.specs.Matched.{IsCanonicalRange};
+ghost use Rattle.lt_match.specs.Refusals.{IsRangeRefusal};
+ghost use Rattle.lt_match.specs.declared.refusals.RangeRefusal.TheVariants.{OutOfMemory};
 ghost use Rattle.lt_tool.specs.Codes.{code_of};
 ghost use Rattle.lt_tool.specs.Printed.{PrintsOrLacks};
 ghost use Rattle.lt_tool.specs.Registries.{ReadsFile};
-ghost use Rattle.lt_tool.specs.Selected.{AreRanges, EndsRefused, EndsSelecting, RefusesRange, Selects, SelectsBy, SelectsTexts, scheme_for};
+ghost use Rattle.lt_tool.specs.Selected.{AreRanges, EndsRefused, EndsSelecting, MatchesBy, RefusesRange, Selects, SelectsBy, SelectsTexts, scheme_for};
 ghost use Rattle.lt_tool.specs.Streams.{stream};
 
+use crate::looking_up::look_up_by;
 use crate::printing::{print_answer, report_memory, say, say_fault};
 use crate::registries::{read_registry, refuse};
 use crate::status::Status;
 use lt_canon::Checked;
 use lt_jar::Device;
-use lt_lines::ToolFault;
 use lt_match::{LanguageRange, RangeRefusal, canonical_range};
 use lt_registry::Lookup;
 use lt_select::{Scheme, select_lines};
-use lt_tag::OutOfMemory;
-use lt_words::Ranges;
+use lt_stream::ToolFault;
+use lt_words::{Matching, Ranges};
 use std::alloc::Global;
 use std::io::{Read, Write};
 
-/// Puts a range after the others.
-fn push_range(ranges: &mut Vec<LanguageRange>, range: LanguageRange) -> Result<(), OutOfMemory>
-    ensures { OnOk result (ranges.new.items ≡ ranges.old.items ++ range ∷ []) }
+/// A range that is refused.
+#[derive(Drop)]
+pub(crate) struct RefusedRange {
+    /// Its number among the ranges, counted from 1.
+    number: usize,
+    /// Why it is refused.
+    refusal: RangeRefusal,
+}
+
+/// Puts a range after the others; it is that of this number.
+fn push_range(
+    ranges: &mut Vec<LanguageRange>,
+    number: usize,
+    range: LanguageRange,
+) -> Result<(), RefusedRange>
+    ensures pushed { OnOk result (ranges.new.items ≡ ranges.old.items ++ range ∷ []) }
+    ensures numbered { IfErr result (λ refused. refused.number ≡ number) }
+    ensures refusal { IfErr result (λ refused. refused.refusal ≡ OutOfMemory) }
 {
-    ranges.push(range)?;
-    Ok(())
+    match ranges.push(range) {
+        Ok(()) => Ok(()),
+        Err(_) => Err(RefusedRange {
+            number,
+            refusal: RangeRefusal::OutOfMemory,
+        }),
+    }
+}
+
+/// The range of this number by which a text matches.
+fn read_range<L: Lookup>(
+    alloc: Global,
+    checked: &Checked<L>,
+    number: usize,
+    text: &[u8],
+) -> Result<LanguageRange, RefusedRange>
+    ensures range { IfOk result (λ range. IsCanonicalRange (L.listed checked.now) text.now range) }
+    ensures numbered { IfErr result (λ refused. refused.number ≡ number) }
+    ensures refusal { IfErr result (λ refused. IsRangeRefusal (L.listed checked.now) text.now refused.refusal) }
+{
+    match canonical_range(alloc, checked, text) {
+        Ok(range) => Ok(range),
+        Err(refusal) => Err(RefusedRange { number, refusal }),
+    }
 }
 
 /// The ranges by which texts match.
@@ -33,26 +73,28 @@ fn read_ranges<L: Lookup>(
     alloc: Global,
     checked: &Checked<L>,
     texts: &[String],
-) -> Result<Vec<LanguageRange>, RangeRefusal>
+) -> Result<Vec<LanguageRange>, RefusedRange>
     ensures ranges { IfOk result (λ ranges. AreRanges (L.listed checked.now) (map string_bytes texts.now) ranges.items) }
     ensures refusal { IfErr result (RefusesRange (L.listed checked.now) (map string_bytes texts.now)) }
 {
     let mut ranges = Vec::new(alloc);
+    let mut number = 0;
     for text in texts {
-        let range = canonical_range(alloc, checked, text.as_bytes())?;
-        push_range(&mut ranges, range)?;
+        number += 1;
+        let range = read_range(alloc, checked, number, text.as_bytes())?;
+        push_range(&mut ranges, number, range)?;
     }
     Ok(ranges)
 }
 
-/// The scheme that the words ask for.
-fn scheme_of(extended: bool) -> Scheme
-    ensures { result ≡ scheme_for extended }
+/// The scheme of filtering that the words ask for, if it is not lookup.
+fn scheme_of(matching: Matching) -> Option<Scheme>
+    ensures { result ≡ scheme_for matching }
 {
-    if extended {
-        Scheme::Extended
-    } else {
-        Scheme::Basic
+    match matching {
+        Matching::Basic => Some(Scheme::Basic),
+        Matching::Extended => Some(Scheme::Extended),
+        Matching::Lookup => None,
     }
 }
 
@@ -73,17 +115,18 @@ fn end_selecting<E: Write>(end: Result<u64, ToolFault>, errors: &mut Device<E>) 
 /// Says why a range is refused, where there is memory for it.
 fn say_range<O: Write, E: Write>(
     alloc: Global,
-    refusal: &RangeRefusal,
+    refused: &RefusedRange,
     output: &Device<O>,
     errors: &mut Device<E>,
 ) -> Status
-    ensures { EndsRefused (stream O.contents output.now output.now) (stream E.contents errors.old errors.new) refusal.now (code_of result) }
+    ensures { EndsRefused (stream O.contents output.now output.now) (stream E.contents errors.old errors.new)
+        refused.now.number refused.now.refusal (code_of result) }
 {
-    if let RangeRefusal::OutOfMemory = refusal {
+    if let RangeRefusal::OutOfMemory = refused.refusal {
         return report_memory(errors);
     }
-    let name = refusal.name();
-    match format!(in alloc; "! {name}\n") {
+    let (name, number) = (refused.refusal.name(), refused.number);
+    match format!(in alloc; "! {name} range {number}\n") {
         Ok(line) => {
             say(line.as_bytes(), errors);
             Status::Usage
@@ -109,7 +152,27 @@ fn select_by<L: Lookup, I: Read, O: Write, E: Write>(
     end_selecting(end, errors)
 }
 
-/// Prints the lines of the input that one of the ranges matches which the words name, by a registry.
+/// Prints the lines that a scheme of filtering selects, or where there is none the line that lookup finds.
+fn match_by<L: Lookup, I: Read, O: Write, E: Write>(
+    alloc: Global,
+    checked: &Checked<L>,
+    scheme: Option<Scheme>,
+    ranges: &[LanguageRange],
+    input: &mut Device<I>,
+    output: &mut Device<O>,
+    errors: &mut Device<E>,
+) -> Status
+    ensures { MatchesBy (λ IsAnswer. PrintsOrLacks IsAnswer (stream O.contents output.old output.new) (stream E.contents errors.old errors.new) (code_of result))
+        (L.listed checked.now) ranges.now (stream I.remaining input.old input.new)
+        (stream O.contents output.old output.new) (stream E.contents errors.old errors.new) (code_of result) scheme }
+{
+    match scheme {
+        Some(scheme) => select_by(alloc, checked, scheme, ranges, input, output, errors),
+        None => look_up_by(alloc, checked, ranges, input, output, errors),
+    }
+}
+
+/// Prints the lines of the input that the ranges match which the words name, by a registry.
 fn select_texts<L: Lookup, I: Read, O: Write, E: Write>(
     alloc: Global,
     checked: &Checked<L>,
@@ -118,15 +181,16 @@ fn select_texts<L: Lookup, I: Read, O: Write, E: Write>(
     output: &mut Device<O>,
     errors: &mut Device<E>,
 ) -> Status
-    ensures { SelectsTexts (L.listed checked.now) ranges.now (stream I.remaining input.old input.new)
+    ensures { SelectsTexts (λ IsAnswer. PrintsOrLacks IsAnswer (stream O.contents output.old output.new) (stream E.contents errors.old errors.new) (code_of result))
+        (L.listed checked.now) ranges.now (stream I.remaining input.old input.new)
         (stream O.contents output.old output.new) (stream E.contents errors.old errors.new) (code_of result) }
 {
     match read_ranges(alloc, checked, &ranges.texts) {
         Ok(read) => {
-            let scheme = scheme_of(ranges.extended);
-            select_by(alloc, checked, scheme, &read, input, output, errors)
+            let scheme = scheme_of(ranges.matching);
+            match_by(alloc, checked, scheme, &read, input, output, errors)
         }
-        Err(refusal) => say_range(alloc, &refusal, output, errors),
+        Err(refused) => say_range(alloc, &refused, output, errors),
     }
 }
 

@@ -9,7 +9,7 @@ pub enum Status {
     Done = 0,
     /// A tag, a row or a record was refused, two tags are different, lines explain no tag, or none was selected.
     Refused = 1,
-    /// A registry or an upgrade was refused.
+    /// A registry, a table of codes or an upgrade was refused.
     RegistryRefused = 2,
     /// The words name no command, a column that the input has not, or more than once, or a range that is refused.
     Usage = 3,

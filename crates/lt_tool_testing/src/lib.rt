@@ -6,7 +6,7 @@ use lt_jar::Device;
 use lt_registry::SortedTable;
 use lt_test_tables::sorted_sample;
 use lt_tool::{
-    Answered, Command, Counts, LineForm, RowForm, Tallies, ToolFault, WordsFault, perform,
+    Answered, Basis, Command, Counts, LineForm, RowForm, Tallies, ToolFault, WordsFault, perform,
     read_words, run_lines,
 };
 use std::alloc::{AllocError, Global};
@@ -67,7 +67,10 @@ pub fn answer_lines<R: Read + Drop, W: Write>(
     let tallies = &mut Tallies::new(alloc);
     run_lines(
         alloc,
-        checked,
+        &Basis {
+            checked,
+            codes: None,
+        },
         form,
         &mut Device::new(reader),
         &mut output,

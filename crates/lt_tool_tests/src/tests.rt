@@ -30,7 +30,7 @@ fn words_that_name_a_command(rt: HostRuntime) {
 }
 
 /// Words that name no command.
-const USAGES: [&[&str]; 12] = [
+const USAGES: [&[&str]; 14] = [
     &[],
     &["unknown"],
     &["unknown", "en"],
@@ -41,6 +41,8 @@ const USAGES: [&[&str]; 12] = [
     &["match", "registry"],
     &["match", "registry", "de", "-x"],
     &["match", "registry", "de", "--extended", "--extended"],
+    &["match", "registry", "de", "--extended", "--lookup"],
+    &["match", "registry", "de", "--lookup", "--lookup"],
     &["help", "unknown"],
     &["classify", "--version"],
 ];
@@ -95,10 +97,11 @@ fn words_that_ask_for_the_version(rt: HostRuntime) {
 }
 
 /// Words, and the file that their command names first.
-const FILES: [(&[&str], Option<&str>); 11] = [
+const FILES: [(&[&str], Option<&str>); 12] = [
     (&["classify", "en"], None),
     (&["check", "registry"], Some("registry")),
     (&["canon", "registry"], Some("registry")),
+    (&["codes", "table", "registry"], Some("registry")),
     (&["tsv", "registry", "1"], Some("registry")),
     (&["csv", "registry", "1"], Some("registry")),
     (&["match", "registry", "de", "fr"], Some("registry")),
@@ -129,6 +132,7 @@ fn reads_input(read: &Result<Command, WordsFault>) -> bool {
 #[test]
 fn commands_that_read_the_input(rt: HostRuntime) {
     assert!(rt; reads_input(&read(rt.alloc(), &["canon", "registry"])));
+    assert!(rt; reads_input(&read(rt.alloc(), &["codes", "table", "registry"])));
     assert!(rt; reads_input(&read(rt.alloc(), &["tsv", "registry", "1"])));
     assert!(rt; reads_input(&read(rt.alloc(), &["csv", "registry", "1"])));
     assert!(rt; reads_input(&read(rt.alloc(), &["match", "registry", "en"])));

@@ -1,5 +1,5 @@
 -- Lemmas on judging an explanation: the words and the verdict of its lines, its printed lines, and lines that come in pieces.
-use Rattle.std.proofs.Common.{IsErrAnd, take, drop, take-append-drop, ◌≡◌, ◌≢◌, ◌<◌, ◌^◌, ◌++◌, ◌∷◌, ◌∙◌, ◌==◌, ℕ, List, [], Option, Some, Bool, true, sym, ap, refl, arith, not, map, get_or, find, ◌≤◌, ◌+◌, inl, inr, leb, length, append_assoc, length-append, bytes_eq, decimal, leb-true, None, subst, append-nil, false, Ordering, flat_map, option_to_list, codes, ◌*◌, Ok, Err, min, ◌-◌}
+use Rattle.std.proofs.Common.{IsErrAnd, take, drop, take-append-drop, ◌≡◌, ◌≢◌, ◌<◌, ◌^◌, ◌++◌, ◌∷◌, ◌∙◌, ◌==◌, ℕ, List, [], Option, Some, Bool, true, sym, ap, refl, arith, not, map, get_or, find, ◌≤◌, ◌+◌, inl, inr, leb, length, append_assoc, length-append, bytes_eq, decimal, leb-true, None, subst, append-nil, false, Ordering, flat_map, option_to_list, codes, Ok, Err, Result, min, ◌-◌}
 use Rattle.std.specs.List.{list_all, join_with_byte}
 use Rattle.std.proofs.lemmas.Fmt.{decimal_is_IsNumeral, length-decimal-le, decimal_injective}
 use Rattle.std.proofs.lemmas.Str.Parse.{digit_at}
@@ -38,17 +38,14 @@ use Rattle.lt_subtag.specs.Bytes.{folded, is_subtag, is_subtag_byte}
 use Rattle.lt_tag.proofs.LetterLemmas.{from_HasList, join_pieces}
 use Rattle.lt_tag.proofs.OneTagLemmas.{one_tag_of_text, text_of_tag}
 use Rattle.lt_tag.specs.WellFormed.{IsTag}
-use Rattle.lt_verify.specs.Verifying.{GoesOn, GoesTo, JudgesEnd, KeepsMore, SettlesKept, Takes, TakesPiece, Begins, EndsAs, IsVerdictOf, VerifiesLines, JudgesKept}
+use Rattle.lt_verify.specs.Verifying.{GoesOn, GoesTo, JudgesEnd, IsFollowed, JudgesAll, KeepsMore, Settles, SettlesKept, Takes, TakesPiece, Begins, EndsAs, IsVerdictOf, VerifiesLines, JudgesKept}
 use Rattle.lt_verify.specs.declared.lines.Following.{Following}
 use Rattle.std.proofs.lemmas.Result.{err_from_is_err_and}
-use Rattle.std.specs.Io.KnownBytes.{Consumes, IsAtEnd, Keeps}
-use Rattle.std.proofs.KnownBytes.{Consumes-kept, Consumes-nil, Consumes-trans}
-use Rattle.lt_jar.specs.Devices.{HasFailed, failures_of, inner_of, last_given_of, one_more, reads_of}
-use Rattle.lt_jar.specs.Sources.{most_reads}
+use Rattle.std.proofs.KnownBytes.{Consumes-nil}
+use Rattle.lt_jar.specs.Devices.{failures_of}
 use Rattle.lt_jar.specs.declared.devices.Device.{Device}
-use Rattle.lt_lines.proofs.DeviceLemmas.{failed_from}
-use Rattle.lt_lines.proofs.RunLemmas.{ReadsPiece, read_more}
-use Rattle.lt_lines.specs.Running.{HasRead}
+use Rattle.lt_stream.specs.Pieces as pieces
+use Rattle.lt_stream.specs.Pieces.{EndFact, IsStoppedByRead, IsStoppedByTurns, IsWithoutMemory, RunFact, RunsPieces}
 use Rattle.lt_rewrite.proofs.PartLists.{some_long, flat_length}
 use Rattle.lt_rewrite.specs.declared.steps.StepKind.TheVariants as kinds
 use Rattle.lt_verify.specs.declared.judging.Flow.TheVariants as flows
@@ -56,7 +53,8 @@ use Rattle.lt_verify.specs.declared.verdicts.Verdict.TheVariants as verdicts
 use Rattle.lt_tag.specs.Texts.{text_of}
 use Rattle.lt_canon.specs.ExplanationTexts.{step_line}
 use Rattle.lt_canon.specs.ExplanationTexts as printed
-use Rattle.lt_lines.specs.declared.faults.ToolFault.TheVariants as faults
+use Rattle.lt_stream.specs.declared.faults.ToolFault.{ToolFault}
+use Rattle.lt_stream.specs.declared.faults.ToolFault.TheVariants as faults
 use Rattle.lt_rewrite.specs.Runs.{rank_of}
 use Rattle.lt_rewrite.proofs.ExtensionLaws.{attributes_count}
 use Rattle.lt_verify.specs.declared.labels.TheConstants.{KINDS}
@@ -557,19 +555,76 @@ settled_rest R t state here (Some v) settles = λ more one.
 pub last_judged : (R : List EntryParts) (state : Following) (v : Verdict) → (state.kept.items ≡ [] → ⊥) → Judges R state.number state.here (state.kept.items ∷ []) v → JudgesEnd R state v
 last_judged R state v some judged = λ one. rw (lines_of-last state.kept.items one (some_long state.kept.items some)) judged
 
--- ---- what the turns of a run over the lines of an explanation keep, and how it ends
+-- ---- the bytes of a reader
 
--- so far the run from the beginning at a tag read this and took it
-pub record HasTurned {I : Type 0} (R : List EntryParts) (t : TagForm) (remaining : I → Option (List ℕ)) (input input' : Device I) (state : Following) (turn : ℕ) : Type 0 where
-  pub start : Following
-  pub begins : Begins t start
-  pub read : List ℕ
-  pub consumes : Consumes (remaining (inner_of input)) (remaining (inner_of input')) read
-  pub takes : Takes R read start state
-  pub calls : HasRead input input' turn
-  pub last_gave : 0 < turn → 0 < last_given_of input'
-  pub most : length read ≤ 65536 * turn
-  pub failures : failures_of input' ≡ failures_of input
+pub followed_none : (R : List EntryParts) (t : TagForm) (first : Following) → Begins t first → IsProperIf R (Some t) → IsFollowed R first [] first
+followed_none R t first begins proper = record {
+  one = subst IsOneLine (sym begins.kept) (All-nil (λ byte. byte ≢ 10));
+  number = begins.number;
+  takes = takes_nothing R first (subst (IsProperIf R) (sym begins.here) proper);
+}
+
+module _ (R S : List EntryParts) (same : S ≡ R) (first : Following) (read : List ℕ) (old : Following) (f : IsFollowed R first read old) where
+  -- the tag at hand is proper by the table, and the number of the next line is far from the greatest
+  pub followed_proper : IsProperIf S old.here
+  followed_proper = rw same f.takes.proper
+
+  pub followed_room : (count : ℕ) → length read + count < 2 ^ 63 → old.number + count + 1 < 2 ^ 64
+  followed_room count few = omega (arith, few, f.number, f.takes.counted)
+
+  -- a piece more was taken
+  pub followed_piece : (piece : List ℕ) (new : Following) (judged : Option Verdict) → judged ≡ None → TakesPiece S piece old new judged → IsFollowed R first (read ++ piece) new
+  followed_piece piece new judged none takes = record { one = f.one; number = f.number; takes = takes_trans R read piece first old new f.takes (rw (none, same) at takes).0 }
+
+  -- or it settled what is judged
+  pub settled_piece : (piece : List ℕ) (new : Following) (judged : Option Verdict) (v : Verdict) → judged ≡ Some v → TakesPiece S piece old new judged → Settles R first (read ++ piece) (Ok v)
+  settled_piece piece new judged v is takes = λ more.
+      rw (append_assoc read piece more) (f.takes.follows (piece ++ more) v f.one ((rw (is, same) at takes) more (f.takes.one f.one)))
+
+  -- nothing more follows
+  pub judged_all : (v : Verdict) → JudgesEnd S old v → JudgesAll R first read (Ok v)
+  judged_all v ends =
+      f.takes.follows [] v f.one (subst (λ (l : List ℕ). Judges R old.number old.here (lines_of l) v) (sym (append-nil old.kept.items)) ((rw same at ends) (f.takes.one f.one)))
+
+module _ {I A : Type 0} (R : List EntryParts) (t : TagForm) (first : Following) (remaining : I → Option (List ℕ)) (input input' : Device I) (here : A) (T : List ℕ → A → Type 0) (begins : Begins t first) where
+  abbrev Runs : Result Verdict ToolFault → Type 0
+  Runs r = RunsPieces {O = Unit {0}} (λ _ _ read state. T read state) (λ _ _ read _ r. Settles R first read r) (λ _ _ read _ r. JudgesAll R first read r) remaining input input' tt tt here r
+
+  -- what is judged from the beginning is the verdict
+  verdict_of : (bytes : List ℕ) (v : Verdict) → Judges R first.number first.here (lines_of (first.kept.items ++ bytes)) v → IsVerdictOf R t v bytes
+  verdict_of bytes v judged = verdict_behind R t t [] (lines_of bytes) v 1 refl refl (rw (begins.kept, begins.number, begins.here) at judged)
+
+  verifies : (r : Result Verdict ToolFault) (p : Runs r) → EndsAs R t remaining input input' p.reads p.read r → (failures_of input < failures_of input' → r ≡ Err faults.Read) → VerifiesLines R t remaining input input' r
+  verifies r p ends rises = record { read = p.read; reads = p.reads; consumes = p.consumes; calls = p.calls; bounded = p.bounded; ends = ends; read_rises = rises }
+
+  verifies_by : (r : Result Verdict ToolFault) (p : Runs r) (f : ToolFault) → r ≡ Err f → (f ≡ faults.OutOfMemory) → failures_of input' ≡ failures_of input → VerifiesLines R t remaining input input' r
+  verifies_by r p f is memory same = verifies r p (rw (is, memory) tt) (λ lt. absurd (omega (arith, lt, same)))
+
+  -- what a run over the pieces of a reader did
+  pub run_verifies : (r : Result Verdict ToolFault) → Runs r → VerifiesLines R t remaining input input' r
+  run_verifies (Ok v) p = elim p.ends [
+    | inl e ↦ verifies (Ok v) p (inr (e.end, subst (IsVerdictOf R t v) (append-nil p.read) (verdict_of (p.read ++ []) v e.finished))) (λ lt. absurd (omega (arith, lt, e.same)))
+    | inr (inl s) ↦ verifies (Ok v) p (inl (λ more. verdict_of (p.read ++ more) v (s.stopped more))) (λ lt. absurd (omega (arith, lt, s.same)))
+    | inr (inr (inl s)) ↦ let bad = s.fault in cc
+    | inr (inr (inr (inl s))) ↦ let bad = s.fault in cc
+    | inr (inr (inr (inr s))) ↦ let bad = s.fault in cc
+  ]
+  run_verifies (Err f) p = elim p.ends [
+    | inl e ↦ verifies_by (Err f) p f refl e.finished e.same
+    | inr (inl s) ↦ verifies_by (Err f) p f refl s.stopped s.same
+    | inr (inr (inl s)) ↦ run_failed (Err f) p s
+    | inr (inr (inr (inl s))) ↦ run_turned (Err f) p s
+    | inr (inr (inr (inr s))) ↦ run_lacked (Err f) p s
+  ]
+    where
+      run_failed : (r : Result Verdict ToolFault) (p : Runs r) → IsStoppedByRead (λ bytes. T bytes here) input input' p.read r → VerifiesLines R t remaining input input' r
+      run_failed r p s = verifies r p (rw s.fault s.failed) (λ _. s.fault)
+
+      run_turned : (r : Result Verdict ToolFault) (p : Runs r) → IsStoppedByTurns (λ bytes. T bytes here) input input' p.reads p.read r → VerifiesLines R t remaining input input' r
+      run_turned r p s = verifies r p (rw s.fault (s.all_made, s.last_gave)) (λ lt. absurd (omega (arith, lt, s.same)))
+
+      run_lacked : (r : Result Verdict ToolFault) (p : Runs r) → IsWithoutMemory (λ bytes. T bytes here) input input' p.read r → VerifiesLines R t remaining input input' r
+      run_lacked r p s = verifies r p (rw s.fault tt) (λ lt. absurd (omega (arith, lt, s.same)))
 
 -- memory ran out before the first read
 pub run_lacks : {I : Type 0} {R : List EntryParts} {t : TagForm} {remaining : I → Option (List ℕ)} {input : Device I} → (r : _) → IsErrAnd r (λ e. e ≡ faults.OutOfMemory) → VerifiesLines R t remaining input input r
@@ -583,96 +638,10 @@ run_lacks r lacks = let p = err_from_is_err_and r lacks in rw (p.1, p.2) (record
   read_rises = λ lt. absurd (omega (arith, lt));
 })
 
-pub run_first : {I : Type 0} (R : List EntryParts) (t : TagForm) (remaining : I → Option (List ℕ)) (input : Device I) (start : Following) → Begins t start → IsProperIf R (Some t)
-    → HasTurned R t remaining input input start 0
-run_first R t remaining input start begins proper = record {
-  start = start;
-  begins = begins;
-  read = [];
-  consumes = Consumes-nil _;
-  takes = takes_nothing R start (subst (IsProperIf R) (sym begins.here) proper);
-  calls = refl;
-  last_gave = λ some. absurd (omega (arith, some));
-  most = omega arith;
-  failures = refl;
-}
-
--- behind these turns
-module _ {I : Type 0} {R : List EntryParts} {t : TagForm} {remaining : I → Option (List ℕ)} {input before : Device I} {state : Following} {turn : ℕ} (v : HasTurned R t remaining input before state turn) where
-  began : IsOneLine v.start.kept.items
-  began = subst IsOneLine (sym v.begins.kept) (All-nil (λ byte. byte ≢ 10))
-
-  -- what is judged behind the lines that were taken is the verdict on all bytes
-  judged_bytes : (more : List ℕ) (judged : Verdict) → Judges R state.number state.here (lines_of (state.kept.items ++ more)) judged → IsVerdictOf R t judged (v.read ++ more)
-  judged_bytes more judged is =
-      verdict_behind R t t [] (lines_of (v.read ++ more)) judged 1 refl refl (rw (v.begins.kept, v.begins.number, v.begins.here) at (v.takes.follows more judged began is))
-
-  pub run_next : {after : Device I} {new : Following} (piece : List ℕ) → ReadsPiece remaining before after piece → length piece ≤ 65536 → 0 < last_given_of after → TakesPiece R piece state new None
-      → HasTurned R t remaining input after new (turn + 1)
-  run_next {after = after} {new = new} piece r short gave takes = record {
-    start = v.start;
-    begins = v.begins;
-    read = v.read ++ piece;
-    consumes = Consumes-trans _ _ _ _ _ v.consumes r.consumes;
-    takes = takes_trans R v.read piece v.start state new v.takes takes.0;
-    calls = read_more input before after turn v.calls r.calls;
-    last_gave = λ some. gave;
-    most = let n = length-append v.read piece in omega (arith, n, v.most, short);
-    failures = r.failures ∙ v.failures;
-  }
-
-  -- a read failed
-  pub run_failed : {after : Device I} → turn < most_reads → Keeps (remaining (inner_of before)) (remaining (inner_of after)) → reads_of after ≡ one_more (reads_of before) → HasFailed before after
-      → VerifiesLines R t remaining input after (Err faults.Read)
-  run_failed {after = after} few kept more failed = record {
-    read = v.read;
-    reads = turn + 1;
-    consumes = Consumes-kept _ _ _ _ v.consumes kept;
-    calls = read_more input before after turn v.calls more;
-    bounded = omega (arith, few);
-    ends = failed_from input before after v.failures failed;
-    read_rises = λ lt. refl;
-  }
-
-  -- all reads were made
-  pub run_turns : turn ≡ most_reads → VerifiesLines R t remaining input before (Err faults.TooManyTurns)
-  run_turns all = record {
-    read = v.read;
-    reads = turn;
-    consumes = v.consumes;
-    calls = v.calls;
-    bounded = omega (arith, all);
-    ends = (all, v.last_gave (omega (arith, all)));
-    read_rises = λ lt. absurd (omega (arith, lt, v.failures));
-  }
-
-  -- a piece was read, and the run ended so
-  run_ended : {after : Device I} (piece : List ℕ) (r : _) → turn < most_reads → ReadsPiece remaining before after piece → EndsAs R t remaining input after (turn + 1) (v.read ++ piece) r
-      → VerifiesLines R t remaining input after r
-  run_ended {after = after} piece r few p ends = record {
-    read = v.read ++ piece;
-    reads = turn + 1;
-    consumes = Consumes-trans _ _ _ _ _ v.consumes p.consumes;
-    calls = read_more input before after turn v.calls p.calls;
-    bounded = omega (arith, few);
-    ends = ends;
-    read_rises = λ lt. absurd (omega (arith, lt, p.failures, v.failures));
-  }
-
-  -- memory ran out
-  pub run_stopped : {after : Device I} (piece : List ℕ) (r : _) → IsErrAnd r (λ e. e ≡ faults.OutOfMemory) → turn < most_reads → ReadsPiece remaining before after piece → VerifiesLines R t remaining input after r
-  run_stopped piece r lacks few p = let e = err_from_is_err_and r lacks in rw (e.1, e.2) (run_ended piece (Err faults.OutOfMemory) few p tt)
-
-  -- a piece settled what is judged
-  pub run_settled : {after : Device I} (new : Following) (piece : List ℕ) (judged : Verdict) → turn < most_reads → ReadsPiece remaining before after piece → TakesPiece R piece state new (Some judged)
-      → VerifiesLines R t remaining input after (Ok judged)
-  run_settled new piece judged few p takes =
-      run_ended piece (Ok judged) few p
-      (inl (λ more. subst (IsVerdictOf R t judged) (sym (append_assoc v.read piece more)) (judged_bytes (piece ++ more) judged (takes more (v.takes.one began)))))
-
-  -- the reader was at its end
-  pub run_finished : {after : Device I} (piece : List ℕ) (judged : Verdict) → turn < most_reads → ReadsPiece remaining before after piece → piece ≡ [] → IsAtEnd (remaining (inner_of after)) → JudgesEnd R state judged
-      → VerifiesLines R t remaining input after (Ok judged)
-  run_finished piece judged few p none end ends =
-      let here = subst (λ (l : List ℕ). Judges R state.number state.here (lines_of l) judged) (sym (append-nil state.kept.items)) (ends (v.takes.one began)) in
-      run_ended piece (Ok judged) few p (inr (end, subst (λ (l : List ℕ). IsVerdictOf R t judged (v.read ++ l)) (sym none) (judged_bytes [] judged here)))
+-- what a piece that was taken did, or one that settled what is judged
+pub takes_or_settles : {A : Type 0} (T : A → RunFact (Unit {0}) A) (S : A → EndFact (Unit {0}) A Verdict) (piece : List ℕ) (before after : Unit {0}) (old new : A) (judged : Option Verdict)
+    → (judged ≡ None → (first : A) (start : Unit {0}) (read : List ℕ) → T first start before read old → T first start after (read ++ piece) new)
+    → ((v : Verdict) → judged ≡ Some v → (first : A) (start : Unit {0}) (read : List ℕ) → T first start before read old → S first start after (read ++ piece) new (Ok v))
+    → pieces.TakesPiece T S piece before after old new (Ok judged)
+takes_or_settles T S piece before after old new None more settles = more refl
+takes_or_settles T S piece before after old new (Some v) more settles = settles v refl

@@ -7,9 +7,9 @@ use Rattle.lt_jar.specs.Sources.{most_reads}
 use Rattle.lt_jar.specs.declared.devices.Device.{Device}
 use Rattle.lt_tag.specs.Parts.{TagForm}
 use Rattle.lt_registry.specs.Parts.{EntryParts}
-use Rattle.lt_lines.specs.Running.{HasRead}
-use Rattle.lt_lines.specs.declared.faults.ToolFault.{ToolFault}
-use Rattle.lt_lines.specs.declared.faults.ToolFault.TheVariants as faults
+use Rattle.lt_stream.specs.Running.{HasRead}
+use Rattle.lt_stream.specs.declared.faults.ToolFault.{ToolFault}
+use Rattle.lt_stream.specs.declared.faults.ToolFault.TheVariants as faults
 use Rattle.lt_verify.specs.Judging.{IsProperIf, Judges, KeepsFew}
 use Rattle.lt_verify.specs.Verdicts.{IsVerdict}
 use Rattle.lt_verify.specs.declared.lines.Following.{Following}
@@ -103,3 +103,21 @@ TakesPiece R piece old new (Some v) = (more : List ℕ) → IsOneLine old.kept.i
 -- this is judged where nothing follows
 abbrev pub JudgesEnd : List EntryParts → Following → Verdict → Type 0
 JudgesEnd R state v = IsOneLine state.kept.items → Judges R state.number state.here (lines_of state.kept.items) v
+
+-- ---- the bytes of a reader
+
+-- from the beginning, these bytes were taken
+pub record IsFollowed (R : List EntryParts) (first : Following) (read : List ℕ) (here : Following) : Type 0 where
+  pub one : IsOneLine first.kept.items
+  pub number : first.number ≡ 1
+  pub takes : Takes R read first here
+
+-- from the beginning, this is judged whatever follows the bytes, or memory ran out
+abbrev pub Settles : List EntryParts → Following → List ℕ → Result Verdict ToolFault → Type 0
+Settles R first read (Ok v) = (more : List ℕ) → Judges R first.number first.here (lines_of (first.kept.items ++ (read ++ more))) v
+Settles R first read (Err f) = f ≡ faults.OutOfMemory
+
+-- this is judged where nothing follows
+abbrev pub JudgesAll : List EntryParts → Following → List ℕ → Result Verdict ToolFault → Type 0
+JudgesAll R first read (Ok v) = Judges R first.number first.here (lines_of (first.kept.items ++ (read ++ []))) v
+JudgesAll R first read (Err f) = f ≡ faults.OutOfMemory

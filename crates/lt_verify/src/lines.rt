@@ -7,18 +7,12 @@ ghost use Rattle.lt_verify.specs.Verifying as spec;
 use crate::judging::{Flow, judge_front, judge_line};
 use crate::verdicts::Verdict;
 use lt_jar::Device;
-use lt_lines::ToolFault;
 use lt_registry::Lookup;
 use lt_rows::split_first;
+use lt_stream::{Pieces, ToolFault, run_pieces};
 use lt_tag::{OutOfMemory, Tag};
 use std::alloc::Global;
 use std::io::Read;
-
-/// The most reads of one run.
-const MOST_READS: u32 = 10_000_000;
-
-/// The most bytes that a read is asked for.
-const PIECE: usize = 65536;
 
 /// Lines that come in pieces, and what they lead to.
 #[derive(Drop)]
@@ -156,6 +150,36 @@ impl Following {
     }
 }
 
+/// Lines, and the table by which they are judged.
+#[derive(Drop)]
+struct Verifying<'a, L> {
+    table: &'a L,
+    following: Following,
+}
+
+impl<'a, L: Lookup> Pieces<()> for Verifying<'a, L> {
+    type Answer = Verdict;
+
+    ghost taken = { λ first _ _ read here. (L.listed here.table.now ≡ L.listed first.table.now) × spec.IsFollowed (L.listed first.table.now) first.following read here.following };
+
+    ghost stopped = { λ first _ _ read _ result. spec.Settles (L.listed first.table.now) first.following read result };
+
+    ghost finished = { λ first _ _ read _ result. spec.JudgesAll (L.listed first.table.now) first.following read result };
+
+    fn take_piece(
+        &mut self,
+        alloc: Global,
+        piece: &[u8],
+        _output: &mut (),
+    ) -> Result<Option<Verdict>, ToolFault> {
+        Ok(self.following.take_piece(alloc, self.table, piece)?)
+    }
+
+    fn finish(&mut self, alloc: Global, _output: &mut ()) -> Result<Verdict, ToolFault> {
+        Ok(self.following.finish(alloc, self.table)?)
+    }
+}
+
 /// Judges the lines of a reader as an explanation of a proper tag (RFC 5646, 4.5). The lines `Language 1 4
 /// he-IL` and `= he-IL` explain `iw-IL` where record 4 has the value `he` for `iw`.
 ///
@@ -174,18 +198,9 @@ pub fn verify_lines<L: Lookup, R: Read>(
     requires { IsProper (L.listed table.now) tag.now }
     ensures { spec.VerifiesLines (L.listed table.now) tag.now R.remaining input.old input.new result }
 {
-    let mut buffer = vec![in alloc; 0u8; PIECE]?;
-    let mut following = Following::new(alloc, tag)?;
-    for _read in 0..MOST_READS {
-        match input.read(&mut buffer) {
-            Ok(0) => return Ok(following.finish(alloc, table)?),
-            Ok(count) => {
-                if let Some(verdict) = following.take_piece(alloc, table, &buffer[..count])? {
-                    return Ok(verdict);
-                }
-            }
-            Err(_) => return Err(ToolFault::Read),
-        }
-    }
-    Err(ToolFault::TooManyTurns)
+    let mut verifying = Verifying {
+        table,
+        following: Following::new(alloc, tag)?,
+    };
+    run_pieces(alloc, &mut verifying, input, &mut ())
 }

@@ -94,11 +94,13 @@ by_letters a first =
     if a == 97 then sub.Classify
     else if a == 101 then sub.Check
     else if a == 110 then sub.Canon
+    else if a == 100 then sub.Codes
     else if a == 118 then (if first == 116 then sub.Tsv else sub.Csv)
     else if a == 116 then (if first == 109 then sub.Match else sub.Extlang)
     else if a == 117 then sub.Equal
     else if a == 112 then sub.Explain
     else if a == 114 then sub.Verify
+    else if a == 111 then (if first == 115 then sub.Show else sub.Json)
     else sub.Upgrade
 
 named_back : (s : Subcommand) → by_letters (slice_index (name_of s) 2) (slice_index (name_of s) 0) ≡ s
@@ -106,6 +108,7 @@ unfolding by_letters
 named_back sub.Classify = refl
 named_back sub.Check = refl
 named_back sub.Canon = refl
+named_back sub.Codes = refl
 named_back sub.Tsv = refl
 named_back sub.Csv = refl
 named_back sub.Match = refl
@@ -114,6 +117,8 @@ named_back sub.Equal = refl
 named_back sub.Explain = refl
 named_back sub.Verify = refl
 named_back sub.Upgrade = refl
+named_back sub.Show = refl
+named_back sub.Json = refl
 
 -- a name is that of one subcommand
 pub one_named : (s other : Subcommand) → name_of s ≡ name_of other → s ≡ other

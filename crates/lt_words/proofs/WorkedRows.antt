@@ -118,3 +118,19 @@ extended-read = refl
 range-missing : fault_of langtag (match (codes "R" ∷ [])) ≡ kind.MissingRequiredArgument ∷ []
 unfolding clap_on_literals
 range-missing = refl
+
+-- tags that are shown, and as JSON
+abbrev show : List Text → List Text
+show words = codes "langtag" ∷ codes "show" ∷ words
+
+tags-read : values_as (codes "TAG") (show (codes "R" ∷ codes "--json" ∷ codes "zh-yue" ∷ codes "en" ∷ [])) ≡ Some (codes "show", codes "zh-yue" ∷ codes "en" ∷ [])
+unfolding clap_on_literals values_as
+tags-read = refl
+
+json-read : read_as (codes "json") (show (codes "R" ∷ codes "en" ∷ codes "--json" ∷ [])) ≡ Some (codes "show", Some (codes "true"))
+unfolding clap_on_literals read_as
+json-read = refl
+
+tag-missing : fault_of langtag (show (codes "R" ∷ [])) ≡ kind.MissingRequiredArgument ∷ []
+unfolding clap_on_literals
+tag-missing = refl

@@ -50,6 +50,7 @@ abbrev pub name_of : Subcommand → Text
 name_of sub.Classify = codes "classify"
 name_of sub.Check = codes "check"
 name_of sub.Canon = codes "canon"
+name_of sub.Codes = codes "codes"
 name_of sub.Tsv = codes "tsv"
 name_of sub.Csv = codes "csv"
 name_of sub.Match = codes "match"
@@ -58,12 +59,15 @@ name_of sub.Equal = codes "equal"
 name_of sub.Explain = codes "explain"
 name_of sub.Verify = codes "verify"
 name_of sub.Upgrade = codes "upgrade"
+name_of sub.Show = codes "show"
+name_of sub.Json = codes "json"
 
 -- the names of its positionals, but for one that is repeated
 abbrev pub positionals_of : Subcommand → List Text
 positionals_of sub.Classify = codes "TAG" ∷ []
 positionals_of sub.Check = codes "REGISTRY" ∷ []
 positionals_of sub.Canon = codes "REGISTRY" ∷ []
+positionals_of sub.Codes = codes "TABLE" ∷ codes "REGISTRY" ∷ []
 positionals_of sub.Tsv = codes "REGISTRY" ∷ codes "COLUMN" ∷ []
 positionals_of sub.Csv = codes "REGISTRY" ∷ codes "COLUMN" ∷ []
 positionals_of sub.Match = codes "REGISTRY" ∷ []
@@ -72,14 +76,20 @@ positionals_of sub.Equal = codes "REGISTRY" ∷ codes "TAG" ∷ codes "OTHER" �
 positionals_of sub.Explain = codes "REGISTRY" ∷ codes "TAG" ∷ []
 positionals_of sub.Verify = codes "REGISTRY" ∷ codes "TAG" ∷ []
 positionals_of sub.Upgrade = codes "OLD" ∷ codes "NEW" ∷ []
+positionals_of sub.Show = codes "REGISTRY" ∷ []
+positionals_of sub.Json = codes "REGISTRY" ∷ []
 
 -- its options, after a positional that is repeated
 abbrev pub options_of : Subcommand → List Rule
 options_of sub.Canon = flag (codes "summary") ∷ []
-options_of sub.Tsv = flag (codes "heading") ∷ flag (codes "keep") ∷ flag (codes "summary") ∷ []
+options_of sub.Codes = flag (codes "summary") ∷ []
+options_of sub.Tsv =
+    flag (codes "heading") ∷ flag (codes "keep") ∷ option (codes "TABLE") (codes "codes") ∷ flag (codes "summary") ∷ []
 options_of sub.Csv =
-    option (codes "C") (codes "delimiter") ∷ flag (codes "keep") ∷ flag (codes "summary") ∷ []
-options_of sub.Match = repeated (codes "RANGE") ∷ flag (codes "extended") ∷ []
+    option (codes "C") (codes "delimiter") ∷ flag (codes "keep") ∷ option (codes "TABLE") (codes "codes")
+    ∷ flag (codes "summary") ∷ []
+options_of sub.Match = repeated (codes "RANGE") ∷ flag (codes "extended") ∷ flag (codes "lookup") ∷ []
+options_of sub.Show = repeated (codes "TAG") ∷ flag (codes "json") ∷ []
 options_of _ = []
 
 -- its arguments, each of its positionals required
@@ -89,8 +99,8 @@ arguments_of s = map positional (positionals_of s) ++ options_of s
 -- the subcommands, in the order in which help names them
 abbrev pub subcommands : List Subcommand
 subcommands =
-    sub.Classify ∷ sub.Check ∷ sub.Canon ∷ sub.Tsv ∷ sub.Csv ∷ sub.Match ∷ sub.Extlang
-    ∷ sub.Equal ∷ sub.Explain ∷ sub.Verify ∷ sub.Upgrade ∷ []
+    sub.Classify ∷ sub.Check ∷ sub.Canon ∷ sub.Codes ∷ sub.Tsv ∷ sub.Csv ∷ sub.Match ∷ sub.Extlang
+    ∷ sub.Equal ∷ sub.Explain ∷ sub.Verify ∷ sub.Upgrade ∷ sub.Show ∷ sub.Json ∷ []
 
 -- a program with these subcommands, in this order
 abbrev pub with_subcommands : App → List Subcommand → App

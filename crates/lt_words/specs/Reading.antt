@@ -1,5 +1,5 @@
 -- The command that the words of a command line name.
-use Rattle.std.specs.Prelude.{◌≡◌, ◌<◌, ◌^◌, ◌==◌, ◌&&◌, not, ⊤, ℕ, Bool, true, false, List, [], ◌∷◌, Option, Some, None, if◌then◌else◌, bytes_eq, codes, map, nat_lt, string_bytes}
+use Rattle.std.specs.Prelude.{◌≡◌, ◌<◌, ◌^◌, ◌==◌, ◌&&◌, not, ⊤, ℕ, Bool, true, false, List, [], ◌∷◌, Option, Some, None, if◌then◌else◌, bytes_eq, codes, map, nat_lt, option_map, string_bytes}
 use Rattle.std.specs.Option.{option_map_or}
 use Rattle.std.specs.Str.Parse.{IsNumeral, digits_value, without_leading_plus}
 use Rattle.clap.specs.Words.{Row, Text, all_of, first_of, subcommand_of, fault_of, IsAmong}
@@ -11,6 +11,9 @@ use Rattle.lt_words.specs.declared.subcommands.Subcommand.TheVariants as sub
 use Rattle.lt_words.specs.declared.commands.Column.{Column}
 use Rattle.lt_words.specs.declared.commands.Column.TheVariants as columns
 use Rattle.lt_words.specs.declared.commands.Command.{Command}
+use Rattle.lt_words.specs.declared.commands.Matching.{Matching}
+use Rattle.lt_words.specs.declared.commands.Matching.TheVariants as matchings
+use Rattle.lt_words.specs.declared.commands.Rows.{Rows}
 use Rattle.lt_words.specs.declared.commands.Run.{Run}
 use Rattle.lt_words.specs.declared.commands.Command.TheVariants as command
 use Rattle.lt_words.specs.declared.faults.WordsFault.{WordsFault}
@@ -21,6 +24,7 @@ abbrev pub subcommand_for : Command → Subcommand
 subcommand_for (command.Classify tag) = sub.Classify
 subcommand_for (command.Check file) = sub.Check
 subcommand_for (command.Canon run) = sub.Canon
+subcommand_for (command.Codes run table) = sub.Codes
 subcommand_for (command.Tsv run rows) = sub.Tsv
 subcommand_for (command.Csv run rows delimiter) = sub.Csv
 subcommand_for (command.Match file ranges) = sub.Match
@@ -29,6 +33,8 @@ subcommand_for (command.Equal file tag other) = sub.Equal
 subcommand_for (command.Explain file tag) = sub.Explain
 subcommand_for (command.Verify file tag) = sub.Verify
 subcommand_for (command.Upgrade old new) = sub.Upgrade
+subcommand_for (command.Show file tags) = sub.Show
+subcommand_for (command.Json file) = sub.Json
 
 -- the text is a decimal number, which a plus may begin
 abbrev pub IsDecimal : Text → Type 0
@@ -56,6 +62,7 @@ abbrev pub AreValues : Command → List Text → Type 0
 AreValues (command.Classify tag) texts = texts ≡ string_bytes tag ∷ []
 AreValues (command.Check file) texts = texts ≡ string_bytes file ∷ []
 AreValues (command.Canon run) texts = texts ≡ string_bytes run.registry ∷ []
+AreValues (command.Codes run table) texts = texts ≡ string_bytes table ∷ string_bytes run.registry ∷ []
 AreValues (command.Tsv run rows) texts =
     (text : Text) × IsColumn text rows.column × FitsHeading rows.heading rows.column × (texts ≡ string_bytes run.registry ∷ text ∷ [])
 AreValues (command.Csv run rows delimiter) texts =
@@ -66,6 +73,8 @@ AreValues (command.Equal file tag other) texts = texts ≡ string_bytes file ∷
 AreValues (command.Explain file tag) texts = texts ≡ string_bytes file ∷ string_bytes tag ∷ []
 AreValues (command.Verify file tag) texts = texts ≡ string_bytes file ∷ string_bytes tag ∷ []
 AreValues (command.Upgrade old new) texts = texts ≡ string_bytes old ∷ string_bytes new ∷ []
+AreValues (command.Show file tags) texts = texts ≡ string_bytes file ∷ []
+AreValues (command.Json file) texts = texts ≡ string_bytes file ∷ []
 
 -- whether a byte may stand between fields: one of ASCII that is no quote (34), line feed or carriage return
 abbrev pub is_delimiter : ℕ → Bool
@@ -88,6 +97,17 @@ delimiter_given rows = option_map_or delimiter_named (first_of (codes "C") rows)
 abbrev pub is_flagged : (name : Text) → List Row → Bool
 is_flagged name rows = option_map_or (λ text. bytes_eq text (codes "true")) (first_of name rows) false
 
+-- how ranges match, by whether it is to be extended filtering and whether it is to be lookup, which can't be both
+abbrev pub matching_by : (extended lookup : Bool) → Option Matching
+matching_by false false = Some matchings.Basic
+matching_by true false = Some matchings.Extended
+matching_by false true = Some matchings.Lookup
+matching_by true true = None
+
+-- how they match by the flags that are given
+abbrev pub matching_given : List Row → Option Matching
+matching_given rows = matching_by (is_flagged (codes "extended") rows) (is_flagged (codes "lookup") rows)
+
 -- the values of a positional that is repeated
 abbrev pub values_given : (name : Text) → List Row → List Text
 values_given name rows = option_map_or (λ texts. texts) (all_of name rows) []
@@ -96,16 +116,23 @@ values_given name rows = option_map_or (λ texts. texts) (all_of name rows) []
 abbrev pub AreRunOptions : Run → List Row → Type 0
 AreRunOptions run rows = run.summary ≡ is_flagged (codes "summary") rows
 
+-- what the options of rows give them
+abbrev pub AreRowOptions : Rows → List Row → Type 0
+AreRowOptions rows found =
+    (rows.keep ≡ is_flagged (codes "keep") found) × (option_map string_bytes rows.codes ≡ first_of (codes "TABLE") found)
+
 -- what options give a command; records of CSV have a heading
 abbrev pub AreOptions : Command → List Row → Type 0
 AreOptions (command.Canon run) found = AreRunOptions run found
+AreOptions (command.Codes run table) found = AreRunOptions run found
 AreOptions (command.Tsv run rows) found =
-    AreRunOptions run found × (rows.heading ≡ is_flagged (codes "heading") found) × (rows.keep ≡ is_flagged (codes "keep") found)
+    AreRunOptions run found × (rows.heading ≡ is_flagged (codes "heading") found) × AreRowOptions rows found
 AreOptions (command.Csv run rows delimiter) found =
-    AreRunOptions run found × (rows.heading ≡ true) × (rows.keep ≡ is_flagged (codes "keep") found)
-    × (delimiter_given found ≡ Some delimiter)
+    AreRunOptions run found × (rows.heading ≡ true) × (delimiter_given found ≡ Some delimiter) × AreRowOptions rows found
 AreOptions (command.Match file ranges) found =
-    (map string_bytes ranges.texts.items ≡ values_given (codes "RANGE") found) × (ranges.extended ≡ is_flagged (codes "extended") found)
+    (map string_bytes ranges.texts.items ≡ values_given (codes "RANGE") found) × (matching_given found ≡ Some ranges.matching)
+AreOptions (command.Show file tags) found =
+    (map string_bytes tags.texts.items ≡ values_given (codes "TAG") found) × (tags.json ≡ is_flagged (codes "json") found)
 AreOptions _ found = ⊤
 
 -- these are the values of positionals
@@ -121,11 +148,12 @@ pub record IsNamed (found : Option (Text × List Row)) (command : Command) : Typ
   pub values : AreValues command texts
   pub options : AreOptions command rows
 
--- the file that the command names first
+-- the file that is read first: that of the registry, or of the older one
 abbrev pub first_file_of : Command → Option (List ℕ)
 first_file_of (command.Classify tag) = None
 first_file_of (command.Check file) = Some (string_bytes file)
 first_file_of (command.Canon run) = Some (string_bytes run.registry)
+first_file_of (command.Codes run table) = Some (string_bytes run.registry)
 first_file_of (command.Tsv run rows) = Some (string_bytes run.registry)
 first_file_of (command.Csv run rows delimiter) = Some (string_bytes run.registry)
 first_file_of (command.Match file ranges) = Some (string_bytes file)
@@ -134,30 +162,40 @@ first_file_of (command.Equal file tag other) = Some (string_bytes file)
 first_file_of (command.Explain file tag) = Some (string_bytes file)
 first_file_of (command.Verify file tag) = Some (string_bytes file)
 first_file_of (command.Upgrade old new) = Some (string_bytes old)
+first_file_of (command.Show file tags) = Some (string_bytes file)
+first_file_of (command.Json file) = Some (string_bytes file)
 
--- and the one after it
+-- and the one after it: that of the newer registry, or of the table of codes
 abbrev pub second_file_of : Command → Option (List ℕ)
 second_file_of (command.Upgrade old new) = Some (string_bytes new)
+second_file_of (command.Codes run table) = Some (string_bytes table)
+second_file_of (command.Tsv run rows) = option_map string_bytes rows.codes
+second_file_of (command.Csv run rows delimiter) = option_map string_bytes rows.codes
 second_file_of _ = None
 
 -- whether the command reads the standard input, whatever file it names
 abbrev pub reads_input_of : Command → Bool
 reads_input_of (command.Canon run) = true
+reads_input_of (command.Codes run table) = true
 reads_input_of (command.Tsv run rows) = true
 reads_input_of (command.Csv run rows delimiter) = true
 reads_input_of (command.Match file ranges) = true
 reads_input_of (command.Verify file tag) = true
+reads_input_of (command.Json file) = true
 reads_input_of _ = false
 
 -- whether it answers each of its lines by one line
 abbrev pub answers_lines_of : Command → Bool
 answers_lines_of (command.Canon run) = true
+answers_lines_of (command.Codes run table) = true
 answers_lines_of (command.Tsv run rows) = true
+answers_lines_of (command.Json file) = true
 answers_lines_of _ = false
 
 -- whether it is to tell a summary of its lines
 abbrev pub has_summary : Command → Bool
 has_summary (command.Canon run) = run.summary
+has_summary (command.Codes run table) = run.summary
 has_summary (command.Tsv run rows) = run.summary
 has_summary (command.Csv run rows delimiter) = run.summary
 has_summary _ = false
@@ -210,6 +248,13 @@ LacksDelimiter rows (fault.Help text) = ⊥
 LacksDelimiter rows (fault.Version text) = ⊥
 LacksDelimiter rows (fault.Usage text) = delimiter_given rows ≡ None
 LacksDelimiter rows fault.OutOfMemory = ⊤
+
+-- running out of memory aside, the flags ask for two ways to match
+abbrev pub LacksMatching : List Row → WordsFault → Type 0
+LacksMatching rows (fault.Help text) = ⊥
+LacksMatching rows (fault.Version text) = ⊥
+LacksMatching rows (fault.Usage text) = matching_given rows ≡ None
+LacksMatching rows fault.OutOfMemory = ⊤
 
 -- running out of memory aside, what a parse found is no command
 abbrev pub NamesNone : Option (Text × List Row) → WordsFault → Type 0

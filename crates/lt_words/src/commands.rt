@@ -1,5 +1,5 @@
 //! The commands of the program.
-ghost use Rattle.std.specs.Prelude.{◌≡◌};
+ghost use Rattle.std.specs.Prelude.{◌≡◌, string_bytes};
 ghost use Rattle.std.specs.Option.{option_map};
 ghost use Rattle.lt_words.specs.Reading.{answers_lines_of, first_file_of, has_summary, reads_input_of, second_file_of};
 
@@ -30,6 +30,19 @@ pub struct Rows {
     pub heading: bool,
     /// Whether a row stays as it is, and its answer is added to it in two fields.
     pub keep: bool,
+    /// The file of a table of codes (ISO 639-2), if one is named.
+    pub codes: Option<String>,
+}
+
+/// How language ranges match tags (RFC 4647, 3.3 and 3.4).
+#[derive(Clone, Copy, Debug)]
+pub enum Matching {
+    /// By basic filtering (RFC 4647, 3.3.1).
+    Basic,
+    /// By extended filtering (RFC 4647, 3.3.2).
+    Extended,
+    /// By lookup, which finds one tag (RFC 4647, 3.4).
+    Lookup,
 }
 
 /// Language ranges, and how they match tags.
@@ -37,8 +50,17 @@ pub struct Rows {
 pub struct Ranges {
     /// The texts of the ranges.
     pub texts: Vec<String>,
-    /// Whether they match by extended filtering, and not by basic filtering (RFC 4647, 3.3).
-    pub extended: bool,
+    /// How they match.
+    pub matching: Matching,
+}
+
+/// Tags that are shown.
+#[derive(Debug, Drop)]
+pub struct Tags {
+    /// Their texts.
+    pub texts: Vec<String>,
+    /// Whether each is shown as a line of JSON, and not as a table.
+    pub json: bool,
 }
 
 /// What the words ask for.
@@ -50,12 +72,16 @@ pub enum Command {
     Check(String),
     /// The canonical form of each line of the input.
     Canon(Run),
+    /// The same, with what is registered for the first subtag of a line in the place of that, where it is a code of the table
+    /// of this file.
+    Codes(Run, String),
     /// The rows of the input with the canonical form of a field.
     Tsv(Run, Rows),
     /// The records of CSV of the input, after a heading, with the canonical form of a field; the byte stands between their
     /// fields.
     Csv(Run, Rows, u8),
-    /// The lines of the input that one of these ranges matches, by the registry of this file, which comes first.
+    /// The lines of the input that one of these ranges matches, or the line that lookup by them finds, by the registry of
+    /// this file, which comes first.
     Match(String, Ranges),
     /// The extlang form of this tag, by the registry of this file, which comes first.
     Extlang(String, String),
@@ -67,45 +93,62 @@ pub enum Command {
     Verify(String, String),
     /// Whether the registry of the second file upgrades that of the first.
     Upgrade(String, String),
+    /// What the registry of this file, which comes first, says of these tags.
+    Show(String, Tags),
+    /// The object of JSON that is answered to each line of the input, by the registry of this file.
+    Json(String),
+}
+
+/// The file of a table of codes that rows name, if they name one.
+fn codes_file(rows: &Rows) -> Option<&str>
+    ensures { option_map (λ file. file.now) result ≡ option_map string_bytes rows.now.codes }
+{
+    match &rows.codes {
+        Some(file) => Some(file.as_str()),
+        None => None,
+    }
 }
 
 impl Command {
-    /// The file that the command names first, if it names one: that of the registry, or of the older one.
+    /// The file that is read first, if the command names one: that of the registry, or of the older one.
     pub fn first_file(&self) -> Option<&str>
         ensures { option_map (λ file. file.now) result ≡ first_file_of self.now }
     {
         match self {
             Command::Classify(_) => None,
             Command::Check(file) => Some(file.as_str()),
-            Command::Canon(run) | Command::Tsv(run, _) | Command::Csv(run, _, _) => {
-                Some(run.registry.as_str())
-            }
+            Command::Canon(run) | Command::Codes(run, _) => Some(run.registry.as_str()),
+            Command::Tsv(run, _) | Command::Csv(run, _, _) => Some(run.registry.as_str()),
             Command::Match(file, _) => Some(file.as_str()),
             Command::Extlang(file, _) | Command::Explain(file, _) => Some(file.as_str()),
             Command::Verify(file, _) => Some(file.as_str()),
             Command::Equal(file, _, _) | Command::Upgrade(file, _) => Some(file.as_str()),
+            Command::Show(file, _) => Some(file.as_str()),
+            Command::Json(file) => Some(file.as_str()),
         }
     }
 
-    /// Whether the command reads the standard input, whatever file it names: `canon`, `tsv`, `csv`, `match` and
-    /// `verify` do.
+    /// Whether the command reads the standard input, whatever file it names: `canon`, `codes`, `tsv`, `csv`, `match`,
+    /// `verify` and `json` do.
     pub fn reads_input(&self) -> bool
         ensures { result ≡ reads_input_of self.now }
     {
         match self {
-            Command::Canon(_) | Command::Verify(_, _) => true,
+            Command::Canon(_) | Command::Codes(_, _) | Command::Verify(_, _) => true,
             Command::Tsv(_, _) | Command::Csv(_, _, _) | Command::Match(_, _) => true,
+            Command::Json(_) => true,
             _ => false,
         }
     }
 
-    /// Whether the command answers each line of the standard input by one line: `canon` and `tsv` do. A record of CSV
-    /// may have more lines.
+    /// Whether the command answers each line of the standard input by one line: `canon`, `codes`, `tsv` and `json` do. A
+    /// record of CSV may have more lines.
     pub fn answers_lines(&self) -> bool
         ensures { result ≡ answers_lines_of self.now }
     {
         match self {
-            Command::Canon(_) | Command::Tsv(_, _) => true,
+            Command::Canon(_) | Command::Codes(_, _) => true,
+            Command::Tsv(_, _) | Command::Json(_) => true,
             _ => false,
         }
     }
@@ -115,17 +158,19 @@ impl Command {
         ensures { result ≡ has_summary self.now }
     {
         match self {
-            Command::Canon(run) | Command::Tsv(run, _) | Command::Csv(run, _, _) => run.summary,
+            Command::Canon(run) | Command::Codes(run, _) => run.summary,
+            Command::Tsv(run, _) | Command::Csv(run, _, _) => run.summary,
             _ => false,
         }
     }
 
-    /// The file that the command names after it, if it names one: that of the newer registry, of `upgrade`.
+    /// The file that is read after it, if the command names one: that of the newer registry, or of the table of codes.
     pub fn second_file(&self) -> Option<&str>
         ensures { option_map (λ file. file.now) result ≡ second_file_of self.now }
     {
         match self {
-            Command::Upgrade(_, file) => Some(file.as_str()),
+            Command::Upgrade(_, file) | Command::Codes(_, file) => Some(file.as_str()),
+            Command::Tsv(_, rows) | Command::Csv(_, rows, _) => codes_file(rows),
             _ => None,
         }
     }

@@ -10,7 +10,7 @@ mod reading;
 mod subcommands;
 mod values;
 
-pub use commands::{Column, Command, Ranges, Rows, Run};
+pub use commands::{Column, Command, Matching, Ranges, Rows, Run, Tags};
 pub use faults::WordsFault;
 pub use given::{escaped, word_text};
 pub use reading::read_words;

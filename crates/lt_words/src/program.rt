@@ -45,6 +45,18 @@ pub(crate) static REGISTRY: Argument = Argument {
     help: "A file in the format of the IANA Language Subtag Registry",
 };
 
+pub(crate) static TABLE: Argument = Argument {
+    name: "TABLE",
+    form: Form::Positional,
+    help: "A table of the codes of ISO 639-2, as the Library of Congress publishes it: lines as ger|deu|de|German|allemand",
+};
+
+pub(crate) static CODES: Argument = Argument {
+    name: "TABLE",
+    form: Form::Option("codes"),
+    help: "Reads a tag with what is registered for its first subtag, where that is a code of this table; see the command codes",
+};
+
 pub(crate) static COLUMN: Argument = Argument {
     name: "COLUMN",
     form: Form::Positional,
@@ -93,6 +105,24 @@ pub(crate) static EXTENDED: Argument = Argument {
     help: "Matches by extended filtering (RFC 4647, 3.3.2), by which de-DE matches de-Latn-DE too",
 };
 
+pub(crate) static TAGS: Argument = Argument {
+    name: "TAG",
+    form: Form::Repeated,
+    help: "A BCP 47 language tag",
+};
+
+pub(crate) static JSON: Argument = Argument {
+    name: "json",
+    form: Form::Flag,
+    help: "Prints a line of JSON for each tag",
+};
+
+pub(crate) static LOOKUP: Argument = Argument {
+    name: "lookup",
+    form: Form::Flag,
+    help: "Prints the one line that lookup finds (RFC 4647, 3.4): a tag that a range, cut from its end as little as it takes, is",
+};
+
 pub(crate) static SUMMARY: Argument = Argument {
     name: "summary",
     form: Form::Flag,
@@ -104,12 +134,12 @@ const STATUSES: &str = "\
 Status:
   0  done
   1  a tag was refused, or the tags are different, or the steps are no explanation, or no line was matched
-  2  a registry or an upgrade was refused
+  2  a registry, a table or an upgrade was refused
   3  the words name no command, or a column that is missing or stands twice, or a range that is refused
   4  a file, the input, the output or memory failed";
 
 /// The version, and the line of the kit that proves and builds the program.
-const VERSION: &str = "1.1.0 (rattle-kit-13b logic dac8208d650f15bf)";
+const VERSION: &str = "1.1.0 (rattle-kit-13f logic dac8208d650f15bf)";
 
 /// An argument.
 fn new_argument<'a>(alloc: Global, wanted: &Argument) -> Arg<'a>
@@ -179,12 +209,16 @@ pub(crate) fn new_langtag<'a>(alloc: Global) -> Result<Command<'a>, AllocError>
     let about = "Prints the canonical form of each line of the standard input";
     let program = with_new(alloc, program, "canon", about, &[&REGISTRY, &SUMMARY])?;
     let about =
+        "Prints the same, reading a first subtag that is a code of ISO 639-2 as what is registered for it";
+    let arguments = &[&TABLE, &REGISTRY, &SUMMARY];
+    let program = with_new(alloc, program, "codes", about, arguments)?;
+    let about =
         "Replaces a field of each row of the standard input, with tabs between fields, by its canonical form";
-    let arguments = &[&REGISTRY, &COLUMN, &HEADING, &KEEP, &SUMMARY];
+    let arguments = &[&REGISTRY, &COLUMN, &HEADING, &KEEP, &CODES, &SUMMARY];
     let program = with_new(alloc, program, "tsv", about, arguments)?;
     let about =
         "Replaces a field of each record of CSV of the standard input, but for the heading, by its canonical form";
-    let arguments = &[&REGISTRY, &COLUMN, &DELIMITER, &KEEP, &SUMMARY];
+    let arguments = &[&REGISTRY, &COLUMN, &DELIMITER, &KEEP, &CODES, &SUMMARY];
     let program = with_new(alloc, program, "csv", about, arguments)?;
     let about = "Prints the lines of the standard input, each a tag, that a language range matches";
     let program = with_new(
@@ -192,7 +226,7 @@ pub(crate) fn new_langtag<'a>(alloc: Global) -> Result<Command<'a>, AllocError>
         program,
         "match",
         about,
-        &[&REGISTRY, &RANGE, &EXTENDED],
+        &[&REGISTRY, &RANGE, &EXTENDED, &LOOKUP],
     )?;
     let about = "Prints the extlang form of a tag";
     let program = with_new(alloc, program, "extlang", about, &[&REGISTRY, &TAG])?;
@@ -203,5 +237,10 @@ pub(crate) fn new_langtag<'a>(alloc: Global) -> Result<Command<'a>, AllocError>
     let about = "Tells whether the standard input explains a tag, as `explain` prints it";
     let program = with_new(alloc, program, "verify", about, &[&REGISTRY, &TAG])?;
     let about = "Tells whether a newer registry upgrades an older one";
-    with_new(alloc, program, "upgrade", about, &[&OLD, &NEW])
+    let program = with_new(alloc, program, "upgrade", about, &[&OLD, &NEW])?;
+    let about = "Prints what a registry says of each subtag of tags, and their canonical forms";
+    let program = with_new(alloc, program, "show", about, &[&REGISTRY, &TAGS, &JSON])?;
+    let about =
+        "Prints an object of JSON for each line of the standard input: the tag, its canonical form and its parts";
+    with_new(alloc, program, "json", about, &[&REGISTRY])
 }

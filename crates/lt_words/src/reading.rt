@@ -4,13 +4,16 @@ ghost use Rattle.lt_words.specs.CommandLine.{name_of};
 ghost use Rattle.lt_words.specs.Reading.{Reads, IsRefused, IsNamed, NamesNone, IsFaultOf};
 ghost use Rattle.clap.specs.Words.{found_of, rows_of, subcommand_rows_of};
 
-use crate::commands::{Command, Ranges, Rows, Run};
+use crate::commands::{Command, Ranges, Rows, Run, Tags};
 use crate::faults::WordsFault;
 use crate::program::{
-    COLUMN, EXTENDED, HEADING, KEEP, NEW, OLD, OTHER, RANGE, REGISTRY, SUMMARY, TAG, new_langtag,
+    CODES, COLUMN, HEADING, JSON, KEEP, NEW, OLD, OTHER, RANGE, REGISTRY, SUMMARY, TABLE, TAG,
+    TAGS, new_langtag,
 };
 use crate::subcommands::{Subcommand, subcommand_named};
-use crate::values::{column_of, delimiter_of, is_flagged, two_values, value_of, values_of};
+use crate::values::{
+    column_of, delimiter_of, is_flagged, matching_of, option_of, two_values, value_of, values_of,
+};
 use clap::ArgMatches;
 use clap::error::ErrorKind;
 use std::alloc::Global;
@@ -26,6 +29,16 @@ fn read_canon(alloc: Global, values: &ArgMatches<'_>) -> Result<Command, WordsFa
     Ok(Command::Canon(Run { registry, summary }))
 }
 
+/// The command for lines that are tags, of which the first subtag may be a code.
+fn read_codes(alloc: Global, values: &ArgMatches<'_>) -> Result<Command, WordsFault>
+    ensures named { IfOk result (IsNamed (Some (name_of Subcommand.Codes, rows_of (found_of values.now)))) }
+    ensures unnamed { IfErr result (NamesNone (Some (name_of Subcommand.Codes, rows_of (found_of values.now)))) }
+{
+    let (table, registry) = two_values(alloc, values, &TABLE, &REGISTRY)?;
+    let summary = is_flagged(values, &SUMMARY);
+    Ok(Command::Codes(Run { registry, summary }, table))
+}
+
 /// The command for rows of fields with tabs between them.
 fn read_tsv(alloc: Global, values: &ArgMatches<'_>) -> Result<Command, WordsFault>
     ensures named { IfOk result (IsNamed (Some (name_of Subcommand.Tsv, rows_of (found_of values.now)))) }
@@ -37,6 +50,7 @@ fn read_tsv(alloc: Global, values: &ArgMatches<'_>) -> Result<Command, WordsFaul
         column: column_of(alloc, &column, heading)?,
         heading,
         keep: is_flagged(values, &KEEP),
+        codes: option_of(alloc, values, &CODES)?,
     };
     let summary = is_flagged(values, &SUMMARY);
     Ok(Command::Tsv(Run { registry, summary }, rows))
@@ -52,6 +66,7 @@ fn read_csv(alloc: Global, values: &ArgMatches<'_>) -> Result<Command, WordsFaul
         column: column_of(alloc, &column, true)?,
         heading: true,
         keep: is_flagged(values, &KEEP),
+        codes: option_of(alloc, values, &CODES)?,
     };
     let delimiter = delimiter_of(alloc, values)?;
     let summary = is_flagged(values, &SUMMARY);
@@ -66,9 +81,22 @@ fn read_match(alloc: Global, values: &ArgMatches<'_>) -> Result<Command, WordsFa
     let registry = value_of(alloc, values, &REGISTRY)?;
     let ranges = Ranges {
         texts: values_of(alloc, values, &RANGE)?,
-        extended: is_flagged(values, &EXTENDED),
+        matching: matching_of(alloc, values)?,
     };
     Ok(Command::Match(registry, ranges))
+}
+
+/// The command that shows tags.
+fn read_show(alloc: Global, values: &ArgMatches<'_>) -> Result<Command, WordsFault>
+    ensures named { IfOk result (IsNamed (Some (name_of Subcommand.Show, rows_of (found_of values.now)))) }
+    ensures unnamed { IfErr result (NamesNone (Some (name_of Subcommand.Show, rows_of (found_of values.now)))) }
+{
+    let registry = value_of(alloc, values, &REGISTRY)?;
+    let tags = Tags {
+        texts: values_of(alloc, values, &TAGS)?,
+        json: is_flagged(values, &JSON),
+    };
+    Ok(Command::Show(registry, tags))
 }
 
 /// The command that compares two tags.
@@ -94,6 +122,7 @@ fn read_command(
         Subcommand::Classify => Ok(Command::Classify(value_of(alloc, values, &TAG)?)),
         Subcommand::Check => Ok(Command::Check(value_of(alloc, values, &REGISTRY)?)),
         Subcommand::Canon => read_canon(alloc, values),
+        Subcommand::Codes => read_codes(alloc, values),
         Subcommand::Tsv => read_tsv(alloc, values),
         Subcommand::Csv => read_csv(alloc, values),
         Subcommand::Match => read_match(alloc, values),
@@ -114,6 +143,8 @@ fn read_command(
             let (old, new) = two_values(alloc, values, &OLD, &NEW)?;
             Ok(Command::Upgrade(old, new))
         }
+        Subcommand::Show => read_show(alloc, values),
+        Subcommand::Json => Ok(Command::Json(value_of(alloc, values, &REGISTRY)?)),
     }
 }
 

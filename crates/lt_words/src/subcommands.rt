@@ -9,6 +9,7 @@ pub(crate) enum Subcommand {
     Classify,
     Check,
     Canon,
+    Codes,
     Tsv,
     Csv,
     Match,
@@ -17,6 +18,8 @@ pub(crate) enum Subcommand {
     Explain,
     Verify,
     Upgrade,
+    Show,
+    Json,
 }
 
 /// The subcommand of this name.
@@ -27,6 +30,7 @@ pub(crate) fn subcommand_named(name: &str) -> Option<Subcommand>
         "classify" => Some(Subcommand::Classify),
         "check" => Some(Subcommand::Check),
         "canon" => Some(Subcommand::Canon),
+        "codes" => Some(Subcommand::Codes),
         "tsv" => Some(Subcommand::Tsv),
         "csv" => Some(Subcommand::Csv),
         "match" => Some(Subcommand::Match),
@@ -35,6 +39,8 @@ pub(crate) fn subcommand_named(name: &str) -> Option<Subcommand>
         "explain" => Some(Subcommand::Explain),
         "verify" => Some(Subcommand::Verify),
         "upgrade" => Some(Subcommand::Upgrade),
+        "show" => Some(Subcommand::Show),
+        "json" => Some(Subcommand::Json),
         _ => None,
     }
 }

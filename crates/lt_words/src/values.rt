@@ -1,13 +1,13 @@
-//! The values of a subcommand's positionals.
-ghost use Rattle.std.specs.Prelude.{◌≡◌, ◌↔◌, [], ◌∷◌, IfOk, IfErr, IsTrue, Some, map, string_bytes};
+//! The values of a subcommand's arguments.
+ghost use Rattle.std.specs.Prelude.{◌≡◌, ◌↔◌, [], ◌∷◌, IfOk, IfErr, IsTrue, Some, map, option_map, string_bytes};
 ghost use Rattle.std.specs.Str.Parse.{AllDigits, without_leading_plus};
-ghost use Rattle.lt_words.specs.Reading.{AreGiven, FitsHeading, IsColumn, IsDecimal, IsNoColumn, IsNoNumber, IsNumber, LacksDelimiter, LacksValue, delimiter_given, values_given};
+ghost use Rattle.lt_words.specs.Reading.{AreGiven, FitsHeading, IsColumn, IsDecimal, IsNoColumn, IsNoNumber, IsNumber, LacksDelimiter, LacksMatching, LacksValue, delimiter_given, matching_given, values_given};
 ghost use Rattle.lt_words.specs.Reading as spec;
-ghost use Rattle.clap.specs.Words.{found_of, rows_of};
+ghost use Rattle.clap.specs.Words.{first_of, found_of, rows_of};
 
-use crate::commands::Column;
+use crate::commands::{Column, Matching};
 use crate::faults::WordsFault;
-use crate::program::{Argument, DELIMITER};
+use crate::program::{Argument, DELIMITER, EXTENDED, LOOKUP};
 use clap::ArgMatches;
 use std::alloc::{AllocError, Global};
 
@@ -65,6 +65,20 @@ pub(crate) fn values_of(
     match matches.get_strs(repeated.name) {
         Some(texts) => copies_of(alloc, texts),
         None => Ok(Vec::new(alloc)),
+    }
+}
+
+/// The value of an option, if it is given.
+pub(crate) fn option_of(
+    alloc: Global,
+    matches: &ArgMatches<'_>,
+    option: &Argument,
+) -> Result<Option<String>, AllocError>
+    ensures { IfOk result (λ value. option_map string_bytes value ≡ first_of option.now.name.now (rows_of (found_of matches.now))) }
+{
+    match matches.get_str(option.name) {
+        Some(text) => Ok(Some(String::from_str(alloc, text)?)),
+        None => Ok(None),
     }
 }
 
@@ -172,6 +186,21 @@ pub(crate) fn delimiter_of(alloc: Global, matches: &ArgMatches<'_>) -> Result<u8
         Some(byte) => Ok(byte),
         None => Err(WordsFault::Usage(format!(in alloc;
             "error: the delimiter is one byte of ASCII but no quote, carriage return or line feed, or the word tab\n\nFor more information, try '--help'.\n"
+        )?)),
+    }
+}
+
+/// How ranges match by the flags that are given.
+pub(crate) fn matching_of(alloc: Global, matches: &ArgMatches<'_>) -> Result<Matching, WordsFault>
+    ensures given { IfOk result (λ matching. matching_given (rows_of (found_of matches.now)) ≡ Some matching) }
+    ensures none { IfErr result (LacksMatching (rows_of (found_of matches.now))) }
+{
+    match (is_flagged(matches, &EXTENDED), is_flagged(matches, &LOOKUP)) {
+        (false, false) => Ok(Matching::Basic),
+        (true, false) => Ok(Matching::Extended),
+        (false, true) => Ok(Matching::Lookup),
+        (true, true) => Err(WordsFault::Usage(format!(in alloc;
+            "error: --extended and --lookup are two ways to match, and not to be given together\n\nFor more information, try '--help'.\n"
         )?)),
     }
 }

@@ -154,7 +154,13 @@ extern "C" {
         most: usize,
         lines: *mut *mut c_char,
     ) -> bcp47_outcome;
-    pub fn bcp47_free(lines: *mut c_void);
+    pub fn bcp47_show(
+        registry: *const bcp47_registry,
+        text: *const c_char,
+        length: usize,
+        rows: *mut *mut c_char,
+    ) -> bcp47_outcome;
+    pub fn bcp47_free(text: *mut c_void);
     pub fn bcp47_verify(
         registry: *const bcp47_registry,
         text: *const c_char,

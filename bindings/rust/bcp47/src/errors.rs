@@ -60,7 +60,7 @@ fn help_of(status: c_int) -> &'static str {
 #[derive(Clone, Debug, PartialEq, Eq, Hash)]
 #[non_exhaustive]
 pub enum TagError {
-    /// The text is no tag (RFC 5646, 2.1).
+    /// The text is no tag (RFC 5646, 2.1), or the range neither a valid tag nor a range (RFC 4647, 2.2).
     NotATag(Cause),
     /// The tag is not valid (RFC 5646, 2.2.9).
     Invalid(Cause),

@@ -1,6 +1,6 @@
 // SPDX-License-Identifier: MIT OR Apache-2.0
 //! BCP 47 language tags (RFC 5646, with the extensions `u` of RFC 6067 and `t` of RFC 6497), read and made canonical by a
-//! registry of language subtags in the format of IANA's. Each answer is that of a library of which every call is proved.
+//! registry of language subtags in the format of IANA's. Each answer is that of a library that stands on proved calls.
 //!
 //! ```
 //! # let content = std::fs::read(concat!(env!("CARGO_MANIFEST_DIR"), "/../../../examples/sample-registry.txt")).unwrap();
@@ -23,7 +23,7 @@ mod tag;
 
 pub use errors::{Cause, OpenError, RegistryError, TagError, TraceError, UpgradeError};
 pub use explanations::{Explanation, Step};
-pub use registry::{Info, Registry};
+pub use registry::{Info, Registry, Scheme};
 pub use tag::{Class, Part, Tag};
 
 use std::ffi::{c_char, CStr};

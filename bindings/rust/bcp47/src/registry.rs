@@ -2,7 +2,7 @@
 use crate::errors::{Cause, OpenError, RegistryError, TagError, TraceError, UpgradeError};
 use crate::explanations::{Explanation, Step};
 use bcp47_sys as sys;
-use std::ffi::{c_char, CStr};
+use std::ffi::{c_char, c_int, CStr};
 use std::fmt;
 use std::mem::MaybeUninit;
 use std::path::Path;
@@ -50,6 +50,26 @@ fn refusal_by(outcome: &sys::bcp47_outcome, variant: impl FnOnce() -> String) ->
 /// Why a tag is refused, by a call that wrote to a buffer.
 pub(crate) fn refusal(outcome: &sys::bcp47_outcome, buffer: &Buffer) -> TagError {
     refusal_by(outcome, || buffer.text(outcome.length).to_owned())
+}
+
+/// Whether two texts agree, or why one of them is refused.
+fn agrees(outcome: &sys::bcp47_outcome, buffer: &Buffer) -> Result<bool, TagError> {
+    match outcome.status {
+        sys::BCP47_DONE => Ok(true),
+        sys::BCP47_DIFFERENT => Ok(false),
+        _ => Err(refusal(outcome, buffer)),
+    }
+}
+
+/// How a language range matches tags (RFC 4647).
+#[derive(Clone, Copy, Debug, PartialEq, Eq, Hash)]
+pub enum Scheme {
+    /// Basic filtering (3.3.1): the tag is the range, or begins with it and a hyphen.
+    Basic = 1,
+    /// Extended filtering (3.3.2): the subtags of the range are in the tag in their order.
+    Extended = 2,
+    /// Lookup (3.4): the tag is the range, or what is left where that is cut from its end.
+    Lookup = 3,
 }
 
 /// So many tags, and about so many bytes of them, go to the library by one call, which has room for each answer to many.
@@ -264,11 +284,34 @@ impl Registry {
                 buffer.room(),
             )
         };
-        match outcome.status {
-            sys::BCP47_DONE => Ok(true),
-            sys::BCP47_DIFFERENT => Ok(false),
-            _ => Err(refusal(&outcome, &buffer)),
-        }
+        agrees(&outcome, &buffer)
+    }
+
+    /// Whether a language range matches a tag by a scheme (RFC 4647, 3.3 and 3.4), both by their canonical forms: `zh-yue`
+    /// matches `yue-HK`. A range that is no valid tag, as `zh-*`, is taken as it is written. Refused for the range, where it
+    /// is neither a valid tag nor a range, or else for the tag.
+    pub fn matches(
+        &self,
+        range: impl AsRef<[u8]>,
+        tag: impl AsRef<[u8]>,
+        scheme: Scheme,
+    ) -> Result<bool, TagError> {
+        let (range, tag) = (range.as_ref(), tag.as_ref());
+        let mut buffer = Buffer::new();
+        // SAFETY: as in `append`.
+        let outcome = unsafe {
+            sys::bcp47_match(
+                self.raw.as_ptr(),
+                scheme as c_int,
+                range.as_ptr().cast(),
+                range.len(),
+                tag.as_ptr().cast(),
+                tag.len(),
+                buffer.as_mut_ptr(),
+                buffer.room(),
+            )
+        };
+        agrees(&outcome, &buffer)
     }
 
     /// The steps from a tag to its canonical form, at most so many.

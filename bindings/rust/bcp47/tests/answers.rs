@@ -1,5 +1,5 @@
 //! What the registry of examples/ answers, as the program does.
-use bcp47::{Class, OpenError, Registry, Step, Tag, TagError, TraceError};
+use bcp47::{Class, OpenError, Registry, Scheme, Step, Tag, TagError, TraceError};
 use std::collections::HashSet;
 use std::thread;
 
@@ -28,6 +28,36 @@ fn texts_are_made_canonical() {
     registry.append_canonical("iw", &mut text).unwrap();
     registry.append_canonical("e_n", &mut text).unwrap_err();
     assert_eq!(text, "<he");
+}
+
+#[test]
+fn ranges_match() {
+    let registry = sample();
+    for (range, tag, matched) in [
+        ("zh-yue", "yue-GB", [true, true, false]),
+        ("yue-GB", "zh-yue", [false, false, true]),
+        ("de-DE", "de-Latn-DE", [false, true, false]),
+        ("zh-*", "zh-Hans", [true, true, false]),
+        ("*", "de", [true, true, false]),
+        ("en", "de", [false, false, false]),
+    ] {
+        let answers = [Scheme::Basic, Scheme::Extended, Scheme::Lookup]
+            .map(|scheme| registry.matches(range, tag, scheme).unwrap());
+        assert_eq!(answers, matched, "{range} {tag}");
+    }
+    for (range, tag, said) in [
+        ("e_n", "e_n", "BadByte 0"),
+        ("en", "e_n", "BadByte 1"),
+        ("en", "xx", "UnknownLanguage 1"),
+        (
+            "*",
+            "ja-Latn-hepburn-alalc97-heploc",
+            "ReplacementRepeats alalc97",
+        ),
+    ] {
+        let error = registry.matches(range, tag, Scheme::Basic).unwrap_err();
+        assert_eq!(error.to_string(), said);
+    }
 }
 
 #[test]

@@ -7,7 +7,7 @@ use std::test::Fail;
 const LINES: &[u8] = b"de-Latn-DE\r\niw\nfr\n\nde-DD\nyue-Hans";
 
 /// Words, and what is printed of these lines.
-const RUNS: [(&[&str], &str); 5] = [
+const RUNS: [(&[&str], &str); 8] = [
     (&["match", "registry", "de-de"], "de-DD\n"),
     (
         &["match", "--extended", "registry", "de-de"],
@@ -19,6 +19,15 @@ const RUNS: [(&[&str], &str); 5] = [
         "de-Latn-DE\r\niw\nde-DD\nyue-Hans\n",
     ),
     (&["match", "registry", "--extended", "*-Hans"], "yue-Hans\n"),
+    (
+        &["match", "--lookup", "registry", "fr", "zh-yue-Hans-GB"],
+        "yue-Hans\n",
+    ),
+    (
+        &["match", "registry", "--lookup", "de-Latn-DE-1996", "he"],
+        "de-Latn-DE\r\n",
+    ),
+    (&["match", "registry", "he-Latn", "--lookup"], "iw\n"),
 ];
 
 #[test]
@@ -39,16 +48,26 @@ fn no_line_that_matches(rt: HostRuntime) -> Result<(), Fail> {
     let words = ["match", "registry", "ja", "fr"];
     assert!(rt; prints(rt.alloc(), &words, sample.as_bytes(), LINES, "", 1));
     assert!(rt; prints(rt.alloc(), &words, sample.as_bytes(), b"", "", 1));
+    for range in ["*", "de", "yue"] {
+        let words = ["match", "--lookup", "registry", range];
+        assert!(rt;
+            prints(rt.alloc(), &words, sample.as_bytes(), LINES, "", 1),
+            "{range}"
+        );
+    }
     Ok(())
 }
 
 /// Ranges that are refused, and what is said of them.
 const REFUSED: [(&str, &str); 5] = [
-    ("", "! Empty\n"),
-    ("de_DE", "! BadByte\n"),
-    ("*-abcdefghi", "! TooLong\n"),
-    ("12-DE", "! BadFirst\n"),
-    ("ja-latn-hepburn-heploc-alalc97", "! ReplacementRepeats\n"),
+    ("", "! Empty range 2\n"),
+    ("de_DE", "! BadByte range 2\n"),
+    ("*-abcdefghi", "! TooLong range 2\n"),
+    ("12-DE", "! BadFirst range 2\n"),
+    (
+        "ja-latn-hepburn-heploc-alalc97",
+        "! ReplacementRepeats range 2\n",
+    ),
 ];
 
 /// Whether a run by this range is refused so, and prints nothing.

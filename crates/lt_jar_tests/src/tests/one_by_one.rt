@@ -125,6 +125,15 @@ fn most_records_in_pieces(rt: HostRuntime) -> Result<(), Fail> {
     Ok(())
 }
 
+/// A fault in a piece after others that are UTF-8.
+#[test]
+fn fault_after_many_records(rt: HostRuntime) -> Result<(), Fail> {
+    let mut text = many_records(rt.alloc(), 1_000)?;
+    text.extend_from_slice(b"A: \xc3\n")?;
+    assert!(rt; lends_fault(rt.alloc(), &text, "NotUtf8", 2_001)?);
+    Ok(())
+}
+
 #[test]
 fn sample_in_pieces(rt: HostRuntime) -> Result<(), Fail> {
     let text = returned_text(rt.alloc())?;

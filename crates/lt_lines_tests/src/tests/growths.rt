@@ -121,10 +121,10 @@ struct Ended {
     errors: Page,
 }
 
-/// How a command on files of this text ends, with the lines as its input.
-fn perform_on(alloc: Global, command: &Command, file: &str) -> Ended {
+/// How a command on files of these texts ends, with the lines as its input.
+fn perform_on(alloc: Global, command: &Command, files: (&str, &str)) -> Ended {
     let (mut output, mut errors) = (empty_page(), empty_page());
-    let files = (file.as_bytes(), file.as_bytes());
+    let files = (files.0.as_bytes(), files.1.as_bytes());
     let status = ends(alloc, command, files, LINES, &mut output, &mut errors);
     Ended {
         status,
@@ -133,11 +133,11 @@ fn perform_on(alloc: Global, command: &Command, file: &str) -> Ended {
     }
 }
 
-/// Whether the words name a command that prints this of files of this text, and ends so.
-fn prints(
+/// Whether the words name a command that prints this of files of these texts, and ends so.
+fn prints_of_files(
     alloc: Global,
     words: &[&str],
-    file: &str,
+    files: (&str, &str),
     printed: &str,
     status: u8,
 ) -> Result<bool, Fail> {
@@ -147,7 +147,7 @@ fn prints(
     let is_printed = answers(
         alloc,
         &command,
-        || perform_on(alloc, &command, file),
+        || perform_on(alloc, &command, files),
         |ended| {
             ended.status == status
                 && text_of(&ended.output) == printed.as_bytes()
@@ -160,6 +160,17 @@ fn prints(
         },
     );
     Ok(is_printed?)
+}
+
+/// The same of two files of this text.
+fn prints(
+    alloc: Global,
+    words: &[&str],
+    file: &str,
+    printed: &str,
+    status: u8,
+) -> Result<bool, Fail> {
+    prints_of_files(alloc, words, (file, file), printed, status)
 }
 
 /// Whether the words name a command that prints this of the sample, and ends so.
@@ -210,6 +221,28 @@ fn tags_are_canonicalised(rt: HostRuntime) -> Result<(), Fail> {
 }
 
 #[test]
+fn codes_are_replaced(rt: HostRuntime) -> Result<(), Fail> {
+    let file = twice(|| sample_text(rt.alloc()))?;
+    let table = "chi|zho|zh|Chinese|chinois\nsgn|||Sign Languages|langues des signes\n";
+    let words = ["codes", "table", "registry"];
+    assert!(rt; prints_of_files(rt.alloc(), &words, (&file, table), OWED, 1)?);
+    let words = ["tsv", "registry", "1", "--codes", "table"];
+    let printed = "yue\t\r\nfr\tUnknownLanguage 1\n\tEmptySubtag 1\ngsg\t\n";
+    assert!(rt; prints_of_files(rt.alloc(), &words, (&file, table), printed, 1)?);
+    let words = ["codes", "table", "registry"];
+    assert!(rt;
+        prints_of_files(
+            rt.alloc(),
+            &words,
+            (&file, "ger"),
+            "codes BadRow line 1\n",
+            2
+        )?
+    );
+    Ok(())
+}
+
+#[test]
 fn columns_are_found(rt: HostRuntime) -> Result<(), Fail> {
     let words = ["csv", "registry", "zh-yue"];
     let printed = "zh-yue,langtag_fault\r\nfr,UnknownLanguage 1\n,EmptySubtag 1\ngsg,\n";
@@ -253,7 +286,7 @@ fn upgrades_are_judged(rt: HostRuntime) -> Result<(), Fail> {
 }
 
 /// Words, and what the answer to them begins with as text.
-const WORDS: [(&[&str], &str); 13] = [
+const WORDS: [(&[&str], &str); 15] = [
     (&["classify", "en"], "Ok(Classify(\"en\"))"),
     (&["check", "registry"], "Ok(Check(\"registry\"))"),
     (
@@ -261,16 +294,24 @@ const WORDS: [(&[&str], &str); 13] = [
         "Ok(Canon(Run { registry: \"registry\", summary: false }))",
     ),
     (
+        &["codes", "table", "registry"],
+        "Ok(Codes(Run { registry: \"registry\", summary: false }, \"table\"))",
+    ),
+    (
+        &["tsv", "registry", "2", "--codes", "table"],
+        "Ok(Tsv(Run { registry: \"registry\", summary: false }, Rows { column: Number(2), heading: false, keep: false, codes: Some(\"table\") }))",
+    ),
+    (
         &["csv", "registry", "2", "--delimiter", ";", "--summary"],
-        "Ok(Csv(Run { registry: \"registry\", summary: true }, Rows { column: Number(2), heading: true, keep: false }, 59))",
+        "Ok(Csv(Run { registry: \"registry\", summary: true }, Rows { column: Number(2), heading: true, keep: false, codes: None }, 59))",
     ),
     (
         &["tsv", "registry", "tag", "--heading"],
-        "Ok(Tsv(Run { registry: \"registry\", summary: false }, Rows { column: Name(\"tag\"), heading: true, keep: false }))",
+        "Ok(Tsv(Run { registry: \"registry\", summary: false }, Rows { column: Name(\"tag\"), heading: true, keep: false, codes: None }))",
     ),
     (
         &["match", "registry", "de", "--extended", "*-CH"],
-        "Ok(Match(\"registry\", Ranges { texts: [\"de\", \"*-CH\"], extended: true }))",
+        "Ok(Match(\"registry\", Ranges { texts: [\"de\", \"*-CH\"], matching: Extended }))",
     ),
     (
         &["extlang", "registry", "en"],

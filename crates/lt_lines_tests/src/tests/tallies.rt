@@ -2,7 +2,7 @@
 use lt_canon::Checked;
 use lt_jar::{Device, Pieces};
 use lt_registry::SortedTable;
-use lt_tool::{LineForm, RowForm, Tallies, run_lines};
+use lt_tool::{Basis, LineForm, RowForm, Tallies, run_lines};
 use lt_tool_testing::{
     FIRST_OF_RECORD, SECOND_OF_RECORD, SECOND_OF_ROW, checked_sample, long_text,
 };
@@ -25,7 +25,10 @@ fn counts<R: Read + Drop>(
     let mut tallies = Tallies::new(alloc);
     let _end = run_lines(
         alloc,
-        checked,
+        &Basis {
+            checked,
+            codes: None,
+        },
         form,
         &mut Device::new(reader),
         &mut Device::new(&mut output),

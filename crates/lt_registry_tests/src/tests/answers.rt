@@ -289,7 +289,9 @@ fn agree_on_name(list: &ListTable, sorted: &SortedTable, entry: &Entry) -> bool 
         EntryName::Range(first, last) => {
             agree_on_subtag(list, sorted, first) && agree_on_subtag(list, sorted, last)
         }
-        EntryName::Whole(tag) => whole_number(list, tag) == whole_number(sorted, tag),
+        EntryName::Whole(whole) => {
+            whole_number(list, whole.tag()) == whole_number(sorted, whole.tag())
+        }
     }
 }
 

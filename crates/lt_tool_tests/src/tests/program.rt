@@ -18,6 +18,7 @@ fn open_text(name: &str) -> io::Result<&'static [u8]> {
     match name {
         "old" => Ok(OLD),
         "new" => Ok(NEW),
+        "table" => Ok(b"eng||en|English|anglais\n"),
         "large" => Err(io::Error::from(ErrorKind::OutOfMemory)),
         _ => Err(io::Error::from(ErrorKind::NotFound)),
     }
@@ -42,7 +43,7 @@ fn runs(alloc: Global, words: &[&str], shown: &str, said: &str, end: Status) -> 
 }
 
 /// Words, what a run by them prints and says to the errors, and how it ends.
-const RUNS: [(&[&str], &str, &str, Status); 9] = [
+const RUNS: [(&[&str], &str, &str, Status); 13] = [
     (&["classify", "EN"], "langtag en\n", "", Status::Done),
     (&["check", "old"], "ok 2\n", "", Status::Done),
     (
@@ -50,6 +51,25 @@ const RUNS: [(&[&str], &str, &str, Status); 9] = [
         "en\n! UnknownLanguage 1\n",
         "",
         Status::Refused,
+    ),
+    (
+        &["codes", "table", "new"],
+        "en\n! UnknownLanguage 1\n",
+        "",
+        Status::Refused,
+    ),
+    (
+        &["codes", "new", "old"],
+        "codes BadRow line 1\n",
+        "",
+        Status::RegistryRefused,
+    ),
+    (&["codes", "missing", "old"], "", "! File\n", Status::Failed),
+    (
+        &["tsv", "old", "1", "--codes", "large"],
+        "",
+        "! OutOfMemory\n",
+        Status::Failed,
     ),
     (
         &["upgrade", "old", "new"],

@@ -134,6 +134,15 @@ NATIVE(jobject, equal)(JNIEnv *env, jclass self, jlong registry, jbyteArray firs
     return refusal(env, outcome, variant);
 }
 
+NATIVE(jobject, match)(JNIEnv *env, jclass self, jlong registry, jint scheme, jbyteArray range, jbyteArray tag) {
+    char text[ROOM], other[ROOM], variant[BCP47_LINE];
+    size_t length = text_of(env, range, text), other_length = text_of(env, tag, other);
+    (void)self;
+    bcp47_outcome outcome =
+        bcp47_match(registry_of(registry), scheme, text, length, other, other_length, variant, sizeof variant);
+    return refusal(env, outcome, variant);
+}
+
 NATIVE(jobject, explain)(JNIEnv *env, jclass self, jlong registry, jbyteArray tag, jlong most) {
     char text[ROOM], *lines;
     size_t length = text_of(env, tag, text);

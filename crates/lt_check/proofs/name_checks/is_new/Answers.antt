@@ -17,5 +17,5 @@ returns-in-Range-clause-seen g c = range_sees (g.L.Lookup.listed c.args.table.no
 pub returns-in-Whole-clause-new : goal.returns-in-Whole-clause-new
 returns-in-Whole-clause-new g c =
     let R = g.L.Lookup.listed c.args.table.now in
-    let own = whole_own R c.requires.rising c.args.entry.now c.requires.there c.in-Whole.tag (sym c.name.ensures.value ∙ c.in-Whole.is) in
-    own_new R c.args.seen.now c.args.entry.now (grind arith) _ own c.is_entry-in-Whole.result (rw c.whole.ensures at c.is_entry-in-Whole.ensures)
+    let own = whole_own R c.requires.rising c.args.entry.now c.requires.there c.in-Whole.whole (sym c.name.ensures.value ∙ c.in-Whole.is) in
+    own_new R c.args.seen.now c.args.entry.now (grind arith) _ own c.is_entry-in-Whole.result (rw (c.whole.ensures, c.tag.ensures) at c.is_entry-in-Whole.ensures)

@@ -2,9 +2,10 @@ use Rattle.std.proofs.Common.{◌≡◌, ◌-◌, ◌++◌, [], ◌∙◌, ℕ, 
 use Rattle.std.proofs.lemmas.List.{take_rest}
 use Rattle.std.proofs.lemmas.Result.{IfOk-weaker}
 use Rattle.lt_jar.specs.Lines.{content_of}
+use Rattle.lt_codes.specs.Codes.{replaced}
 use Rattle.lt_canon.specs.Texts.{AppendsCanonicalText, IsTextRefusal}
 use Rattle.lt_lines.specs.Answering.{AppendsKept, EndsRefused}
-use Rattle.lt_lines.specs.Owed.{row_line}
+use Rattle.lt_lines.specs.Owed.{ground_of, row_line}
 use Rattle.lt_lines.proofs.RowLemmas.{found_answered, found_kept, found_refused, text_within}
 use Rattle.lt_lines.proofs.answer_rows.append_found.Goals as goal
 use Rattle.lt_lines.proofs.answer_rows.append_found.Goals.{After-append_field, After-without_return-row}
@@ -26,21 +27,23 @@ pub returns-in_ok-end_answered-in-None-clause-owed : goal.returns-in_ok-end_answ
 returns-in_ok-end_answered-in-None-clause-owed g c = λ recent.
     let at = goal.at.returns-in_ok-end_answered-in-None-clause-owed g c in
     let line = take c.args.count c.args.text.now in
+    let G = ground_of g.L.Lookup.listed c.args.basis.now in
     let made = rw c.in-None.is at (c.in_ok-append_field.ensures.owed recent) in
-    found_answered c.args.separator (g.L.Lookup.listed c.args.checked.now) c.args.form line c.args.lines.now.items c.extend_from_slice.new.self.items c.append_field.new.lines.items c.end_answered.new.lines.items
+    found_answered c.args.separator G c.args.form line c.args.lines.now.items c.extend_from_slice.new.self.items c.append_field.new.lines.items c.end_answered.new.lines.items
     c.args.place c.requires.place c.requires.none c.if-form.false (front_is g at.After-append_field)
-    (subst (λ (t : List ℕ). AppendsCanonicalText (g.L.Lookup.listed c.args.checked.now) t c.extend_from_slice.new.self.items c.append_field.new.lines.items) (text_is g at.After-without_return-row) made)
+    (subst (λ (t : List ℕ). AppendsCanonicalText G.entries (replaced G.codes t) c.extend_from_slice.new.self.items c.append_field.new.lines.items) (text_is g at.After-without_return-row) made)
     (c.in_ok-end_answered-in-None.ensures ∙ ap (λ (l : List ℕ). c.append_field.new.lines.items ++ row_line c.args.separator l [] line) (rest_is g at.After-without_return-row c.args.place.end))
 
 pub returns-in_ok-end_refused-in-Some-clause-owed : goal.returns-in_ok-end_refused-in-Some-clause-owed
 returns-in_ok-end_refused-in-Some-clause-owed g c = λ recent.
     let at = goal.at.returns-in_ok-end_refused-in-Some-clause-owed g c in
     let line = take c.args.count c.args.text.now in
+    let G = ground_of g.L.Lookup.listed c.args.basis.now in
     let refusal = c.in-Some.refusal in
     let made = rw c.in-Some.is at (c.in_ok-append_field.ensures.owed recent) in
-    found_refused c.args.separator (g.L.Lookup.listed c.args.checked.now) c.args.form line c.args.lines.now.items c.extend_from_slice.new.self.items c.append_field.new.lines.items c.end_refused.new.lines.items
+    found_refused c.args.separator G c.args.form line c.args.lines.now.items c.extend_from_slice.new.self.items c.append_field.new.lines.items c.end_refused.new.lines.items
     c.args.place c.requires.place c.requires.none c.if-form.false (front_is g at.After-append_field) refusal
-    (subst (λ (t : List ℕ). IsTextRefusal (g.L.Lookup.listed c.args.checked.now) t refusal) (text_is g at.After-without_return-row) made.0) made.1
+    (subst (λ (t : List ℕ). IsTextRefusal G.entries (replaced G.codes t) refusal) (text_is g at.After-without_return-row) made.0) made.1
     (subst (λ (l : List ℕ). EndsRefused c.args.separator refusal l [] [] line c.append_field.new.lines.items c.end_refused.new.lines.items) (rest_is g at.After-without_return-row c.args.place.start) c.in_ok-end_refused-in-Some.ensures)
 
 -- a row that is kept
@@ -48,8 +51,8 @@ pub returns-then-form-clause-owed : goal.returns-then-form-clause-owed
 returns-then-form-clause-owed g c =
     let at = goal.at.returns-then-form-clause-owed g c in
     let line = take c.args.count c.args.text.now in
-    let R = g.L.Lookup.listed c.args.checked.now in
+    let G = ground_of g.L.Lookup.listed c.args.basis.now in
     let old = c.args.lines.now.items in
     let new = c.append_kept.new.lines.items in
-    IfOk-weaker c.append_kept.result _ _ (λ refused kept recent. found_kept c.args.separator R c.args.form line old old old new c.args.place c.requires.place c.requires.none refused c.if-form.true
-    (subst (λ (t : List ℕ). AppendsKept c.args.separator R t line old new refused) (text_is g at.After-without_return-row) (kept recent))) c.append_kept.ensures.owed
+    IfOk-weaker c.append_kept.result _ _ (λ refused kept recent. found_kept c.args.separator G c.args.form line old old old new c.args.place c.requires.place c.requires.none refused c.if-form.true
+    (subst (λ (t : List ℕ). AppendsKept c.args.separator G t line old new refused) (text_is g at.After-without_return-row) (kept recent))) c.append_kept.ensures.owed

@@ -1,9 +1,10 @@
 use Rattle.std.proofs.Common.{◌≡◌, ◌++◌, ◌∙◌, ℕ, List, sym, ap, subst, arith, length, take, take_all, vec_len}
 use Rattle.std.proofs.lemmas.Result.{IfOk-weaker, on_ok_weaker}
 use Rattle.lt_lines.specs.Answering.{part_kept}
-use Rattle.lt_lines.specs.Owed.{IsReplyTo, reply, terms}
+use Rattle.lt_lines.specs.Owed.{IsReplyTo, ground_of, reply, terms}
 use Rattle.lt_lines.proofs.KeptLemmas.{keeps_none, keeps_some}
-use Rattle.lt_lines.proofs.PartLemmas.{kept_more, no_items, nothing_kept, some_items}
+use Rattle.lt_stream.proofs.PartLemmas.{no_items, some_items}
+use Rattle.lt_lines.proofs.PartLemmas.{kept_more, nothing_kept}
 use Rattle.lt_lines.proofs.TextLemmas.{reply_for_kept}
 use Rattle.lt_lines.proofs.answering.append_line.Goals as goal
 
@@ -20,7 +21,7 @@ returns-then-is_empty-clause-owed g c =
 
 pub returns-clause-owed : goal.returns-clause-owed
 returns-clause-owed g c =
-    let R = g.L.Lookup.listed c.args.checked.now in
+    let G = ground_of g.L.Lookup.listed c.args.basis.now in
     let part = take c.args.count c.args.text.now in
     let old = c.args.kept.now in
     let kept : c.keep.new.kept.items ≡ old.items ++ part_kept c.args.form (length old.items) part =
@@ -30,7 +31,7 @@ returns-clause-owed g c =
     IfOk-weaker c.append_reply-2.result _ _ (λ refused owes recent. let a = owes recent in record {
       bytes = a.bytes;
       grown = a.grown;
-      owed = λ last is. reply_for_kept R c.args.form c.args.is_first (last ++ part) _ (subst (λ (l : List ℕ). IsReplyTo (terms R c.args.form) c.args.is_first l (reply a.bytes refused))
+      owed = λ last is. reply_for_kept G c.args.form c.args.is_first (last ++ part) _ c.know_codes.ensures (subst (λ (l : List ℕ). IsReplyTo (terms G c.args.form) c.args.is_first l (reply a.bytes refused))
           (whole ∙ c.deref.ensures.value ∙ kept_more c.args.form old.items last part c.keep.new.kept.items is kept) a.owed);
     }) c.append_reply-2.ensures.owed
 

@@ -3,6 +3,7 @@ use Rattle.lt_tool.specs.Printed.{Classifies}
 use Rattle.lt_tool.specs.Registries.{ByRegistry, Checks}
 use Rattle.lt_tool.specs.TagCommands.{Compares, FormsExtlang}
 use Rattle.lt_tool.proofs.AnswerLemmas.{printed_answer, printed_by, upgrades_more}
+use Rattle.lt_tool.proofs.ShownLemmas.{printed_kept}
 use Rattle.lt_tool.proofs.printing.run.Goals as goal
 
 pub returns-in-Classify : goal.returns-in-Classify
@@ -15,13 +16,16 @@ returns-in-Check g c =
     rw c.in-Check.is (refl, refl, refl, printed_by _ Checks _ _ c.check.result _ c.check.ensures c.print_answer-in-Check.ensures)
 
 pub returns-in-Canon : goal.returns-in-Canon
-returns-in-Canon g c = rw c.in-Canon.is (refl, c.answer_lines.ensures)
+returns-in-Canon g c = rw c.in-Canon.is c.answer_lines.ensures
+
+pub returns-in-Codes : goal.returns-in-Codes
+returns-in-Codes g c = rw c.in-Codes.is c.answer_lines-in-Codes.ensures
 
 pub returns-in-Tsv : goal.returns-in-Tsv
-returns-in-Tsv g c = rw c.in-Tsv.is (refl, c.answer_rows.ensures)
+returns-in-Tsv g c = rw c.in-Tsv.is (rw c.is_some-named.ensures at c.answer_lines-in-Tsv.ensures)
 
 pub returns-in-Csv : goal.returns-in-Csv
-returns-in-Csv g c = rw c.in-Csv.is (refl, c.answer_rows-in-Csv.ensures)
+returns-in-Csv g c = rw c.in-Csv.is (rw c.is_some-named-in-Csv.ensures at c.answer_lines-in-Csv.ensures)
 
 pub returns-in-Extlang : goal.returns-in-Extlang
 returns-in-Extlang g c =
@@ -52,3 +56,9 @@ returns-in-Upgrade g c =
 
 pub returns-in-Match : goal.returns-in-Match
 returns-in-Match g c = rw c.in-Match.is (refl, refl, c.select.ensures)
+
+pub returns-in-Show : goal.returns-in-Show
+returns-in-Show g c = rw c.in-Show.is (refl, refl, refl, printed_kept _ c.in-Show.tags _ _ c.show.result _ c.show.ensures c.print_answer-in-Show.ensures)
+
+pub returns-in-Json : goal.returns-in-Json
+returns-in-Json g c = rw c.in-Json.is (refl, refl, c.json.ensures)

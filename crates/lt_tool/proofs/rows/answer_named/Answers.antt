@@ -11,7 +11,7 @@ returns-in-Ok g c = λ reading holds.
     let finds = c.in-Ok.ensures in
     let took = subst (Consumes (g.I.Read.remaining (inner_of c.args.input.now)) (g.I.Read.remaining (inner_of c.find_column.new.input))) (sym (c.deref.ensures.value ∙ finds.ends.0)) finds.consumes in
     record {
-      entries = g.L.Lookup.listed c.args.checked.now;
+      entries = g.L.Lookup.listed c.args.basis.now.checked.now;
       registry = holds;
       between = c.find_column.new.input;
       found = c.find_column.result;
@@ -21,7 +21,7 @@ returns-in-Ok g c = λ reading holds.
 
 pub returns-in-Err-Name : goal.returns-in-Err-Name
 returns-in-Err-Name g c = λ reading holds. record {
-  entries = g.L.Lookup.listed c.args.checked.now;
+  entries = g.L.Lookup.listed c.args.basis.now.checked.now;
   registry = holds;
   between = c.find_column.new.input;
   found = c.find_column.result;
@@ -31,7 +31,7 @@ returns-in-Err-Name g c = λ reading holds. record {
 
 pub returns-in-Err-Heading : goal.returns-in-Err-Heading
 returns-in-Err-Heading g c = λ reading holds. record {
-  entries = g.L.Lookup.listed c.args.checked.now;
+  entries = g.L.Lookup.listed c.args.basis.now.checked.now;
   registry = holds;
   between = c.find_column.new.input;
   found = c.find_column.result;

@@ -19,4 +19,7 @@ returns c =
     let eight = adds _ (app_of c.in_ok-program-8.program) _ _ seven c.in_ok-program-8.ensures in
     let nine = adds _ (app_of c.in_ok-program-9.program) _ _ eight c.in_ok-program-9.ensures in
     let ten = adds _ (app_of c.in_ok-program-10.program) _ _ nine c.in_ok-program-10.ensures in
-    IfOk-weaker c.with_new-11.result _ _ (λ r is. adds _ (app_of r) _ _ ten is) c.with_new-11.ensures
+    let eleven = adds _ (app_of c.in_ok-program-11.program) _ _ ten c.in_ok-program-11.ensures in
+    let twelve = adds _ (app_of c.in_ok-program-12.program) _ _ eleven c.in_ok-program-12.ensures in
+    let thirteen = adds _ (app_of c.in_ok-program-13.program) _ _ twelve c.in_ok-program-13.ensures in
+    IfOk-weaker c.with_new-14.result _ _ (λ r is. adds _ (app_of r) _ _ thirteen is) c.with_new-14.ensures

@@ -12,5 +12,11 @@ returns-in-Equal-clause-unnamed c = rw c.in-Equal.is c.read_equal.ensures.unname
 pub returns-in-Canon-clause-unnamed : goal.returns-in-Canon-clause-unnamed
 returns-in-Canon-clause-unnamed c = rw c.in-Canon.is c.read_canon.ensures.unnamed
 
+pub returns-in-Codes-clause-unnamed : goal.returns-in-Codes-clause-unnamed
+returns-in-Codes-clause-unnamed c = rw c.in-Codes.is c.read_codes.ensures.unnamed
+
+pub returns-in-Show-clause-unnamed : goal.returns-in-Show-clause-unnamed
+returns-in-Show-clause-unnamed c = rw c.in-Show.is c.read_show.ensures.unnamed
+
 pub returns-in-Match-clause-unnamed : goal.returns-in-Match-clause-unnamed
 returns-in-Match-clause-unnamed c = rw c.in-Match.is c.read_match.ensures.unnamed

@@ -38,6 +38,8 @@ final class Native {
 
     static native Outcome equal(long registry, byte[] first, byte[] second);
 
+    static native Outcome match(long registry, int scheme, byte[] range, byte[] tag);
+
     static native Object explain(long registry, byte[] tag, long most);
 
     static native Outcome verify(long registry, byte[] tag, int[] steps, byte[] last);

@@ -1,7 +1,10 @@
 // SPDX-License-Identifier: MIT OR Apache-2.0
 package bcp47;
 
-/** A text is no tag, a tag is not valid, its replacements can repeat a variant, or its explanation has too many steps. */
+/**
+ * A text is no tag or no language range, a tag is not valid, its replacements can repeat a variant, or its explanation has
+ * too many steps.
+ */
 public final class RefusedTag extends Refused {
     private static final long serialVersionUID = 1;
 

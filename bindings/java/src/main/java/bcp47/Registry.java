@@ -188,11 +188,36 @@ public final class Registry implements AutoCloseable {
         byte[] other = Native.bytes(second);
         long registry = held.take();
         try {
-            Outcome outcome = Native.equal(registry, one, other);
-            if (outcome.status() == Outcome.DONE || outcome.status() == Outcome.DIFFERENT) {
-                return outcome.status() == Outcome.DONE;
-            }
-            throw new RefusedTag(outcome.checked(), outcome.which() == 2 ? second : first);
+            return agree(Native.equal(registry, one, other), first, second);
+        } finally {
+            held.give();
+        }
+    }
+
+    private static boolean agree(Outcome outcome, CharSequence first, CharSequence second) {
+        if (outcome.status() == Outcome.DONE || outcome.status() == Outcome.DIFFERENT) {
+            return outcome.status() == Outcome.DONE;
+        }
+        throw new RefusedTag(outcome.checked(), outcome.which() == 2 ? second : first);
+    }
+
+    /**
+     * Tells whether a language range matches a tag (RFC 4647, 3.3 and 3.4), both by their canonical forms: <code>zh-yue</code>
+     * matches <code>yue-HK</code>. A range that is no valid tag, as <code>zh-*</code>, is taken as it is written.
+     *
+     * @param range a language range
+     * @param tag a tag
+     * @param scheme how it matches
+     * @return whether it does
+     * @throws RefusedTag where the range is neither a valid tag nor a range, or else the tag is refused
+     */
+    public boolean matches(CharSequence range, CharSequence tag, Scheme scheme) {
+        byte[] one = Native.bytes(range);
+        byte[] other = Native.bytes(tag);
+        int number = scheme.ordinal() + 1;
+        long registry = held.take();
+        try {
+            return agree(Native.match(registry, number, one, other), range, tag);
         } finally {
             held.give();
         }

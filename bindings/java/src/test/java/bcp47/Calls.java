@@ -59,6 +59,25 @@ final class Calls {
         is("BadByte 1", answers.get(2).fault());
     }
 
+    private static void ranges(Registry registry) {
+        String all = "";
+        for (String pair : List.of("zh-yue yue-GB", "yue-GB zh-yue", "de-DE de-Latn-DE", "zh-* zh-Hans", "* de", "en de")) {
+            String[] texts = pair.split(" ");
+            for (Scheme scheme : Scheme.values()) {
+                all += registry.matches(texts[0], Tag.of(texts[1]), scheme) ? 1 : 0;
+            }
+            all += " ";
+        }
+        is("110 001 010 110 110 000 ", all);
+        RefusedTag refused = thrown(RefusedTag.class, () -> registry.matches("e_n", "e_m", Scheme.BASIC));
+        is("BadByte 0 e_n", refused.getMessage() + " " + refused.tag());
+        refused = thrown(RefusedTag.class, () -> registry.matches("en", "e_m", Scheme.LOOKUP));
+        is("BadByte 1 e_m", refused.getMessage() + " " + refused.tag());
+        refused = thrown(RefusedTag.class, () -> registry.matches("*", "ja-Latn-hepburn-alalc97-heploc", Scheme.EXTENDED));
+        is("ReplacementRepeats alalc97 alalc97", refused.getMessage() + " " + refused.variant());
+        thrown(NullPointerException.class, () -> registry.matches("en", "en", null));
+    }
+
     /** A tag of 204 variants of 4 letters and digits, each of which becomes one of 8. */
     private static void longest() {
         StringBuilder records = new StringBuilder("Type: language\nSubtag: aa\n");
@@ -163,6 +182,7 @@ final class Calls {
         own.close();
         List<Callable<?>> calls = List.of(() -> own.canonical("en"), () -> own.canonicalMany(List.of("en")), () -> own.extlang("en"),
                 () -> own.isValid("en"), () -> own.equivalent("en", "en"), () -> own.explain("en"), own::info,
+                () -> own.matches("en", "en", Scheme.BASIC),
                 nothing(() -> own.verify("en", List.of(), "en")), nothing(() -> registry.upgradeCheck(own)),
                 nothing(() -> own.upgradeCheck(registry)));
         calls.forEach(call -> is("the registry is closed", thrown(IllegalStateException.class, call).getMessage()));
@@ -242,6 +262,7 @@ final class Calls {
         byte[] content = Files.readAllBytes(sample);
         try (Registry registry = Registry.open(sample)) {
             texts(registry);
+            ranges(registry);
             longest();
             refusals(registry);
             explanations(registry);

@@ -1,4 +1,4 @@
-use Rattle.std.proofs.Common.{arith, inr, refl, ap, length, ◌∙◌}
+use Rattle.std.proofs.Common.{arith, inr, refl, ap, length}
 use Rattle.std.specs.Str.{is_utf8}
 use Rattle.std.proofs.lemmas.Bool.{false_from_ne_true, le-ltb}
 use Rattle.std.proofs.lemmas.Str.{IsUtf8-from_is_utf8, is_utf8-from_IsUtf8}
@@ -9,8 +9,8 @@ use Rattle.lt_jar.proofs.drafts.Draft.take_line.Goals as goal
 
 pub returns-in-Ok : goal.returns-in-Ok
 returns-in-Ok c =
-    let kind = c.kind_of.ensures ∙ ap line_of c.in-Ok.ensures.cases.0 in
-    rw (le-ltb longest_line (length c.args.line.now) (omega arith), is_utf8-from_IsUtf8 c.args.line.now c.in-Ok.ensures.cases.1, ← kind) c.take_kind.ensures
+    let kind = ap line_of c.in-Ok.ensures.cases.0 in
+    rw (le-ltb longest_line (length c.args.line.now) (omega arith), is_utf8-from_IsUtf8 c.args.line.now c.in-Ok.ensures.cases.1, ← kind) c.take_short_line.ensures
 
 pub returns-in-Err : goal.returns-in-Err
 returns-in-Err c =

@@ -33,6 +33,7 @@ invariant_of-self-then-branch g c =
       bounded = (mid.bounded.0, omega (arith, mid.bounded.1, same.2));
       begun = subst IsOneLine (sym same.0) mid.begun;
       few = omega (arith, (runs_out c.loop-self.invariant.runs takes).few, takes.ended, c.loop-self.invariant.runs.ended, c.count_record.ensures.ended);
+      text = mid.text;
     }
 
 pub returns-then-branch : goal.returns-then-branch

@@ -1,5 +1,5 @@
 use Rattle.std.proofs.Common.{◌≡◌, ◌+◌, ◌∙◌, arith, refl, length, length-append, ap, subst, take, ℕ, List}
-use Rattle.lt_lines.specs.Owed.{reply, terms}
+use Rattle.lt_lines.specs.Owed.{ground_of, reply, terms}
 use Rattle.lt_lines.specs.Tallied.{CountsIf, line_at}
 use Rattle.lt_lines.proofs.FaultLemmas.{appended}
 use Rattle.lt_lines.proofs.KeptLemmas.{counts_line}
@@ -8,7 +8,7 @@ use Rattle.lt_lines.proofs.answering.Answering.answer_line.Goals as goal
 
 pub returns-clause-taken : goal.returns-clause-taken
 returns-clause-taken g c = λ bytes out one t.
-    let T = terms (g.L.Lookup.listed c.args.checked.now) c.args.form in
+    let T = terms (ground_of g.L.Lookup.listed c.args.basis.now) c.args.form in
     let part = take c.args.count c.args.text.now in
     let old = c.args.self.now in
     let refused = c.in_ok-refused.refused in

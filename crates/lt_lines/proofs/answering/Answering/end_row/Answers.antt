@@ -4,7 +4,7 @@ use Rattle.lt_rows.specs.Quotes.{is_quoted}
 use Rattle.lt_rows.specs.declared.quotes.Place.TheVariants as places
 use Rattle.lt_lines.specs.Answering.{place_then}
 use Rattle.lt_lines.specs.Looks.{IsAhead}
-use Rattle.lt_lines.specs.Owed.{terms}
+use Rattle.lt_lines.specs.Owed.{ground_of, terms}
 use Rattle.lt_lines.proofs.LookLemmas.{fresh_place, open_is}
 use Rattle.lt_lines.proofs.PartLemmas.{short_by}
 use Rattle.lt_lines.proofs.TakenLemmas.{taken_within}
@@ -20,14 +20,14 @@ open_there g c fresh =
 
 pub returns-then-is_open-clause-taken : goal.returns-then-is_open-clause-taken
 returns-then-is_open-clause-taken g c =
-    let T = terms (g.L.Lookup.listed c.args.checked.now) c.args.form in
+    let T = terms (ground_of g.L.Lookup.listed c.args.basis.now) c.args.form in
     let is = open_there g (goal.at.returns-then-is_open-clause-taken g c).After-is_open in
     on_ok_weaker c.go_on.result (λ goes bytes out one room t. taken_within T bytes out (take c.args.count c.args.text.now) c.args.self.now c.go_on.new.self t one
     (sym (is (fresh_place T bytes out c.args.self.now t)) ∙ c.if-is_open.true) goes) c.go_on.ensures.taken
 
 pub returns-clause-taken : goal.returns-clause-taken
 returns-clause-taken g c =
-    let T = terms (g.L.Lookup.listed c.args.checked.now) c.args.form in
+    let T = terms (ground_of g.L.Lookup.listed c.args.basis.now) c.args.form in
     let is = open_there g (goal.at.returns-clause-taken g c).After-is_open in
     on_ok_weaker c.answer_line.result (λ taken bytes out one room t. taken bytes out
     (record { one = one; closed = sym (is (fresh_place T bytes out c.args.self.now t)) ∙ c.if-is_open.false; short = short_by c.args.form c.args.self.now.kept.items _ room }) t) c.answer_line.ensures.taken

@@ -3,7 +3,7 @@ use Rattle.std.proofs.Common.{[], inr, ◌≡◌, ◌↔◌, ◌++◌, ◌∷◌
 use Rattle.std.proofs.lemmas.Result.{err_from_is_err_and}
 use Rattle.lt_jar.specs.Lines.{IsOneLine}
 use Rattle.lt_lines.specs.Answering.{part_kept}
-use Rattle.lt_lines.specs.Owed.{terms}
+use Rattle.lt_lines.specs.Owed.{ground_of, terms}
 use Rattle.lt_lines.specs.declared.answering.Answering.{Answering}
 use Rattle.lt_lines.proofs.LookLemmas.{after_lacks, line_lacks}
 use Rattle.lt_lines.proofs.PieceLemmas.{PieceTurn, turn_fails, turn_kept, turn_long, turn_stops, turn_last, turn_line, turn_written}
@@ -36,7 +36,7 @@ returns-then-is_too_long-2 g c =
 
 -- after the answer to a line
 after_line : (g : _) (c : goal.In_ok-end_line g)
-    → PieceTurn (terms (g.L.Lookup.listed c.args.checked.now) c.args.form) g.W.Write.contents c.args.piece.now c.in-Some.after.now c.args.self.now c.end_line.new.self c.args.output.now c.loop-line.output
+    → PieceTurn (terms (ground_of g.L.Lookup.listed c.args.basis.now) c.args.form) g.W.Write.contents c.args.piece.now c.in-Some.after.now c.args.self.now c.end_line.new.self c.args.output.now c.loop-line.output
 after_line g c = turn_line _ _ _ c.loop-line.rest.now _ c.loop-line.self _ _ c.loop-line.invariant.0 c.in-Some.line.now _ _ c.in-Some.ensures (fits c.is_too_long.result c.is_too_long.ensures c.if-is_too_long.false) c.in_ok-end_line.ensures.taken c.in_ok-end_line.ensures.counted
 
 pub returns-in_err-write_much : goal.returns-in_err-write_much

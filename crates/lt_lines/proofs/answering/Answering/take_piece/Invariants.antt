@@ -1,11 +1,11 @@
 use Rattle.std.proofs.Common.{length}
 use Rattle.lt_lines.specs.Looks.{IsKnownToLack}
-use Rattle.lt_lines.specs.Owed.{terms}
+use Rattle.lt_lines.specs.Owed.{ground_of, terms}
 use Rattle.lt_lines.proofs.PieceLemmas.{PieceTurn}
 use Rattle.lt_lines.proofs.answering.Answering.take_piece.Given as goal
 
 abbrev pub invariant-loop-line : goal.invariant-loop-line
-invariant-loop-line g l = PieceTurn (terms (g.L.Lookup.listed l.checked) l.form) g.W.Write.contents l.piece l.rest l.fn.self l.self l.fn.output l.output
+invariant-loop-line g l = PieceTurn (terms (ground_of g.L.Lookup.listed l.basis) l.form) g.W.Write.contents l.piece l.rest l.fn.self l.self l.fn.output l.output
     × IsKnownToLack l.rest l.lacks
 
 abbrev pub decreases-loop-line : goal.decreases-loop-line

@@ -3,7 +3,7 @@ use Rattle.lt_lines.specs.Answering.{IsRecent}
 use Rattle.lt_lines.proofs.recent_answers.RecentAnswers.new.Goals as goal
 
 pub returns : goal.returns
-returns c = λ terms. record {
-  whole = λ k d within. subst (IsRecent terms) (sym (c.new.ensures k d within)) tt;
-  ends = c.new-2.ensures terms.entries;
+returns c = λ R form. record {
+  whole = λ k d within. subst (IsRecent R form) (sym (c.new.ensures k d within)) tt;
+  ends = c.new-2.ensures R;
 }

@@ -1,5 +1,5 @@
 use Rattle.std.proofs.Common.{◌∙◌, sym, []}
-use Rattle.lt_lines.proofs.PartLemmas.{some_items}
+use Rattle.lt_stream.proofs.PartLemmas.{some_items}
 use Rattle.lt_verify.proofs.JudgingLemmas.{last_judged}
 use Rattle.lt_verify.proofs.lines.Following.finish.Goals as goal
 

@@ -1,0 +1,37 @@
+-- What is found in a list of codes.
+use Rattle.std.proofs.Common.{◌≡◌, ◌++◌, ◌∙◌, ℕ, Bool, true, List, [], ◌∷◌, inl, inr, refl, sym, ap, length, Some}
+use Rattle.std.specs.Prelude.{find, slice_get, zero, suc}
+use Rattle.std.specs.List.{All}
+use Rattle.std.proofs.lemmas.Bool.{cases_Bool}
+use Rattle.std.proofs.lemmas.List.Elements.{All-head, All-tail}
+
+-- what is found passes the test
+pub find_passes : {X : Type 0} (p : X → Bool) (xs : List X) (x : X) → find p xs ≡ Some x → p x ≡ true
+find_passes p [] x h = cc
+find_passes p (y ∷ xs) x h = elim (cases_Bool (p y)) [
+  | inl is ↦ let same : Some y ≡ Some x = rw is at h in let one : y ≡ x = cc in sym (ap p one) ∙ is
+  | inr not ↦ find_passes p xs x (rw not at h)
+]
+
+-- what holds of each holds of what is found
+pub find_holds : {X : Type 0} (P : X → Type 0) (p : X → Bool) (xs : List X) (x : X) → All P xs → find p xs ≡ Some x → P x
+find_holds P p [] x all h = cc
+find_holds P p (y ∷ xs) x all h = elim (cases_Bool (p y)) [
+  | inl is ↦ let same : Some y ≡ Some x = rw is at h in let one : y ≡ x = cc in rw (← one) (All-head P y xs all)
+  | inr not ↦ find_holds P p xs x (All-tail P y xs all) (rw not at h)
+]
+
+-- an element is where it was after one more
+pub get_before : {X : Type 0} (xs : List X) (x y : X) (i : ℕ) → slice_get xs i ≡ Some y → slice_get (xs ++ x ∷ []) i ≡ Some y
+get_before [] x y i h = cc
+get_before (z ∷ xs) x y zero h = h
+get_before (z ∷ xs) x y (suc i) h = get_before xs x y i h
+
+-- and that one is after them
+pub get_last : {X : Type 0} (xs : List X) (x : X) → slice_get (xs ++ x ∷ []) (length xs) ≡ Some x
+get_last [] x = refl
+get_last (z ∷ xs) x = get_last xs x
+
+pub length-last : {X : Type 0} (xs : List X) (x : X) → length (xs ++ x ∷ []) ≡ suc (length xs)
+length-last [] x = refl
+length-last (z ∷ xs) x = ap suc (length-last xs x)

@@ -1,0 +1,9 @@
+use Rattle.std.proofs.Common.{length}
+use Rattle.lt_codes.proofs.TableLemmas.{IsRead}
+use Rattle.lt_codes.proofs.codes.CodeTable.from_bytes.Given as goal
+
+abbrev pub invariant-loop-part : goal.invariant-loop-part
+invariant-loop-part l = IsRead l.text l.table l.rest l.line
+
+abbrev pub decreases-loop-part : goal.decreases-loop-part
+decreases-loop-part l = length l.rest

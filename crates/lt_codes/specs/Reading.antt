@@ -1,0 +1,77 @@
+-- The table that a reader gives, and why it gives none.
+use Rattle.std.specs.Prelude.{◌≡◌, ◌≤◌, ◌<◌, ◌⊎◌, ℕ, List, Option, Result, Ok, Err, length}
+use Rattle.std.specs.Io.KnownBytes.{Consumes, IsAtEnd}
+use Rattle.lt_jar.specs.Devices.{HasFailed, failures_of, inner_of}
+use Rattle.lt_jar.specs.Sources.{most_reads}
+use Rattle.lt_jar.specs.declared.devices.Device.{Device}
+use Rattle.lt_stream.specs.Running.{HasRead}
+use Rattle.lt_stream.specs.declared.faults.ToolFault.{ToolFault}
+use Rattle.lt_stream.specs.declared.faults.ToolFault.TheVariants as faults
+use Rattle.lt_codes.specs.Tables.{IsTable, RefusesTable, line_reached, longest_table}
+use Rattle.lt_codes.specs.declared.codes.Code.{Code}
+use Rattle.lt_codes.specs.declared.faults.TableFault.{TableFault}
+use Rattle.lt_codes.specs.declared.faults.TableFaultKind.{TableFaultKind}
+use Rattle.lt_codes.specs.declared.faults.TableFaultKind.TheVariants as kinds
+use Rattle.lt_codes.specs.declared.reading.Whole.{Whole}
+
+-- a read failed, in the line that the bytes before it reach
+pub record FailsRead {I : Type 0} (before after : Device I) (read : List ℕ) (fault : TableFault) : Type 0 where
+  pub kind : fault.kind ≡ kinds.Read
+  pub failed : HasFailed before after
+  pub line : fault.line ≡ line_reached read
+
+-- the bytes are those of a reader up to its end, or too many
+abbrev pub AreAll : {I : Type 0} → (I → Option (List ℕ)) → (after : Device I) → (read : List ℕ) → Type 0
+AreAll remaining after read = IsAtEnd (remaining (inner_of after)) ⊎ (longest_table < length read)
+
+-- no read failed, and the bytes are no table, or memory ran out
+pub record RefusesRead {I : Type 0} (remaining : I → Option (List ℕ)) (before after : Device I) (read : List ℕ)
+    (fault : TableFault) : Type 0 where
+  pub same : failures_of after ≡ failures_of before
+  pub refuses : (fault.kind ≡ kinds.OutOfMemory) ⊎ (AreAll remaining after read × RefusesTable read fault)
+
+-- the bytes of a reader up to its end are a table
+pub record HoldsTable {I : Type 0} (remaining : I → Option (List ℕ)) (before after : Device I) (read : List ℕ)
+    (codes : List Code) : Type 0 where
+  pub end : IsAtEnd (remaining (inner_of after))
+  pub same : failures_of after ≡ failures_of before
+  pub table : IsTable read codes
+
+-- how the reading of a table ended
+abbrev pub EndsTable : {I : Type 0} → (I → Option (List ℕ)) → (before after : Device I) → (read : List ℕ)
+    → Result (List Code) TableFault → Type 0
+EndsTable remaining before after read (Ok codes) = HoldsTable remaining before after read codes
+EndsTable remaining before after read (Err fault) =
+    FailsRead before after read fault ⊎ RefusesRead remaining before after read fault
+
+-- a table was read from a reader
+pub record ReadsTable {I : Type 0} (remaining : I → Option (List ℕ)) (before after : Device I)
+    (result : Result (List Code) TableFault) : Type 0 where
+  pub read : List ℕ
+  pub reads : ℕ
+  pub consumes : Consumes (remaining (inner_of before)) (remaining (inner_of after)) read
+  pub calls : HasRead before after reads
+  pub bounded : reads ≤ most_reads
+  pub ends : EndsTable remaining before after read result
+
+-- ---- the steps
+
+-- the fault of a table for what ended the reading of it
+abbrev pub kind_of : ToolFault → TableFaultKind
+kind_of faults.OutOfMemory = kinds.OutOfMemory
+kind_of fault = kinds.Read
+
+-- all bytes that were read are kept, and they are not too many
+pub record IsWhole (read : List ℕ) (here : Whole) : Type 0 where
+  pub bytes : here.bytes.items ≡ read
+  pub few : length read ≤ longest_table
+
+-- they are too many, or memory ran out
+abbrev pub IsCutOff : List ℕ → Whole → Result (Unit {0}) ToolFault → Type 0
+IsCutOff read here (Ok done) = (here.bytes.items ≡ read) × (longest_table < length read)
+IsCutOff read here (Err fault) = fault ≡ faults.OutOfMemory
+
+-- the reader has no more
+abbrev pub EndsBytes : List ℕ → Whole → Result (Unit {0}) ToolFault → Type 0
+EndsBytes read here (Ok done) = here.bytes.items ≡ read
+EndsBytes read here (Err fault) = ⊥

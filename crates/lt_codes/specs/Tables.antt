@@ -1,0 +1,84 @@
+-- The table that a text is, and why it is none.
+use Rattle.std.specs.Prelude.{◌≡◌, ◌≤◌, ◌<◌, ◌+◌, ◌⊎◌, ◌==◌, ℕ, List, [], ◌∷◌, ◌++◌, Option, Some, None, Result, Ok, Err, IfSome, length}
+use Rattle.std.specs.List.{All, count_by}
+use Rattle.std.specs.Str.{IsUtf8}
+use Rattle.lt_jar.specs.Lines.{content_of, lines_of}
+use Rattle.lt_rows.specs.Marks.{SplitsMark}
+use Rattle.lt_codes.specs.Codes.{found_in}
+use Rattle.lt_codes.specs.Rows.{HasFields, codes_of}
+use Rattle.lt_codes.specs.declared.codes.Code.{Code}
+use Rattle.lt_codes.specs.declared.faults.TableFault.{TableFault}
+use Rattle.lt_codes.specs.declared.faults.TableFaultKind.{TableFaultKind}
+use Rattle.lt_codes.specs.declared.faults.TableFaultKind.TheVariants as kinds
+
+-- a line in UTF-8, of five fields, which add these codes, if each field has its form
+pub record IsRow (line : List ℕ) (codes : Option (List Code)) : Type 0 where
+  pub utf8 : IsUtf8 line
+  pub bibliographic : List ℕ
+  pub terminologic : List ℕ
+  pub two_letters : List ℕ
+  pub fields : HasFields line bibliographic terminologic two_letters
+  pub codes_are : codes_of bibliographic terminologic two_letters ≡ codes
+
+-- what the codes before have for a code is registered for it here too
+abbrev pub Agrees : List Code → Code → Type 0
+Agrees before c = IfSome (found_in before c.code) (λ other. other.registered ≡ c.registered)
+
+-- what a line adds to the codes before it, or why it is refused; running out of memory aside
+abbrev pub AddsLine : List Code → List ℕ → Result (List Code) TableFaultKind → Type 0
+AddsLine before line (Ok codes) = IsRow line (Some codes) × All (Agrees before) codes
+AddsLine before line (Err kinds.NotUtf8) = ¬ (IsUtf8 line)
+AddsLine before line (Err kinds.BadRow) = IsUtf8 line × ((b t w : List ℕ) → HasFields line b t w → ⊥)
+AddsLine before line (Err kinds.BadCode) = IsRow line None
+AddsLine before line (Err kinds.RepeatedCode) =
+    (codes : List Code) × IsRow line (Some codes) × (All (Agrees before) codes → ⊥)
+AddsLine before line (Err kinds.TableTooLong) = ⊥
+AddsLine before line (Err kinds.Read) = ⊥
+AddsLine before line (Err kinds.OutOfMemory) = Unit {0}
+
+-- what these lines make of the codes before them; a carriage return that ends a line is no part of it
+abbrev pub AddLines : List Code → List (List ℕ) → List Code → Type 0
+AddLines before [] codes = codes ≡ before
+AddLines before (line ∷ lines) codes =
+    (more : List Code) × AddsLine before (content_of line) (Ok more) × AddLines (before ++ more) lines codes
+
+-- the most bytes of a table
+abbrev pub longest_table : ℕ
+longest_table = 1048576
+
+-- a text is a table of these codes, in their order; a byte order mark is no part of it
+pub record IsTable (text : List ℕ) (codes : List Code) : Type 0 where
+  pub short : length text ≤ longest_table
+  pub mark : List ℕ
+  pub rest : List ℕ
+  pub split : SplitsMark text mark rest
+  pub lines : AddLines [] (lines_of rest) codes
+
+-- the first line that is refused, and why
+pub record RefusesLine (text : List ℕ) (fault : TableFault) : Type 0 where
+  pub short : length text ≤ longest_table
+  pub mark : List ℕ
+  pub rest : List ℕ
+  pub split : SplitsMark text mark rest
+  pub before : List (List ℕ)
+  pub line : List ℕ
+  pub after : List (List ℕ)
+  pub there : lines_of rest ≡ before ++ line ∷ after
+  pub codes : List Code
+  pub are_codes : AddLines [] before codes
+  pub refuses : AddsLine codes (content_of line) (Err fault.kind)
+  pub number : fault.line ≡ length before + 1
+
+-- the number of the last line that bytes reach, counted from 1
+abbrev pub line_reached : List ℕ → ℕ
+line_reached bytes = count_by (λ byte. byte == 10) bytes + 1
+
+-- a text is too long
+pub record IsTooLong (text : List ℕ) (fault : TableFault) : Type 0 where
+  pub long : longest_table < length text
+  pub kind : fault.kind ≡ kinds.TableTooLong
+  pub number : fault.line ≡ line_reached text
+
+-- why a text is no table: it is too long, or a line is refused; running out of memory aside
+abbrev pub RefusesTable : List ℕ → TableFault → Type 0
+RefusesTable text fault = (fault.kind ≡ kinds.OutOfMemory) ⊎ (IsTooLong text fault ⊎ RefusesLine text fault)

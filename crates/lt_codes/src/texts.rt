@@ -1,0 +1,35 @@
+//! Texts whose first subtag is replaced.
+ghost use Rattle.std.specs.Prelude.{◌≡◌, IfOk, MatchBool, length};
+ghost use Rattle.lt_codes.specs.Codes.{first_subtag, replaced};
+
+use crate::codes::CodeTable;
+use lt_rows::split_first;
+use std::alloc::AllocError;
+
+/// Where the first subtag of a text ends.
+fn first_end(text: &[u8]) -> usize
+    ensures { result ≡ length (first_subtag text.now) }
+{
+    match split_first(b'-', text) {
+        Some((first, _)) => first.len(),
+        None => text.len(),
+    }
+}
+
+impl CodeTable {
+    /// Puts a text into a buffer with what is registered for its first subtag in the place of that, and tells whether the
+    /// table has it, whatever the case of its letters; where it has not, the text stays as it is, and so does the buffer:
+    /// of `eng-US` it puts `en-US`.
+    pub fn replace(&self, text: &[u8], buffer: &mut Vec<u8>) -> Result<bool, AllocError>
+        ensures { IfOk result (λ done. MatchBool done (buffer.new.items ≡ replaced self.now text.now) (replaced self.now text.now ≡ text.now)) }
+    {
+        let (first, rest) = text.split_at(first_end(text));
+        let Some(registered) = self.registered(first) else {
+            return Ok(false);
+        };
+        buffer.clear();
+        buffer.extend_from_slice(registered.bytes())?;
+        buffer.extend_from_slice(rest)?;
+        Ok(true)
+    }
+}

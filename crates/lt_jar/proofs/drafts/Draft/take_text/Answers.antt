@@ -1,0 +1,10 @@
+use Rattle.std.proofs.Common.{arith, length}
+use Rattle.std.proofs.lemmas.Bool.{le-ltb}
+use Rattle.std.proofs.lemmas.Str.{is_utf8-from_IsUtf8}
+use Rattle.lt_jar.specs.Limits.{longest_line}
+use Rattle.lt_jar.proofs.drafts.Draft.take_text.Goals as goal
+
+pub returns : goal.returns
+returns c =
+    let line = c.args.line.now in
+    rw (le-ltb longest_line (length line) (omega arith), is_utf8-from_IsUtf8 line c.utf8.line) c.take_short_line.ensures

@@ -1,0 +1,56 @@
+use Rattle.std.proofs.Common.{◌∙◌, ◌++◌, List, ℕ, [], ap, arith, rules, refl, sym, subst}
+use Rattle.std.proofs.lemmas.Result.{err_from_is_err_and}
+use Rattle.std.proofs.lemmas.List.Elements.{All-append}
+use Rattle.lt_jar.specs.Lines.{IsOneLine}
+use Rattle.lt_jar.specs.Pieces.{fields_in}
+use Rattle.lt_jar.proofs.CutLemmas.{IsNoEnd}
+use Rattle.lt_jar.proofs.ReadingLemmas.{first_refused, turn_all, turn_ends, turn_next, turn_stops, unended_refused}
+use Rattle.lt_jar.proofs.engine.Engine.take_text.Goals as goal
+
+pub returns-in_err-end_text : goal.returns-in_err-end_text
+returns-in_err-end_text c =
+    let p = err_from_is_err_and c.from_residual.result c.from_residual.ensures.1 in
+    let ensures = c.in_err-end_text.ensures in
+    let turn = c.loop-line.invariant.0 in
+    let counted = ensures.counted turn.over.begun in
+    rw (p.1, p.2) (turn_stops c.end_text.new.self turn (λ more. first_refused _ c.in-Some.line.now c.in-Some.after.now more turn.over.begun c.in-Some.ensures.0 c.in-Some.ensures.1 ensures.taken) ensures.ended counted.0 counted.1)
+
+pub loop-line-preserved : goal.loop-line-preserved
+loop-line-preserved c =
+    let ensures = c.in_ok-end_text.ensures in
+    let counted = ensures.counted c.loop-line.invariant.0.over.begun in
+    (turn_next c.end_text.new.self c.in-Some.line.now c.in-Some.after.now c.loop-line.invariant.0 c.in-Some.ensures.1 c.in-Some.ensures.0 (rw c.in-GoesOn.is at ensures.taken) ensures.ended counted.0 counted.1, search rules)
+
+pub returns-in-Ends : goal.returns-in-Ends
+returns-in-Ends c =
+    let ensures = c.in_ok-end_text.ensures in
+    let counted = ensures.counted c.loop-line.invariant.0.over.begun in
+    turn_ends c.end_text.new.self c.in-Some.line.now c.in-Some.after.now c.loop-line.invariant.0 c.in-Some.ensures.1 c.in-Some.ensures.0 (rw c.in-Ends.is at ensures.taken) ensures.ended counted.0 counted.1
+
+pub returns-in_err-keep : goal.returns-in_err-keep
+returns-in_err-keep c =
+    let p = err_from_is_err_and c.from_residual-in_err-keep.result c.from_residual-in_err-keep.ensures.1 in
+    let now = c.loop-line.self in
+    let turn = c.loop-line.invariant.0 in
+    let kept = rw c.as_bytes.ensures.value at c.in_err-keep.ensures.kept in
+    let same = c.in_err-keep.ensures.same in
+    let one = All-append IsNoEnd now.partial.items c.loop-line.rest.now turn.over.begun c.in_default.ensures in
+    rw (p.1, p.2) (turn_stops c.keep.new.self turn (λ more. unended_refused now.ended (fields_in now) _ more _ one kept.1 kept.0) same.1 same.2 (subst IsOneLine (sym kept.2) turn.over.begun))
+
+pub returns : goal.returns
+returns c =
+    let same = c.in_ok-keep.ensures.same in
+    turn_all c.keep.new.self c.loop-line.invariant.0 c.in_default.ensures (c.in_ok-keep.ensures.kept ∙ ap (λ (l : List ℕ). c.loop-line.self.partial.items ++ l) c.as_bytes.ensures.value) same.0 same.1 same.2
+
+pub loop-line-init : goal.loop-line-init
+loop-line-init c = (
+  record {
+    lines = [];
+    over = record { each = tt; ran = refl; line = omega arith; ended = refl; begun = c.requires.begun };
+    bytes = refl;
+    front = [];
+    split = refl;
+    room = omega arith;
+  },
+  c.utf8.piece,
+)

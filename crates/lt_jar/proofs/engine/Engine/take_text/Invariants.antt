@@ -1,0 +1,11 @@
+use denote.Shadow.{shadow}
+use denote.Text.{Utf8}
+use Rattle.std.proofs.Common.{length}
+use Rattle.lt_jar.proofs.ReadingLemmas.{PieceTurn}
+use Rattle.lt_jar.proofs.engine.Engine.take_text.Given as goal
+
+abbrev pub invariant-loop-line : goal.invariant-loop-line
+invariant-loop-line l = PieceTurn l.fn.self l.self l.piece l.rest × shadow (Utf8 l.rest)
+
+abbrev pub decreases-loop-line : goal.decreases-loop-line
+decreases-loop-line l = length l.rest

@@ -1,0 +1,24 @@
+use Rattle.std.proofs.Common.{◌≡◌, ◌∙◌, ◌++◌, ◌∷◌, ◌+◌, ◌-◌, List, ℕ, sym, ap, subst, take, drop, arith}
+use Rattle.std.proofs.lemmas.Str.{IsCharBoundary-after_ascii}
+use Rattle.lt_jar.specs.Lines.{IsOneLine}
+use Rattle.lt_jar.specs.Pieces.{EndsAt}
+use Rattle.lt_jar.proofs.CutLemmas.{cut_at}
+use Rattle.lt_jar.proofs.lines.split_text.Goals as goal
+
+pub range_from-requires : goal.range_from-requires
+range_from-requires c =
+    let text = c.args.text.now in
+    let at : EndsAt text c.in-Some.i = subst (λ (l : List ℕ). EndsAt l c.in-Some.i) c.as_bytes.ensures.value c.in-Some.ensures in
+    λ _. IsCharBoundary-after_ascii text c.in-Some.i c.utf8.text at.0 (omega (arith, at.1))
+
+pub returns-in-Some : goal.returns-in-Some
+returns-in-Some c =
+    let text = c.args.text.now in
+    let i = c.in-Some.i in
+    let at : EndsAt text i = subst (λ (l : List ℕ). EndsAt l i) c.as_bytes.ensures.value c.in-Some.ensures in
+    let same : i - 0 ≡ i = omega arith in
+    let front : c.range.result.now ≡ take i text = c.range.ensures.value ∙ ap (λ (n : ℕ). take n text) same in
+    let back = c.range_from.ensures.value in (
+      subst IsOneLine (sym front) at.2,
+      cut_at text i at.0 at.1 ∙ ap (λ (l : List ℕ). l ++ 10 ∷ drop (i + 1) text) (sym front) ∙ ap (λ (l : List ℕ). c.range.result.now ++ 10 ∷ l) (sym back),
+    )

@@ -1,0 +1,4 @@
+pub mod SourceLemmas
+pub mod ExtensionLemmas
+pub mod ObjectLemmas
+pub mod RunLemmas

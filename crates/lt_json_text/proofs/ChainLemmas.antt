@@ -1,0 +1,45 @@
+-- Members that were appended one after another.
+use Rattle.std.proofs.Common.{◌≡◌, ℕ, List, [], ◌∷◌, ◌++◌, sym, ◌∙◌, ap, append-nil, append_assoc}
+use Rattle.std.proofs.lemmas.List.Concat.{flat_map-append}
+use Rattle.lt_json_text.specs.Values.{Member, member_text, more_members, object}
+
+-- one member, and others after it
+pub more : (o r s : List ℕ) (m : Member) (ms : List Member) → r ≡ o ++ 44 ∷ member_text m → s ≡ r ++ more_members ms → s ≡ o ++ more_members (m ∷ ms)
+more o r s m ms h k = k ∙ ap (λ (l : List ℕ). l ++ more_members ms) h ∙ append_assoc o (44 ∷ member_text m) (more_members ms)
+
+pub one_member : (o r : List ℕ) (m : Member) → r ≡ o ++ 44 ∷ member_text m → r ≡ o ++ more_members (m ∷ [])
+one_member o r m h = h ∙ ap (λ (l : List ℕ). o ++ l) (sym (append-nil (44 ∷ member_text m)))
+
+pub two_members : (o r s : List ℕ) (m n : Member) → r ≡ o ++ 44 ∷ member_text m → s ≡ r ++ 44 ∷ member_text n → s ≡ o ++ more_members (m ∷ n ∷ [])
+two_members o r s m n h k = more o r s m (n ∷ []) h (one_member r s n k)
+
+pub three_members : (o r s t : List ℕ) (m n p : Member) → r ≡ o ++ 44 ∷ member_text m → s ≡ r ++ 44 ∷ member_text n → t ≡ s ++ 44 ∷ member_text p → t ≡ o ++ more_members (m ∷ n ∷ p ∷ [])
+three_members o r s t m n p h k l = more o r t m (n ∷ p ∷ []) h (two_members r s t n p k l)
+
+pub four_members : (o r s t u : List ℕ) (m n p q : Member) → r ≡ o ++ 44 ∷ member_text m → s ≡ r ++ 44 ∷ member_text n → t ≡ s ++ 44 ∷ member_text p → u ≡ t ++ 44 ∷ member_text q → u ≡ o ++ more_members (m ∷ n ∷ p ∷ q ∷ [])
+four_members o r s t u m n p q h k l i = more o r u m (n ∷ p ∷ q ∷ []) h (three_members r s t u n p q k l i)
+
+pub five_members : (o r s t u v : List ℕ) (m n p q w : Member) → r ≡ o ++ 44 ∷ member_text m → s ≡ r ++ 44 ∷ member_text n → t ≡ s ++ 44 ∷ member_text p → u ≡ t ++ 44 ∷ member_text q → v ≡ u ++ 44 ∷ member_text w
+    → v ≡ o ++ more_members (m ∷ n ∷ p ∷ q ∷ w ∷ [])
+five_members o r s t u v m n p q w h k l i j = more o r v m (n ∷ p ∷ q ∷ w ∷ []) h (four_members r s t u v n p q w k l i j)
+
+-- members after members
+pub more_after : (o r s : List ℕ) (ms ns : List Member) → r ≡ o ++ more_members ms → s ≡ r ++ more_members ns → s ≡ o ++ more_members (ms ++ ns)
+more_after o r s ms ns h k =
+    k ∙ ap (λ (l : List ℕ). l ++ more_members ns) h ∙ append_assoc o (more_members ms) (more_members ns)
+    ∙ ap (λ (l : List ℕ). o ++ l) (sym (flat_map-append (λ (m : Member). 44 ∷ member_text m) ms ns))
+
+-- a whole object
+pub object_is : (o r s t : List ℕ) (m : Member) (ms : List Member) → r ≡ o ++ 123 ∷ member_text m → s ≡ r ++ more_members ms → t ≡ s ++ 125 ∷ [] → t ≡ o ++ object (m ∷ ms)
+object_is o r s t m ms h k l =
+    l ∙ ap (λ (x : List ℕ). x ++ 125 ∷ []) (k ∙ ap (λ (x : List ℕ). x ++ more_members ms) h) ∙ append_assoc (o ++ 123 ∷ member_text m) (more_members ms) (125 ∷ [])
+    ∙ append_assoc o (123 ∷ member_text m) (more_members ms ++ 125 ∷ [])
+    ∙ ap (λ (x : List ℕ). o ++ 123 ∷ x) (sym (append_assoc (member_text m) (more_members ms) (125 ∷ [])))
+
+-- an object of two members
+pub two_object : (o r s t : List ℕ) (m n : Member) → r ≡ o ++ 123 ∷ member_text m → s ≡ r ++ 44 ∷ member_text n → t ≡ s ++ 125 ∷ [] → t ≡ o ++ object (m ∷ n ∷ [])
+two_object o r s t m n h k l = object_is o r s t m (n ∷ []) h (one_member r s n k) l
+
+-- and of three
+pub three_object : (o r s t u : List ℕ) (m n p : Member) → r ≡ o ++ 123 ∷ member_text m → s ≡ r ++ 44 ∷ member_text n → t ≡ s ++ 44 ∷ member_text p → u ≡ t ++ 125 ∷ [] → u ≡ o ++ object (m ∷ n ∷ p ∷ [])
+three_object o r s t u m n p h k l i = object_is o r t u m (n ∷ p ∷ []) h (two_members r s t n p k l) i

@@ -1,0 +1,3 @@
+pub mod StringLemmas
+pub mod ValueLemmas
+pub mod ChainLemmas

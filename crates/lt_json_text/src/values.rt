@@ -1,0 +1,31 @@
+//! Null, numbers, and the commas of arrays.
+ghost use Rattle.std.specs.Prelude.{◌≡◌, ◌++◌, OnOk};
+ghost use Rattle.std.specs.Fmt.{decimal};
+ghost use Rattle.lt_json_text.specs.Values as spec;
+
+use itoa::Buffer;
+use std::alloc::AllocError;
+
+/// Appends `null`.
+pub fn append_null(texts: &mut Vec<u8>) -> Result<(), AllocError>
+    ensures { OnOk result (texts.new.items ≡ texts.old.items ++ spec.null) }
+{
+    texts.extend_from_slice(b"null")
+}
+
+/// Appends a number (RFC 8259, 6).
+pub fn append_number(texts: &mut Vec<u8>, number: u32) -> Result<(), AllocError>
+    ensures { OnOk result (texts.new.items ≡ texts.old.items ++ decimal number) }
+{
+    texts.extend_from_slice(Buffer::new().format(number).as_bytes())
+}
+
+/// Appends the comma before a value of an array, at this index from 0: the first has none (RFC 8259, 5).
+pub fn append_comma(texts: &mut Vec<u8>, index: usize) -> Result<(), AllocError>
+    ensures { OnOk result (texts.new.items ≡ texts.old.items ++ spec.comma_at index) }
+{
+    if index > 0 {
+        texts.push(b',')?;
+    }
+    Ok(())
+}

@@ -1,0 +1,9 @@
+use Rattle.std.proofs.Common.{[]}
+use Rattle.lt_lines.proofs.RunLemmas.{reading_ends, reading_room}
+use Rattle.lt_lines.proofs.runs.ReadingPiecesDevice.finish.Goals as goal
+
+pub finish-requires : goal.finish-requires
+finish-requires g c = let r = c.requires in reading_room _ _ r.start _ r.read _ 0 r.taken.1 r.few
+
+pub returns : goal.returns
+returns g c = λ first start read t. reading_ends _ _ start _ _ read [] _ _ t.1 _ t.0 c.finish.result c.finish.ensures

@@ -1,0 +1,14 @@
+use Rattle.std.proofs.lemmas.Result.{err_from_is_err_and}
+use Rattle.lt_lines.proofs.RunLemmas.{reading_more, reading_room, reading_stops}
+use Rattle.lt_lines.proofs.runs.ReadingPiecesDevice.take_piece.Goals as goal
+
+pub take_piece-requires : goal.take_piece-requires
+take_piece-requires g c = let r = c.requires in reading_room _ _ r.start _ r.read _ _ r.taken.1 r.few
+
+pub returns-in_err-take_piece : goal.returns-in_err-take_piece
+returns-in_err-take_piece g c =
+    let p = err_from_is_err_and c.from_residual.result c.from_residual.ensures.1 in
+    rw (p.1, p.2) (λ first start read t. reading_stops _ _ start _ _ read _ _ _ t.1 _ t.0 _ c.in_err-take_piece.ensures)
+
+pub returns : goal.returns
+returns g c = λ first start read t. (t.0, reading_more _ _ start _ _ read _ _ _ t.1 _ t.0 c.in_ok-take_piece.ensures)

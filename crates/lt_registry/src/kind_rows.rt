@@ -1,0 +1,62 @@
+//! The rows of the records of one kind, gathered in one pass over the entries.
+ghost use Rattle.std.specs.Prelude.{◌≡◌, ◌++◌, [], length, IfOk, OnOk};
+ghost use Rattle.std.specs.List.{cons_option};
+ghost use Rattle.lt_registry.specs.Sorted as sorted;
+
+use crate::entries::{Entry, EntryName, Kind};
+use crate::rows::{RangeRow, Row};
+use crate::subtag_numbers::{number_of, rank_of};
+use std::alloc::{AllocError, Global};
+
+/// The rows of a kind in the order of the file.
+#[derive(Drop)]
+pub(crate) struct KindRows {
+    /// Those of its single records.
+    pub(crate) singles: Vec<Row>,
+    /// Those of its ranges.
+    pub(crate) ranges: Vec<RangeRow>,
+}
+
+impl KindRows {
+    /// The rows of the records of a kind. They are refused only where memory runs out.
+    pub(crate) fn of_entries(
+        alloc: Global,
+        entries: &[Entry],
+        kind: Kind,
+    ) -> Result<KindRows, AllocError>
+        ensures singles { IfOk result (λ rows. sorted.AreRows (sorted.single_row kind) (λ (row : Row). row.place) entries.now (length entries.now) rows.singles.items) }
+        ensures ranges { IfOk result (λ rows. rows.ranges.items ≡ sorted.range_rows kind 0 entries.now) }
+    {
+        let mut rows = KindRows {
+            singles: Vec::new(alloc),
+            ranges: Vec::new(alloc),
+        };
+        for (place, entry) in entries.iter().enumerate() {
+            rows.put(kind, place, entry)?;
+        }
+        Ok(rows)
+    }
+
+    /// Puts the row of an entry at a place behind the others, if the entry is of the kind and no whole record.
+    fn put(&mut self, kind: Kind, place: usize, entry: &Entry) -> Result<(), AllocError>
+        ensures singles { OnOk result (self.new.singles.items ≡ self.old.singles.items ++ cons_option (sorted.single_row kind place entry.now) []) }
+        ensures ranges { OnOk result (self.new.ranges.items ≡ self.old.ranges.items ++ cons_option (sorted.range_row kind place entry.now) []) }
+    {
+        if entry.kind() != kind {
+            return Ok(());
+        }
+        match entry.name() {
+            EntryName::Single(subtag) => self.singles.push(Row {
+                number: number_of(subtag),
+                place,
+            })?,
+            EntryName::Range(first, last) => self.ranges.push(RangeRow {
+                start: rank_of(first),
+                end: rank_of(last) + 1,
+                place,
+            })?,
+            EntryName::Whole(_) => {}
+        }
+        Ok(())
+    }
+}

@@ -1,0 +1,5 @@
+use Rattle.lt_rows.proofs.LaneLemmas.{bits_of_front}
+use Rattle.lt_rows.proofs.lanes.bits_in.Goals as goal
+
+pub returns : goal.returns
+returns c = bits_of_front c.args.byte c.args.count c.args.text.now _ _ c.requires.0 c.requires.1 c.bits_of.ensures c.bits_below.ensures

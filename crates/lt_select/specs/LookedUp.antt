@@ -1,0 +1,81 @@
+-- Which line lookup by language ranges finds (RFC 4647, 3.4).
+use Rattle.std.specs.Prelude.{◌≡◌, ◌<◌, ◌≤◌, ◌⊎◌, ◌∷◌, ℕ, List, [], Option, Some, None, Result, Ok, Err, Vec}
+use Rattle.std.specs.Io.KnownBytes.{Consumes, IsAtEnd}
+use Rattle.std.specs.List.{slice_get}
+use Rattle.std.specs.declared.alloc.Global.{Global}
+use Rattle.lt_jar.specs.Devices.{HasFailed, failures_of, inner_of, last_given_of}
+use Rattle.lt_jar.specs.Lines.{content_of, lines_of}
+use Rattle.lt_jar.specs.Sources.{most_reads}
+use Rattle.lt_jar.specs.declared.devices.Device.{Device}
+use Rattle.lt_stream.specs.Running.{HasRead}
+use Rattle.lt_stream.specs.declared.faults.ToolFault.{ToolFault}
+use Rattle.lt_stream.specs.declared.faults.ToolFault.TheVariants as faults
+use Rattle.lt_registry.specs.Parts.{EntryParts}
+use Rattle.lt_canon.specs.Texts.{ReadsAs}
+use Rattle.lt_range.specs.Ranges.{RangeParts}
+use Rattle.lt_range.specs.Lookup.{IsDefault, IsFound}
+use Rattle.lt_match.specs.Matched.{HasCanonicalList}
+
+-- the text is a tag, and these are the subtags of its canonical form (RFC 5646, 4.5)
+abbrev pub HasSubtags : List EntryParts → List ℕ → List (List ℕ) → Type 0
+HasSubtags R text list = ReadsAs text (λ tag. HasCanonicalList R tag list)
+
+-- the text is no valid tag, or steps can repeat a variant of it
+abbrev pub HasNoSubtags : List EntryParts → List ℕ → Type 0
+HasNoSubtags R text = (list : List (List ℕ)) → HasSubtags R text list → ⊥
+
+-- The subtags by which a line is looked up. A carriage return that ends it is no part of the tag. A line that is no
+-- valid tag, or of which steps can repeat a variant, has none, and no range finds it.
+abbrev pub LineHas : List EntryParts → List ℕ → List (List ℕ) → Type 0
+LineHas R line list = HasSubtags R (content_of line) list ⊎ (HasNoSubtags R (content_of line) × (list ≡ []))
+
+-- the subtags of lines, in their order
+abbrev pub LinesHave : List EntryParts → List (List ℕ) → List (List (List ℕ)) → Type 0
+LinesHave R [] lists = lists ≡ []
+LinesHave R (line ∷ lines) lists = (list : List (List ℕ)) × (more : List (List (List ℕ))) × LineHas R line list
+    × (lists ≡ list ∷ more) × LinesHave R lines more
+
+-- lookup finds a line: the first of those that the first range finds which finds any, cut as little as it takes
+pub record FindsLine (R : List EntryParts) (ranges : List RangeParts) (lines : List (List ℕ)) (line : List ℕ) : Type 0 where
+  pub lists : List (List (List ℕ))
+  pub have : LinesHave R lines lists
+  pub place : ℕ
+  pub found : IsFound ranges lists place
+  pub there : slice_get lines place ≡ Some line
+
+-- lookup finds no line, so that a default is taken
+pub record FindsNoLine (R : List EntryParts) (ranges : List RangeParts) (lines : List (List ℕ)) : Type 0 where
+  pub lists : List (List (List ℕ))
+  pub have : LinesHave R lines lists
+  pub none : IsDefault ranges lists
+
+-- what lookup finds among lines
+abbrev pub LooksUp : List EntryParts → List RangeParts → (lines : List (List ℕ)) → Option (Vec ℕ Global) → Type 0
+LooksUp R ranges lines None = FindsNoLine R ranges lines
+LooksUp R ranges lines (Some line) = FindsLine R ranges lines line.items
+
+-- how a run ended: it was read to its end, and this is what lookup finds among its lines; or the reader failed; or the
+-- most reads were made, and the last of them gave bytes
+abbrev pub EndsAs : {I : Type 0} → List EntryParts → List RangeParts → (I → Option (List ℕ)) → (input input' : Device I)
+    → ℕ → List ℕ → Result (Option (Vec ℕ Global)) ToolFault → Type 0
+EndsAs R ranges remaining input input' reads read (Ok found) =
+    IsAtEnd (remaining (inner_of input')) × LooksUp R ranges (lines_of read) found
+EndsAs R ranges remaining input input' reads read (Err faults.Read) = HasFailed input input'
+EndsAs R ranges remaining input input' reads read (Err faults.TooManyTurns) =
+    (reads ≡ most_reads) × (0 < last_given_of input')
+EndsAs R ranges remaining input input' reads read (Err faults.Write) = ⊥
+EndsAs R ranges remaining input input' reads read (Err (faults.BadCsv line)) = ⊥
+EndsAs R ranges remaining input input' reads read (Err (faults.BadTsv line)) = ⊥
+EndsAs R ranges remaining input input' reads read (Err faults.Utf16) = ⊥
+EndsAs R ranges remaining input input' reads read (Err faults.OutOfMemory) = Unit {0}
+
+-- a run that looks up a line of a reader
+pub record LooksUpLine {I : Type 0} (R : List EntryParts) (ranges : List RangeParts) (remaining : I → Option (List ℕ))
+    (input input' : Device I) (result : Result (Option (Vec ℕ Global)) ToolFault) : Type 0 where
+  pub read : List ℕ
+  pub reads : ℕ
+  pub consumes : Consumes (remaining (inner_of input)) (remaining (inner_of input')) read
+  pub calls : HasRead input input' reads
+  pub bounded : reads ≤ most_reads
+  pub ends : EndsAs R ranges remaining input input' reads read result
+  pub read_rises : failures_of input < failures_of input' → result ≡ Err faults.Read

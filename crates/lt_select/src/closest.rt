@@ -1,0 +1,90 @@
+//! The line that lookup finds among those so far.
+ghost use Rattle.std.specs.Prelude.{◌≡◌, ◌↔◌, IsTrue, IfOk, MatchOption, OnOk, length};
+ghost use Rattle.lt_select.specs.Closest as spec;
+
+use crate::matching::{subtags_of, without_return};
+use lt_canon::Checked;
+use lt_match::{LanguageRange, TagSubtags};
+use lt_registry::Lookup;
+use lt_tag::OutOfMemory;
+use std::alloc::Global;
+
+/// A line that a range finds.
+#[derive(Drop)]
+pub(crate) struct Closest {
+    /// The place of the range, counted from 0.
+    range: usize,
+    /// How many subtags the tag has.
+    count: usize,
+    /// The line.
+    pub(crate) line: Vec<u8>,
+}
+
+/// The place of the first range that falls back to a tag.
+fn first_falling(ranges: &[LanguageRange], tag: &TagSubtags) -> Option<usize>
+    ensures { MatchOption result (spec.NoneFalls ranges.now (length ranges.now) tag.now) (spec.FallsFirst ranges.now tag.now) }
+{
+    for (place, range) in ranges.iter().enumerate() {
+        if range.falls_back_to(tag) {
+            return Some(place);
+        }
+    }
+    None
+}
+
+/// Whether a tag that a range falls back to is closer than what is found so far: the range comes before, or is the same
+/// and is cut less.
+fn is_closer(closest: &Option<Closest>, range: usize, count: usize) -> bool
+    ensures { IsTrue result ↔ spec.IsCloser closest.now range count }
+{
+    match closest {
+        Some(other) => { range < other.range || (range == other.range && other.count < count) }
+        None => true,
+    }
+}
+
+/// Copies a line.
+fn copy_line(alloc: Global, line: &[u8]) -> Result<Vec<u8>, OutOfMemory>
+    ensures { IfOk result (λ copy. copy.items ≡ line.now) }
+{
+    let mut copy = Vec::new(alloc);
+    copy.extend_from_slice(line)?;
+    Ok(copy)
+}
+
+/// Takes a line with these subtags.
+fn take_subtags(
+    alloc: Global,
+    ranges: &[LanguageRange],
+    tag: &TagSubtags,
+    line: &[u8],
+    closest: &mut Option<Closest>,
+) -> Result<(), OutOfMemory>
+    ensures { OnOk result (spec.TakesSubtags ranges.now tag.now line.now closest.old closest.new) }
+{
+    let Some(range) = first_falling(ranges, tag) else {
+        return Ok(());
+    };
+    let count = tag.subtags().len();
+    if is_closer(closest, range, count) {
+        let line = copy_line(alloc, line)?;
+        *closest = Some(Closest { range, count, line });
+    }
+    Ok(())
+}
+
+/// Takes a line, of which so much is kept as tells its subtags.
+pub(crate) fn take_line<L: Lookup>(
+    alloc: Global,
+    checked: &Checked<L>,
+    ranges: &[LanguageRange],
+    line: &[u8],
+    closest: &mut Option<Closest>,
+) -> Result<(), OutOfMemory>
+    ensures { OnOk result (spec.TakesLine (L.listed checked.now) ranges.now line.now closest.old closest.new) }
+{
+    match subtags_of(alloc, checked, without_return(line))? {
+        Some(subtags) => take_subtags(alloc, ranges, &subtags, line, closest),
+        None => Ok(()),
+    }
+}

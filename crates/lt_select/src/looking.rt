@@ -1,0 +1,98 @@
+//! Looking up one of the lines of a reader.
+ghost use Rattle.std.specs.Prelude.{◌≡◌, []};
+ghost use Rattle.std.specs.Option.{option_map};
+ghost use Rattle.lt_select.specs.Closest.{Holds};
+ghost use Rattle.lt_select.specs.LookedUp.{LooksUpLine};
+ghost use Rattle.lt_select.specs.Selection.{longest_kept};
+
+use crate::closest::{Closest, take_line};
+use crate::runs;
+use lt_canon::Checked;
+use lt_jar::Device;
+use lt_match::LanguageRange;
+use lt_registry::Lookup;
+use lt_stream::{Lines, ToolFault, run_lines};
+use lt_tag::OutOfMemory;
+use std::alloc::Global;
+use std::io::Read;
+
+/// What looks up lines.
+#[derive(Drop)]
+struct LookingUp<'a, L: Lookup> {
+    checked: &'a Checked<L>,
+    ranges: &'a [LanguageRange],
+    /// The closest line so far, if a range finds any.
+    closest: Option<Closest>,
+}
+
+impl<'a, L: Lookup> Lines for LookingUp<'a, L> {
+    ghost longest = { longest_kept };
+
+    ghost answered = { λ first here lines bytes. (here.checked.now ≡ first.checked.now) × (here.ranges.now ≡ first.ranges.now)
+        × (bytes ≡ []) × Holds (L.listed here.checked.now) here.ranges.now lines here.closest };
+
+    fn longest(&self) -> usize {
+        runs::LONGEST_KEPT
+    }
+
+    fn take_line(
+        &mut self,
+        alloc: Global,
+        line: &[u8],
+        _owed: &mut Vec<u8>,
+    ) -> Result<(), OutOfMemory> {
+        take_line(alloc, self.checked, self.ranges, line, &mut self.closest)
+    }
+}
+
+impl<'a, L: Lookup> LookingUp<'a, L> {
+    /// The line that was found, if there is one.
+    fn into_line(self) -> Option<Vec<u8>>
+        ensures { result ≡ option_map (λ closest. closest.line) self.entry.closest }
+    {
+        let LookingUp {
+            checked: _,
+            ranges: _,
+            closest,
+        } = self;
+        match closest {
+            Some(found) => Some(found.line),
+            None => None,
+        }
+    }
+}
+
+/// The line of a reader that lookup finds by a language priority list (RFC 4647, 3.4), as it stands: by the first range
+/// that finds one, the line that is left where that is cut from the end as little as it takes, and of equal ones the
+/// first. A line is looked up as the tag that it is, by the subtags of the canonical form of that (RFC 5646, 4.5): the
+/// range of `yue-HK` finds `zh-yue`. No range finds a line that is no valid tag, or a tag that `canonical` refuses; a
+/// range that begins with `*` finds none. Where no range finds one, the caller takes a default.
+///
+/// A line feed ends a line, and what follows the last one is a line if it is anything. A carriage return that ends a
+/// line is no part of the tag, and stays with the line. No more than the closest line so far and 1,026 bytes of the
+/// line that goes on are kept.
+///
+/// - `Read`, if a read fails.
+/// - `TooManyTurns`, if all 10,000,000 reads were made and the last gave bytes.
+/// - `OutOfMemory`, if memory runs out.
+pub fn look_up_line<L: Lookup, R: Read>(
+    alloc: Global,
+    checked: &Checked<L>,
+    ranges: &[LanguageRange],
+    input: &mut Device<R>,
+) -> Result<Option<Vec<u8>>, ToolFault>
+    ensures { LooksUpLine (L.listed checked.now) ranges.now R.remaining input.old input.new result }
+{
+    let looking = LookingUp {
+        checked,
+        ranges,
+        closest: None,
+    };
+    let mut none = Device::new(Vec::new(alloc));
+    match run_lines(alloc, looking, input, &mut none) {
+        (looking, Ok(())) => Ok(looking.into_line()),
+        // (what is written is kept in memory)
+        (_, Err(ToolFault::Write)) => Err(ToolFault::OutOfMemory),
+        (_, Err(fault)) => Err(fault),
+    }
+}

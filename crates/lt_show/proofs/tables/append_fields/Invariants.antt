@@ -1,0 +1,7 @@
+use Rattle.std.proofs.Common.{◌≡◌, ◌++◌, take}
+use Rattle.lt_show.specs.Fields.{shown}
+use Rattle.lt_show.specs.Tables.{fields_text}
+use Rattle.lt_show.proofs.tables.append_fields.Given as goal
+
+abbrev pub invariant-loop-field : goal.invariant-loop-field
+invariant-loop-field l = l.told.items ≡ l.fn.told.items ++ fields_text (shown (take l.field-index l.fields))

@@ -1,0 +1,58 @@
+-- The rows of a tag as JSON (RFC 8259).
+use Rattle.std.specs.Prelude.{ℕ, List, [], ◌∷◌, ◌++◌, codes}
+use Rattle.std.specs.Fmt.{decimal}
+use Rattle.lt_tag.specs.Parts.{TagForm}
+use Rattle.lt_tag.specs.Texts.{text_of}
+use Rattle.lt_jar.specs.Records.{Field}
+use Rattle.lt_json_text.specs.Strings.{string}
+use Rattle.lt_json_text.specs.Values.{after_commas, array, member, member_text, null, object}
+use Rattle.lt_registry.specs.Parts.{EntryParts}
+use Rattle.lt_show.specs.Fields.{fields_listed}
+use Rattle.lt_show.specs.Listings.{subject_name}
+use Rattle.lt_show.specs.Rows.{rows_of, text_in}
+use Rattle.lt_show.specs.declared.listings.Listing.{Listing}
+use Rattle.lt_show.specs.declared.listings.Listing.TheVariants as listings
+use Rattle.lt_show.specs.declared.rows.Row.{Row}
+
+-- a field
+unfoldable pub field_value : Field → List ℕ
+field_value field = object (member (codes "name") (string field.0) ∷ member (codes "body") (string field.1) ∷ [])
+
+-- the name of what is listed
+abbrev pub listing_name : Listing → List ℕ
+listing_name listings.Unlisted = codes "Unlisted"
+listing_name listings.Unregistered = codes "Unregistered"
+listing_name (listings.Record number) = codes "Record"
+
+-- the number of the record, or null where there is none
+abbrev pub record_value : Listing → List ℕ
+record_value (listings.Record number) = decimal number
+record_value listing = null
+
+-- a row: its place, its name, its text, and what is listed, with the number of the record and its fields that are shown
+unfoldable pub row_value : (text : List ℕ) → List (List Field) → Row → List ℕ
+row_value text records row = object (member (codes "place") (decimal row.place)
+    ∷ member (codes "kind") (string (subject_name row.subject))
+    ∷ member (codes "text") (string (text_in text row))
+    ∷ member (codes "listing") (string (listing_name row.listing))
+    ∷ member (codes "record") (record_value row.listing)
+    ∷ member (codes "fields") (array field_value (fields_listed records row.listing)) ∷ [])
+
+-- the rows of a tag
+abbrev pub rows_value : List EntryParts → List (List Field) → TagForm → List ℕ
+rows_value R records tag = array (row_value (text_of tag) records) (rows_of R tag)
+
+-- ---- the steps
+
+-- a row up to its text
+unfoldable pub row_front : (text : List ℕ) → Row → List ℕ
+row_front text row =
+    123 ∷ member_text (member (codes "place") (decimal row.place))
+    ++ after_commas member_text (member (codes "kind") (string (subject_name row.subject))
+    ∷ member (codes "text") (string (text_in text row)) ∷ [])
+
+-- what follows that
+unfoldable pub row_end : List (List Field) → Listing → List ℕ
+row_end records listing = after_commas member_text (member (codes "listing") (string (listing_name listing))
+    ∷ member (codes "record") (record_value listing)
+    ∷ member (codes "fields") (array field_value (fields_listed records listing)) ∷ []) ++ 125 ∷ []

@@ -1,0 +1,176 @@
+//! The rows of a tag as JSON (RFC 8259).
+ghost use Rattle.std.specs.Prelude.{◌≡◌, ◌++◌, OnOk};
+ghost use Rattle.std.specs.Fmt.{decimal};
+ghost use Rattle.lt_json_text.specs.Values.{array};
+ghost use Rattle.lt_show.specs.Fields.{fields_listed, shown};
+ghost use Rattle.lt_show.specs.Json.{field_value, listing_name, record_value, row_end, row_front, row_value, rows_value};
+
+use crate::fields::{fields_of, is_shown};
+use crate::listings::Listing;
+use crate::rows::{Row, cut, rows_of};
+use lt_jar::{JarField, Record};
+use lt_json_text::{
+    append_comma, append_first_name, append_name, append_null, append_number, append_string,
+};
+use lt_registry::Lookup;
+use lt_tag::{OutOfMemory, Tag, write_tag};
+use std::alloc::{AllocError, Global};
+
+/// Appends a field.
+#[tactic(auto, unfolding(crate::specs::Json::field_value))]
+fn append_field(objects: &mut Vec<u8>, field: &JarField) -> Result<(), AllocError>
+    ensures { OnOk result (objects.new.items ≡ objects.old.items ++ field_value field.now) }
+{
+    append_first_name(objects, b"name")?;
+    append_string(objects, field.name().as_bytes())?;
+    append_name(objects, b"body")?;
+    append_string(objects, field.body().as_bytes())?;
+    objects.push(b'}')?;
+    Ok(())
+}
+
+/// Appends the array of the fields that are shown.
+#[tactic(auto, using(lt_json_text::proofs::ValueLemmas::commaed_more))]
+fn append_fields(objects: &mut Vec<u8>, fields: &[JarField]) -> Result<(), AllocError>
+    ensures { OnOk result (objects.new.items ≡ objects.old.items ++ array field_value (shown fields.now)) }
+{
+    objects.push(b'[')?;
+    let mut count = 0;
+    for field in fields {
+        if is_shown(field.name()) {
+            append_comma(objects, count)?;
+            append_field(objects, field)?;
+            count += 1;
+        }
+    }
+    objects.push(b']')?;
+    Ok(())
+}
+
+/// Appends the array of the fields of what is listed.
+fn append_listed(
+    objects: &mut Vec<u8>,
+    records: &[Record],
+    listing: Listing,
+) -> Result<(), AllocError>
+    ensures { OnOk result (objects.new.items ≡ objects.old.items ++ array field_value (fields_listed records.now listing)) }
+{
+    match listing {
+        Listing::Record(number) => append_fields(objects, fields_of(records, number)),
+        _ => objects.extend_from_slice(b"[]"),
+    }
+}
+
+/// The name of a listing.
+fn listing_name(listing: Listing) -> &'static str
+    ensures { result.now ≡ listing_name listing }
+{
+    match listing {
+        Listing::Unlisted => "Unlisted",
+        Listing::Unregistered => "Unregistered",
+        Listing::Record(_) => "Record",
+    }
+}
+
+/// Appends the number of the record, or null.
+fn append_record(objects: &mut Vec<u8>, listing: Listing) -> Result<(), AllocError>
+    ensures { OnOk result (objects.new.items ≡ objects.old.items ++ record_value listing) }
+{
+    match listing {
+        Listing::Record(number) => append_number(objects, number),
+        _ => append_null(objects),
+    }
+}
+
+/// Appends a number.
+fn append_decimal(objects: &mut Vec<u8>, alloc: Global, number: usize) -> Result<(), AllocError>
+    ensures { OnOk result (objects.new.items ≡ objects.old.items ++ decimal number) }
+{
+    objects.extend_from_slice(format!(in alloc; "{number}")?.as_bytes())
+}
+
+/// Appends the beginning of a row: its place, its name and its text.
+#[tactic(auto, unfolding(crate::specs::Json::row_front))]
+fn append_front(
+    objects: &mut Vec<u8>,
+    alloc: Global,
+    text: &[u8],
+    row: &Row,
+) -> Result<(), AllocError>
+    ensures { OnOk result (objects.new.items ≡ objects.old.items ++ row_front text.now row.now) }
+{
+    append_first_name(objects, b"place")?;
+    append_decimal(objects, alloc, row.place)?;
+    append_name(objects, b"kind")?;
+    append_string(objects, row.subject.name().as_bytes())?;
+    append_name(objects, b"text")?;
+    append_string(objects, cut(text, row.start, row.length))
+}
+
+/// Appends the end of a row: what is listed.
+fn append_end(objects: &mut Vec<u8>, records: &[Record], listing: Listing) -> Result<(), AllocError>
+    ensures { OnOk result (objects.new.items ≡ objects.old.items ++ row_end records.now listing) }
+{
+    append_name(objects, b"listing")?;
+    append_string(objects, listing_name(listing).as_bytes())?;
+    append_name(objects, b"record")?;
+    append_record(objects, listing)?;
+    append_name(objects, b"fields")?;
+    append_listed(objects, records, listing)?;
+    objects.push(b'}')?;
+    Ok(())
+}
+
+/// Appends a row.
+fn append_row(
+    objects: &mut Vec<u8>,
+    alloc: Global,
+    text: &[u8],
+    records: &[Record],
+    row: &Row,
+) -> Result<(), AllocError>
+    ensures { OnOk result (objects.new.items ≡ objects.old.items ++ row_value text.now records.now row.now) }
+{
+    append_front(objects, alloc, text, row)?;
+    append_end(objects, records, row.listing)?;
+    Ok(())
+}
+
+/// Appends the array of rows of a text.
+#[tactic(auto, using(lt_json_text::proofs::ValueLemmas::commaed_more))]
+fn append_each(
+    objects: &mut Vec<u8>,
+    alloc: Global,
+    text: &[u8],
+    records: &[Record],
+    rows: &[Row],
+) -> Result<(), AllocError>
+    ensures { OnOk result (objects.new.items ≡ objects.old.items ++ array (row_value text.now records.now) rows.now) }
+{
+    objects.push(b'[')?;
+    for (index, row) in rows.iter().enumerate() {
+        append_comma(objects, index)?;
+        append_row(objects, alloc, text, records, row)?;
+    }
+    objects.push(b']')?;
+    Ok(())
+}
+
+/// Appends the [`rows_of`] a tag as an array of JSON, in which each is an object with the members `place`, `kind`, `text`,
+/// `listing` (`Record`, `Unregistered` or `Unlisted`), `record` (its number, or null) and `fields`, an array of objects
+/// with a `name` and a `body`: the fields of the record that are shown. The records are those of the registry's file. The
+/// only refusal is running out of memory, after which a front of it may have been appended.
+pub fn append_rows<L: Lookup>(
+    objects: &mut Vec<u8>,
+    alloc: Global,
+    table: &L,
+    records: &[Record],
+    tag: &Tag,
+) -> Result<(), OutOfMemory>
+    ensures { OnOk result (objects.new.items ≡ objects.old.items ++ rows_value (L.listed table.now) records.now tag.now) }
+{
+    let text = write_tag(alloc, tag)?;
+    let rows = rows_of(alloc, table, tag)?;
+    append_each(objects, alloc, &text, records, &rows)?;
+    Ok(())
+}

@@ -1,0 +1,134 @@
+//! A registry and the records of its file, which is read once.
+ghost use Rattle.std.specs.Prelude.{◌≡◌, ◌++◌, ◌∷◌, [], IfOk, OnOk, false};
+ghost use Rattle.lt_jar.specs.Sources.{lent_by};
+ghost use Rattle.lt_show.specs.Kept.{Keeps, KeepsNext, ReadsDraft};
+ghost use Rattle.lt_show.specs.Reading.{ReadsRecords};
+
+use lt_jar::{Device, Jar, JarFault, JarField, JarReader, Record};
+use lt_registry::{Registry, RegistryFault};
+use lt_tag::OutOfMemory;
+use std::alloc::Global;
+use std::io::Read;
+
+/// Why a file gives no registry with its records.
+#[derive(Clone, Copy, Debug, Drop, PartialEq, Eq)]
+pub enum RecordsFault {
+    /// As the registry is refused where it is read alone.
+    Registry(RegistryFault),
+    /// Memory ran out for the records.
+    OutOfMemory,
+}
+
+/// A field like another.
+fn copy_field(alloc: Global, field: &JarField) -> Result<JarField, OutOfMemory>
+    ensures { IfOk result (λ copy. copy ≡ field.now) }
+{
+    Ok(JarField {
+        name: String::from_str(alloc, field.name())?,
+        body: String::from_str(alloc, field.body())?,
+    })
+}
+
+/// Fields like others.
+fn copy_fields(alloc: Global, fields: &[JarField]) -> Result<Vec<JarField>, OutOfMemory>
+    ensures { IfOk result (λ copies. copies.items ≡ fields.now) }
+{
+    let mut copies = Vec::with_capacity(alloc, fields.len())?;
+    for field in fields {
+        copies.push(copy_field(alloc, field)?)?;
+    }
+    Ok(copies)
+}
+
+/// Puts the record of these fields after the others.
+fn push_record(
+    alloc: Global,
+    records: &mut Vec<Record>,
+    fields: &[JarField],
+) -> Result<(), OutOfMemory>
+    ensures { OnOk result (records.new.items ≡ records.old.items ++ fields.now ∷ []) }
+{
+    let fields = copy_fields(alloc, fields)?;
+    records.push(Record { fields })?;
+    Ok(())
+}
+
+/// The records so far, and whether memory ran out for one.
+#[derive(Drop)]
+struct Draft {
+    records: Vec<Record>,
+    lacks: bool,
+}
+
+impl Draft {
+    fn new(alloc: Global) -> Draft
+        ensures records { result.records.items ≡ [] }
+        ensures lacks { result.lacks ≡ false }
+    {
+        Draft {
+            records: Vec::new(alloc),
+            lacks: false,
+        }
+    }
+
+    /// Takes the next record. After one for which memory ran out no more are kept.
+    fn take(&mut self, alloc: Global, fields: &[JarField])
+        ensures { Keeps fields.now self.old self.new }
+    {
+        if !self.lacks {
+            self.lacks = push_record(alloc, &mut self.records, fields).is_err();
+        }
+    }
+
+    /// Takes the next record of a reader, and tells whether there is one.
+    fn take_next<R: Read>(
+        &mut self,
+        alloc: Global,
+        reader: &mut JarReader<'_, R>,
+    ) -> Result<bool, JarFault>
+        ensures { KeepsNext R.remaining reader.old reader.new self.old self.new result }
+    {
+        match reader.next() {
+            Ok(Some(record)) => {
+                self.take(alloc, record.fields());
+                Ok(true)
+            }
+            Ok(None) => Ok(false),
+            Err(fault) => Err(fault),
+        }
+    }
+}
+
+/// The records that a device gives.
+#[tactic(auto, using(crate::proofs::KeptLemmas::kept_none))]
+fn read_draft<R: Read>(alloc: Global, device: &mut Device<R>) -> Result<Draft, JarFault>
+    ensures { ReadsDraft R.remaining device.old device.new result }
+{
+    let mut reader = JarReader::new(alloc, device)?;
+    let mut draft = Draft::new(alloc);
+    'records: while draft.take_next(alloc, &mut reader)? {}
+    Ok(draft)
+}
+
+/// The registry that a device gives, and the records of its file, of which the entries are made: the record of an entry's
+/// number is the one of its number in the file, counted from 1. The device is read to its end, record by record, once. It
+/// is refused as `Registry::read` refuses it; and by `OutOfMemory` where memory runs out for the records.
+pub fn read_records<R: Read>(
+    alloc: Global,
+    device: &mut Device<R>,
+) -> Result<(Registry, Jar), RecordsFault>
+    ensures { ReadsRecords R.remaining device.old device.new result }
+{
+    let draft = match read_draft(alloc, device) {
+        Ok(draft) => draft,
+        Err(fault) => return Err(RecordsFault::Registry(RegistryFault::Jar(fault))),
+    };
+    let Draft { records, lacks } = draft;
+    if lacks {
+        return Err(RecordsFault::OutOfMemory);
+    }
+    match Registry::from_records(alloc, &records) {
+        Ok(registry) => Ok((registry, Jar { records })),
+        Err(fault) => Err(RecordsFault::Registry(RegistryFault::Record(fault))),
+    }
+}

@@ -1,0 +1,210 @@
+//! The rows of a tag as a table for people.
+ghost use Rattle.std.specs.Prelude.{◌≡◌, ◌++◌, OnOk, map, replicate};
+ghost use Rattle.lt_show.specs.Tables as spec;
+ghost use Rattle.lt_show.specs.Tables.{field_line, fields_text, padded, row_line, row_text, rows_text, table_of};
+ghost use Rattle.lt_show.specs.Fields.{shown};
+
+use crate::fields::{fields_of, is_shown};
+use crate::listings::Listing;
+use crate::rows::{Row, cut, rows_of};
+use lt_jar::{JarField, Record};
+use lt_registry::Lookup;
+use lt_tag::{OutOfMemory, Tag, write_tag};
+use std::alloc::Global;
+
+/// The width of the first column.
+const PLACE: usize = 3;
+
+/// The width of the names of fields.
+const NAME: usize = 15;
+
+/// Appends spaces.
+fn append_spaces(told: &mut Vec<u8>, count: usize) -> Result<(), OutOfMemory>
+    ensures { OnOk result (told.new.items ≡ told.old.items ++ replicate count 32) }
+{
+    for _ in 0..count {
+        told.push(b' ')?;
+    }
+    Ok(())
+}
+
+/// Appends a cell of a column of this width, and two spaces.
+fn append_padded(told: &mut Vec<u8>, width: usize, cell: &[u8]) -> Result<(), OutOfMemory>
+    ensures { OnOk result (told.new.items ≡ told.old.items ++ padded width cell.now) }
+{
+    told.extend_from_slice(cell)?;
+    append_spaces(told, width.saturating_sub(cell.len()))?;
+    told.extend_from_slice(b"  ")?;
+    Ok(())
+}
+
+/// The byte that is shown for one of a body: a space for a control character.
+fn shown_byte(byte: u8) -> u8
+    ensures { result ≡ spec.shown_byte byte }
+{
+    if byte < b' ' || byte == 127 {
+        b' '
+    } else {
+        byte
+    }
+}
+
+/// Appends the bytes that are shown for a body.
+fn append_body(told: &mut Vec<u8>, body: &[u8]) -> Result<(), OutOfMemory>
+    ensures { OnOk result (told.new.items ≡ told.old.items ++ map spec.shown_byte body.now) }
+{
+    for byte in body {
+        told.push(shown_byte(*byte))?;
+    }
+    Ok(())
+}
+
+/// Appends the line of a field.
+fn append_field(told: &mut Vec<u8>, field: &JarField) -> Result<(), OutOfMemory>
+    ensures { OnOk result (told.new.items ≡ told.old.items ++ field_line field.now) }
+{
+    told.extend_from_slice(b"     ")?;
+    append_padded(told, NAME, field.name().as_bytes())?;
+    append_body(told, field.body().as_bytes())?;
+    told.push(b'\n')?;
+    Ok(())
+}
+
+/// Appends the lines of the fields that are shown.
+fn append_fields(told: &mut Vec<u8>, fields: &[JarField]) -> Result<(), OutOfMemory>
+    ensures { OnOk result (told.new.items ≡ told.old.items ++ fields_text (shown fields.now)) }
+{
+    for field in fields {
+        if is_shown(field.name()) {
+            append_field(told, field)?;
+        }
+    }
+    Ok(())
+}
+
+/// How wide the columns of rows are.
+#[derive(Clone, Copy)]
+struct Widths {
+    subject: usize,
+    text: usize,
+}
+
+/// How wide the columns of these rows of a text are.
+fn widths_of(text: &[u8], rows: &[Row]) -> Widths
+    ensures { result ≡ spec.widths_of text.now rows.now }
+{
+    let mut subject = 0;
+    let mut longest = 0;
+    for row in rows {
+        subject = subject.max(row.subject.name().len());
+        longest = longest.max(cut(text, row.start, row.length).len());
+    }
+    Widths {
+        subject,
+        text: longest,
+    }
+}
+
+/// Appends what a registry has.
+fn append_listing(told: &mut Vec<u8>, alloc: Global, listing: Listing) -> Result<(), OutOfMemory>
+    ensures { OnOk result (told.new.items ≡ told.old.items ++ spec.listing_text listing) }
+{
+    match listing {
+        Listing::Unlisted => {}
+        Listing::Unregistered => told.extend_from_slice(b"not registered")?,
+        Listing::Record(number) => {
+            told.extend_from_slice(format!(in alloc; "record {number}")?.as_bytes())?;
+        }
+    }
+    Ok(())
+}
+
+/// Appends the line of a row.
+fn append_row_line(
+    told: &mut Vec<u8>,
+    alloc: Global,
+    widths: Widths,
+    text: &[u8],
+    row: &Row,
+) -> Result<(), OutOfMemory>
+    ensures { OnOk result (told.new.items ≡ told.old.items ++ row_line widths text.now row.now) }
+{
+    let place = row.place;
+    append_padded(told, PLACE, format!(in alloc; "{place}")?.as_bytes())?;
+    append_padded(told, widths.subject, row.subject.name().as_bytes())?;
+    let cell = cut(text, row.start, row.length);
+    match row.listing {
+        Listing::Unlisted => told.extend_from_slice(cell)?,
+        listing => {
+            append_padded(told, widths.text, cell)?;
+            append_listing(told, alloc, listing)?;
+        }
+    }
+    told.push(b'\n')?;
+    Ok(())
+}
+
+/// Appends a row and its fields.
+fn append_row(
+    told: &mut Vec<u8>,
+    alloc: Global,
+    widths: Widths,
+    text: &[u8],
+    records: &[Record],
+    row: &Row,
+) -> Result<(), OutOfMemory>
+    ensures { OnOk result (told.new.items ≡ told.old.items ++ row_text widths text.now records.now row.now) }
+{
+    append_row_line(told, alloc, widths, text, row)?;
+    match row.listing {
+        Listing::Record(number) => append_fields(told, fields_of(records, number)),
+        _ => Ok(()),
+    }
+}
+
+/// Appends what is shown of a tag for people: a line with the tag in conventional case, and then for each of its [`rows_of`] a
+/// line with the place, the kind, the text and the number of the record, or that it is not registered, and below it a line
+/// for each field of the record that [`is_shown`]. The records are those of the registry's file. The only refusal is
+/// running out of memory, after which a front of it may have been appended.
+///
+/// ```text
+/// zh-x-a
+/// 1    Language             zh  record 190
+///      Description      Chinese
+///      Scope            macrolanguage
+/// 2    PrivateUseSingleton  x
+/// 3    PrivateUse           a
+/// ```
+pub fn append_table<L: Lookup>(
+    told: &mut Vec<u8>,
+    alloc: Global,
+    table: &L,
+    records: &[Record],
+    tag: &Tag,
+) -> Result<(), OutOfMemory>
+    ensures { OnOk result (told.new.items ≡ told.old.items ++ table_of (L.listed table.now) records.now tag.now) }
+{
+    let text = write_tag(alloc, tag)?;
+    let rows = rows_of(alloc, table, tag)?;
+    told.extend_from_slice(&text)?;
+    told.push(b'\n')?;
+    append_rows(told, alloc, &text, records, &rows)?;
+    Ok(())
+}
+
+/// Appends rows of a text, and their fields.
+fn append_rows(
+    told: &mut Vec<u8>,
+    alloc: Global,
+    text: &[u8],
+    records: &[Record],
+    rows: &[Row],
+) -> Result<(), OutOfMemory>
+    ensures { OnOk result (told.new.items ≡ told.old.items ++ rows_text text.now records.now rows.now) }
+{
+    let widths = widths_of(text, rows);
+    for row in rows {
+        append_row(told, alloc, widths, text, records, row)?;
+    }
+    Ok(())
+}

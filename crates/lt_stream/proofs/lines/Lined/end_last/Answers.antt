@@ -1,0 +1,12 @@
+use Rattle.std.proofs.Common.{◌∙◌, sym, inl, inr, refl, vec_len}
+use Rattle.std.proofs.lemmas.Result.{on_ok_weaker}
+use Rattle.lt_stream.proofs.PartLemmas.{no_items, some_items}
+use Rattle.lt_stream.proofs.lines.Lined.end_last.Goals as goal
+
+pub returns-then-is_empty : goal.returns-then-is_empty
+returns-then-is_empty g c = let kept = c.args.self.now.kept in inl (no_items kept.items (vec_len kept) kept.ok.0 (sym c.is_empty.ensures ∙ c.if-is_empty.true), refl)
+
+pub returns : goal.returns
+returns g c =
+    let kept = c.args.self.now.kept in
+    on_ok_weaker c.end_line.result (λ ends. inr (some_items kept.items (vec_len kept) kept.ok.0 (sym c.is_empty.ensures ∙ c.if-is_empty.false), ends)) c.end_line.ensures

@@ -1,0 +1,20 @@
+-- What one call wrote to a device.
+use Rattle.std.specs.Prelude.{◌≡◌, ◌++◌, ℕ, List, Option, Result, IfErr, IfOk}
+use Rattle.std.specs.Io.KnownBytes.{Appends}
+use Rattle.lt_jar.specs.Devices.{HasFailed, failures_of, inner_of}
+use Rattle.lt_jar.specs.declared.devices.Device.{Device}
+use Rattle.lt_stream.specs.declared.faults.ToolFault.{ToolFault}
+use Rattle.lt_stream.specs.declared.faults.ToolFault.TheVariants as faults
+
+-- the text begins with what was written
+abbrev pub IsFrontOf : List ℕ → List ℕ → Type 0
+IsFrontOf written text = (rest : List ℕ) × (text ≡ written ++ rest)
+
+-- the text was written, or a write failed and the front of the text is there
+pub record WritesText {W : Type 0} (contents : W → Option (List ℕ)) (text : List ℕ) (before after : Device W)
+    (result : Result (Unit {0}) ToolFault) : Type 0 where
+  pub written : List ℕ
+  pub appends : Appends (contents (inner_of before)) (contents (inner_of after)) written
+  pub front : IsFrontOf written text
+  pub done : IfOk result (λ _. (written ≡ text) × (failures_of after ≡ failures_of before))
+  pub stopped : IfErr result (λ f. (f ≡ faults.Write) × HasFailed before after)

@@ -1,0 +1,29 @@
+-- The names of the faults that end a run.
+use Rattle.std.specs.Prelude.{ℕ, List, [], ◌∷◌, ◌++◌, codes}
+use Rattle.std.specs.Fmt.{decimal}
+use Rattle.lt_stream.specs.declared.faults.ToolFault.{ToolFault}
+use Rattle.lt_stream.specs.declared.faults.ToolFault.TheVariants as faults
+
+-- the name of a fault, as it is printed
+abbrev pub tool_name_of : ToolFault → List ℕ
+tool_name_of faults.Read = codes "Read"
+tool_name_of faults.Write = codes "Write"
+tool_name_of faults.TooManyTurns = codes "TooManyTurns"
+tool_name_of faults.OutOfMemory = codes "OutOfMemory"
+tool_name_of (faults.BadCsv line) = codes "BadCsv"
+tool_name_of (faults.BadTsv line) = codes "BadTsv"
+tool_name_of faults.Utf16 = codes "Utf16"
+
+-- the line of a fault
+abbrev pub line_said : ℕ → List ℕ
+line_said line = codes " line " ++ decimal line
+
+-- what is said of a fault after its name: the line in which the record at fault begins, or which the row at fault is
+abbrev pub place_said : ToolFault → List ℕ
+place_said (faults.BadCsv line) = line_said line
+place_said (faults.BadTsv line) = line_said line
+place_said _ = []
+
+-- the line that says what ended a run
+abbrev pub fault_said : ToolFault → List ℕ
+fault_said fault = codes "! " ++ tool_name_of fault ++ place_said fault ++ 10 ∷ []

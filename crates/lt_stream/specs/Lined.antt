@@ -1,0 +1,102 @@
+-- How lines that come in pieces are answered. No public contract cites this.
+use Rattle.std.specs.Prelude.{◌≡◌, ◌<◌, ◌-◌, ◌⊎◌, ◌++◌, ℕ, List, [], take, vec_len, Option, Result, Ok, Err, IfErr, IfOk}
+use Rattle.std.specs.List.{AllByRecursion}
+use Rattle.std.specs.Io.KnownBytes.{Appends}
+use Rattle.lt_jar.specs.Devices.{HasFailed, failures_of, inner_of}
+use Rattle.lt_jar.specs.Lines.{IsOneLine, lines_of, whole_lines}
+use Rattle.lt_jar.specs.declared.devices.Device.{Device}
+use Rattle.lt_stream.specs.DeviceOutput.{IsFrontOf}
+use Rattle.lt_stream.specs.Lines.{Answered, IsBegun, TakesLine}
+use Rattle.lt_stream.specs.declared.faults.ToolFault.{ToolFault}
+use Rattle.lt_stream.specs.declared.faults.ToolFault.TheVariants as faults
+use Rattle.lt_stream.specs.declared.lines.Lined.{Lined}
+
+-- Lines are written once this many bytes of them are owed, if no read comes before.
+abbrev pub full : ℕ
+full = 65536
+
+-- These bytes were read: their lines are answered, and the answers written or still owed.
+pub record IsDuring {A W : Type 0} (Q : Answered A) (longest : ℕ) (contents : W → Option (List ℕ))
+    (start now : Device W) (bytes : List ℕ) (state : Lined A) : Type 0 where
+  pub some : 0 < longest
+  pub written : List ℕ
+  pub appends : Appends (contents (inner_of start)) (contents (inner_of now)) written
+  pub same : failures_of now ≡ failures_of start
+  pub lines : List (List ℕ)
+  pub last : List ℕ
+  pub cut : bytes ≡ whole_lines lines ++ last
+  pub each_one : AllByRecursion IsOneLine lines
+  pub last_one : IsOneLine last
+  pub kept : state.kept.items ≡ take longest last
+  pub answered : Q state.answers lines (written ++ state.owed.items)
+
+-- the same, and all that is owed was written
+pub record IsTaken {A W : Type 0} (Q : Answered A) (longest : ℕ) (contents : W → Option (List ℕ))
+    (start now : Device W) (bytes : List ℕ) (state : Lined A) : Type 0 where
+  pub during : IsDuring Q longest contents start now bytes state
+  pub emptied : state.owed.items ≡ []
+
+-- all lines of these bytes are answered, and the answers written or still owed
+pub record IsAnswered {A W : Type 0} (Q : Answered A) (contents : W → Option (List ℕ))
+    (start now : Device W) (bytes : List ℕ) (state : Lined A) : Type 0 where
+  pub written : List ℕ
+  pub appends : Appends (contents (inner_of start)) (contents (inner_of now)) written
+  pub same : failures_of now ≡ failures_of start
+  pub answered : Q state.answers (lines_of bytes) (written ++ state.owed.items)
+
+-- a write failed, or memory ran out
+pub record IsCutOff {A W : Type 0} (Q : Answered A) (contents : W → Option (List ℕ)) (start now : Device W)
+    (bytes : List ℕ) (fault : ToolFault) : Type 0 where
+  pub written : List ℕ
+  pub appends : Appends (contents (inner_of start)) (contents (inner_of now)) written
+  pub begun : IsBegun Q bytes written
+  pub stop : ((fault ≡ faults.Write) × HasFailed start now)
+      ⊎ ((fault ≡ faults.OutOfMemory) × (failures_of now ≡ failures_of start))
+
+-- a piece ends a run by that alone
+abbrev pub Stops : {A W : Type 0} → Answered A → (W → Option (List ℕ)) → (start now : Device W) → List ℕ
+    → Result (Unit {0}) ToolFault → Type 0
+Stops Q contents start now bytes (Ok _) = ⊥
+Stops Q contents start now bytes (Err fault) = IsCutOff Q contents start now bytes fault
+
+-- the lines of all bytes are answered, and all that is owed was written
+pub record IsAll {A W : Type 0} (Q : Answered A) (contents : W → Option (List ℕ))
+    (start now : Device W) (bytes : List ℕ) (answers : A) : Type 0 where
+  pub written : List ℕ
+  pub appends : Appends (contents (inner_of start)) (contents (inner_of now)) written
+  pub same : failures_of now ≡ failures_of start
+  pub answered : Q answers (lines_of bytes) written
+
+-- so the lines end, or by a write or memory
+abbrev pub Finishes : {A W : Type 0} → Answered A → (W → Option (List ℕ)) → (start now : Device W) → List ℕ
+    → Lined A → Result (Unit {0}) ToolFault → Type 0
+Finishes Q contents start now bytes state (Ok _) = IsAll Q contents start now bytes state.answers
+Finishes Q contents start now bytes state (Err fault) = IsCutOff Q contents start now bytes fault
+
+-- ---- the steps
+
+-- the line goes on with this part, of which no more is kept than is needed
+pub record KeepsMore {A : Type 0} (longest : ℕ) (part : List ℕ) (old new : Lined A) : Type 0 where
+  pub kept : new.kept.items ≡ old.kept.items ++ take (longest - vec_len old.kept) part
+  pub owed : new.owed.items ≡ old.owed.items
+  pub same : new.answers ≡ old.answers
+
+-- the line of which this was kept is answered
+pub record EndsLine {A : Type 0} (Q : A → Answered A) (longest : ℕ) (old new : Lined A) : Type 0 where
+  pub emptied : new.kept.items ≡ []
+  pub takes : TakesLine Q longest old.kept.items old.owed.items new.owed.items old.answers new.answers
+
+-- a last line is answered, if there is any
+abbrev pub EndsLast : {A : Type 0} → (A → Answered A) → ℕ → (old new : Lined A) → Type 0
+EndsLast Q longest old new = ((old.kept.items ≡ []) × (new ≡ old))
+    ⊎ ((old.kept.items ≡ [] → ⊥) × EndsLine Q longest old new)
+
+-- some of what is owed was written
+pub record WritesOwed {A W : Type 0} (contents : W → Option (List ℕ)) (old new : Lined A) (before after : Device W)
+    (result : Result (Unit {0}) ToolFault) : Type 0 where
+  pub part : List ℕ
+  pub appends : Appends (contents (inner_of before)) (contents (inner_of after)) part
+  pub kept : new.kept.items ≡ old.kept.items
+  pub same : new.answers ≡ old.answers
+  pub done : IfOk result (λ _. (old.owed.items ≡ part ++ new.owed.items) × (failures_of after ≡ failures_of before))
+  pub stopped : IfErr result (λ f. (f ≡ faults.Write) × HasFailed before after × IsFrontOf part old.owed.items)

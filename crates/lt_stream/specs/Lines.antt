@@ -1,0 +1,100 @@
+-- What a run over the lines of a reader read and wrote, and how it ended.
+use Rattle.std.specs.Prelude.{◌≡◌, ◌<◌, ◌≤◌, ◌+◌, ◌^◌, ◌++◌, ◌∷◌, ℕ, List, [], length, take, Option, Result, Ok, Err}
+use Rattle.std.specs.List.{AllByRecursion}
+use Rattle.std.specs.Io.KnownBytes.{Appends, Consumes, IsAtEnd}
+use Rattle.lt_jar.specs.Devices.{HasFailed, failures_of, inner_of, last_given_of}
+use Rattle.lt_jar.specs.Lines.{IsOneLine, lines_of, whole_lines}
+use Rattle.lt_jar.specs.Sources.{most_reads}
+use Rattle.lt_jar.specs.declared.devices.Device.{Device}
+use Rattle.lt_stream.specs.Running.{HasRead}
+use Rattle.lt_stream.specs.declared.faults.ToolFault.{ToolFault}
+use Rattle.lt_stream.specs.declared.faults.ToolFault.TheVariants as faults
+
+-- what holds of what answers lines once it has answered these, by these bytes in all
+abbrev pub Answered : Type 0 → Type 1
+Answered A = A → List (List ℕ) → List ℕ → Type 0
+
+-- so few lines were answered that a count of them has room for one more
+pub record HasLine {A : Type 0} (Q : A → Answered A) (answers : A) : Type 0 where
+  pub first : A
+  pub lines : List (List ℕ)
+  pub bytes : List ℕ
+  pub answered : Q first answers lines bytes
+  pub few : length lines + 1 < 2 ^ 64
+
+-- bytes were appended that answer each line of which this front is kept
+pub record TakesLine {A : Type 0} (Q : A → Answered A) (longest : ℕ) (front owed owed' : List ℕ) (old new : A) : Type 0 where
+  pub part : List ℕ
+  pub grown : owed' ≡ owed ++ part
+  pub taken : (line : List ℕ) → IsOneLine line → front ≡ take longest line
+      → (first : A) (lines : List (List ℕ)) (bytes : List ℕ) → Q first old lines bytes
+      → Q first new (lines ++ line ∷ []) (bytes ++ part)
+
+-- what was written answers the lines of the bytes up to the last line feed
+pub record IsAnsweredToLastFeed {A : Type 0} (Q : Answered A) (bytes written : List ℕ) (answers : A) : Type 0 where
+  pub lines : List (List ℕ)
+  pub last : List ℕ
+  pub cut : bytes ≡ whole_lines lines ++ last
+  pub each_one : AllByRecursion IsOneLine lines
+  pub last_one : IsOneLine last
+  pub answered : Q answers lines written
+
+-- what was written is a front of what answers the first lines of the bytes
+pub record IsBegun {A : Type 0} (Q : Answered A) (bytes written : List ℕ) : Type 0 where
+  pub lines : List (List ℕ)
+  pub others : List (List ℕ)
+  pub cut : lines_of bytes ≡ lines ++ others
+  pub answers : A
+  pub all : List ℕ
+  pub answered : Q answers lines all
+  pub rest : List ℕ
+  pub front : all ≡ written ++ rest
+
+-- the reader was read to its end, and what answers its lines was written
+pub record IsDone {I A : Type 0} (Q : Answered A) (remaining : I → Option (List ℕ)) (input' : Device I)
+    (read written : List ℕ) (answers : A) : Type 0 where
+  pub end : IsAtEnd (remaining (inner_of input'))
+  pub answered : Q answers (lines_of read) written
+
+-- the reader failed, and the lines up to the last line feed are answered
+pub record IsStoppedByRead {I A : Type 0} (Q : Answered A) (input input' : Device I) (read written : List ℕ)
+    (answers : A) : Type 0 where
+  pub failed : HasFailed input input'
+  pub owed : IsAnsweredToLastFeed Q read written answers
+
+-- the most reads were made, the last of them gave bytes, and the lines up to the last line feed are answered
+pub record IsStoppedByTurns {I A : Type 0} (Q : Answered A) (input' : Device I) (reads : ℕ) (read written : List ℕ)
+    (answers : A) : Type 0 where
+  pub all_made : reads ≡ most_reads
+  pub gave_bytes : most_reads ≤ length read
+  pub last_gave : 0 < last_given_of input'
+  pub owed : IsAnsweredToLastFeed Q read written answers
+
+-- how the run ended
+abbrev pub EndsAs : {I O A : Type 0} → Answered A → (I → Option (List ℕ)) → (input input' : Device I)
+    → (output output' : Device O) → ℕ → (read written : List ℕ) → A → Result (Unit {0}) ToolFault → Type 0
+EndsAs Q remaining input input' output output' reads read written answers (Ok _) =
+    IsDone Q remaining input' read written answers
+EndsAs Q remaining input input' output output' reads read written answers (Err faults.Read) =
+    IsStoppedByRead Q input input' read written answers
+EndsAs Q remaining input input' output output' reads read written answers (Err faults.TooManyTurns) =
+    IsStoppedByTurns Q input' reads read written answers
+EndsAs Q remaining input input' output output' reads read written answers (Err faults.Write) = HasFailed output output'
+EndsAs Q remaining input input' output output' reads read written answers (Err faults.OutOfMemory) = Unit {0}
+EndsAs Q remaining input input' output output' reads read written answers (Err _) = ⊥
+
+-- A run that answers the lines of a reader. Whatever ended it, what was written is a front of what is owed.
+pub record RunsOverLines {I O A : Type 0} (Q : Answered A) (remaining : I → Option (List ℕ))
+    (contents : O → Option (List ℕ)) (input input' : Device I) (output output' : Device O) (answers : A)
+    (result : Result (Unit {0}) ToolFault) : Type 0 where
+  pub read : List ℕ
+  pub written : List ℕ
+  pub reads : ℕ
+  pub consumes : Consumes (remaining (inner_of input)) (remaining (inner_of input')) read
+  pub appends : Appends (contents (inner_of output)) (contents (inner_of output')) written
+  pub begun : IsBegun Q read written
+  pub calls : HasRead input input' reads
+  pub bounded : reads ≤ most_reads
+  pub ends : EndsAs Q remaining input input' output output' reads read written answers result
+  pub read_rises : failures_of input < failures_of input' → result ≡ Err faults.Read
+  pub write_rises : failures_of output < failures_of output' → result ≡ Err faults.Write

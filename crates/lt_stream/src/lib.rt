@@ -1,0 +1,13 @@
+//! Runs over readers: the lines that are cut, what is owed for them, and what ends a run. It is a part of the program
+//! `langtag`; a program of your own begins with the crate `bcp47`.
+#![tactic(auto)]
+
+mod device_output;
+mod faults;
+mod lines;
+mod pieces;
+
+pub use device_output::{write_fault, write_text};
+pub use faults::ToolFault;
+pub use lines::{Lines, run_lines};
+pub use pieces::{Pieces, run_pieces};

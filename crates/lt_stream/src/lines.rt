@@ -1,0 +1,174 @@
+//! Runs over the lines of a reader.
+ghost use Rattle.std.specs.Prelude.{◌≡◌, ◌<◌, ◌≤◌, List, ℕ, [], IfOk, OnOk, vec_len};
+ghost use Rattle.lt_stream.specs.Lines.{HasLine, RunsOverLines, TakesLine};
+ghost use Rattle.lt_stream.specs.Lined as spec;
+
+use crate::device_output::write_text;
+use crate::faults::ToolFault;
+use crate::pieces::{Pieces, run_pieces};
+use lt_jar::Device;
+use lt_rows::split_first;
+use lt_tag::OutOfMemory;
+use std::alloc::{AllocError, Global};
+use std::io::{Read, Write};
+
+/// Lines are written once this many bytes of them are owed, if no read comes before.
+const FULL: usize = 65536;
+
+/// What answers lines, one by one.
+pub trait Lines {
+    ghost longest: { ℕ };
+
+    /// What holds of this at the beginning and of this now, once it has answered these lines, by these bytes in all.
+    ghost answered: { Self → Self → List (List ℕ) → List ℕ → Type 0 };
+
+    /// The most bytes that are kept of a line: its answer is the same whatever follows them.
+    fn longest(&self) -> usize
+        ensures { result ≡ longest };
+
+    /// Answers a line, of which it is given the front that is kept: appends what is owed for it.
+    fn take_line(
+        &mut self,
+        alloc: Global,
+        line: &[u8],
+        owed: &mut Vec<u8>,
+    ) -> Result<(), OutOfMemory>
+        requires { HasLine answered self.old }
+        ensures { OnOk result (TakesLine answered longest line.now owed.old.items owed.new.items self.old self.new) };
+}
+
+/// Lines that come in pieces, and what is owed for them.
+#[derive(Drop)]
+pub(crate) struct Lined<A> {
+    answers: A,
+    /// The front of the line that no line feed ended so far.
+    kept: Vec<u8>,
+    /// Answers that are not yet written.
+    owed: Vec<u8>,
+}
+
+impl<A: Lines> Lined<A> {
+    /// Keeps more of the line, as far as it is needed.
+    fn keep(&mut self, part: &[u8]) -> Result<(), AllocError>
+        ensures { OnOk result (spec.KeepsMore A.longest part.now self.old self.new) }
+    {
+        let room = self.answers.longest().saturating_sub(self.kept.len());
+        self.kept.extend_from_slice(&part[..part.len().min(room)])?;
+        Ok(())
+    }
+
+    /// Answers the line that is kept.
+    fn end_line(&mut self, alloc: Global) -> Result<(), OutOfMemory>
+        requires { HasLine A.answered self.old.answers }
+        ensures { OnOk result (spec.EndsLine A.answered A.longest self.old self.new) }
+    {
+        self.answers.take_line(alloc, &self.kept, &mut self.owed)?;
+        self.kept.clear();
+        Ok(())
+    }
+
+    /// Writes what is owed.
+    fn write<W: Write>(&mut self, output: &mut Device<W>) -> Result<(), ToolFault>
+        ensures writes { spec.WritesOwed W.contents self.old self.new output.old output.new result }
+        ensures emptied { OnOk result (self.new.owed.items ≡ []) }
+    {
+        write_text(&self.owed, output)?;
+        self.owed.clear();
+        Ok(())
+    }
+
+    /// Writes what is owed if it is much.
+    fn write_much<W: Write>(&mut self, output: &mut Device<W>) -> Result<(), ToolFault>
+        ensures writes { spec.WritesOwed W.contents self.old self.new output.old output.new result }
+        ensures emptied { OnOk result (spec.full ≤ vec_len self.old.owed → self.new.owed.items ≡ []) }
+    {
+        if self.owed.len() < FULL {
+            return Ok(());
+        }
+        self.write(output)
+    }
+
+    /// Answers a last line that no line feed ended, if there is any.
+    fn end_last(&mut self, alloc: Global) -> Result<(), OutOfMemory>
+        requires { HasLine A.answered self.old.answers }
+        ensures { OnOk result (spec.EndsLast A.answered A.longest self.old self.new) }
+    {
+        if self.kept.is_empty() {
+            return Ok(());
+        }
+        self.end_line(alloc)
+    }
+
+    /// What answered the lines.
+    fn into_answers(self) -> A
+        ensures { result ≡ self.answers }
+    {
+        let Lined {
+            answers,
+            kept: _,
+            owed: _,
+        } = self;
+        answers
+    }
+}
+
+impl<A: Lines, W: Write> Pieces<Device<W>> for Lined<A> {
+    type Answer = ();
+
+    ghost taken = { λ first. spec.IsTaken (A.answered first.answers) A.longest W.contents };
+
+    ghost stopped = { λ first start now read _ result. spec.Stops (A.answered first.answers) W.contents start now read result };
+
+    ghost finished = { λ first. spec.Finishes (A.answered first.answers) W.contents };
+
+    fn take_piece(
+        &mut self,
+        alloc: Global,
+        piece: &[u8],
+        output: &mut Device<W>,
+    ) -> Result<Option<()>, ToolFault> {
+        let mut rest = piece;
+        while let Some((line, after)) = split_first(b'\n', rest) {
+            self.keep(line)?;
+            self.end_line(alloc)?;
+            self.write_much(output)?;
+            rest = after;
+        }
+        self.keep(rest)?;
+        self.write(output)?;
+        Ok(None)
+    }
+
+    fn finish(&mut self, alloc: Global, output: &mut Device<W>) -> Result<(), ToolFault> {
+        self.end_last(alloc)?;
+        self.write(output)?;
+        Ok(())
+    }
+}
+
+/// Answers the lines of a reader, in their order, and gives back what answered them.
+///
+/// A line feed ends a line, and what follows the last one is a line if it is anything. What is owed for the lines of the
+/// bytes that were read is written before the next read. Of a line that goes on no more is kept than the answers need.
+///
+/// - `Read`, if a read fails: what is owed for each line whose line feed was read has been written.
+/// - `TooManyTurns`, if all 10,000,000 reads were made and the last gave bytes: the same has been written.
+/// - `Write`, if a write fails or takes none of some bytes, and `OutOfMemory`: a front of what is owed was written.
+pub fn run_lines<A: Lines + Drop, R: Read, W: Write>(
+    alloc: Global,
+    answers: A,
+    input: &mut Device<R>,
+    output: &mut Device<W>,
+) -> (A, Result<(), ToolFault>)
+    requires first { A.answered answers answers [] [] }
+    requires some { 0 < A.longest }
+    ensures { RunsOverLines (A.answered answers) R.remaining W.contents input.old input.new output.old output.new result.0 result.1 }
+{
+    let mut lined = Lined {
+        answers,
+        kept: Vec::new(alloc),
+        owed: Vec::new(alloc),
+    };
+    let end = run_pieces(alloc, &mut lined, input, output);
+    (lined.into_answers(), end)
+}

@@ -1,0 +1,75 @@
+//! Runs over the bytes of a reader, piece by piece.
+ghost use Rattle.std.specs.Prelude.{List, ℕ, [], Result, length};
+ghost use Rattle.lt_stream.specs.Pieces.{FinishesPieces, HasRoom, RunsPieces, TakesPiece};
+ghost use Rattle.lt_stream.specs.declared.faults.ToolFault.{ToolFault};
+
+use crate::faults::ToolFault;
+use lt_jar::Device;
+use std::alloc::Global;
+use std::io::Read;
+
+/// The most reads of one run.
+const MOST_READS: u32 = 10_000_000;
+
+/// The most bytes that a read is asked for.
+const PIECE: usize = 65536;
+
+/// What takes the bytes of a reader, piece by piece, with an output of its own.
+pub trait Pieces<O> {
+    /// What is known at the end.
+    type Answer;
+
+    /// What holds while a run goes on: of this at its beginning, of the output at its beginning and now, of the bytes
+    /// that were read, and of this now.
+    ghost taken: { Self → O → O → List ℕ → Self → Type 0 };
+
+    /// What holds of the same and of the answer where a piece ends the run.
+    ghost stopped: { Self → O → O → List ℕ → Self → Result Self.Answer ToolFault → Type 0 };
+
+    /// What holds of them where the reader has ended.
+    ghost finished: { Self → O → O → List ℕ → Self → Result Self.Answer ToolFault → Type 0 };
+
+    /// Takes the next bytes. An answer, or a fault, ends the run.
+    fn take_piece(
+        &mut self,
+        alloc: Global,
+        piece: &[u8],
+        output: &mut O,
+    ) -> Result<Option<Self::Answer>, ToolFault>
+        requires { HasRoom taken (length piece.now) output.old self.old }
+        ensures { TakesPiece taken stopped piece.now output.old output.new self.old self.new result };
+
+    /// Ends the bytes.
+    fn finish(&mut self, alloc: Global, output: &mut O) -> Result<Self::Answer, ToolFault>
+        requires { HasRoom taken 0 output.old self.old }
+        ensures { FinishesPieces taken finished output.old output.new self.old self.new result };
+}
+
+/// Reads a reader until what takes its pieces has an answer, or to its end.
+///
+/// - `Read`, if a read fails.
+/// - `TooManyTurns`, if all 10,000,000 reads were made and the last gave bytes.
+/// - `OutOfMemory`, if there is no memory for a piece; and what its taker answers.
+pub fn run_pieces<O, P: Pieces<O>, R: Read>(
+    alloc: Global,
+    pieces: &mut P,
+    input: &mut Device<R>,
+    output: &mut O,
+) -> Result<P::Answer, ToolFault>
+    requires { P.taken pieces.old output.old output.old [] pieces.old }
+    ensures { RunsPieces (P.taken pieces.old) (P.stopped pieces.old) (P.finished pieces.old) R.remaining input.old input.new output.old output.new pieces.new result }
+{
+    let mut buffer = vec![in alloc; 0u8; PIECE]?;
+    for _read in 0..MOST_READS {
+        match input.read(&mut buffer) {
+            Ok(0) => return pieces.finish(alloc, output),
+            Ok(count) => {
+                if let Some(answer) = pieces.take_piece(alloc, &buffer[..count], output)? {
+                    return Ok(answer);
+                }
+            }
+            Err(_) => return Err(ToolFault::Read),
+        }
+    }
+    Err(ToolFault::TooManyTurns)
+}

@@ -1,0 +1,158 @@
+//! What the records of a registry say of tags, printed.
+ghost use Rattle.std.specs.Prelude.{◌≡◌, ◌||◌, IfOk, Ok, false, map, string_bytes, true};
+ghost use Rattle.lt_tool.specs.Shown as spec;
+ghost use Rattle.lt_tool.specs.Shown.{AnswersShown, AppendsEnding, AppendsShown, IsKeptRefusal, ShowsBy, ShowsTexts};
+ghost use Rattle.lt_tool.specs.Streams.{stream};
+
+use crate::lines::Answer;
+use crate::registries::{RegistryRefusal, check_entries, refuse};
+use crate::showing_json::append_object;
+use crate::status::Status;
+use lt_canon::{Checked, TextRefusal, explanation_text};
+use lt_jar::{Device, Jar, Record};
+use lt_lines::append_refusal;
+use lt_registry::{Lookup, Registry};
+use lt_show::{RecordsFault, append_table, read_records};
+use lt_tag::{OutOfMemory, TagFaultKind, read_tag};
+use lt_words::Tags;
+use std::alloc::Global;
+use std::io::Read;
+
+/// Appends the explanation of a text, or why it is refused, and tells whether it is.
+fn append_ending<L: Lookup>(
+    lines: &mut Vec<u8>,
+    alloc: Global,
+    checked: &Checked<L>,
+    text: &[u8],
+) -> Result<bool, OutOfMemory>
+    ensures { IfOk result (λ refused. AppendsEnding (L.listed checked.now) text.now lines.old.items lines.new.items refused) }
+{
+    match explanation_text(alloc, checked, text) {
+        Ok(explanation) => {
+            lines.extend_from_slice(&explanation)?;
+            Ok(false)
+        }
+        Err(refusal) => {
+            append_refusal(lines, &refusal)?;
+            Ok(true)
+        }
+    }
+}
+
+/// Appends what is shown of a text for people, and tells whether it is refused.
+fn append_block<L: Lookup>(
+    lines: &mut Vec<u8>,
+    alloc: Global,
+    checked: &Checked<L>,
+    records: &[Record],
+    text: &[u8],
+) -> Result<bool, OutOfMemory>
+    ensures { IfOk result (λ refused. AppendsShown false (L.listed checked.now) records.now text.now lines.old.items lines.new.items refused) }
+{
+    let tag = match read_tag(alloc, text) {
+        Ok(tag) => tag,
+        Err(fault) if fault.kind == TagFaultKind::OutOfMemory => return Err(OutOfMemory),
+        Err(fault) => {
+            append_refusal(lines, &TextRefusal::NotATag(fault))?;
+            lines.push(b'\n')?;
+            return Ok(true);
+        }
+    };
+    append_table(lines, alloc, checked.table(), records, &tag)?;
+    let refused = append_ending(lines, alloc, checked, text)?;
+    lines.push(b'\n')?;
+    Ok(refused)
+}
+
+/// Appends what is shown of a text, as a line of JSON or for people, and tells whether it is refused.
+fn append_shown<L: Lookup>(
+    lines: &mut Vec<u8>,
+    alloc: Global,
+    checked: &Checked<L>,
+    records: &[Record],
+    json: bool,
+    text: &[u8],
+) -> Result<bool, OutOfMemory>
+    ensures { IfOk result (λ refused. AppendsShown json (L.listed checked.now) records.now text.now lines.old.items lines.new.items refused) }
+{
+    if json {
+        append_object(lines, alloc, checked, records, text)
+    } else {
+        append_block(lines, alloc, checked, records, text)
+    }
+}
+
+/// Whether one of two holds.
+fn either(one: bool, other: bool) -> bool
+    ensures { result ≡ (one || other) }
+{
+    one || other
+}
+
+/// What is shown of texts.
+fn show_texts<L: Lookup>(
+    alloc: Global,
+    checked: &Checked<L>,
+    records: &[Record],
+    json: bool,
+    texts: &[String],
+) -> Result<Answer, OutOfMemory>
+    ensures { IfOk result (λ answer. ShowsTexts json (L.listed checked.now) records.now (map string_bytes texts.now) answer.line.items answer.status) }
+{
+    let mut line = Vec::new(alloc);
+    let mut any = false;
+    for text in texts {
+        let refused = append_shown(&mut line, alloc, checked, records, json, text.as_bytes())?;
+        any = either(any, refused);
+    }
+    Ok(Answer {
+        line,
+        status: status_of(any),
+    })
+}
+
+/// How a run ends in which a tag was refused, or none.
+fn status_of(refused: bool) -> Status
+    ensures { result ≡ spec.status_of refused }
+{
+    if refused {
+        Status::Refused
+    } else {
+        Status::Done
+    }
+}
+
+/// The refusal of a registry whose records are kept.
+fn refusal_of(fault: RecordsFault) -> RegistryRefusal
+    ensures { IsKeptRefusal fault result }
+{
+    match fault {
+        RecordsFault::Registry(fault) => RegistryRefusal::from(fault),
+        RecordsFault::OutOfMemory => RegistryRefusal::OutOfMemory,
+    }
+}
+
+/// What is shown of tags by a registry, if it passes the check, and its records.
+fn show_kept(alloc: Global, both: (Registry, Jar), tags: &Tags) -> Result<Answer, OutOfMemory>
+    ensures { IfOk result (λ answer. ShowsBy tags.now (Ok both) answer.line.items answer.status) }
+{
+    let (registry, jar) = both;
+    match check_entries(alloc, registry) {
+        Ok(checked) => show_texts(alloc, &checked, jar.records(), tags.json, &tags.texts),
+        Err(refusal) => refuse(alloc, &refusal),
+    }
+}
+
+/// What `show` answers to a file and tags.
+pub(crate) fn show<F: Read>(
+    alloc: Global,
+    file: &mut Device<F>,
+    tags: &Tags,
+) -> Result<Answer, OutOfMemory>
+    ensures { AnswersShown (stream F.remaining file.old file.new) tags.now result }
+{
+    match read_records(alloc, file) {
+        Ok(both) => show_kept(alloc, both, tags),
+        Err(fault) => refuse(alloc, &refusal_of(fault)),
+    }
+}

@@ -1,0 +1,166 @@
+//! What the records of a registry say of a tag, as a line of JSON.
+ghost use Rattle.std.specs.Prelude.{◌≡◌, ◌++◌, IfOk, OnOk, true};
+ghost use Rattle.lt_json_text.specs.Values.{array};
+ghost use Rattle.lt_lines.specs.Refusals.{IsTold};
+ghost use Rattle.lt_tool.specs.Shown.{AppendsMembers, AppendsNoTag, AppendsShown};
+ghost use Rattle.lt_tool.specs.ShownJson.{ends_of, explained_members, refused_members, rows_front, step_value};
+
+use lt_canon::{Checked, Refusal, TextRefusal, Trace, explain};
+use lt_jar::Record;
+use lt_json_text::{
+    append_comma, append_first_name, append_name, append_null, append_number, append_string,
+};
+use lt_lines::append_refusal;
+use lt_registry::Lookup;
+use lt_rewrite::Step;
+use lt_show::append_rows;
+use lt_tag::{OutOfMemory, Tag, TagFaultKind, read_tag, write_tag};
+use std::alloc::{AllocError, Global};
+
+/// Appends a step.
+fn append_step(objects: &mut Vec<u8>, step: &Step) -> Result<(), AllocError>
+    ensures { OnOk result (objects.new.items ≡ objects.old.items ++ step_value step.now) }
+{
+    append_first_name(objects, b"kind")?;
+    append_string(objects, step.kind.name().as_bytes())?;
+    append_name(objects, b"place")?;
+    append_number(objects, step.place)?;
+    append_name(objects, b"record")?;
+    append_number(objects, step.number)?;
+    objects.push(b'}')?;
+    Ok(())
+}
+
+/// Appends the array of steps.
+#[tactic(auto, using(lt_json_text::proofs::ValueLemmas::commaed_more))]
+fn append_steps(objects: &mut Vec<u8>, steps: &[Step]) -> Result<(), AllocError>
+    ensures { OnOk result (objects.new.items ≡ objects.old.items ++ array step_value steps.now) }
+{
+    objects.push(b'[')?;
+    for (index, step) in steps.iter().enumerate() {
+        append_comma(objects, index)?;
+        append_step(objects, step)?;
+    }
+    objects.push(b']')?;
+    Ok(())
+}
+
+/// Appends the members of a tag that has a canonical form, and the end of its object.
+fn append_explained(objects: &mut Vec<u8>, alloc: Global, trace: &Trace) -> Result<(), OutOfMemory>
+    ensures { OnOk result (objects.new.items ≡ objects.old.items ++ ends_of (explained_members trace.now.last trace.now.steps.items)) }
+{
+    let canonical = write_tag(alloc, &trace.last)?;
+    append_name(objects, b"canonical")?;
+    append_string(objects, &canonical)?;
+    append_name(objects, b"steps")?;
+    append_steps(objects, &trace.steps)?;
+    append_name(objects, b"fault")?;
+    append_null(objects)?;
+    objects.extend_from_slice(b"}\n")?;
+    Ok(())
+}
+
+/// The name of a refusal, a space, and the place of the fault or the variant.
+fn told_of(alloc: Global, refusal: &TextRefusal) -> Result<Vec<u8>, OutOfMemory>
+    ensures { IfOk result (λ told. IsTold refusal.now told.items) }
+{
+    let mut line = Vec::new(alloc);
+    append_refusal(&mut line, refusal)?;
+    let mut told = Vec::new(alloc);
+    told.extend_from_slice(&line[2..line.len() - 1])?;
+    Ok(told)
+}
+
+/// Appends the members of a tag that is refused, and the end of its object.
+fn append_refused(objects: &mut Vec<u8>, told: &[u8]) -> Result<(), OutOfMemory>
+    ensures { OnOk result (objects.new.items ≡ objects.old.items ++ ends_of (refused_members told.now)) }
+{
+    append_name(objects, b"canonical")?;
+    append_null(objects)?;
+    append_name(objects, b"steps")?;
+    objects.extend_from_slice(b"[]")?;
+    append_name(objects, b"fault")?;
+    append_string(objects, told)?;
+    objects.extend_from_slice(b"}\n")?;
+    Ok(())
+}
+
+/// Appends the last members of a tag, and tells whether it is refused.
+fn append_answer<L: Lookup>(
+    objects: &mut Vec<u8>,
+    alloc: Global,
+    checked: &Checked<L>,
+    tag: &Tag,
+) -> Result<bool, OutOfMemory>
+    ensures { IfOk result (λ refused. AppendsMembers (L.listed checked.now) tag.now objects.old.items objects.new.items refused) }
+{
+    match explain(alloc, checked, tag) {
+        Ok(trace) => {
+            append_explained(objects, alloc, &trace)?;
+            Ok(false)
+        }
+        Err(Refusal::OutOfMemory) => Err(OutOfMemory),
+        Err(refusal) => {
+            let told = told_of(alloc, &TextRefusal::from(refusal))?;
+            append_refused(objects, &told)?;
+            Ok(true)
+        }
+    }
+}
+
+/// Appends the object of a text that is no tag.
+fn append_no_tag(
+    objects: &mut Vec<u8>,
+    alloc: Global,
+    refusal: &TextRefusal,
+) -> Result<(), OutOfMemory>
+    ensures { OnOk result (AppendsNoTag refusal.now objects.old.items objects.new.items) }
+{
+    let told = told_of(alloc, refusal)?;
+    append_first_name(objects, b"tag")?;
+    append_null(objects)?;
+    append_name(objects, b"rows")?;
+    objects.extend_from_slice(b"[]")?;
+    append_refused(objects, &told)?;
+    Ok(())
+}
+
+/// Appends the members of a tag up to its rows.
+fn append_tag_rows<L: Lookup>(
+    objects: &mut Vec<u8>,
+    alloc: Global,
+    checked: &Checked<L>,
+    records: &[Record],
+    tag: &Tag,
+) -> Result<(), OutOfMemory>
+    ensures { OnOk result (objects.new.items ≡ objects.old.items ++ rows_front (L.listed checked.now) records.now tag.now) }
+{
+    let spelled = write_tag(alloc, tag)?;
+    append_first_name(objects, b"tag")?;
+    append_string(objects, &spelled)?;
+    append_name(objects, b"rows")?;
+    append_rows(objects, alloc, checked.table(), records, tag)?;
+    Ok(())
+}
+
+/// Appends what is shown of a text as a line of JSON, and tells whether it is refused.
+pub(crate) fn append_object<L: Lookup>(
+    objects: &mut Vec<u8>,
+    alloc: Global,
+    checked: &Checked<L>,
+    records: &[Record],
+    text: &[u8],
+) -> Result<bool, OutOfMemory>
+    ensures { IfOk result (λ refused. AppendsShown true (L.listed checked.now) records.now text.now objects.old.items objects.new.items refused) }
+{
+    let tag = match read_tag(alloc, text) {
+        Ok(tag) => tag,
+        Err(fault) if fault.kind == TagFaultKind::OutOfMemory => return Err(OutOfMemory),
+        Err(fault) => {
+            append_no_tag(objects, alloc, &TextRefusal::NotATag(fault))?;
+            return Ok(true);
+        }
+    };
+    append_tag_rows(objects, alloc, checked, records, &tag)?;
+    append_answer(objects, alloc, checked, &tag)
+}
