@@ -3,7 +3,7 @@ complete -c langtag -f
 complete -c langtag -n __fish_use_subcommand -a classify -d 'The class of a tag, and the tag in conventional case'
 complete -c langtag -n __fish_use_subcommand -a check -d 'Check a registry'
 complete -c langtag -n __fish_use_subcommand -a canon -d 'The canonical form of each line of the standard input'
-complete -c langtag -n __fish_use_subcommand -a codes -d 'The same, with codes of ISO 639-2 replaced'
+complete -c langtag -n __fish_use_subcommand -a codes -d 'As canon, with codes of ISO 639-2 replaced'
 complete -c langtag -n __fish_use_subcommand -a tsv -d 'A field of each row of the standard input in canonical form'
 complete -c langtag -n __fish_use_subcommand -a csv -d 'A field of each record of CSV of the standard input in canonical form'
 complete -c langtag -n __fish_use_subcommand -a match -d 'The lines of the standard input that language ranges match'

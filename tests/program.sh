@@ -432,6 +432,11 @@ printf 'x File y\n' > input
 on_terminal json "$sample"; is 'json at a terminal: words that look like faults' 1 '{"input":"x File y","bytes":null,"canonical":null,"fault":"BadByte","place":1,"variant":null,"class":null,"language":null,"extlangs":[],"script":null,"region":null,"variants":[],"extensions":[],"private":[]}\n' ''
 printf 'id,my File here\n' > input
 on_terminal csv "$sample" tag; is 'csv at a terminal: names that look like faults' 3 '' 'error: no column has the name "tag"; names: "id" "my File here"\n'
+sed 's/^Description: Chinese$/Description: a File here/' described > named
+on_terminal show --json named zh File; ended=$?; grep -c 'a File here' out > told; mv told out
+(exit "$ended"); is 'show --json at a terminal: words that look like faults' 1 '1\n' ''
+printf 'zh-yue\n' > input
+on_terminal canon "$sample"; is 'canon at a terminal: one line' 0 'yue\n' '1 line, 0 refused\n'
 yes en | head -n 2500000 > input
 on_terminal canon "$sample"; ended=$?; tr '\r' '\n' < err | sed 's/[0-9]\{5\} lines$/..... lines/' > told; mv told err; cmp -s input out && : > out
 (exit "$ended"); is 'a long run at a terminal' 0 '' '10..... lines\n20..... lines\n2500000 lines, 0 refused\n'

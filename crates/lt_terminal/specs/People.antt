@@ -17,13 +17,14 @@ use Rattle.lt_tool.specs.Streams.{IsUntouched, Stream, handed, stream}
 use Rattle.lt_tool.specs.Written.{Says}
 use Rattle.lt_tool.specs.declared.answered.Answered.{Answered}
 
--- what a command answers one by one, if it does: lines, or records
+-- what a command answers one by one, if it does: lines, records, or tags
 abbrev pub unit_of : Command → Option (List ℕ)
 unit_of (command.Canon run) = Some (codes "line")
 unit_of (command.Codes run table) = Some (codes "line")
 unit_of (command.Tsv run column) = Some (codes "line")
 unit_of (command.Csv run column delimiter) = Some (codes "record")
 unit_of (command.Json file) = Some (codes "line")
+unit_of (command.Show file tags) = Some (codes "tag")
 unit_of _ = None
 
 -- whether a person is told of a run of this command: at a terminal, or where the words ask for a summary

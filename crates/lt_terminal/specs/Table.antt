@@ -1,17 +1,21 @@
 -- What a person is told of the lines that a run refused: for each fault how many there are, the first of them, and what
 -- to do.
-use Rattle.std.specs.Prelude.{ℕ, ◌&&◌, ◌++◌, List, [], ◌∷◌, Option, Some, None, if◌then◌else◌, codes, map, nat_le}
+use Rattle.std.specs.Prelude.{ℕ, ◌&&◌, ◌==◌, ◌++◌, List, [], ◌∷◌, Option, Some, None, if◌then◌else◌, codes, map, nat_le}
 use Rattle.std.specs.List.{flat_map}
 use Rattle.std.specs.Fmt.{decimal}
 use Rattle.lt_lines.specs.declared.runs.Counts.{Counts}
 use Rattle.lt_tallies.specs.declared.Tally.{Tally}
 use Rattle.lt_terminal.specs.Advice.{advice_line}
 
+-- the unit, with the ending of the plural (115) where there is not one
+abbrev pub counted : (number : ℕ) → (unit : List ℕ) → List ℕ
+counted number unit = decimal number ++ 32 ∷ unit ++ (if number == 1 then [] else 115 ∷ [])
+
 -- how many lines or records were answered, and how many of them refused
 abbrev pub counts_line : (unit : List ℕ) → Option Counts → List ℕ
 counts_line unit None = []
 counts_line unit (Some counts) =
-    decimal counts.lines ++ 32 ∷ unit ++ codes "s, " ++ decimal counts.refused ++ codes " refused" ++ 10 ∷ []
+    counted counts.lines unit ++ codes ", " ++ decimal counts.refused ++ codes " refused" ++ 10 ∷ []
 
 -- a byte of a text that was refused: a question mark (63) stands for one that is no printable byte of ASCII
 abbrev pub shown_byte : ℕ → ℕ

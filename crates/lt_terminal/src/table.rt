@@ -14,6 +14,24 @@ fn append_number(told: &mut Vec<u8>, alloc: Global, number: u64) -> Result<(), A
     told.extend_from_slice(format!(in alloc; "{number}")?.as_bytes())
 }
 
+/// Appends a number of units.
+fn append_counted(
+    told: &mut Vec<u8>,
+    alloc: Global,
+    number: u64,
+    unit: &str,
+) -> Result<(), AllocError>
+    ensures { OnOk result (told.new.items ≡ told.old.items ++ spec.counted number unit.now) }
+{
+    append_number(told, alloc, number)?;
+    told.push(b' ')?;
+    told.extend_from_slice(unit.as_bytes())?;
+    if number != 1 {
+        told.push(b's')?;
+    }
+    Ok(())
+}
+
 /// Appends how many lines were answered and refused, if all of them were answered.
 pub(crate) fn append_counts(
     told: &mut Vec<u8>,
@@ -26,10 +44,8 @@ pub(crate) fn append_counts(
     let Some(counts) = counts else {
         return Ok(());
     };
-    append_number(told, alloc, counts.lines)?;
-    told.push(b' ')?;
-    told.extend_from_slice(unit.as_bytes())?;
-    told.extend_from_slice(b"s, ")?;
+    append_counted(told, alloc, counts.lines, unit)?;
+    told.extend_from_slice(b", ")?;
     append_number(told, alloc, counts.refused)?;
     told.extend_from_slice(b" refused\n")
 }

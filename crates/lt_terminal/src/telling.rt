@@ -27,6 +27,7 @@ pub(crate) fn unit_of(command: &Command) -> Option<&'static str>
         Command::Canon(_) | Command::Codes(_, _) => Some("line"),
         Command::Tsv(_, _) | Command::Json(_) => Some("line"),
         Command::Csv(_, _, _) => Some("record"),
+        Command::Show(_, _) => Some("tag"),
         _ => None,
     }
 }

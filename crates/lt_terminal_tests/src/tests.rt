@@ -176,7 +176,7 @@ const COUNTED: [Run; 16] = [
         "en\n",
         "en\t\n",
         "",
-        "1 lines, 0 refused\n",
+        "1 line, 0 refused\n",
         Status::Done,
     ),
     (

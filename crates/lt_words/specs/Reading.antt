@@ -184,14 +184,6 @@ reads_input_of (command.Verify file tag) = true
 reads_input_of (command.Json file) = true
 reads_input_of _ = false
 
--- whether it answers each of its lines by one line
-abbrev pub answers_lines_of : Command → Bool
-answers_lines_of (command.Canon run) = true
-answers_lines_of (command.Codes run table) = true
-answers_lines_of (command.Tsv run rows) = true
-answers_lines_of (command.Json file) = true
-answers_lines_of _ = false
-
 -- whether it is to tell a summary of its lines
 abbrev pub has_summary : Command → Bool
 has_summary (command.Canon run) = run.summary

@@ -1,7 +1,7 @@
 //! The commands of the program.
 ghost use Rattle.std.specs.Prelude.{◌≡◌, string_bytes};
 ghost use Rattle.std.specs.Option.{option_map};
-ghost use Rattle.lt_words.specs.Reading.{answers_lines_of, first_file_of, has_summary, reads_input_of, second_file_of};
+ghost use Rattle.lt_words.specs.Reading.{first_file_of, has_summary, reads_input_of, second_file_of};
 
 /// A run over the lines of the input.
 #[derive(Debug, Drop)]
@@ -137,18 +137,6 @@ impl Command {
             Command::Canon(_) | Command::Codes(_, _) | Command::Verify(_, _) => true,
             Command::Tsv(_, _) | Command::Csv(_, _, _) | Command::Match(_, _) => true,
             Command::Json(_) => true,
-            _ => false,
-        }
-    }
-
-    /// Whether the command answers each line of the standard input by one line: `canon`, `codes`, `tsv` and `json` do. A
-    /// record of CSV may have more lines.
-    pub fn answers_lines(&self) -> bool
-        ensures { result ≡ answers_lines_of self.now }
-    {
-        match self {
-            Command::Canon(_) | Command::Codes(_, _) => true,
-            Command::Tsv(_, _) | Command::Json(_) => true,
             _ => false,
         }
     }

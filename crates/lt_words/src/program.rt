@@ -209,7 +209,7 @@ pub(crate) fn new_langtag<'a>(alloc: Global) -> Result<Command<'a>, AllocError>
     let about = "Prints the canonical form of each line of the standard input";
     let program = with_new(alloc, program, "canon", about, &[&REGISTRY, &SUMMARY])?;
     let about =
-        "Prints the same, reading a first subtag that is a code of ISO 639-2 as what is registered for it";
+        "Does as canon, but reads a first subtag that is a code of ISO 639-2 as what is registered for it";
     let arguments = &[&TABLE, &REGISTRY, &SUMMARY];
     let program = with_new(alloc, program, "codes", about, arguments)?;
     let about =
