@@ -214,7 +214,7 @@ impl Registry {
         ensures refusal { IfErr result (λ refusal. IsTextRefusal self.now text.now refusal) }
         ensures kept { OnErr result (texts.new.items ≡ texts.old.items) }
     {
-        lt_settled::append_canonical_text(alloc, &self.checked, text, texts)
+        lt_cache::append_canonical_text(alloc, &self.checked, text, texts)
     }
 
     /// The extlang form of a tag (RFC 5646, 4.5): its canonical form and, where the language of that is an

@@ -67,7 +67,7 @@ use Rattle.lt_rewrite.proofs.NameForms.{language_form, extlang_form as extlang_n
 use Rattle.lt_canon.specs.ExtlangForm.{prefix_of, behind, extlang_form, IsExtlangFormOf}
 use Rattle.lt_canon.specs.ExtlangLaws.{ExtlangFormsLeadBack}
 use Rattle.std.proofs.lemmas.List.Folds.{list_any_at}
-use Rattle.lt_usual.specs.Staying.{replaces_plain_of, StaysAs, IsStaying}
+use Rattle.lt_check.specs.Staying.{replaces_plain_of, StaysAs, IsStaying}
 use Rattle.lt_canon.specs.Texts.{AppendsCanonicalText, IsTextRefusal, RefusesTextOnlyRepeats}
 use Rattle.lt_canon.specs.UsualTags.{IsUsual, core_valued}
 use Rattle.lt_registry.specs.Checking.{Counted, core_check, variants_check}

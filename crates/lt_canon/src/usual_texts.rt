@@ -1,6 +1,6 @@
 //! Canonical texts of langtags whose subtags stay as they are.
 ghost use Rattle.std.specs.Prelude.{◌≡◌, ◌↔◌, false, IsTrue, IfOk, OnErr};
-ghost use Rattle.lt_usual.specs.Staying.{IsStaying};
+ghost use Rattle.lt_check.specs.Staying.{IsStaying};
 ghost use Rattle.lt_canon.specs.Texts.{AppendsCanonicalText};
 
 use lt_check::Checked;

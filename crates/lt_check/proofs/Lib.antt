@@ -10,3 +10,6 @@ mod WholeRecords
 mod RegularLists
 mod SeenRanges
 mod Judging
+-- What this crate alone uses.
+mod TextLemmas
+mod FlagLemmas

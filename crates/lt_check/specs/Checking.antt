@@ -2,7 +2,7 @@
 use Rattle.std.specs.Prelude.{ℕ, ◌≡◌, ◌+◌, ◌≤◌, Bool, true, false, List, Option, Some, None, All}
 use Rattle.lt_registry.specs.Parts.{EntryParts}
 use Rattle.lt_rewrite.specs.Shortcuts.{ShortcutParts, AreShortcuts}
-use Rattle.lt_usual.specs.Flags.{AreFlags}
+use Rattle.lt_check.specs.Flags.{AreFlags}
 use Rattle.lt_check.specs.Conditions.{Meets, rank_of, IsAtFault, Passes, IsFinding, IsChecked}
 use Rattle.lt_check.specs.WholeChecks.{MeetsBelow}
 use Rattle.lt_check.specs.declared.conditions.Condition.{Condition}

@@ -5,3 +5,7 @@ pub mod RegularTags
 pub mod RecordChecks
 pub mod NameChecks
 pub mod Checking
+pub mod Places
+pub mod Staying
+pub mod Flags
+pub mod Shown

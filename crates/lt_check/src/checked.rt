@@ -1,17 +1,17 @@
 //! A table of entries that passes the check.
 ghost use Rattle.std.specs.Prelude.{◌≡◌, ◌⊎◌, IfOk, IfErr};
 ghost use Rattle.lt_rewrite.specs.Shortcuts.{AreShortcuts};
-ghost use Rattle.lt_usual.specs.Flags.{AreFlags};
+ghost use Rattle.lt_check.specs.Flags.{AreFlags};
 ghost use Rattle.lt_check.specs.Conditions.{IsChecked, Passes};
 ghost use Rattle.lt_check.specs.Checking.{IsCause, IsFirstCause};
 ghost use Rattle.lt_check.specs.declared.rejections.RejectedCause.TheVariants as causes;
 
 use crate::checking::find_fault;
 use crate::rejections::{Rejected, RejectedCause};
+use crate::usual_subtags::UsualSubtags;
 use crate::whole_checks::know_entries;
 use lt_registry::Lookup;
 use lt_rewrite::Shortcuts;
-use lt_usual::UsualSubtags;
 use std::alloc::Global;
 use std::marker::Model;
 

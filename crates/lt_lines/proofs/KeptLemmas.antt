@@ -4,7 +4,7 @@ use Rattle.std.proofs.lemmas.Bool.Decides.{leb_tells}
 use Rattle.std.proofs.lemmas.List.{take-take}
 use Rattle.std.specs.Io.BufRead.{ends_with_byte}
 use Rattle.lt_jar.specs.Lines.{content_of}
-use Rattle.lt_tallies.specs.declared.Tally.{Tally}
+use Rattle.lt_stream.specs.declared.tallies.Tally.{Tally}
 use Rattle.lt_lines.specs.Answering.{KeepsPart, kept_of, longest_kept, part_kept}
 use Rattle.lt_lines.specs.Tallied.{CountsIf, line_at, most_shown}
 use Rattle.lt_lines.specs.declared.forms.LineForm.{LineForm}

@@ -7,7 +7,7 @@ use Rattle.lt_jar.specs.declared.devices.Device.{Device}
 use Rattle.lt_lines.specs.Marked.{EndsText, EndsTextInQuotes, FinishesText, HasRoomFor, IsNew, TakesText}
 use Rattle.lt_lines.specs.Owed.{AfterMark, IsBegunText, Terms, long_fault, units_of}
 use Rattle.lt_lines.specs.Tallied.{OwesAll, TalliesInQuotes, TalliesTooLong}
-use Rattle.lt_tallies.specs.declared.Tally.{Tally}
+use Rattle.lt_stream.specs.declared.tallies.Tally.{Tally}
 use Rattle.lt_lines.specs.Running.{EndsAs, RunsLines}
 use Rattle.lt_stream.specs.Pieces.{EndFact, IsStoppedByRead, IsStoppedByTurns, IsWithoutMemory, RunFact, RunsPieces}
 use Rattle.lt_lines.specs.Reading.{EndsReading, IsReading, StopsReading}

@@ -1,7 +1,7 @@
 -- One line more that is counted if it is refused.
 use Rattle.std.proofs.Common.{◌≡◌, ◌≤◌, ◌<◌, ◌+◌, ◌++◌, ◌∷◌, inl, inr, ℕ, List, [], Bool, true, false, length, ap, refl, subst, arith}
-use Rattle.lt_tallies.specs.Tallies.{Refused}
-use Rattle.lt_tallies.specs.declared.Tally.{Tally}
+use Rattle.lt_stream.specs.Tallies.{Refused}
+use Rattle.lt_stream.specs.declared.tallies.Tally.{Tally}
 use Rattle.lt_lines.specs.Owed.{AreRepliesFrom, Reply, Terms}
 use Rattle.lt_lines.specs.Tallied.{AreRefused, AreTalliesOf, CountsIf, IsRefusedAs}
 use Rattle.lt_lines.specs.declared.forms.LineForm.{LineForm}

@@ -26,9 +26,9 @@ use Rattle.lt_lines.specs.declared.forms.RowForm.{RowForm}
 use Rattle.std.proofs.lemmas.Result.{on_ok_weaker}
 use Rattle.std.proofs.Math.Seq.{drop-append_seam}
 use Rattle.lt_tag.specs.declared.faults.OutOfMemory.{OutOfMemory}
-use Rattle.lt_recent.specs.Recent.{PutsIn, kept}
-use Rattle.lt_recent.specs.declared.Kept.{Kept}
-use Rattle.lt_ends.proofs.KeptEnds.{all_put}
+use Rattle.lt_cache.specs.Recent.{PutsIn, kept}
+use Rattle.lt_cache.specs.declared.recent.Kept.{Kept}
+use Rattle.lt_cache.proofs.KeptEnds.{all_put}
 use Rattle.lt_lines.specs.declared.recent_answers.RecentAnswers.{RecentAnswers}
 use Rattle.lt_tag.specs.declared.faults.TagFaultKind.TheVariants as kinds
 use Rattle.lt_canon.specs.declared.refusals.TextRefusal.TheVariants as refusals

@@ -11,7 +11,7 @@ use Rattle.lt_lines.specs.Answering.{FinishesLines, IsFresh, TakesPiece}
 use Rattle.lt_lines.specs.Marked.{BeginsText, EndsText, EndsTextInQuotes, FinishesText, IsKeptFront, IsNew, TakesText}
 use Rattle.lt_lines.specs.Owed.{AfterMark, IsBegunText, SplitsText, Terms}
 use Rattle.lt_lines.specs.Tallied.{OwesAll}
-use Rattle.lt_tallies.proofs.TallyLemmas.{no_tallies}
+use Rattle.lt_stream.proofs.TallyLemmas.{no_tallies}
 use Rattle.lt_lines.specs.declared.answering.Answering.{Answering}
 use Rattle.lt_lines.specs.declared.marked.Marked.{Marked}
 use Rattle.lt_lines.specs.declared.runs.Counts.{Counts}

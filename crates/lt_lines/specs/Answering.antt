@@ -17,8 +17,8 @@ use Rattle.lt_lines.specs.Owed.{AreReplies, Ground, IsBegun, IsHeadingReply, IsR
 use Rattle.lt_stream.specs.Running.{longest_row}
 use Rattle.lt_stream.specs.DeviceOutput.{IsFrontOf}
 use Rattle.lt_lines.specs.Tallied.{AreTalliesOf, OwesAll, TalliesInQuotes, TalliesTooLong}
-use Rattle.lt_recent.specs.declared.Kept.{Kept}
-use Rattle.lt_ends.specs.Ends.{AreEnds}
+use Rattle.lt_cache.specs.declared.recent.Kept.{Kept}
+use Rattle.lt_cache.specs.Ends.{AreEnds}
 use Rattle.lt_lines.specs.declared.recent_answers.RecentAnswers.{RecentAnswers}
 use Rattle.lt_lines.specs.declared.answering.Answering.{Answering}
 use Rattle.lt_lines.specs.declared.forms.LineForm.{LineForm}

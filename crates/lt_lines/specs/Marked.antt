@@ -8,7 +8,7 @@ use Rattle.lt_lines.specs.Answering.{HasRoom, IsStop, IsTaken}
 use Rattle.lt_lines.specs.Owed.{AfterMark, IsBegunText, SplitsText, Terms, long_fault}
 use Rattle.lt_lines.specs.Tallied.{OwesAll, TalliesInQuotes, TalliesTooLong}
 use Rattle.lt_lines.specs.declared.marked.Marked.{Marked}
-use Rattle.lt_tallies.specs.declared.Tally.{Tally}
+use Rattle.lt_stream.specs.declared.tallies.Tally.{Tally}
 use Rattle.lt_lines.specs.declared.runs.Counts.{Counts}
 use Rattle.lt_stream.specs.declared.faults.ToolFault.{ToolFault}
 use Rattle.lt_stream.specs.declared.faults.ToolFault.TheVariants as faults

@@ -9,7 +9,7 @@ use Rattle.lt_lines.specs.Owed.{AfterMark, Terms}
 use Rattle.lt_lines.specs.Tallied.{OwesAll}
 use Rattle.lt_lines.specs.declared.marked.Marked.{Marked}
 use Rattle.lt_lines.specs.declared.runs.Counts.{Counts}
-use Rattle.lt_tallies.specs.declared.Tally.{Tally}
+use Rattle.lt_stream.specs.declared.tallies.Tally.{Tally}
 
 -- these bytes were taken, and what is owed for them was written
 pub record IsReading {W : Type 0} (T : Terms) (contents : W → Option (List ℕ)) (start now : Device W)

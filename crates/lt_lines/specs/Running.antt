@@ -11,7 +11,7 @@ use Rattle.lt_stream.specs.Running.{HasRead}
 use Rattle.lt_stream.specs.declared.faults.ToolFault.{ToolFault}
 use Rattle.lt_stream.specs.declared.faults.ToolFault.TheVariants as faults
 use Rattle.lt_lines.specs.declared.runs.Counts.{Counts}
-use Rattle.lt_tallies.specs.declared.Tally.{Tally}
+use Rattle.lt_stream.specs.declared.tallies.Tally.{Tally}
 
 -- the reader was read to its end, all that is owed was written, and what was refused is in the tallies
 pub record IsDone {I : Type 0} (T : Terms) (remaining : I → Option (List ℕ)) (input' : Device I)

@@ -2,8 +2,8 @@
 use Rattle.std.specs.Prelude.{◌≡◌, ◌⊎◌, ◌+◌, ◌<◌, ◌^◌, ℕ, Bool, true, false, List, [], ◌∷◌, ◌++◌, drop, if◌then◌else◌, length, nat_le, take}
 use Rattle.std.specs.List.{before_first}
 use Rattle.lt_jar.specs.Lines.{content_of}
-use Rattle.lt_tallies.specs.Tallies.{AreTallies, Refused}
-use Rattle.lt_tallies.specs.declared.Tally.{Tally}
+use Rattle.lt_stream.specs.Tallies.{AreTallies, Refused}
+use Rattle.lt_stream.specs.declared.tallies.Tally.{Tally}
 use Rattle.lt_lines.specs.Owed.{EndsInQuotes, EndsTooLong, IsOwed, IsOwedToLastFeed, Reply, Terms, units_of}
 use Rattle.lt_rows.specs.Rows.{HasFewer, HasField, IsTextIn}
 use Rattle.lt_lines.specs.declared.runs.Counts.{Counts}

@@ -2,13 +2,13 @@
 ghost use Rattle.std.specs.Prelude.{◌≡◌, ◌≤◌, ◌++◌, IfOk, OnOk, vec_len};
 ghost use Rattle.std.specs.Fmt.{decimal};
 ghost use Rattle.lt_jar.specs.Lines.{content_of};
-ghost use Rattle.lt_ends.specs.Ends.{AreEnds};
+ghost use Rattle.lt_cache.specs.Ends.{AreEnds};
 ghost use Rattle.lt_lines.specs.Answering.{AppendsTextReply};
 ghost use Rattle.lt_lines.specs.Refusals.{AppendsRefusal, AppendsTold};
 
 use itoa::Buffer;
 use lt_canon::{Checked, TextRefusal};
-use lt_ends::RecentEnds;
+use lt_cache::RecentEnds;
 use lt_registry::Lookup;
 use lt_tag::OutOfMemory;
 use std::alloc::{AllocError, Global};

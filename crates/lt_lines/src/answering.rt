@@ -21,9 +21,8 @@ use crate::tallying::count_if;
 use lt_jar::Device;
 use lt_registry::Lookup;
 use lt_rows::{Lacks, Look, Place, Separator, split_first};
-use lt_stream::{ToolFault, write_text};
+use lt_stream::{Tallies, ToolFault, write_text};
 use lt_tag::OutOfMemory;
-use lt_tallies::Tallies;
 use std::alloc::{AllocError, Global};
 use std::io::Write;
 

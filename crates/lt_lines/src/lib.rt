@@ -16,6 +16,5 @@ mod tallying;
 pub use answer_lines::append_refusal;
 pub use bases::Basis;
 pub use forms::{LineForm, RowForm};
-pub use lt_stream::{ToolFault, write_fault, write_text};
-pub use lt_tallies::{Tallies, Tally};
+pub use lt_stream::{Tallies, Tally, ToolFault, write_fault, write_text};
 pub use runs::{Counts, run_lines};

@@ -6,7 +6,7 @@ ghost use Rattle.lt_lines.specs.Tallied.{CountsIf, CountsLine, IsFieldOrNone, Is
 use crate::answer_lines::without_return;
 use crate::forms::{LineForm, RowForm};
 use lt_rows::{Separator, find_field, text_in};
-use lt_tallies::Tallies;
+use lt_stream::Tallies;
 use std::alloc::{AllocError, Global};
 
 /// The most bytes that are shown of a text that is refused.

@@ -5,3 +5,4 @@ pub mod PartLemmas
 mod RunLemmas
 mod LinedLemmas
 mod LineRunLemmas
+pub mod TallyLemmas

@@ -5,3 +5,4 @@ pub mod Running
 pub mod Pieces
 pub mod Lines
 pub mod Lined
+pub mod Tallies

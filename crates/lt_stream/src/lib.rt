@@ -1,4 +1,5 @@
-//! Runs over readers: the lines that are cut, what is owed for them, and what ends a run. It is a part of the program
+//! Runs over readers: the lines that are cut, what is owed for them, what ends a run, and how many were refused
+//! by each fault. It is a part of the program
 //! `langtag`; a program of your own begins with the crate `bcp47`.
 #![tactic(auto)]
 
@@ -6,8 +7,10 @@ mod device_output;
 mod faults;
 mod lines;
 mod pieces;
+mod tallies;
 
 pub use device_output::{write_fault, write_text};
 pub use faults::ToolFault;
 pub use lines::{Lines, run_lines};
 pub use pieces::{Pieces, run_pieces};
+pub use tallies::{Tallies, Tally};

@@ -4,7 +4,7 @@ use Rattle.std.specs.Prelude.{ℕ, ◌&&◌, ◌==◌, ◌++◌, List, [], ◌�
 use Rattle.std.specs.List.{flat_map}
 use Rattle.std.specs.Fmt.{decimal}
 use Rattle.lt_lines.specs.declared.runs.Counts.{Counts}
-use Rattle.lt_tallies.specs.declared.Tally.{Tally}
+use Rattle.lt_stream.specs.declared.tallies.Tally.{Tally}
 use Rattle.lt_terminal.specs.Advice.{advice_line}
 
 -- the unit, with the ending of the plural (115) where there is not one

@@ -1,5 +1,5 @@
 //! Lines that are put into a table and found there again.
-use lt_recent::{Recent, ShortText};
+use lt_cache::{Recent, ShortText};
 use std::alloc::{AllocError, Global};
 use std::test::Fail;
 

@@ -2,7 +2,7 @@
 use super::upgrades::checked;
 use lt_canon::Checked;
 use lt_registry::Lookup;
-use lt_settled::append_canonical_text;
+use lt_cache::append_canonical_text;
 use lt_test_tables::sample;
 use std::alloc::Global;
 use std::test::Fail;

@@ -1,7 +1,7 @@
 use Rattle.std.proofs.Common.{arith, ◌≡◌, ◌∙◌, ap, length, min, refl, take}
 use Rattle.std.proofs.lemmas.List.{take_min}
 use Rattle.std.proofs.lemmas.Result.{on_ok_weaker}
-use Rattle.lt_tallies.specs.Tallies.{refused}
+use Rattle.lt_stream.specs.Tallies.{refused}
 use Rattle.lt_lines.specs.Tallied.{most_shown}
 use Rattle.lt_lines.proofs.tallying.count_line.Goals as goal
 

@@ -1,5 +1,5 @@
 use Rattle.std.proofs.Common.{◌++◌, ◌∙◌, ap}
-use Rattle.lt_tallies.specs.declared.Tally.{Tally}
+use Rattle.lt_stream.specs.declared.tallies.Tally.{Tally}
 use Rattle.lt_terminal.specs.Table.{tally_told}
 use Rattle.lt_terminal.proofs.TableLemmas.{told_more}
 use Rattle.lt_terminal.proofs.table.append_tallies.Goals as goal

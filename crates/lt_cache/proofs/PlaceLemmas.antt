@@ -1,0 +1,26 @@
+-- Places that hold nothing, and those that were made.
+use Rattle.std.proofs.Common.{◌≡◌, ◌<◌, ◌∷◌, ℕ, zero, suc, List, [], Option, None, length, replicate, refl, ap, arith}
+use Rattle.std.specs.List.{All}
+use Rattle.std.proofs.lemmas.List.Elements.{All-nil, All-cons}
+use Rattle.lt_cache.specs.Places.{blank_places, made}
+use Rattle.lt_cache.specs.Recent.{IsBlank}
+use Rattle.lt_cache.specs.declared.recent.Kept.{Kept}
+
+blank_is : (n : ℕ) → All (λ (place : Option Kept). place ≡ None) (replicate n None)
+blank_is zero = All-nil (λ (place : Option Kept). place ≡ None)
+blank_is (suc n) = All-cons (λ (place : Option Kept). place ≡ None) None (replicate n None) refl (blank_is n)
+
+-- they hold nothing
+pub places_blank : IsBlank blank_places
+unfolding blank_places
+places_blank = blank_is 16384
+
+-- as many as there are
+pub places_blank_are : (n : ℕ) → n ≡ 16384 → replicate n None ≡ blank_places
+unfolding blank_places
+places_blank_are n e = ap (λ k. replicate k None) e
+
+-- places that were made are as they are
+pub made_some : (places : List (Option Kept)) → 0 < length places → made places ≡ places
+made_some [] some = absurd (omega (arith, some))
+made_some (place ∷ places) some = refl

@@ -1,0 +1,175 @@
+-- An end that is canonical but for the case of its letters is that end of each canonical text.
+use Rattle.std.proofs.Common.{◌≡◌, ℕ, ◌<◌, ◌≤◌, ◌+◌, true, false, List, [], ◌∷◌, ◌++◌, refl, sym, ap, ◌∙◌, subst, subst₂, length, arith, inl, inr, ◌⊎◌, ◌==◌, ◌&&◌, ◌||◌, None}
+use Rattle.std.specs.Prelude.{Result, Ok, Err, OnOk, is_err}
+use Rattle.std.specs.List.{list_all, AllByRecursion, join_with_byte}
+use Rattle.std.specs.Char.{to_ascii_lowercase}
+use Rattle.std.proofs.lemmas.Bool.{cases_Bool, and_parts, eqb-true}
+use Rattle.std.proofs.lemmas.Bool.Decides.{nat_tests}
+use Rattle.std.proofs.lemmas.List.{append_assoc, length-append, length-map}
+use Rattle.lt_subtag.specs.Bytes.{folded, is_subtag}
+use Rattle.lt_subtag.specs.Shapes.{is_singleton}
+use Rattle.lt_tag.specs.Parts.{ExtensionParts}
+use Rattle.lt_tag.specs.Extensions.{unicode}
+use Rattle.lt_tag.specs.Lists.{list_of, pieces, longest_text}
+use Rattle.lt_tag.specs.Conventional.{conventional}
+use Rattle.lt_tag.specs.Spelling.{spell_core}
+use Rattle.lt_tag.proofs.LetterLemmas.{join_pieces, list_of_is}
+use Rattle.lt_tag.proofs.ListedLemmas.{length-pieces}
+use Rattle.lt_tag.proofs.TextLemmas.{some_pieces}
+use Rattle.lt_registry.specs.Parts.{EntryParts}
+use Rattle.lt_registry.specs.Validity.{HasDistinctSource}
+use Rattle.lt_rewrite.specs.Rewriting.{IsNormalForm}
+use Rattle.lt_rewrite.specs.Orderings.{ListStep, by_swap, by_drop}
+use Rattle.lt_rewrite.specs.Extensions.{ExtensionStep, singleton_cmp}
+use Rattle.lt_rewrite.proofs.NormalForms.{normal_is_form, rest_is_form, star_rests}
+use Rattle.lt_rewrite.proofs.ExtensionLaws.{extension, extension_formed, extensions_ordered, unicode_settled}
+use Rattle.lt_check.specs.Conditions.{IsChecked}
+use Rattle.lt_check.proofs.Checks.{core_conditions}
+use Rattle.lt_canon.specs.Texts.{AppendsCanonicalText}
+use Rattle.lt_canon.proofs.TagForm.{extension_end, extensions_end, extensions_end_formed, none_rests}
+use Rattle.lt_canon.proofs.StayingTags.{stays_canonical}
+use Rattle.lt_check.specs.Staying.{IsStaying}
+use Rattle.lt_cache.specs.Ends.{IsEnd, IsEndText, IsCanonicalCore}
+use Rattle.lt_cache.proofs.KeptEnds.{CanFollow, text_with, whole_list, extension_alone, spell_rest}
+use Rattle.lt_cache.specs.SettledEnds.{keys_rise, is_settled_end}
+use Rattle.lt_cache.proofs.KeysRise.{Rise, rise, parts, parts_found, parts_rest}
+
+-- the text of the list of a text
+list_text : (text : List ℕ) → join_with_byte 45 (list_of text) ≡ folded text
+list_text text = ap (join_with_byte 45) (list_of_is text) ∙ join_pieces (folded text)
+
+-- after another subtag
+after_first : (b : ℕ) (text : List ℕ) → join_with_byte 45 ((b ∷ []) ∷ list_of text) ≡ b ∷ 45 ∷ folded text
+after_first b text = go (list_of text) (omega (arith, length-map (pieces text) folded, some_pieces text)) ∙ ap (λ (l : List ℕ). b ∷ 45 ∷ l) (list_text text)
+  where
+    go : (ss : List (List ℕ)) → 0 < length ss → join_with_byte 45 ((b ∷ []) ∷ ss) ≡ b ∷ 45 ∷ join_with_byte 45 ss
+    go [] n = absurd (omega arith)
+    go (s ∷ ss) n = refl
+
+some_list : (text : List ℕ) → 0 < length (list_of text)
+some_list text = omega (arith, length-map (pieces text) folded, some_pieces text)
+
+few_list : (text : List ℕ) → length (list_of text) ≤ length text + 1
+few_list text = omega (arith, length-map (pieces text) folded, length-pieces text)
+
+-- an end of a letter and a rest
+abbrev end_of : ℕ → List ℕ → List ℕ
+end_of s rest = 45 ∷ s ∷ 45 ∷ rest
+
+-- one extension is in order
+no_step : (e : ExtensionParts) (fs : List ExtensionParts) → ListStep false singleton_cmp (e ∷ []) fs → ⊥
+no_step e fs (by_swap before a b after s) = omega (arith, ap length s.there, length-append before (a ∷ b ∷ after))
+no_step e fs (by_drop before a between b after o s) = let bad : false ≡ true = o in cc
+
+u_singleton : is_singleton (unicode ∷ []) ≡ true
+unfolding is_singleton is_subtag
+u_singleton = refl
+
+module _ (R : List EntryParts) (C : IsChecked R) where
+  abbrev u_of : List (List ℕ) → ExtensionParts
+  u_of ss = extension unicode ss
+
+  u_ended : (ss : List (List ℕ)) → Rise None ss → 0 < length ss → extensions_end R C (u_of ss ∷ []) ≡ u_of ss ∷ []
+  u_ended ss r some =
+      let found = parts_found ss r some in
+      let settled : IsNormalForm (ExtensionStep R) (u_of ss) (u_of ss) = subst (λ (l : List (List ℕ)). IsNormalForm (ExtensionStep R) (u_of ss) (u_of l)) found.spelled (unicode_settled R (u_of ss) (parts ss) (parts ss) refl found (parts_rest ss r)) in
+      sym (star_rests (extensions_ordered R C.registry (core_conditions R C.passes) (u_of ss ∷ [])) (no_step (extension_end R C (u_of ss))))
+      ∙ ap (λ (e : ExtensionParts). e ∷ []) (normal_is_form (extension_formed R C.registry (core_conditions R C.passes)) (u_of ss) (u_of ss) settled)
+
+  u_distinct : (ss : List (List ℕ)) → HasDistinctSource (u_of ss)
+  u_distinct ss = λ t q k. absurd (omega (arith, t))
+
+  u_follows : (ss : List (List ℕ)) → Rise None ss → 0 < length ss → length ss ≤ longest_text → CanFollow R C (u_of ss ∷ []) []
+  u_follows ss r some few = record {
+    parts = λ c k. record {
+      core = k;
+      values = (record { shaped = record { singleton = u_singleton; subtags = r.subtags; some = some }; subtags = few }, tt);
+      count = omega arith;
+      private = refl;
+      private_count = omega arith;
+      extensions = ((λ t. absurd (omega (arith, t))), tt);
+      singletons = (tt, tt);
+    };
+    distinct = (u_distinct ss, tt);
+    sources = subst (AllByRecursion HasDistinctSource) (sym (u_ended ss r some)) (u_distinct ss, tt);
+    some = omega arith;
+  }
+
+  -- a `u` extension of keywords whose keys rise
+  u_text : (s : ℕ) (rest : List ℕ) → to_ascii_lowercase s ≡ 117 → keys_rise None (list_of rest) ≡ true → IsEndText R (end_of s rest) (45 ∷ 117 ∷ 45 ∷ folded rest)
+  u_text s rest is_u h front F short =
+      let ss = list_of rest in
+      let r = rise None ss h in
+      let some = some_list rest in
+      let few : length ss ≤ longest_text = omega (arith, few_list rest, short, length-append front (end_of s rest)) in
+      let E : IsEnd (end_of s rest) = record { singleton = s; rest = rest; single = λ e. let bad : to_ascii_lowercase 45 ≡ 117 = ap to_ascii_lowercase (sym e) ∙ is_u in absurd (omega (arith, bad)); whole = refl } in
+      text_with R C front (end_of s rest) _ F (u_of ss ∷ []) [] (u_follows ss r some few)
+      (whole_list front (end_of s rest) F.core E F.read ∙ ap (λ (l : List (List ℕ)). spell_core F.core ++ l) ((λ i. (is_u i ∷ []) ∷ ss) ∙ sym (extension_alone (u_of ss))))
+      (ap (λ (es : List ExtensionParts). join_with_byte 45 (spell_rest es [])) (u_ended ss r some) ∙ ap (join_with_byte 45) (extension_alone (u_of ss)) ∙ after_first 117 rest) short
+
+  x_ended : extensions_end R C [] ≡ []
+  x_ended = rest_is_form (extensions_end_formed R C) [] (none_rests R)
+
+  -- private use
+  private_list : (ps : List (List ℕ)) → 0 < length ps → spell_rest [] ps ≡ (120 ∷ []) ∷ ps
+  private_list [] n = absurd (omega arith)
+  private_list (p ∷ ps) n = refl
+
+  x_text : (s : ℕ) (rest : List ℕ) → to_ascii_lowercase s ≡ 120 → list_all is_subtag (list_of rest) ≡ true → IsEndText R (end_of s rest) (45 ∷ 120 ∷ 45 ∷ folded rest)
+  x_text s rest is_x h front F short =
+      let ps = list_of rest in
+      let some = some_list rest in
+      let E : IsEnd (end_of s rest) = record { singleton = s; rest = rest; single = λ e. let bad : to_ascii_lowercase 45 ≡ 120 = ap to_ascii_lowercase (sym e) ∙ is_x in absurd (omega (arith, bad)); whole = refl } in
+      let follow : CanFollow R C [] ps = record {
+        parts = λ c k. record {
+          core = k;
+          values = tt;
+          count = omega arith;
+          private = h;
+          private_count = omega (arith, few_list rest, short, length-append front (end_of s rest));
+          extensions = tt;
+          singletons = tt;
+        };
+        distinct = tt;
+        sources = subst (AllByRecursion HasDistinctSource) (sym x_ended) tt;
+        some = omega (arith, some);
+      } in
+      text_with R C front (end_of s rest) _ F [] ps follow
+      (whole_list front (end_of s rest) F.core E F.read ∙ ap (λ (l : List (List ℕ)). spell_core F.core ++ l) ((λ i. (is_x i ∷ []) ∷ ps) ∙ sym (private_list ps some)))
+      (ap (λ (es : List ExtensionParts). join_with_byte 45 (spell_rest es ps)) x_ended ∙ ap (join_with_byte 45) (private_list ps some) ∙ after_first 120 rest) short
+
+  -- the one or the other
+  cases : (s : ℕ) (rest : List ℕ) → ((((s == 117) || (s == 85)) && keys_rise None (list_of rest)) || (((s == 120) || (s == 88)) && list_all is_subtag (list_of rest))) ≡ true
+      → ((to_ascii_lowercase s ≡ 117) × (keys_rise None (list_of rest) ≡ true)) ⊎ ((to_ascii_lowercase s ≡ 120) × (list_all is_subtag (list_of rest) ≡ true))
+  cases s rest h = elim (cases_Bool (((s == 117) || (s == 85)) && keys_rise None (list_of rest))) [
+    | inl e ↦ inl (grind (arith, nat_tests), grind (arith, nat_tests))
+    | inr e ↦ inr (grind (arith, nat_tests), grind (arith, nat_tests))
+  ]
+
+  by_letter : (s : ℕ) (rest : List ℕ) → ((to_ascii_lowercase s ≡ 117) × (keys_rise None (list_of rest) ≡ true)) ⊎ ((to_ascii_lowercase s ≡ 120) × (list_all is_subtag (list_of rest) ≡ true))
+      → IsEndText R (end_of s rest) (folded (end_of s rest))
+  by_letter s rest (inl u) = subst (λ (b : ℕ). IsEndText R (end_of s rest) (45 ∷ b ∷ 45 ∷ folded rest)) (sym u.0) (u_text s rest u.0 u.1)
+  by_letter s rest (inr x) = subst (λ (b : ℕ). IsEndText R (end_of s rest) (45 ∷ b ∷ 45 ∷ folded rest)) (sym x.0) (x_text s rest x.0 x.1)
+
+  settled_text : (end : List ℕ) → is_settled_end end ≡ true → IsEndText R end (folded end)
+  settled_text (h ∷ s ∷ i ∷ rest) t =
+      let q = and_parts ((h == 45) && (i == 45)) _ t in
+      let hyphens = and_parts (h == 45) (i == 45) q.0 in
+      subst₂ (λ (a b : ℕ). IsEndText R (a ∷ s ∷ b ∷ rest) (folded (a ∷ s ∷ b ∷ rest))) (sym (eqb-true h 45 hyphens.0)) (sym (eqb-true i 45 hyphens.1)) (by_letter s rest (cases s rest q.1))
+  settled_text _ t = cc
+
+-- what holds where there is no error
+pub ok_holds : {A B : Type 0} (r : Result A B) (P : Type 0) → is_err r ≡ false → OnOk r P → P
+ok_holds (Ok a) P none holds = holds
+ok_holds (Err b) P none holds = cc
+
+-- the canonical text of a front that stays and such an end was appended
+pub settled_appended : (R : List EntryParts) → IsChecked R → (front end text old middle new : List ℕ) → IsStaying R front → is_settled_end end ≡ true → front ++ end ≡ text → length text ≤ longest_text
+    → middle ≡ old ++ conventional (list_of front) → new ≡ middle ++ folded end → AppendsCanonicalText R text old new
+settled_appended R C front end text old middle new stay settled whole short front_grown end_grown =
+    let F : IsCanonicalCore R front = record { core = stay.0; read = stay.1.read; canonical = (stays_canonical R front stay.0 stay.1 C).canonical } in
+    record {
+      canonical = conventional (list_of front) ++ folded end;
+      grown = end_grown ∙ ap (λ (l : List ℕ). l ++ folded end) front_grown ∙ append_assoc old (conventional (list_of front)) (folded end);
+      is_canonical = rw (← whole) (settled_text R C end settled front F (omega (arith, short, ap length whole)));
+    }

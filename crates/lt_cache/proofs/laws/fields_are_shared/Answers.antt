@@ -1,0 +1,5 @@
+use Rattle.lt_cache.proofs.KeptEnds.{fields_shared}
+use Rattle.lt_cache.proofs.laws.fields_are_shared.Goals as goal
+
+pub returns : goal.returns
+returns c = fields_shared

@@ -1,0 +1,12 @@
+use Rattle.std.proofs.Common.{◌∙◌, ◌++◌, ◌∷◌, [], List, Option, None, ap, arith}
+use Rattle.std.proofs.lemmas.List.{replicate_more}
+use Rattle.lt_cache.specs.declared.recent.Kept.{Kept}
+use Rattle.lt_cache.proofs.PlaceLemmas.{places_blank_are}
+use Rattle.lt_cache.proofs.recent.blank.Goals as goal
+
+pub loop-place-preserved : goal.loop-place-preserved
+loop-place-preserved c =
+    c.in_ok-push.ensures.items ∙ ap (λ (places : List (Option Kept)). places ++ None ∷ []) c.loop-place.invariant ∙ replicate_more c.loop-place._place None
+
+pub returns : goal.returns
+returns c = c.loop-place.invariant ∙ places_blank_are c.loop-place._place (omega (arith, c.loop-place-test.false, c.loop-place.auto))

@@ -1,0 +1,6 @@
+pub mod Padded
+pub mod Places
+pub mod Recent
+pub mod Ends
+pub mod Appending
+pub mod SettledEnds

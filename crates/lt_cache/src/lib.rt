@@ -1,0 +1,19 @@
+//! What was made canonical lately, and texts that are canonical already, so that neither is made canonical again: a table of
+//! fixed size with answers; the ends of tags, from the first one-character subtag on, of which a law says that they are right
+//! after any canonical core; and texts whose end is told to be canonical without reading them as tags. It is a part of the
+//! program `langtag` and of the library; a program of your own begins with the crate `bcp47`.
+#![tactic(auto)]
+
+mod ends;
+pub mod laws;
+mod pieces;
+mod recent;
+mod recent_ends;
+mod short_texts;
+mod splitting;
+mod texts;
+
+pub use recent::{Found, Recent};
+pub use recent_ends::RecentEnds;
+pub use short_texts::ShortText;
+pub use texts::append_canonical_text;

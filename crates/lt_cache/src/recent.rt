@@ -1,0 +1,133 @@
+//! A table of fixed size with the answers that were given lately: lines repeat, and an answer that is found is
+//! not worked out again. It holds what was put into it for just these bytes, or nothing.
+ghost use Rattle.std.specs.Prelude.{◌≡◌, ◌≤◌, length, take, IfSome, IfOk};
+ghost use Rattle.lt_cache.specs.Places.{blank_places};
+ghost use Rattle.lt_cache.specs.Recent.{Holds, IsBlank, PutsIn};
+
+use crate::short_texts::ShortText;
+use std::alloc::{AllocError, Global};
+use std::marker::Model;
+
+/// How many pairs of places the table has. A place takes 67 bytes.
+const PAIRS: usize = 8192;
+
+/// An answer, the line that it was given to, and whether it is a refusal.
+#[derive(Drop)]
+struct Kept {
+    line: ShortText,
+    answer: ShortText,
+    refused: bool,
+}
+
+/// What a table has for a line.
+#[derive(Drop)]
+pub struct Found<'t> {
+    /// The answer that was put for the line.
+    pub answer: &'t ShortText,
+    /// Whether it is a refusal.
+    pub refused: bool,
+}
+
+/// The answers that were given lately, each in one of the two places that its line gives: the first has what was put
+/// last, and the second what was put before. Its places are made for the first answer. Where there is no memory for
+/// them, it keeps nothing.
+#[derive(Drop)]
+pub struct Recent {
+    alloc: Global,
+    /// None until an answer is put.
+    places: Vec<Option<Kept>>,
+}
+
+impl Model for Recent {
+    ghost use Rattle.std.specs.Prelude.{List, Option};
+    ghost use Rattle.lt_cache.specs.declared.recent.Kept.{Kept};
+    ghost use Rattle.lt_cache.specs.Places.{made};
+
+    ghost Value = { List (Option Kept) };
+
+    ghost view = { λ table. made table.places.items };
+}
+
+/// Places that hold nothing.
+fn blank(alloc: Global) -> Result<Vec<Option<Kept>>, AllocError>
+    ensures { IfOk result (λ places. places.items ≡ blank_places) }
+{
+    let mut places = Vec::with_capacity(alloc, 2 * PAIRS)?;
+    for _place in 0..2 * PAIRS {
+        places.push(None)?;
+    }
+    Ok(places)
+}
+
+impl Recent {
+    /// A table that holds nothing. It takes no memory yet.
+    pub fn new(alloc: Global) -> Recent
+        ensures { IsBlank result }
+    {
+        Recent {
+            alloc,
+            places: Vec::new(alloc),
+        }
+    }
+
+    /// Makes the places, if there are none and there is memory for them.
+    fn make_places(&mut self)
+        ensures { self.new ≡ self.old }
+    {
+        if self.places.is_empty() {
+            if let Ok(places) = blank(self.alloc) {
+                self.places = places;
+            }
+        }
+    }
+
+    /// What a place has for a line.
+    #[inline(always)]
+    fn at(&self, index: usize, line: &ShortText) -> Option<Found<'_>>
+        ensures { IfSome result (λ found. Holds self.now line.now found.answer.now found.refused) }
+    {
+        match self.places.get(index) {
+            Some(Some(kept)) if kept.line.is(line) => Some(Found {
+                answer: &kept.answer,
+                refused: kept.refused,
+            }),
+            _ => None,
+        }
+    }
+
+    /// The answer that was put for the first `count` bytes of a text, if the table still holds it.
+    pub fn find(&self, text: &[u8], count: usize) -> Option<Found<'_>>
+        requires { count ≤ length text.now }
+        ensures { IfSome result (λ found. Holds self.now (take count text.now) found.answer.now found.refused) }
+    {
+        let line = ShortText::front(text, count)?;
+        let first = 2 * (line.hash() % PAIRS);
+        match self.at(first, &line) {
+            None => self.at(first + 1, &line),
+            found => found,
+        }
+    }
+
+    /// Puts an answer for a line where it belongs, if both have at most 32 bytes, in place of what was put
+    /// there the time before last.
+    pub fn put(&mut self, line: &[u8], answer: &[u8], refused: bool)
+        ensures { PutsIn self.old self.new line.now answer.now refused }
+    {
+        let (Some(line), Some(answer)) = (
+            ShortText::front(line, line.len()),
+            ShortText::front(answer, answer.len()),
+        ) else {
+            return;
+        };
+        self.make_places();
+        let first = 2 * (line.hash() % PAIRS);
+        if first + 1 < self.places.len() {
+            self.places.swap(first, first + 1);
+            self.places[first] = Some(Kept {
+                line,
+                answer,
+                refused,
+            });
+        }
+    }
+}

@@ -1,0 +1,254 @@
+//! Canonical texts of ends that were given lately.
+ghost use Rattle.std.specs.Prelude.{◌≡◌, ◌≤◌, ◌⊎◌, ◌++◌, ◌∷◌, List, IfOk, IfErr, IfSome, IsTrue, OnOk, OnErr, vec_len};
+ghost use Rattle.lt_subtag.specs.Bytes.{folded};
+ghost use Rattle.lt_registry.specs.Parts.{EntryParts};
+ghost use Rattle.lt_canon.specs.Texts.{AppendsCanonicalText, IsTextRefusal};
+ghost use Rattle.lt_cache.specs.Ends.{AreEnds, IsCanonicalCore, IsEnd, IsTransformed};
+ghost use Rattle.lt_cache.specs.Appending.{AppendsEnd, AppendsFront, AppendsKept, AppendsTransformed, EndStands, EndsText};
+
+use crate::recent::Recent;
+use crate::splitting::{split_end, split_source};
+use lt_canon::{Checked, TextRefusal, append_canonical_text};
+use lt_registry::Lookup;
+use lt_tag::OutOfMemory;
+use std::alloc::Global;
+use std::marker::Model;
+
+/// The ends of tags that were made canonical lately, each with the end of the canonical text. An end begins with the
+/// hyphen before the first one-character subtag; where that is a `t` after which a source stays as it is, with the hyphen
+/// before the first field.
+#[derive(Drop)]
+pub struct RecentEnds {
+    texts: Recent,
+}
+
+impl Model for RecentEnds {
+    ghost use Rattle.std.specs.Prelude.{List, Option};
+    ghost use Rattle.lt_cache.specs.declared.recent.Kept.{Kept};
+
+    ghost Value = { List (Option Kept) };
+
+    ghost view = { λ ends. ends.texts };
+}
+
+/// Appends a front in conventional case, where each of its subtags stays as it is; tells whether it did.
+#[inline(always)]
+fn append_front<L: Lookup>(
+    checked: &Checked<L>,
+    front: &[u8],
+    texts: &mut Vec<u8>,
+) -> Result<bool, OutOfMemory>
+    ensures told { IfOk result (AppendsFront (L.listed checked.now) front.now texts.old.items texts.new.items) }
+    ensures kept { OnErr result (texts.new.items ≡ texts.old.items) }
+{
+    let told = checked.usual().append_text(front, texts)?;
+    Ok(told)
+}
+
+/// Whether a text is a core whose subtags stay as they are. The other texts are left as they were.
+#[inline(always)]
+fn is_staying<L: Lookup>(checked: &Checked<L>, text: &[u8], texts: &mut Vec<u8>) -> bool
+    ensures core { IsTrue result → IsCanonicalCore (L.listed checked.now) text.now }
+    ensures kept { texts.new.items ≡ texts.old.items }
+{
+    let before = texts.len();
+    match append_front(checked, text, texts) {
+        Ok(stays) => {
+            texts.truncate(before);
+            stays
+        }
+        Err(_) => false,
+    }
+}
+
+/// The source of a `t` extension, where its subtags stay as they are, and its fields. The other texts are left as they
+/// were.
+#[inline(always)]
+fn staying_source<'e, L: Lookup>(
+    checked: &Checked<L>,
+    end: &'e [u8],
+    texts: &mut Vec<u8>,
+) -> Option<(&'e [u8], &'e [u8])>
+    ensures source { IfSome result (λ parts. IsCanonicalCore (L.listed checked.now) parts.0.now) }
+    ensures end { IfSome result (λ parts. IsTransformed parts.0.now parts.1.now end.now) }
+    ensures kept { texts.new.items ≡ texts.old.items }
+{
+    let (source, fields) = split_source(end)?;
+    if is_staying(checked, source, texts) {
+        Some((source, fields))
+    } else {
+        None
+    }
+}
+
+/// Appends a `t` extension up to its fields.
+#[inline(always)]
+fn append_source(source: &[u8], texts: &mut Vec<u8>) -> Result<(), OutOfMemory>
+    ensures { OnOk result (texts.new.items ≡ texts.old.items ++ (45 ∷ 116 ∷ 45 ∷ folded source.now)) }
+{
+    texts.extend_from_slice(b"-t-")?;
+    let start = texts.len();
+    texts.extend_from_slice(source)?;
+    texts[start..].make_ascii_lowercase();
+    Ok(())
+}
+
+impl RecentEnds {
+    /// Ends of which none is kept. Where there is no memory for them, it stays so.
+    pub fn new(alloc: Global) -> RecentEnds
+        ensures { (entries : List EntryParts) → AreEnds entries result }
+    {
+        RecentEnds {
+            texts: Recent::new(alloc),
+        }
+    }
+
+    /// Appends what follows a core in a canonical text, where it is kept for an end; tells whether it did.
+    #[inline(always)]
+    fn append_kept(&self, end: &[u8], texts: &mut Vec<u8>) -> Result<bool, OutOfMemory>
+        ensures { IfOk result (AppendsKept self.now end.now texts.old.items texts.new.items) }
+    {
+        match self.texts.find(end, end.len()) {
+            Some(found) => {
+                found.answer.append_to(texts)?;
+                Ok(true)
+            }
+            None => Ok(false),
+        }
+    }
+
+    /// Appends a `t` extension of a source and fields, where what follows a source is kept for the fields; tells whether
+    /// it did.
+    #[inline(always)]
+    fn append_transformed(
+        &self,
+        source: &[u8],
+        fields: &[u8],
+        texts: &mut Vec<u8>,
+    ) -> Result<bool, OutOfMemory>
+        ensures { IfOk result (AppendsTransformed self.now source.now fields.now texts.old.items texts.new.items) }
+    {
+        match self.texts.find(fields, fields.len()) {
+            Some(found) => {
+                append_source(source, texts)?;
+                found.answer.append_to(texts)?;
+                Ok(true)
+            }
+            None => Ok(false),
+        }
+    }
+
+    /// Appends what follows a core in a canonical text, for a `t` extension by what is kept for its fields; tells whether
+    /// it did.
+    #[inline(always)]
+    #[tactic(auto, using(crate::proofs::KeptEnds::transformed_appended))]
+    fn append_by_fields<L: Lookup>(
+        &self,
+        checked: &Checked<L>,
+        end: &[u8],
+        texts: &mut Vec<u8>,
+    ) -> Result<bool, OutOfMemory>
+        ensures { IfOk result (AppendsEnd (L.listed checked.now) self.now end.now texts.old.items texts.new.items) }
+    {
+        match staying_source(checked, end, texts) {
+            Some((source, fields)) => self.append_transformed(source, fields, texts),
+            None => Ok(false),
+        }
+    }
+
+    /// Appends what follows a core in a canonical text, by what is kept for an end or for its fields; tells whether it did.
+    #[inline(always)]
+    #[tactic(auto, using(crate::proofs::KeptEnds::kept_appended_after))]
+    fn append_end<L: Lookup>(
+        &self,
+        checked: &Checked<L>,
+        end: &[u8],
+        texts: &mut Vec<u8>,
+    ) -> Result<bool, OutOfMemory>
+        requires { IsEnd end.now }
+        ensures { IfOk result (AppendsEnd (L.listed checked.now) self.now end.now texts.old.items texts.new.items) }
+    {
+        if self.append_by_fields(checked, end, texts)? {
+            return Ok(true);
+        }
+        Ok(self.append_kept(end, texts)?)
+    }
+
+    /// Keeps what texts end in, from a place on, for an end, or what follows the source for its fields. The texts are left
+    /// as they were.
+    fn keep<L: Lookup>(
+        &mut self,
+        checked: &Checked<L>,
+        end: &[u8],
+        from: usize,
+        texts: &mut Vec<u8>,
+    )
+        requires { EndStands (L.listed checked.now) end.now from texts.old.items }
+        ensures ends { AreEnds (L.listed checked.now) self.old → AreEnds (L.listed checked.now) self.new }
+        ensures kept { texts.new.items ≡ texts.old.items }
+    {
+        checked.table();
+        match staying_source(checked, end, texts) {
+            Some((source, fields)) => {
+                self.texts
+                    .put(fields, &texts[from + 3 + source.len()..], false)
+            }
+            None => self.texts.put(end, &texts[from..], false),
+        }
+    }
+
+    /// Appends the canonical text of a text, and keeps what follows in it the first `count` bytes for an end.
+    #[tactic(auto, using(crate::proofs::KeptEnds::end_stands))]
+    fn append_new<L: Lookup>(
+        &mut self,
+        alloc: Global,
+        checked: &Checked<L>,
+        text: &[u8],
+        end: &[u8],
+        count: usize,
+        texts: &mut Vec<u8>,
+    ) -> Result<(), TextRefusal>
+        requires { EndsText (L.listed checked.now) text.now end.now count }
+        ensures appended { OnOk result (AppendsCanonicalText (L.listed checked.now) text.now texts.old.items texts.new.items) }
+        ensures refusal { IfErr result (λ refusal. IsTextRefusal (L.listed checked.now) text.now refusal) }
+        ensures kept { OnErr result (texts.new.items ≡ texts.old.items) }
+        ensures ends { AreEnds (L.listed checked.now) self.old → AreEnds (L.listed checked.now) self.new }
+    {
+        let start = texts.len();
+        checked.table();
+        append_canonical_text(alloc, checked, text, texts)?;
+        self.keep(checked, end, start + count, texts);
+        Ok(())
+    }
+
+    /// Appends the canonical text of the tag that a text is read as, and refuses it, as `append_canonical_text`. The end
+    /// of a text after a language, and a script and a region where there is one, that stay as they are is not made
+    /// canonical again if that was done lately.
+    pub fn append_canonical_text<L: Lookup>(
+        &mut self,
+        alloc: Global,
+        checked: &Checked<L>,
+        text: &[u8],
+        texts: &mut Vec<u8>,
+    ) -> Result<(), TextRefusal>
+        ensures appended { OnOk result (AreEnds (L.listed checked.now) self.old → AppendsCanonicalText (L.listed checked.now) text.now texts.old.items texts.new.items) }
+        ensures grown { OnOk result (vec_len texts.old ≤ vec_len texts.new) }
+        ensures refusal { IfErr result (λ refusal. IsTextRefusal (L.listed checked.now) text.now refusal) }
+        ensures kept { IfErr result (λ refusal. (refusal ≡ TextRefusal.OutOfMemory) ⊎ (texts.new.items ≡ texts.old.items)) }
+        ensures ends { AreEnds (L.listed checked.now) self.old → AreEnds (L.listed checked.now) self.new }
+    {
+        let Some((front, end)) = split_end(text) else {
+            return append_canonical_text(alloc, checked, text, texts);
+        };
+        let start = texts.len();
+        if !append_front(checked, front, texts)? {
+            return append_canonical_text(alloc, checked, text, texts);
+        }
+        let count = texts.len() - start;
+        if self.append_end(checked, end, texts)? {
+            return Ok(());
+        }
+        texts.truncate(start);
+        self.append_new(alloc, checked, text, end, count, texts)
+    }
+}

@@ -1,0 +1,91 @@
+//! Splitting a text before its first one-character subtag.
+ghost use Rattle.std.specs.Prelude.{◌≡◌, ◌≤◌, ◌==◌, ◌++◌, ◌∷◌, [], ℕ, List, IfSome, IsTrue, true, not, length};
+ghost use Rattle.std.specs.List.{list_all};
+ghost use Rattle.lt_subtag.specs.Bytes.{folded};
+ghost use Rattle.lt_subtag.specs.Shapes as shapes;
+ghost use Rattle.lt_tag.specs.Lists.{list_of, longest_text};
+ghost use Rattle.lt_cache.specs.Ends.{IsEnd, IsTransformed};
+ghost use Rattle.lt_cache.specs.Appending.{FollowsSingleton, IsSeparated};
+
+/// The most bytes of a front: a language of three letters, a script and a region of three digits.
+const LONGEST_FRONT: usize = 12;
+
+/// The most bytes of a text whose end may be kept.
+const LONGEST: usize = LONGEST_FRONT + 32;
+
+/// What is before the first one-character subtag, and the end that begins with the hyphen before it: `ar` and
+/// `-u-nu-latn` of `ar-u-nu-latn`. None where there is no such subtag within the first bytes, or it is the last one.
+#[inline(always)]
+pub(crate) fn split_end(text: &[u8]) -> Option<(&[u8], &[u8])>
+    ensures whole { IfSome result (λ parts. parts.0.now ++ parts.1.now ≡ text.now) }
+    ensures end { IfSome result (λ parts. IsEnd parts.1.now) }
+    ensures short { IfSome result (λ parts. length text.now ≤ longest_text) }
+{
+    if text.len() > LONGEST {
+        return None;
+    }
+    for place in 2..text.len().saturating_sub(2).min(LONGEST_FRONT + 1) {
+        if text[place] == b'-' && text[place + 2] == b'-' && text[place + 1] != b'-' {
+            return Some(text.split_at(place));
+        }
+    }
+    None
+}
+
+/// Whether two bytes are a separator of a field: a letter and a digit.
+#[inline(always)]
+#[tactic(auto, using(crate::proofs::KeptEnds::pair_separator))]
+fn is_separator(letter: u8, digit: u8) -> bool
+    ensures { IsTrue result → shapes.is_separator (folded (letter ∷ digit ∷ [])) ≡ true }
+{
+    letter.is_ascii_alphabetic() && digit.is_ascii_digit()
+}
+
+/// What is before the first separator, with the hyphen before it, and the rest: `it` and `-m0-names` of `it-m0-names`.
+/// None where there is no separator within the first bytes.
+#[inline(always)]
+fn split_fields(text: &[u8]) -> Option<(&[u8], &[u8])>
+    ensures whole { IfSome result (λ parts. parts.0.now ++ parts.1.now ≡ text.now) }
+    ensures fields { IfSome result (λ parts. IsSeparated parts.1.now) }
+{
+    for at in 2..text.len().saturating_sub(3).min(LONGEST_FRONT + 1) {
+        if text[at] == b'-' && text[at + 3] == b'-' && is_separator(text[at + 1], text[at + 2]) {
+            return Some(text.split_at(at));
+        }
+    }
+    None
+}
+
+/// Whether each subtag of a text has more than one character, or none.
+#[inline(always)]
+fn has_no_singleton(text: &[u8]) -> bool
+    ensures { result ≡ list_all (λ (s : List ℕ). not (length s == 1)) (list_of text.now) }
+{
+    text.split(|byte| *byte == b'-')
+        .all(|subtag| subtag.len() != 1)
+}
+
+/// What follows a singleton `t` and the hyphens round it: `it-m0-names` of `-t-it-m0-names`.
+#[inline(always)]
+fn after_singleton(end: &[u8]) -> Option<&[u8]>
+    ensures { IfSome result (λ rest. FollowsSingleton rest.now end.now) }
+{
+    if end.len() > 3 && end[0] == b'-' && end[1].to_ascii_lowercase() == b't' && end[2] == b'-' {
+        return Some(&end[3..]);
+    }
+    None
+}
+
+/// The source of a `t` extension and its fields, which end the text: `it` and `-m0-names` of `-t-it-m0-names`.
+#[inline(always)]
+#[tactic(auto, using(crate::proofs::KeptEnds::transformed))]
+pub(crate) fn split_source(end: &[u8]) -> Option<(&[u8], &[u8])>
+    ensures { IfSome result (λ parts. IsTransformed parts.0.now parts.1.now end.now) }
+{
+    let (source, fields) = split_fields(after_singleton(end)?)?;
+    if has_no_singleton(&fields[1..]) {
+        Some((source, fields))
+    } else {
+        None
+    }
+}

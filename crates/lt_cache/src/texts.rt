@@ -1,0 +1,132 @@
+//! Canonical texts.
+ghost use Rattle.std.specs.Prelude.{◌≡◌, ◌≤◌, ◌++◌, false, length, IsTrue, IfOk, IfErr, OnOk, OnErr, IfSome, ◌↔◌};
+ghost use Rattle.lt_subtag.specs.Bytes.{folded};
+ghost use Rattle.lt_tag.specs.Conventional.{conventional};
+ghost use Rattle.lt_tag.specs.Lists.{list_of, longest_text};
+ghost use Rattle.lt_check.specs.Staying.{IsStaying};
+ghost use Rattle.lt_check.specs.Conditions.{IsChecked};
+ghost use Rattle.lt_canon.specs.Texts.{AppendsCanonicalText, IsTextRefusal};
+ghost use Rattle.lt_cache.specs.SettledEnds as settled;
+
+use crate::ends::is_settled_end;
+use lt_canon::{Checked, TextRefusal, append_usual_text};
+use lt_registry::Lookup;
+use lt_tag::OutOfMemory;
+use std::alloc::Global;
+
+/// The most bytes of a text that is read.
+const LONGEST_TEXT: usize = 1024;
+
+/// The most bytes of a front: a language of three letters, a script and a region of three digits.
+const LONGEST_FRONT: usize = 12;
+
+/// What is before the first one-character subtag, and the end that begins with the hyphen before it: `ar` and
+/// `-u-nu-latn` of `ar-u-nu-latn`. None where there is no such subtag within the first bytes, or the text is too long.
+#[inline(always)]
+fn split_end(text: &[u8]) -> Option<(&[u8], &[u8])>
+    ensures whole { IfSome result (λ parts. parts.0.now ++ parts.1.now ≡ text.now) }
+    ensures short { IfSome result (λ parts. length text.now ≤ longest_text) }
+{
+    if text.len() > LONGEST_TEXT {
+        return None;
+    }
+    for place in 2..text.len().saturating_sub(2).min(LONGEST_FRONT + 1) {
+        if text[place] == b'-' && text[place + 2] == b'-' {
+            return Some(text.split_at(place));
+        }
+    }
+    None
+}
+
+/// Appends a front in conventional case, exactly if each of its subtags stays as it is; tells whether it did.
+#[inline(always)]
+fn append_front<L: Lookup>(
+    checked: &Checked<L>,
+    front: &[u8],
+    texts: &mut Vec<u8>,
+) -> Result<bool, OutOfMemory>
+    ensures checked { IsChecked (L.listed checked.now) }
+    ensures exact { IfOk result (λ told. IsTrue told ↔ IsStaying (L.listed checked.now) front.now) }
+    ensures appended { IfOk result (λ told. IsTrue told → texts.new.items ≡ texts.old.items ++ conventional (list_of front.now)) }
+    ensures unchanged { IfOk result (λ told. told ≡ false → texts.new.items ≡ texts.old.items) }
+    ensures kept { OnErr result (texts.new.items ≡ texts.old.items) }
+{
+    let told = checked.usual().append_text(front, texts)?;
+    Ok(told)
+}
+
+/// Appends a text in lower case.
+#[inline(always)]
+fn append_lower(text: &[u8], texts: &mut Vec<u8>) -> Result<(), OutOfMemory>
+    ensures appended { OnOk result (texts.new.items ≡ texts.old.items ++ folded text.now) }
+    ensures kept { OnErr result (texts.new.items ≡ texts.old.items) }
+{
+    let start = texts.len();
+    texts.extend_from_slice(text)?;
+    texts[start..].make_ascii_lowercase();
+    Ok(())
+}
+
+/// Appends the canonical text of a text that is told without reading it: its end is canonical but for the case of its
+/// letters, and follows a language, and a script and a region where there is one, that stay as they are. Tells whether
+/// it did; of any other text, or where memory runs out, it does nothing.
+fn append_settled_text<L: Lookup>(checked: &Checked<L>, text: &[u8], texts: &mut Vec<u8>) -> bool
+    ensures appended { IsTrue result → AppendsCanonicalText (L.listed checked.now) text.now texts.old.items texts.new.items }
+    ensures unchanged { result ≡ false → texts.new.items ≡ texts.old.items }
+{
+    let Some((front, end)) = split_end(text) else {
+        return false;
+    };
+    if !is_settled_end(end) {
+        return false;
+    }
+    let before = texts.len();
+    match append_front(checked, front, texts) {
+        Ok(true) => {}
+        _ => return false,
+    }
+    if append_lower(end, texts).is_err() {
+        texts.truncate(before);
+        return false;
+    }
+    true
+}
+
+/// Appends the canonical text of a text that is not told by a flag for each subtag. It is no part of its caller, so that
+/// the texts which are told so pay nothing for it.
+#[inline(never)]
+fn append_other_text<L: Lookup>(
+    alloc: Global,
+    checked: &Checked<L>,
+    text: &[u8],
+    texts: &mut Vec<u8>,
+) -> Result<(), TextRefusal>
+    ensures appended { OnOk result (AppendsCanonicalText (L.listed checked.now) text.now texts.old.items texts.new.items) }
+    ensures refusal { IfErr result (λ refusal. IsTextRefusal (L.listed checked.now) text.now refusal) }
+    ensures kept { OnErr result (texts.new.items ≡ texts.old.items) }
+{
+    if append_settled_text(checked, text, texts) {
+        return Ok(());
+    }
+    lt_canon::append_canonical_text(alloc, checked, text, texts)
+}
+
+/// Appends the text, in conventional case, of the canonical form of the tag that a text is read as (RFC 5646, 2.1.1 and
+/// 4.5), and refuses it, as [`lt_canon::append_canonical_text`]. A text whose end is canonical but for the case of its
+/// letters, after a language, and a script and a region where there is one, that stay as they are, is not read as a
+/// tag: neither `ar-u-nu-latn` nor `en-GB-x-own` is.
+pub fn append_canonical_text<L: Lookup>(
+    alloc: Global,
+    checked: &Checked<L>,
+    text: &[u8],
+    texts: &mut Vec<u8>,
+) -> Result<(), TextRefusal>
+    ensures appended { OnOk result (AppendsCanonicalText (L.listed checked.now) text.now texts.old.items texts.new.items) }
+    ensures refusal { IfErr result (λ refusal. IsTextRefusal (L.listed checked.now) text.now refusal) }
+    ensures kept { OnErr result (texts.new.items ≡ texts.old.items) }
+{
+    if append_usual_text(checked, text, texts)? {
+        return Ok(());
+    }
+    append_other_text(alloc, checked, text, texts)
+}

@@ -1,0 +1,12 @@
+use Rattle.std.proofs.Common.{arith}
+use Rattle.lt_check.specs.Staying.{has_no_value}
+use Rattle.lt_check.proofs.FlagLemmas.{first_named, first_unnamed}
+use Rattle.lt_check.proofs.usual_subtags.put_single.Goals as goal
+
+pub returns-in-Single : goal.returns-in-Single
+returns-in-Single c = λ es tell k s n h.
+    let told = c.put_subtag.ensures (has_no_value es) tell k s n h in
+    grind (arith, first_named)
+
+pub returns-in_default : goal.returns-in_default
+returns-in_default c = λ es tell k s n h. let told = tell k s n h in grind (arith, first_unnamed)

@@ -1,0 +1,6 @@
+use Rattle.std.proofs.Common.{◌-◌, length, drop}
+use Rattle.lt_check.specs.Flags.{TellSingles}
+use Rattle.lt_check.proofs.usual_subtags.put_singles.Given as goal
+
+abbrev pub invariant-loop-index : goal.invariant-loop-index
+invariant-loop-index l = TellSingles (drop (length l.entries - l.index) l.entries) l.words

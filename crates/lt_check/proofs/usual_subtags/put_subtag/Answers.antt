@@ -1,0 +1,14 @@
+use Rattle.std.proofs.Common.{Some, None}
+use Rattle.lt_check.proofs.FlagLemmas.{same_place}
+use Rattle.lt_check.proofs.usual_subtags.put_subtag.Goals as goal
+
+pub returns-in-Some : goal.returns-in-Some
+returns-in-Some c = λ test tell k s n h.
+    let same = same_place c.args.kind k c.args.subtag.now s n (Some c.in-Some.place) c.requires.form (cc) h in
+    let written = c.put.ensures n in
+    let before = tell k s n h in
+    cc
+
+pub returns-in_default : goal.returns-in_default
+returns-in_default c = λ test tell k s n h.
+    rw (same_place c.args.kind k c.args.subtag.now s n None c.requires.form (cc) h) (tell k s n h)

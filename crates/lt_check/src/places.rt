@@ -1,0 +1,105 @@
+//! The place of each subtag in a table of flags: of a language of 2 or 3 letters, a script, or a region.
+ghost use Rattle.std.specs.Prelude.{◌≡◌, ◌<◌, ◌≤◌, ◌∷◌, [], IfSome};
+ghost use Rattle.lt_check.specs.Places as places;
+
+use lt_registry::Kind;
+
+/// How many places there are.
+pub(crate) const PLACES: usize = 553_913;
+
+/// The place of each byte among the letters, in either case, and 26 for one that is no letter.
+static LETTERS: [u8; 256] = [
+    26, 26, 26, 26, 26, 26, 26, 26, 26, 26, 26, 26, 26, 26, 26, 26, 26, 26, 26, 26, 26, 26, 26, 26,
+    26, 26, 26, 26, 26, 26, 26, 26, 26, 26, 26, 26, 26, 26, 26, 26, 26, 26, 26, 26, 26, 26, 26, 26,
+    26, 26, 26, 26, 26, 26, 26, 26, 26, 26, 26, 26, 26, 26, 26, 26, 26, 0, 1, 2, 3, 4, 5, 6, 7, 8,
+    9, 10, 11, 12, 13, 14, 15, 16, 17, 18, 19, 20, 21, 22, 23, 24, 25, 26, 26, 26, 26, 26, 26, 0,
+    1, 2, 3, 4, 5, 6, 7, 8, 9, 10, 11, 12, 13, 14, 15, 16, 17, 18, 19, 20, 21, 22, 23, 24, 25, 26,
+    26, 26, 26, 26, 26, 26, 26, 26, 26, 26, 26, 26, 26, 26, 26, 26, 26, 26, 26, 26, 26, 26, 26, 26,
+    26, 26, 26, 26, 26, 26, 26, 26, 26, 26, 26, 26, 26, 26, 26, 26, 26, 26, 26, 26, 26, 26, 26, 26,
+    26, 26, 26, 26, 26, 26, 26, 26, 26, 26, 26, 26, 26, 26, 26, 26, 26, 26, 26, 26, 26, 26, 26, 26,
+    26, 26, 26, 26, 26, 26, 26, 26, 26, 26, 26, 26, 26, 26, 26, 26, 26, 26, 26, 26, 26, 26, 26, 26,
+    26, 26, 26, 26, 26, 26, 26, 26, 26, 26, 26, 26, 26, 26, 26, 26, 26, 26, 26, 26, 26, 26, 26, 26,
+    26, 26, 26, 26, 26, 26, 26, 26, 26, 26, 26, 26,
+];
+
+/// The place of a letter among the letters, in either case, and 26 for any other byte.
+#[inline(always)]
+#[tactic(auto, using(crate::proofs::FlagLemmas::letter_reads))]
+fn letter(byte: u8) -> usize
+    ensures { result ≡ places.letter byte }
+{
+    usize::from(LETTERS[usize::from(byte)])
+}
+
+/// The value of a digit, and 10 for any other byte.
+#[inline(always)]
+fn digit(byte: u8) -> usize
+    ensures value { result ≡ places.digit byte }
+    ensures below { result ≤ 10 }
+{
+    usize::from(byte.wrapping_sub(b'0').min(10))
+}
+
+/// The place of a language of 2 letters.
+#[inline(always)]
+#[tactic(auto, using(crate::proofs::FlagLemmas::letter_few))]
+pub(crate) fn language_2(a: u8, b: u8) -> usize
+    ensures value { result ≡ places.language_2 a b }
+    ensures within { result < 729 }
+{
+    letter(a) * 27 + letter(b)
+}
+
+/// The place of a language of 3 letters.
+#[inline(always)]
+#[tactic(auto, using(crate::proofs::FlagLemmas::letter_few))]
+pub(crate) fn language_3(a: u8, b: u8, c: u8) -> usize
+    ensures value { result ≡ places.language_3 a b c }
+    ensures within { result < 20_412 }
+{
+    729 + (letter(a) * 27 + letter(b)) * 27 + letter(c)
+}
+
+/// The place of a script.
+#[inline(always)]
+#[tactic(auto, using(crate::proofs::FlagLemmas::letter_few))]
+pub(crate) fn script_4(a: u8, b: u8, c: u8, d: u8) -> usize
+    ensures value { result ≡ places.script_4 a b c d }
+    ensures within { result < 551_853 }
+{
+    20_412 + ((letter(a) * 27 + letter(b)) * 27 + letter(c)) * 27 + letter(d)
+}
+
+/// The place of a region of 2 letters.
+#[inline(always)]
+#[tactic(auto, using(crate::proofs::FlagLemmas::letter_few))]
+pub(crate) fn region_2(a: u8, b: u8) -> usize
+    ensures value { result ≡ places.region_2 a b }
+    ensures within { result < 552_582 }
+{
+    551_853 + letter(a) * 27 + letter(b)
+}
+
+/// The place of a region of 3 digits.
+#[inline(always)]
+pub(crate) fn region_3(a: u8, b: u8, c: u8) -> usize
+    ensures value { result ≡ places.region_3 a b c }
+    ensures within { result < 553_913 }
+{
+    552_582 + (digit(a) * 11 + digit(b)) * 11 + digit(c)
+}
+
+/// The place of a subtag of a kind, if it has one.
+pub(crate) fn place(kind: Kind, bytes: &[u8]) -> Option<usize>
+    ensures value { result ≡ places.place kind bytes.now }
+    ensures within { IfSome result (λ place. place < 553_913) }
+{
+    match (kind, bytes) {
+        (Kind::Language, [a, b]) => Some(language_2(*a, *b)),
+        (Kind::Language, [a, b, c]) => Some(language_3(*a, *b, *c)),
+        (Kind::Script, [a, b, c, d]) => Some(script_4(*a, *b, *c, *d)),
+        (Kind::Region, [a, b]) => Some(region_2(*a, *b)),
+        (Kind::Region, [a, b, c]) => Some(region_3(*a, *b, *c)),
+        _ => None,
+    }
+}

@@ -1,0 +1,172 @@
+//! Texts of subtags that stay, in conventional case.
+ghost use Rattle.std.specs.Prelude.{◌≡◌, ◌≤◌, IfSome};
+ghost use Rattle.lt_check.specs.Shown as shown;
+
+use crate::places::{language_2, language_3, region_2, region_3, script_4};
+use crate::usual_subtags::UsualSubtags;
+
+/// What follows the language of a text, in conventional case: how many bytes it has, and they, with zeros after them.
+#[derive(Clone, Copy)]
+pub(crate) struct AfterLanguage {
+    count: usize,
+    bytes: [u8; 9],
+}
+
+/// A text in conventional case: how many bytes it has, and they, with zeros after them.
+#[derive(Clone, Copy)]
+pub(crate) struct Shown {
+    pub(crate) count: usize,
+    pub(crate) bytes: [u8; 12],
+}
+
+/// What follows the language, where a test holds.
+#[inline(always)]
+fn after_if(holds: bool, count: usize, bytes: [u8; 9]) -> Option<AfterLanguage>
+    ensures { result ≡ shown.after_if holds count bytes }
+{
+    if holds {
+        Some(AfterLanguage { count, bytes })
+    } else {
+        None
+    }
+}
+
+/// A letter in lower case; what another byte becomes doesn't matter.
+#[inline(always)]
+fn lower(byte: u8) -> u8
+    ensures { result ≡ shown.lower byte }
+{
+    byte | 0x20
+}
+
+/// A letter in upper case; what another byte becomes doesn't matter.
+#[inline(always)]
+fn upper(byte: u8) -> u8
+    ensures { result ≡ shown.upper_byte byte }
+{
+    byte & 0xdf
+}
+
+impl UsualSubtags {
+    /// What follows a language, exactly if it is nothing, or a script and a region, or one of them, that have flags.
+    #[inline(always)]
+    fn after_language(&self, rest: &[u8]) -> Option<AfterLanguage>
+        ensures value { result ≡ shown.after_language self.now rest.now }
+        ensures few { IfSome result (λ after. after.count ≤ 9) }
+    {
+        match *rest {
+            [] => after_if(true, 0, [0; 9]),
+            [h, a, b] => after_if(
+                (h == b'-') & self.has(region_2(a, b)),
+                3,
+                [b'-', upper(a), upper(b), 0, 0, 0, 0, 0, 0],
+            ),
+            [h, a, b, c] => after_if(
+                (h == b'-') & self.has(region_3(a, b, c)),
+                4,
+                [b'-', a, b, c, 0, 0, 0, 0, 0],
+            ),
+            _ => self.from_script(rest),
+        }
+    }
+
+    /// The same, if it is a script, and a region where there is one.
+    #[inline(always)]
+    #[tactic(auto, using(crate::proofs::TextLemmas::nine_reads))]
+    fn from_script(&self, rest: &[u8]) -> Option<AfterLanguage>
+        ensures value { result ≡ shown.from_script self.now rest.now }
+        ensures few { IfSome result (λ after. after.count ≤ 9) }
+    {
+        match *rest {
+            [h, a, b, c, d] => after_if(
+                (h == b'-') & self.has(script_4(a, b, c, d)),
+                5,
+                [b'-', upper(a), lower(b), lower(c), lower(d), 0, 0, 0, 0],
+            ),
+            [h, a, b, c, d, i, e, f] => after_if(
+                ((h == b'-') & (i == b'-'))
+                    & (self.has(script_4(a, b, c, d)) & self.has(region_2(e, f))),
+                8,
+                [
+                    b'-',
+                    upper(a),
+                    lower(b),
+                    lower(c),
+                    lower(d),
+                    b'-',
+                    upper(e),
+                    upper(f),
+                    0,
+                ],
+            ),
+            [h, a, b, c, d, i, e, f, g] => after_if(
+                ((h == b'-') & (i == b'-'))
+                    & (self.has(script_4(a, b, c, d)) & self.has(region_3(e, f, g))),
+                9,
+                [b'-', upper(a), lower(b), lower(c), lower(d), b'-', e, f, g],
+            ),
+            _ => None,
+        }
+    }
+
+    /// A text that begins with a language of 2 letters.
+    #[inline(always)]
+    fn shown_two(&self, a: u8, b: u8, rest: &[u8]) -> Option<Shown>
+        ensures value { result ≡ shown.shown_two self.now a b rest.now }
+        ensures few { IfSome result (λ shown. shown.count ≤ 12) }
+    {
+        if !self.has(language_2(a, b)) {
+            return None;
+        }
+        match self.after_language(rest) {
+            Some(after) => {
+                let [s, t, u, v, w, x, y, z, last] = after.bytes;
+                Some(Shown {
+                    count: 2 + after.count,
+                    bytes: [lower(a), lower(b), s, t, u, v, w, x, y, z, last, 0],
+                })
+            }
+            None => None,
+        }
+    }
+
+    /// A text that begins with a language of 3 letters.
+    #[inline(always)]
+    fn shown_three(&self, a: u8, b: u8, c: u8, rest: &[u8]) -> Option<Shown>
+        ensures value { result ≡ shown.shown_three self.now a b c rest.now }
+        ensures few { IfSome result (λ shown. shown.count ≤ 12) }
+    {
+        if !self.has(language_3(a, b, c)) {
+            return None;
+        }
+        match self.after_language(rest) {
+            Some(after) => {
+                let [s, t, u, v, w, x, y, z, last] = after.bytes;
+                Some(Shown {
+                    count: 3 + after.count,
+                    bytes: [lower(a), lower(b), lower(c), s, t, u, v, w, x, y, z, last],
+                })
+            }
+            None => None,
+        }
+    }
+
+    /// A text in conventional case.
+    #[inline(always)]
+    pub(crate) fn shown(&self, text: &[u8]) -> Option<Shown>
+        ensures value { result ≡ shown.shown_text self.now text.now }
+        ensures few { IfSome result (λ shown. shown.count ≤ 12) }
+    {
+        match *text {
+            [a, b] => self.shown_two(a, b, &[]),
+            [a, b, c, ..] => {
+                if c == b'-' {
+                    self.shown_two(a, b, &text[2..])
+                } else {
+                    self.shown_three(a, b, c, &text[3..])
+                }
+            }
+            _ => None,
+        }
+    }
+}

@@ -1,0 +1,164 @@
+//! A table of flags, one for each subtag that stays as it is.
+ghost use Rattle.std.specs.Prelude.{◌≡◌, ◌<◌, ◌++◌, ◌∷◌, [], ◌==◌, ◌↔◌, Bool, true, false, if◌then◌else◌, ℕ, List, All, IfOk, OnErr, IsTrue, IfSome, MatchOption, length, bytes_eq};
+ghost use Rattle.lt_subtag.specs.Shapes.{is_language};
+ghost use Rattle.lt_tag.specs.Lists.{list_of};
+ghost use Rattle.lt_tag.specs.Conventional.{conventional};
+ghost use Rattle.lt_registry.specs.Parts.{EntryParts};
+ghost use Rattle.lt_registry.specs.Entries.{has_form};
+ghost use Rattle.lt_check.specs.Flags.{flag, AreFlags, Tell, TellSingles, stays_beside, with_subtag};
+ghost use Rattle.lt_check.specs.Staying.{IsStaying, replaces_plain_of, stays};
+
+use crate::places::place;
+use lt_registry::{Entry, EntryName, Kind, Lookup};
+use lt_rewrite::values::tag_and_value;
+use lt_subtag::Subtag;
+use std::alloc::{AllocError, Global};
+use std::marker::Model;
+
+/// How many words the flags take: one for each 64 places.
+const WORDS: usize = 8655;
+
+/// The languages of 2 or 3 letters, the scripts and the regions of a registry that stay as they are.
+#[derive(Debug, Drop)]
+pub struct UsualSubtags {
+    /// A bit for each place.
+    words: Vec<u64>,
+}
+
+// A contract sees the words of flags.
+impl Model for UsualSubtags {
+    ghost use Rattle.std.specs.Prelude.{◌≡◌, ℕ, List, length};
+
+    ghost Value = { List ℕ };
+
+    ghost view = { λ u. u.words.items };
+
+    ghost invariant = { λ u. length u.words.items ≡ 8655 };
+}
+
+impl UsualSubtags {
+    /// The flags of a table's subtags: a subtag has one exactly if it stays. Refused only where memory runs out.
+    pub fn of_table<L: Lookup>(alloc: Global, table: &L) -> Result<UsualSubtags, AllocError>
+        ensures { IfOk result (AreFlags (L.listed table.now)) }
+    {
+        let mut words = vec![in alloc; 0; WORDS]?;
+        let entries = table.entries();
+        let flags = words.as_mut_slice();
+        put_singles(flags, entries);
+        drop_replaced(flags, entries);
+        Ok(UsualSubtags { words })
+    }
+
+    /// Whether the flag of a place is set.
+    #[inline(always)]
+    pub(crate) fn has(&self, place: usize) -> bool
+        requires { place < 553913 }
+        ensures { result ≡ flag self.now place }
+    {
+        self.words[place / 64] >> (place % 64) & 1 == 1
+    }
+
+    /// Appends a text in conventional case, exactly if, by the registry of these flags, it is read as a langtag of a
+    /// language of 2 or 3 letters, and a script and a region where there is one, each of which stays. Tells whether it
+    /// did. Refused only where memory runs out.
+    #[inline(always)]
+    pub fn append_text(&self, text: &[u8], texts: &mut Vec<u8>) -> Result<bool, AllocError>
+        ensures exact { IfOk result (λ told. (R : List EntryParts) → AreFlags R self.now → IsTrue told ↔ IsStaying R text.now) }
+        ensures appended { IfOk result (λ told. (R : List EntryParts) → AreFlags R self.now → IsTrue told → texts.new.items ≡ texts.old.items ++ conventional (list_of text.now)) }
+        ensures unchanged { IfOk result (λ told. told ≡ false → texts.new.items ≡ texts.old.items) }
+        ensures kept { OnErr result (texts.new.items ≡ texts.old.items) }
+    {
+        let Some(shown) = self.shown(text) else {
+            return Ok(false);
+        };
+        let end = texts.len() + shown.count;
+        texts.extend_from_slice(&shown.bytes)?;
+        texts.truncate(end);
+        Ok(true)
+    }
+}
+
+/// Sets or clears the flag of a place.
+#[tactic(auto, using(crate::proofs::FlagLemmas::set_flag, crate::proofs::FlagLemmas::clear_flag))]
+fn put(words: &mut [u64], place: usize, set: bool)
+    requires room { length words.old ≡ 8655 }
+    requires within { place < 553913 }
+    ensures { (n : ℕ) → flag words.new n ≡ (if n == place then set else flag words.old n) }
+{
+    let mask = 1 << (place % 64);
+    if set {
+        words[place / 64] |= mask;
+    } else {
+        words[place / 64] &= !mask;
+    }
+}
+
+/// Sets or clears the flag of a subtag, if it has a place.
+fn put_subtag(words: &mut [u64], kind: Kind, subtag: &Subtag, set: bool)
+    requires room { length words.old ≡ 8655 }
+    requires form { has_form kind subtag.now ≡ true }
+    ensures { (test : Kind → List ℕ → Bool) → Tell test words.old → Tell (with_subtag kind subtag.now set test) words.new }
+{
+    if let Some(place) = place(kind, subtag.bytes()) {
+        put(words, place, set);
+    }
+}
+
+/// Sets the flag of the subtag that a record names alone, if it has no value, and else clears it.
+fn put_single(words: &mut [u64], entry: &Entry)
+    requires { length words.old ≡ 8655 }
+    ensures { (es : List EntryParts) → TellSingles es words.old → TellSingles (entry.now ∷ es) words.new }
+{
+    if let EntryName::Single(subtag) = entry.name() {
+        put_subtag(words, entry.kind(), subtag, entry.value().is_none());
+    }
+}
+
+/// Sets the flags of the subtags that records name alone, by the first record of each.
+fn put_singles(words: &mut [u64], entries: &[Entry])
+    requires room { length words.old ≡ 8655 }
+    requires clear { TellSingles [] words.old }
+    ensures { TellSingles entries.now words.new }
+{
+    let count = entries.len();
+    for index in 0..count {
+        put_single(words, &entries[count - 1 - index]);
+    }
+}
+
+/// The language of the tag of a record that has a value, where the tag has neither extlangs nor variants.
+fn replaced_language(entry: &Entry) -> Option<&Subtag>
+    ensures language { MatchOption result ((s : List ℕ) → replaces_plain_of s entry.now ≡ false) (λ language. (s : List ℕ) → replaces_plain_of s entry.now ≡ bytes_eq language.now s) }
+    ensures form { IfSome result (λ language. is_language language.now ≡ true) }
+{
+    let (tag, _) = tag_and_value(entry)?;
+    let core = tag.core()?;
+    if core.extlangs().is_empty() && core.variants().is_empty() {
+        Some(core.language())
+    } else {
+        None
+    }
+}
+
+/// Clears the flag of a language whose tag, with no more than a script and a region beside it, has a record with a
+/// value.
+fn drop_language(words: &mut [u64], entry: &Entry)
+    requires { length words.old ≡ 8655 }
+    ensures { (R es : List EntryParts) → Tell (stays_beside R es) words.old → Tell (stays_beside R (es ++ entry.now ∷ [])) words.new }
+{
+    if let Some(language) = replaced_language(entry) {
+        put_subtag(words, Kind::Language, language, false);
+    }
+}
+
+/// Clears the flags of the languages of which a tag has a record with a value, with no more than a script and a region
+/// beside it.
+fn drop_replaced(words: &mut [u64], entries: &[Entry])
+    requires room { length words.old ≡ 8655 }
+    requires singles { TellSingles entries.now words.old }
+    ensures { Tell (stays entries.now) words.new }
+{
+    for entry in entries {
+        drop_language(words, entry);
+    }
+}

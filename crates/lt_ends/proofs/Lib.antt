@@ -1,2 +1,0 @@
--- What the crates above may use.
-pub mod KeptEnds

@@ -1,6 +1,0 @@
-use Rattle.std.proofs.Common.{◌++◌, length, ap₂}
-use Rattle.std.proofs.lemmas.List.{drop-replicate}
-use Rattle.lt_recent.proofs.short_texts.pad.Goals as goal
-
-pub returns : goal.returns
-returns c = ap₂ (λ xs ys. xs ++ ys) c.copy_from_slice.ensures.after (drop-replicate (length c.args.bytes.now) 32 0)

@@ -1,3 +1,0 @@
-pub mod Padded
-pub mod Places
-pub mod Recent

@@ -1,3 +1,0 @@
-mod PieceLemmas
-mod KeysRise
-mod SettledEnds

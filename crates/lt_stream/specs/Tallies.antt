@@ -1,0 +1,37 @@
+-- How many lines were refused by each fault, and which was the first.
+use Rattle.std.specs.Prelude.{◌≡◌, ℕ, Bool, true, List, map, Some, bytes_eq, find}
+use Rattle.std.specs.List.{AllByRecursion, IsDistinct, count_by}
+use Rattle.std.specs.Set.{is_member}
+use Rattle.lt_stream.specs.declared.tallies.Tally.{Tally}
+
+-- a line that was refused: its number, the name of the fault, and the text that was refused
+pub record Refused : Type 0 where
+  pub number : ℕ
+  pub fault : List ℕ
+  pub text : List ℕ
+
+-- that line
+abbrev pub refused : ℕ → (fault text : List ℕ) → Refused
+refused number fault text = record { number = number; fault = fault; text = text }
+
+-- whether a line was refused by the fault of this name
+abbrev pub is_by : (fault : List ℕ) → Refused → Bool
+is_by fault line = bytes_eq fault line.fault
+
+-- how many of these lines were refused by the fault, and the number and the text of the first of them
+pub record IsTally (lines : List Refused) (tally : Tally) : Type 0 where
+  pub count : tally.lines ≡ count_by (is_by tally.fault.items) lines
+  pub earliest : Refused
+  pub is_earliest : find (is_by tally.fault.items) lines ≡ Some earliest
+  pub number : tally.first ≡ earliest.number
+  pub text : tally.text.items ≡ earliest.text
+
+-- the names of the faults
+abbrev pub faults_of : List Tally → List (List ℕ)
+faults_of tallies = map (λ tally. tally.fault.items) tallies
+
+-- the tallies of these lines: one for each fault
+pub record AreTallies (lines : List Refused) (tallies : List Tally) : Type 0 where
+  pub each : AllByRecursion (IsTally lines) tallies
+  pub once : IsDistinct bytes_eq (faults_of tallies)
+  pub all : AllByRecursion (λ line. is_member bytes_eq (faults_of tallies) line.fault ≡ true) lines

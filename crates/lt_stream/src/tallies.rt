@@ -1,0 +1,98 @@
+//! How many lines were refused by each fault, and which was the first.
+ghost use Rattle.std.specs.Prelude.{◌≡◌, ◌+◌, ◌<◌, ◌^◌, [], ◌∷◌, ◌++◌, List, IfOk, OnErr, OnOk, bytes_eq, length, position};
+ghost use Rattle.lt_stream.specs.Tallies.{AreTallies, Refused, refused};
+
+use std::alloc::{AllocError, Global};
+use std::marker::Model;
+
+/// The lines that were refused by one fault.
+#[derive(Drop)]
+pub struct Tally {
+    /// The name of the fault.
+    pub fault: Vec<u8>,
+    /// How many lines were refused by it.
+    pub lines: u64,
+    /// The number of the first of them.
+    pub first: u64,
+    /// What was refused there.
+    pub text: Vec<u8>,
+}
+
+/// How many lines were refused by each fault, in the order in which the faults came.
+#[derive(Drop)]
+pub struct Tallies {
+    faults: Vec<Tally>,
+}
+
+impl Model for Tallies {
+    ghost use Rattle.std.specs.Prelude.{List};
+    ghost use Rattle.lt_stream.specs.declared.tallies.Tally.{Tally};
+
+    ghost Value = { List Tally };
+
+    ghost view = { λ tallies. tallies.faults.items };
+}
+
+/// The first line that is refused by a fault.
+fn new_tally(alloc: Global, fault: &[u8], number: u64, text: &[u8]) -> Result<Tally, AllocError>
+    ensures fault { IfOk result (λ tally. tally.fault.items ≡ fault.now) }
+    ensures numbers { IfOk result (λ tally. (tally.lines ≡ 1) × (tally.first ≡ number)) }
+    ensures text { IfOk result (λ tally. tally.text.items ≡ text.now) }
+{
+    Ok(Tally {
+        fault: Vec::from_slice(alloc, fault)?,
+        lines: 1,
+        first: number,
+        text: Vec::from_slice(alloc, text)?,
+    })
+}
+
+impl Tallies {
+    /// No line was refused so far.
+    pub fn new(alloc: Global) -> Tallies
+        ensures { result ≡ [] }
+    {
+        Tallies {
+            faults: Vec::new(alloc),
+        }
+    }
+
+    /// What was refused by each fault, in the order in which the faults came.
+    pub fn faults(&self) -> &[Tally]
+        ensures { result.now ≡ self.now }
+    {
+        &self.faults
+    }
+
+    /// The place of a fault.
+    fn place_of(&self, fault: &[u8]) -> Option<usize>
+        ensures { result ≡ position (λ tally. bytes_eq fault.now tally.fault.items) self.now }
+    {
+        self.faults
+            .iter()
+            .position(|tally| fault == tally.fault.as_slice())
+    }
+
+    /// Counts one line more: its number, the name of its fault, and the text that was refused. Where memory runs out,
+    /// nothing is counted.
+    pub fn count(
+        &mut self,
+        alloc: Global,
+        fault: &[u8],
+        number: u64,
+        text: &[u8],
+    ) -> Result<(), AllocError>
+        ensures counted { OnOk result ((lines : List Refused) → length lines + 1 < 2 ^ 64 → AreTallies lines self.old
+            → AreTallies (lines ++ refused number fault.now text.now ∷ []) self.new) }
+        ensures unchanged { OnErr result (self.new ≡ self.old) }
+    {
+        match self.place_of(fault) {
+            Some(place) => {
+                let tally = &mut self.faults[place];
+                tally.lines = tally.lines.saturating_add(1);
+            }
+            None => self.faults.push(new_tally(alloc, fault, number, text)?)?,
+        }
+        Ok(())
+    }
+}

@@ -1,3 +1,0 @@
--- What this crate alone uses.
-mod TextLemmas
-mod FlagLemmas

@@ -1,6 +1,0 @@
-use Rattle.std.proofs.Common.{take}
-use Rattle.lt_usual.specs.Flags.{Tell, stays_beside}
-use Rattle.lt_usual.proofs.usual_subtags.drop_replaced.Given as goal
-
-abbrev pub invariant-loop-entry : goal.invariant-loop-entry
-invariant-loop-entry l = Tell (stays_beside l.entries (take l.entry-index l.entries)) l.words

@@ -1,6 +1,0 @@
-use Rattle.std.proofs.Common.{◌-◌, length, drop}
-use Rattle.lt_usual.specs.Flags.{TellSingles}
-use Rattle.lt_usual.proofs.usual_subtags.put_singles.Given as goal
-
-abbrev pub invariant-loop-index : goal.invariant-loop-index
-invariant-loop-index l = TellSingles (drop (length l.entries - l.index) l.entries) l.words

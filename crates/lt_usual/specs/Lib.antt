@@ -1,4 +1,0 @@
-pub mod Places
-pub mod Staying
-pub mod Flags
-pub mod Shown
