@@ -4,6 +4,7 @@ pub mod EqualityLemmas
 pub mod FoundLemmas
 pub mod ListLemmas
 pub mod OrderLemmas
+pub mod ReadingLaws
 pub mod RecordLaws
 pub mod SortedLemmas
 pub mod SplitListLemmas

@@ -7,8 +7,6 @@ use Rattle.std.specs.List.{list_all, AllByRecursion, onto_first}
 use Rattle.std.proofs.lemmas.Bool.{and_from, cases_Bool, cases_eq, cases_lt}
 use Rattle.std.proofs.lemmas.Bool.Decides.{nat_tests}
 use Rattle.std.proofs.lemmas.List.Elements.{All-push, All-nil}
-use Rattle.std.specs.Io.KnownBytes.{IsAtEnd}
-use Rattle.std.proofs.KnownBytes.{Consumes-nil}
 use Rattle.lt_subtag.specs.Reading.{subtag_of}
 use Rattle.lt_subtag.specs.declared.SubtagFault.{SubtagFault}
 use Rattle.lt_subtag.specs.Bytes.{is_subtag, folded}
@@ -18,19 +16,11 @@ use Rattle.lt_tag.specs.Parts.{TagForm}
 use Rattle.lt_tag.specs.Faults.{HasTag}
 use Rattle.lt_tag.proofs.TagLemmas.{AllByRecursion-weaker}
 use Rattle.lt_tag.proofs.OneTagLemmas.{one_tag}
-use Rattle.lt_jar.specs.Records.{Field, HasRecords}
-use Rattle.lt_jar.specs.Devices.{failures_of, greatest_count, inner_of}
-use Rattle.lt_jar.specs.Lines.{HoldsOfWhole}
-use Rattle.lt_jar.specs.Faults.{IsLineReached, IsTheFault}
-use Rattle.lt_jar.specs.Lending.{BreaksOff, IsSound}
-use Rattle.lt_jar.specs.LentSoFar.{HasLent}
-use Rattle.lt_jar.specs.Sources.{Advances, IsFresh, IsRead, LastGave, LendsEnded, LendsLast, ReadsRecord, lent_by, line_of_kept, record_in}
+use Rattle.lt_jar.specs.Records.{Field}
+use Rattle.lt_jar.specs.Sources.{Advances, IsFresh, record_in}
 use Rattle.lt_jar.specs.declared.devices.Device.{Device}
 use Rattle.lt_jar.specs.declared.faults.JarFault.{JarFault}
 use Rattle.lt_jar.specs.declared.sources.JarSource.{JarSource}
-use Rattle.lt_jar.proofs.LentLemmas.{lent_cut, lent_fault, lent_last, lent_more, lent_reached, lent_start, lent_within}
-use Rattle.lt_jar.proofs.SourceLemmas.{more_read}
-use Rattle.lt_jar.specs.declared.sources.Status.TheVariants as state
 use Rattle.lt_registry.specs.Records.{begins_dots, with_first, ends_of, with_subtag, subtags_of, with_prefix, prefix_of, prefixes_of, bodies, is_called, formed, is_range, range_of, single_of, name_by, subtags_named, body, type_name, subtag_name}
 use Rattle.lt_registry.specs.Records.{tag_name, value_name, repeats_field, kind_of, HasKind, name_field, IsName, IsValue, IsValueOf, prefix_name, prefixes_in, IsEntryOf, HasRecordFault, record_rank, is_header_at, EntriesFrom, HasEntries, HasFaultAt, IsFirstRecordFault}
 use Rattle.lt_registry.specs.Entries.{has_form, IsPrefix, is_whole_kind, IsEntry, NumbersRise}
@@ -44,7 +34,7 @@ use Rattle.lt_registry.specs.declared.entries.EntryValue.{EntryValue}
 use Rattle.lt_registry.specs.AddedRecords.{IsAdded, IsRefusedAt, Takes, TakesFrom, finished}
 use Rattle.lt_registry.specs.declared.drafts.Draft.{Draft}
 use Rattle.lt_registry.specs.declared.faults.RecordFault.{RecordFault}
-use Rattle.lt_registry.specs.ReadRegistry.{AnswersAs, IsJarRefusal, IsReadWhole, ReadsRegistry}
+use Rattle.lt_registry.specs.ReadRegistry.{AnswersAs, IsReadWhole, ReadsRegistry}
 use Rattle.lt_registry.specs.declared.faults.RegistryFault.{RegistryFault}
 use Rattle.lt_registry.specs.declared.entries.EntryName.TheVariants as names
 use Rattle.lt_registry.specs.declared.faults.RecordFaultKind.TheVariants as faults
@@ -53,6 +43,7 @@ use Rattle.lt_registry.specs.declared.entries.EntryValue.TheVariants as values
 use Rattle.lt_registry.specs.declared.faults.RegistryFault.TheVariants as registry_faults
 use Rattle.lt_registry.proofs.SplitListLemmas.{all_more}
 use Rattle.lt_registry.proofs.ListLemmas.{drop_turn, take_turn, whole_turn}
+use Rattle.lt_registry.proofs.ReadingLaws.{HasReadSoFar, read_ended, read_more, read_none, read_stops}
 
 -- What is read of the texts of a record.
 
@@ -628,7 +619,7 @@ abbrev pub HasDrafted : List (List Field) → List EntryParts → Option RecordF
 HasDrafted records es None = Made records (length records) es
 HasDrafted records es (Some fault) = IsRecordRefusal records fault
 
-pub record IsDraftOf (records : List (List Field)) (d : Draft) : Type 0 where
+pub record IsDraftOf (d : Draft) (records : List (List Field)) : Type 0 where
   pub numbered : d.number ≡ length records
   pub drafted : HasDrafted records d.entries.items d.fault
 
@@ -640,7 +631,7 @@ drafted_more rs r number old new None (Some fault) at takes made =
     made_stops (rs ++ r ∷ []) (length rs) r old fault (omega (arith, length_push rs r)) (sym (get_or-append_seam rs r [] r)) (subst (λ n. IsRefusedAt r n fault) at takes) (made_on rs r old made)
 drafted_more rs r number old new (Some first) has at takes made = subst (HasDrafted (rs ++ r ∷ []) new) (sym takes) (refusal_on rs r first made)
 
-pub draft_more : (records : List (List Field)) (r : List Field) (old new : Draft) → Takes r old new → IsDraftOf records old → IsDraftOf (records ++ r ∷ []) new
+pub draft_more : (records : List (List Field)) (r : List Field) (old new : Draft) → Takes r old new → IsDraftOf old records → IsDraftOf new (records ++ r ∷ [])
 draft_more records r old new takes is = record {
   numbered = omega (arith, takes.numbered, is.numbered, length_push records r);
   drafted = drafted_more records r new.number old.entries.items new.entries.items old.fault new.fault (omega (arith, takes.numbered, is.numbered)) takes.takes is.drafted;
@@ -648,151 +639,34 @@ draft_more records r old new takes is = record {
 
 -- A registry that is read record by record.
 
--- the text goes on, or has ended
-abbrev pub Stands : {R : Type 0} → (R → Option (List ℕ)) → Device R → JarSource → List ℕ → ℕ → List (List Field) → Type 0
-Stands remaining now s bytes reads records =
-    ((s.status ≡ state.Open) × HasLent bytes records s × (reads ≤ length bytes) × LastGave s now)
-    ⊎ ((s.status ≡ state.Ended) × HasRecords bytes records × IsSound 0 bytes × IsAtEnd (remaining (inner_of now)))
-
--- since its start the reader has lent these records, of which the draft is made
-pub record HasReadSoFar {R : Type 0} (remaining : R → Option (List ℕ)) (first now : JarSource) (before after : Device R) (d : Draft) : Type 0 where
-  pub bytes : List ℕ
-  pub reads : ℕ
-  pub records : List (List Field)
-  pub none : first.turns ≡ 0
-  pub is_read : IsRead remaining first now before after bytes reads
-  pub failures : failures_of after ≡ failures_of before
-  pub lent : lent_by now ≡ length records
-  pub draft : IsDraftOf records d
-  pub stands : Stands remaining after now bytes reads records
-
-pub read_none : {R : Type 0} (remaining : R → Option (List ℕ)) (s : JarSource) (device : Device R) (d : Draft) → IsFresh s → d.entries.items ≡ [] → d.number ≡ 0 → d.fault ≡ None → HasReadSoFar remaining s s device device d
-read_none remaining s device d fresh entries number fault = record {
-  bytes = [];
-  reads = 0;
-  records = [];
-  none = fresh.turns;
-  is_read = record { consumes = Consumes-nil _; calls = refl; each = omega arith; turns = omega arith; bounded = omega (arith, fresh.turns) };
-  failures = refl;
-  lent = fresh.lent;
-  draft = record { numbered = number; drafted = subst (HasDrafted [] d.entries.items) (sym fault) (made_none [] d.entries.items entries) };
-  stands = inl (fresh.status, lent_start fresh, omega arith, λ some. absurd (omega (arith, some, fresh.turns)));
-}
+pub draft_none : {R : Type 0} (remaining : R → Option (List ℕ)) (s : JarSource) (device : Device R) (d : Draft) → IsFresh s → d.entries.items ≡ [] → d.number ≡ 0 → d.fault ≡ None
+    → HasReadSoFar remaining s s device device (IsDraftOf d)
+draft_none remaining s device d fresh entries number fault =
+    read_none remaining s device (IsDraftOf d) fresh (record { numbered = number; drafted = subst (HasDrafted [] d.entries.items) (sym fault) (made_none [] d.entries.items entries) })
 
 -- a record more was lent, and the draft took it
-pub read_more : {R : Type 0} (remaining : R → Option (List ℕ)) (first old new : JarSource) (before now after : Device R) (d e : Draft) → HasReadSoFar remaining first old before now d
-    → Advances remaining old new now after (Ok true) → Takes (record_in new) d e → HasReadSoFar remaining first new before after e
-read_more {R} remaining first old new before now after d e so advances takes = by_stand so.stands
-  where
-    by_end : (lent : HasLent so.bytes so.records old) → so.reads ≤ length so.bytes → LastGave old now → (r : ReadsRecord remaining old new now after (Ok true)) → LendsEnded old new now after r.read r.reads ⊎ LendsLast remaining old new after r.read (record_in new ∷ [])
-        → lent_by new ≡ lent_by old + 1 → Stands remaining after new (so.bytes ++ r.read) (so.reads + r.reads) (so.records ++ record_in new ∷ [])
-    by_end lent gave last r (inl ended) count = inl (ended.status, lent_more lent ended count, omega (arith, gave, ended.gave_bytes, length-append so.bytes r.read), ended.last_gave last)
-    by_end lent gave _ r (inr last) count = let all = lent_last lent last in inr (last.status, all.0, all.1, last.end)
-
-    by_stand : Stands remaining now old so.bytes so.reads so.records → HasReadSoFar remaining first new before after e
-    by_stand (inl goes) =
-        let r = advances.reads goes.0 in
-        let count = r.ends.0 in
-        record {
-          bytes = so.bytes ++ r.read;
-          reads = so.reads + r.reads;
-          records = so.records ++ record_in new ∷ [];
-          none = so.none;
-          is_read = more_read remaining first old new before now after so.bytes r.read so.reads r.reads so.is_read r.is_read;
-          failures = r.works (λ is. cc) ∙ so.failures;
-          lent = omega (arith, count, so.lent, length-append so.records (record_in new ∷ []));
-          draft = draft_more so.records (record_in new) d e takes so.draft;
-          stands = by_end goes.1 goes.2 goes.3 r r.ends.1 count;
-        }
-    by_stand (inr ended) = absurd (let over = (advances.over ended.0).0 in cc)
+pub draft_next : {R : Type 0} (remaining : R → Option (List ℕ)) (first old new : JarSource) (before now after : Device R) (d e : Draft) → HasReadSoFar remaining first old before now (IsDraftOf d)
+    → Advances remaining old new now after (Ok true) → Takes (record_in new) d e → HasReadSoFar remaining first new before after (IsDraftOf e)
+draft_next remaining first old new before now after d e so advances takes =
+    read_more remaining first old new before now after (IsDraftOf d) (IsDraftOf e) so advances (λ records is. draft_more records (record_in new) d e takes is)
 
 -- what the draft answers
 abbrev pub answer_of : {A : Type 0} → Result A RecordFault → (A → List EntryParts) → Result (List EntryParts) RegistryFault
 answer_of (Ok entries) items = Ok (items entries)
 answer_of (Err fault) items = Err (registry_faults.Record fault)
 
--- the whole text was read
-whole_reads : {R : Type 0} (remaining : R → Option (List ℕ)) (first last : JarSource) (before after : Device R) (d : Draft) (bytes : List ℕ) (reads : ℕ) (records : List (List Field)) → first.turns ≡ 0 → IsRead remaining first last before after bytes reads
-    → IsReadWhole remaining before after bytes records → IsDraftOf records d → ReadsRegistry remaining before after (answer_of (finished d.entries d.fault) (λ v. v.items))
-whole_reads remaining first last before after d bytes reads records none is whole draft =
-    record {
-      bytes = bytes;
-      reads = reads;
-      consumes = is.consumes;
-      calls = is.calls;
-      bounded = omega (arith, is.turns, is.bounded, none);
-      each = is.each;
-      answers = by d.fault draft.drafted;
-      rises = λ more. absurd (omega (arith, more, whole.works));
-    }
-  where
-    by : (o : Option RecordFault) → HasDrafted records d.entries.items o → AnswersAs remaining before after bytes reads (answer_of (finished d.entries o) (λ v. v.items))
-    by None made = (records, whole, subst (λ rs. EntriesFrom 1 rs d.entries.items) (take_all (length records) records (omega arith)) made.entries)
-    by (Some fault) refusal = (records, whole, refusal)
-
 -- the text has ended, and the draft has no fault, or has one
-pub read_ended : {R : Type 0} (remaining : R → Option (List ℕ)) (first old new : JarSource) (before now after : Device R) (d : Draft) → HasReadSoFar remaining first old before now d
+pub draft_ended : {R : Type 0} (remaining : R → Option (List ℕ)) (first old new : JarSource) (before now after : Device R) (d : Draft) → HasReadSoFar remaining first old before now (IsDraftOf d)
     → Advances remaining old new now after (Ok false) → ReadsRegistry remaining before after (answer_of (finished d.entries d.fault) (λ v. v.items))
-read_ended {R} remaining first old new before now after d so advances = by_stand so.stands
+draft_ended remaining first old new before now after d so advances =
+    read_ended remaining first old new before now after (IsDraftOf d) _ _ so advances (λ bytes reads records whole draft. by bytes reads records whole d.fault draft.drafted)
   where
-    by_stand : Stands remaining now old so.bytes so.reads so.records → ReadsRegistry remaining before after (answer_of (finished d.entries d.fault) (λ v. v.items))
-    by_stand (inl goes) =
-        let r = advances.reads goes.0 in
-        let last = r.ends.1 in
-        let all = lent_last goes.1 last in
-        let records : so.records ++ [] ≡ so.records = append-nil so.records in
-        let has = subst (HasRecords (so.bytes ++ r.read)) records all.0 in
-        whole_reads remaining first new before after d (so.bytes ++ r.read) (so.reads + r.reads) so.records so.none
-        (more_read remaining first old new before now after so.bytes r.read so.reads r.reads so.is_read r.is_read)
-        (record { has = has; within = lent_within has all.1; end = last.end; works = r.works (λ is. cc) ∙ so.failures })
-        so.draft
-    by_stand (inr ended) =
-        let same = (advances.over ended.0).2 in
-        subst (λ (z : Device R). ReadsRegistry remaining before z (answer_of (finished d.entries d.fault) (λ v. v.items))) (sym same)
-        (whole_reads remaining first old before now d so.bytes so.reads so.records so.none so.is_read (record { has = ended.1; within = lent_within ended.1 ended.2; end = ended.3; works = so.failures }) so.draft)
+    by : (bytes : List ℕ) (reads : ℕ) (records : List (List Field)) → IsReadWhole remaining before after bytes records → (o : Option RecordFault) → HasDrafted records d.entries.items o
+        → AnswersAs remaining before after bytes reads (answer_of (finished d.entries o) (λ v. v.items))
+    by bytes reads records whole None made = (records, whole, subst (λ rs. EntriesFrom 1 rs d.entries.items) (take_all (length records) records (omega arith)) made.entries)
+    by bytes reads records whole (Some fault) refusal = (records, whole, refusal)
 
 -- the reader answered a fault
-pub read_stops : {R : Type 0} (remaining : R → Option (List ℕ)) (first old new : JarSource) (before now after : Device R) (d : Draft) (fault : JarFault) → HasReadSoFar remaining first old before now d
+pub draft_stops : {R : Type 0} (remaining : R → Option (List ℕ)) (first old new : JarSource) (before now after : Device R) (d : Draft) (fault : JarFault) → HasReadSoFar remaining first old before now (IsDraftOf d)
     → Advances remaining old new now after (Err fault) → ReadsRegistry remaining before after (Err (registry_faults.Jar fault))
-read_stops {R} remaining first old new before now after d fault so advances = by_stand so.stands
-  where
-    line : fault.line ≡ line_of_kept new
-    line = (advances.fails fault refl).1
-
-    refusal : (lent : HasLent so.bytes so.records old) → so.reads ≤ length so.bytes → LastGave old now → (r : ReadsRecord remaining old new now after (Err fault.kind)) → IsJarRefusal remaining before after (so.bytes ++ r.read) (so.reads + r.reads) fault
-    refusal lent gave last r =
-        let stops = r.ends in
-        let text = so.bytes ++ r.read in
-        record {
-          format = λ kind is.
-              let there = stops.format kind is in
-              subst (λ n. HoldsOfWhole (λ t. IsTheFault 0 t kind n) (IsAtEnd (remaining (inner_of after))) text) (sym line) (lent_fault r.read new lent there.1 there.2);
-          memory = λ is. let there = stops.memory is in subst (IsLineReached 0 text) (sym line) (lent_reached r.read new lent there.1 there.2);
-          device = λ is.
-              let there = stops.device is in
-              (subst (λ (n : ℕ). (n < failures_of after) ⊎ (failures_of after ≡ greatest_count)) so.failures there.0, subst (BreaksOff 0 text) (sym line) (lent_cut r.read new lent there.1.1 there.1.2));
-          all_made = λ is.
-              let there = stops.all_made is in (
-                omega (arith, there.0, r.is_read.turns, so.is_read.turns, so.none),
-                omega (arith, there.1, gave, length-append so.bytes r.read),
-                there.2 last (omega (arith, there.0)),
-                subst (BreaksOff 0 text) (sym line) (lent_cut r.read new lent there.3.1 there.3.2),
-              );
-          first = stops.first;
-        }
-
-    by_stand : Stands remaining now old so.bytes so.reads so.records → ReadsRegistry remaining before after (Err (registry_faults.Jar fault))
-    by_stand (inl goes) =
-        let r = advances.reads goes.0 in
-        let all = more_read remaining first old new before now after so.bytes r.read so.reads r.reads so.is_read r.is_read in
-        record {
-          bytes = so.bytes ++ r.read;
-          reads = so.reads + r.reads;
-          consumes = all.consumes;
-          calls = all.calls;
-          bounded = omega (arith, all.turns, all.bounded, so.none);
-          each = all.each;
-          answers = refusal goes.1 goes.2 goes.3 r;
-          rises = λ more. let failed = r.rises (omega (arith, more, so.failures)) in cc;
-        }
-    by_stand (inr ended) = absurd (let over = (advances.over ended.0).0 in cc)
+draft_stops remaining first old new before now after d fault so advances = read_stops remaining first old new before now after (IsDraftOf d) _ _ fault so advances (λ bytes reads is. is) (λ is. is)

@@ -59,13 +59,18 @@ IsReadFailure (Err (faults.Jar fault)) = fault.kind ≡ jars.Read
 
 -- This many reads gave these bytes, together at most 65,536 for each read, and the answer is theirs. The device fails
 -- only where it is reported.
-pub record ReadsRegistry {R : Type 0} (remaining : R → Option (List ℕ))
-    (before after : Device R) (result : Reading) : Type 0 where
+pub record Reads {R : Type 0} (remaining : R → Option (List ℕ)) (before after : Device R)
+    (Answers : (bytes : List ℕ) → (reads : ℕ) → Type 0) (IsFailure : Type 0) : Type 0 where
   pub bytes : List ℕ
   pub reads : ℕ
   pub consumes : Consumes (remaining (inner_of before)) (remaining (inner_of after)) bytes
   pub calls : reads_of after ≡ after_reads (reads_of before) reads
   pub bounded : reads ≤ most_reads
   pub each : length bytes ≤ 65536 * reads
-  pub answers : AnswersAs remaining before after bytes reads result
-  pub rises : failures_of before < failures_of after → IsReadFailure result
+  pub answers : Answers bytes reads
+  pub rises : failures_of before < failures_of after → IsFailure
+
+-- the same of a registry
+abbrev pub ReadsRegistry : {R : Type 0} → (R → Option (List ℕ)) → (before after : Device R) → Reading → Type 0
+ReadsRegistry remaining before after result =
+    Reads remaining before after (λ bytes reads. AnswersAs remaining before after bytes reads result) (IsReadFailure result)

@@ -53,7 +53,7 @@ impl Registry {
     /// - `Jar`: what is wrong with the text, or that the device failed, or that 10,000,000 reads did not come
     ///   to its end, with the line; a fault of the text goes before one of a record.
     /// - `Record`: else the lowest record at fault, as `from_records` says it.
-    #[tactic(auto, using(crate::proofs::RecordLaws::read_none, crate::proofs::RecordLaws::read_more))]
+    #[tactic(auto, using(crate::proofs::RecordLaws::draft_none, crate::proofs::RecordLaws::draft_next))]
     pub fn read<R: Read>(alloc: Global, device: &mut Device<R>) -> Result<Registry, RegistryFault>
         ensures { ReadsRegistry R.remaining device.old device.new result }
     {

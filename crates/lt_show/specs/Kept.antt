@@ -1,15 +1,13 @@
 -- The records that are kept of those that are read. No public contract cites this.
-use Rattle.std.specs.Prelude.{◌≡◌, ◌≤◌, ◌<◌, ◌*◌, ℕ, Bool, true, false, List, [], ◌∷◌, ◌++◌, length, Option, Result, Ok, Err}
-use Rattle.std.specs.Io.KnownBytes.{Consumes}
-use Rattle.lt_jar.specs.Devices.{after_reads, failures_of, inner_of, reads_of}
+use Rattle.std.specs.Prelude.{◌≡◌, ℕ, Bool, true, false, List, [], ◌∷◌, ◌++◌, Option, Result, Ok, Err}
 use Rattle.lt_jar.specs.Records.{Field}
-use Rattle.lt_jar.specs.Sources.{Advances, most_reads, record_in}
+use Rattle.lt_jar.specs.Sources.{Advances, record_in}
 use Rattle.lt_jar.specs.declared.devices.Device.{Device}
 use Rattle.lt_jar.specs.declared.faults.JarFault.{JarFault}
 use Rattle.lt_jar.specs.declared.faults.JarFaultKind.TheVariants as jars
 use Rattle.lt_jar.specs.declared.readers.JarReader.{JarReader}
 use Rattle.lt_jar.specs.declared.sources.JarSource.{JarSource}
-use Rattle.lt_registry.specs.ReadRegistry.{IsJarRefusal, IsReadWhole}
+use Rattle.lt_registry.specs.ReadRegistry.{IsJarRefusal, IsReadWhole, Reads}
 use Rattle.lt_show.specs.declared.reading.Draft.{Draft}
 
 -- a record more is kept, unless memory ran out for it or one before
@@ -30,14 +28,14 @@ pub record KeepsNext {R : Type 0} (remaining : R → Option (List ℕ)) (old new
   pub keeps : result ≡ Ok false → drafted ≡ draft
 
 -- the draft has these records, unless memory ran out for one
-abbrev pub HasKept : List (List Field) → Draft → Type 0
-HasKept records draft = draft.lacks ≡ false → draft.records.items ≡ records
+abbrev pub HasKept : Draft → List (List Field) → Type 0
+HasKept draft records = draft.lacks ≡ false → draft.records.items ≡ records
 
 -- the records of the bytes were kept, or the bytes are refused
 abbrev pub AnswersDraft : {R : Type 0} → (R → Option (List ℕ)) → (before after : Device R)
     → List ℕ → ℕ → Result Draft JarFault → Type 0
 AnswersDraft remaining before after bytes reads (Ok draft) =
-    (records : List (List Field)) × IsReadWhole remaining before after bytes records × HasKept records draft
+    (records : List (List Field)) × IsReadWhole remaining before after bytes records × HasKept draft records
 AnswersDraft remaining before after bytes reads (Err fault) = IsJarRefusal remaining before after bytes reads fault
 
 -- the answer is that a read failed
@@ -46,13 +44,6 @@ IsJarFailure (Ok draft) = ⊥
 IsJarFailure (Err fault) = fault.kind ≡ jars.Read
 
 -- this many reads gave these bytes, and the answer is theirs
-pub record ReadsDraft {R : Type 0} (remaining : R → Option (List ℕ))
-    (before after : Device R) (result : Result Draft JarFault) : Type 0 where
-  pub bytes : List ℕ
-  pub reads : ℕ
-  pub consumes : Consumes (remaining (inner_of before)) (remaining (inner_of after)) bytes
-  pub calls : reads_of after ≡ after_reads (reads_of before) reads
-  pub bounded : reads ≤ most_reads
-  pub each : length bytes ≤ 65536 * reads
-  pub answers : AnswersDraft remaining before after bytes reads result
-  pub rises : failures_of before < failures_of after → IsJarFailure result
+abbrev pub ReadsDraft : {R : Type 0} → (R → Option (List ℕ)) → (before after : Device R) → Result Draft JarFault → Type 0
+ReadsDraft remaining before after result =
+    Reads remaining before after (λ bytes reads. AnswersDraft remaining before after bytes reads result) (IsJarFailure result)

@@ -1,13 +1,10 @@
 -- What reading a registry with its records answers.
-use Rattle.std.specs.Prelude.{◌≡◌, ◌≤◌, ◌<◌, ◌*◌, ℕ, List, length, Option, Result, Ok, Err}
-use Rattle.std.specs.Io.KnownBytes.{Consumes}
-use Rattle.lt_jar.specs.Devices.{after_reads, failures_of, inner_of, reads_of}
+use Rattle.std.specs.Prelude.{ℕ, List, Option, Result, Ok, Err}
 use Rattle.lt_jar.specs.Records.{Field}
-use Rattle.lt_jar.specs.Sources.{most_reads}
 use Rattle.lt_jar.specs.declared.devices.Device.{Device}
 use Rattle.lt_registry.specs.Parts.{EntryParts}
 use Rattle.lt_registry.specs.Records.{HasEntries}
-use Rattle.lt_registry.specs.ReadRegistry.{AnswersAs, IsReadFailure, IsReadWhole}
+use Rattle.lt_registry.specs.ReadRegistry.{AnswersAs, IsReadFailure, IsReadWhole, Reads}
 use Rattle.lt_show.specs.declared.reading.RecordsFault.{RecordsFault}
 use Rattle.lt_show.specs.declared.reading.RecordsFault.TheVariants as faults
 
@@ -31,15 +28,7 @@ IsFailure (Ok both) = ⊥
 IsFailure (Err (faults.Registry fault)) = IsReadFailure (Err fault)
 IsFailure (Err faults.OutOfMemory) = ⊥
 
--- This many reads gave these bytes, together at most 65,536 for each read, and the answer is theirs. The device fails
--- only where it is reported.
-pub record ReadsRecords {R : Type 0} (remaining : R → Option (List ℕ))
-    (before after : Device R) (result : Reading) : Type 0 where
-  pub bytes : List ℕ
-  pub reads : ℕ
-  pub consumes : Consumes (remaining (inner_of before)) (remaining (inner_of after)) bytes
-  pub calls : reads_of after ≡ after_reads (reads_of before) reads
-  pub bounded : reads ≤ most_reads
-  pub each : length bytes ≤ 65536 * reads
-  pub answers : AnswersWith remaining before after bytes reads result
-  pub rises : failures_of before < failures_of after → IsFailure result
+-- This many reads gave these bytes, and the answer is theirs.
+abbrev pub ReadsRecords : {R : Type 0} → (R → Option (List ℕ)) → (before after : Device R) → Reading → Type 0
+ReadsRecords remaining before after result =
+    Reads remaining before after (λ bytes reads. AnswersWith remaining before after bytes reads result) (IsFailure result)
