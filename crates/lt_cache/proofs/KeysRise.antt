@@ -17,7 +17,7 @@ use Rattle.lt_rewrite.specs.Rewriting.{done, IsNormalForm, Rests}
 use Rattle.lt_rewrite.specs.Orderings.{ListStep, by_swap, by_drop}
 use Rattle.lt_rewrite.specs.Extensions.{text_cmp, key_cmp, UnicodeStep, on_attributes, on_keywords, on_types}
 use Rattle.lt_rewrite.proofs.PartLists.{all_middle}
-use Rattle.lt_rewrite.proofs.ExtensionLaws.{text_total}
+use Rattle.lt_rewrite.proofs.PartForms.{text_total}
 use Rattle.lt_cache.specs.SettledEnds.{is_above, comes_after, is_type, next_key, keys_rise}
 
 -- no subtag is `true`

@@ -22,7 +22,7 @@ use Rattle.lt_rewrite.specs.Rewriting.{IsNormalForm}
 use Rattle.lt_rewrite.specs.Orderings.{ListStep, by_swap, by_drop}
 use Rattle.lt_rewrite.specs.Extensions.{ExtensionStep, singleton_cmp}
 use Rattle.lt_rewrite.proofs.NormalForms.{normal_is_form, rest_is_form, star_rests}
-use Rattle.lt_rewrite.proofs.ExtensionLaws.{extension, extension_formed, extensions_ordered, unicode_settled}
+use Rattle.lt_rewrite.proofs.ExtensionForms.{extension, extension_formed, extensions_ordered, unicode_settled}
 use Rattle.lt_check.specs.Conditions.{IsChecked}
 use Rattle.lt_check.proofs.Checks.{core_conditions}
 use Rattle.lt_canon.specs.Texts.{AppendsCanonicalText}
@@ -30,7 +30,7 @@ use Rattle.lt_canon.proofs.TagForm.{extension_end, extensions_end, extensions_en
 use Rattle.lt_canon.proofs.StayingTags.{stays_canonical}
 use Rattle.lt_check.specs.Staying.{IsStaying}
 use Rattle.lt_cache.specs.Ends.{IsEnd, IsEndText, IsCanonicalCore}
-use Rattle.lt_cache.proofs.KeptEnds.{CanFollow, text_with, whole_list, extension_alone, spell_rest}
+use Rattle.lt_cache.proofs.EndLemmas.{CanFollow, text_with, whole_list, extension_alone, spell_rest}
 use Rattle.lt_cache.specs.SettledEnds.{keys_rise, is_settled_end}
 use Rattle.lt_cache.proofs.KeysRise.{Rise, rise, parts, parts_found, parts_rest}
 

@@ -7,7 +7,7 @@ ghost use Rattle.lt_cache.specs.Ends.{EndsAreShared, FieldsAreShared};
 /// In a registry that passes the check, what follows a canonical core in the canonical text of a tag is the same with each
 /// canonical core: `de-u-kn` is the canonical text of `de-u-kn-true`, so `en-GB-u-kn` is that of `en-GB-u-kn-true`
 /// (RFC 5646, 4.5).
-#[tactic(auto, using(crate::proofs::KeptEnds::ends_shared))]
+#[tactic(auto, using(crate::proofs::EndLemmas::ends_shared))]
 pub fn ends_are_shared()
     ensures { (R : List EntryParts) → IsChecked R → EndsAreShared R }
 {}

@@ -34,7 +34,7 @@ pub(crate) fn split_end(text: &[u8]) -> Option<(&[u8], &[u8])>
 
 /// Whether two bytes are a separator of a field: a letter and a digit.
 #[inline(always)]
-#[tactic(auto, using(crate::proofs::KeptEnds::pair_separator))]
+#[tactic(auto, using(crate::proofs::SourceLemmas::pair_separator))]
 fn is_separator(letter: u8, digit: u8) -> bool
     ensures { IsTrue result → shapes.is_separator (folded (letter ∷ digit ∷ [])) ≡ true }
 {
@@ -78,7 +78,7 @@ fn after_singleton(end: &[u8]) -> Option<&[u8]>
 
 /// The source of a `t` extension and its fields, which end the text: `it` and `-m0-names` of `-t-it-m0-names`.
 #[inline(always)]
-#[tactic(auto, using(crate::proofs::KeptEnds::transformed))]
+#[tactic(auto, using(crate::proofs::SourceLemmas::transformed))]
 pub(crate) fn split_source(end: &[u8]) -> Option<(&[u8], &[u8])>
     ensures { IfSome result (λ parts. IsTransformed parts.0.now parts.1.now end.now) }
 {

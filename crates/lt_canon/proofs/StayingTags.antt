@@ -1,2 +1,2 @@
 -- Langtags whose subtags stay as they are.
-pub use Rattle.lt_canon.proofs.CanonicalForms.{stays_canonical}
+pub use Rattle.lt_canon.proofs.UsualForms.{stays_canonical}

@@ -15,9 +15,9 @@ use Rattle.lt_rewrite.specs.TagSteps.{CanBeReplacedWhole, TagChange, on_core, on
 use Rattle.lt_rewrite.proofs.Stars.{star_trans}
 use Rattle.lt_rewrite.proofs.NormalForms.{IsFormOf, star_map_while, star_keeps, form_is_normal, normal_is_form, rest_is_form}
 use Rattle.lt_rewrite.proofs.Same.{same_core-Decides}
-use Rattle.lt_rewrite.proofs.CoreLaws.{normal_core, cores_formed as normal_cores}
+use Rattle.lt_rewrite.proofs.CoreForms.{normal_core, cores_formed as normal_cores}
 use Rattle.lt_rewrite.proofs.PartLists.{empty_middle}
-use Rattle.lt_rewrite.proofs.ExtensionLaws.{normal_extension, normal_extensions, extensions_formed}
+use Rattle.lt_rewrite.proofs.ExtensionForms.{normal_extension, normal_extensions, extensions_formed}
 use Rattle.lt_rewrite.specs.Conditions.{HasEndingChain}
 use Rattle.lt_check.specs.Conditions.{HasRestingWhole, HasAgreeingWhole, IsChecked}
 use Rattle.lt_canon.proofs.EndForms.{IsEndForm, confluent, rest_unique}

@@ -68,7 +68,7 @@ pub(crate) fn canonical_of<L: Lookup>(
 
 /// Whether a part of a tag may not be in its normal form. Refused exactly where the tag is not valid, or memory
 /// runs out.
-#[tactic(auto, using(crate::proofs::CanonicalForms::usual_refused, crate::proofs::CanonicalForms::usual_valid, crate::proofs::CanonicalForms::usual_settled))]
+#[tactic(auto, using(crate::proofs::UsualForms::usual_refused, crate::proofs::UsualForms::usual_valid, crate::proofs::UsualForms::usual_settled))]
 fn needs_settling<L: Lookup>(alloc: Global, table: &L, tag: &Tag) -> Result<bool, Refusal>
     ensures valid { IfOk result (λ needs. IsValid (L.listed table.now) tag.now) }
     ensures settled { IfOk result (λ needs. needs ≡ false → IsSettledTag (L.listed table.now) tag.now tag.now) }

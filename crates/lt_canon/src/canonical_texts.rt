@@ -29,7 +29,7 @@ pub fn append_canonical_text<L: Lookup>(
 }
 
 /// The same of any text, by the tag that it is read as.
-#[tactic(auto, using(crate::proofs::CanonicalForms::appended))]
+#[tactic(auto, using(crate::proofs::UsualForms::appended))]
 fn append_other_text<L: Lookup>(
     alloc: Global,
     checked: &Checked<L>,

@@ -33,7 +33,7 @@ pub fn explain<L: Lookup>(alloc: Global, checked: &Checked<L>, tag: &Tag) -> Res
 
 /// Takes the steps on a tag, each the first that leads on, until none does, and adds them to others,
 /// which it gives back.
-#[tactic(auto, using(crate::proofs::TagForm::ending_chains, crate::proofs::CanonicalForms::coreless_explained, crate::proofs::CanonicalForms::transforms_of))]
+#[tactic(auto, using(crate::proofs::TagForm::ending_chains, crate::proofs::TraceLemmas::coreless_explained, crate::proofs::TraceLemmas::transforms_of))]
 fn explain_tag<L: Lookup>(
     alloc: Global,
     table: &L,
@@ -62,7 +62,7 @@ fn explain_tag<L: Lookup>(
 
 /// Takes the Whole step of a tag whose core is at rest, if its record has a value, and the steps on the
 /// core of the value, and adds them to others, which it gives back.
-#[tactic(auto, using(crate::proofs::TagForm::ending_chains, crate::proofs::CanonicalForms::valueless_explained))]
+#[tactic(auto, using(crate::proofs::TagForm::ending_chains, crate::proofs::TraceLemmas::valueless_explained))]
 fn explain_whole<L: Lookup>(
     alloc: Global,
     table: &L,

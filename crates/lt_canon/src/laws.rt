@@ -25,7 +25,7 @@ use lt_registry::Lookup;
 /// - A canonical form is its own canonical form; a canonical text is its own canonical text, unless it has more
 ///   than 1,024 bytes.
 /// - Where a valid tag can repeat a variant, there is one variant that the refusal names.
-#[tactic(auto, using(crate::proofs::TagForm::has_end_forms, crate::proofs::TagForm::steps_confluent, crate::proofs::TagForm::one_canonical_tag, crate::proofs::CanonicalForms::canonical_or_repeats, crate::proofs::CanonicalForms::repeats_have_no_form, crate::proofs::CanonicalForms::equivalence_is_equality, crate::proofs::CanonicalForms::repeats_are_named, crate::proofs::CanonicalForms::text_equality))]
+#[tactic(auto, using(crate::proofs::TagForm::has_end_forms, crate::proofs::TagForm::steps_confluent, crate::proofs::TagForm::one_canonical_tag, crate::proofs::RepeatedVariants::canonical_or_repeats, crate::proofs::RepeatedVariants::repeats_have_no_form, crate::proofs::RepeatedVariants::equivalence_is_equality, crate::proofs::RepeatedVariants::repeats_are_named, crate::proofs::CanonicalForms::text_equality))]
 pub fn confluence<L: Lookup>(checked: &Checked<L>)
     ensures ends { HasEndForms (L.listed checked.now) }
     ensures confluent { StepsAreConfluent (L.listed checked.now) }
@@ -54,7 +54,7 @@ pub fn steps_are_confluent()
 /// A valid tag reaches a canonical tag and can repeat no variant, or it can repeat one and is equivalent to no
 /// canonical tag; of two valid tags that are equivalent both can repeat a variant or neither; and two that can
 /// repeat none are equivalent exactly if their canonical forms are equal.
-#[tactic(auto, using(crate::proofs::CanonicalForms::canonical_or_repeats, crate::proofs::CanonicalForms::repeats_have_no_form, crate::proofs::CanonicalForms::repeat_together, crate::proofs::CanonicalForms::equivalence_is_equality))]
+#[tactic(auto, using(crate::proofs::RepeatedVariants::canonical_or_repeats, crate::proofs::RepeatedVariants::repeats_have_no_form, crate::proofs::RepeatedVariants::repeat_together, crate::proofs::RepeatedVariants::equivalence_is_equality))]
 pub fn tags_are_canonical_or_repeat()
     ensures canonical { (R : List EntryParts) → IsChecked R → CanonicalOrRepeats R }
     ensures formless { (R : List EntryParts) → IsChecked R → RepeatsHaveNoForm R }
@@ -65,7 +65,7 @@ pub fn tags_are_canonical_or_repeat()
 /// A valid tag has a canonical form or can repeat a variant; a canonical form is its own canonical form, and a
 /// canonical text its own canonical text, unless it has more than 1,024 bytes; valid tags that can repeat none are
 /// equivalent exactly if the texts of their canonical forms are equal.
-#[tactic(auto, using(crate::proofs::CanonicalForms::canonical_or_repeats, crate::proofs::CanonicalForms::twice_is_once, crate::proofs::CanonicalForms::equal_texts_tell))]
+#[tactic(auto, using(crate::proofs::RepeatedVariants::canonical_or_repeats, crate::proofs::CanonicalForms::twice_is_once, crate::proofs::CanonicalForms::equal_texts_tell))]
 pub fn canonical_forms()
     ensures canonical { (R : List EntryParts) → IsChecked R → CanonicalOrRepeats R }
     ensures twice { (R : List EntryParts) → IsChecked R → CanonicalTwiceIsOnce R }
@@ -74,7 +74,7 @@ pub fn canonical_forms()
 {}
 
 /// Where a valid tag can repeat a variant, there is one variant that the refusal names.
-#[tactic(auto, using(crate::proofs::CanonicalForms::repeats_are_named))]
+#[tactic(auto, using(crate::proofs::RepeatedVariants::repeats_are_named))]
 pub fn repeats_are_named()
     ensures { (R : List EntryParts) → IsChecked R → RepeatsAreNamed R }
 {}
@@ -86,19 +86,19 @@ pub fn extlang_forms_lead_back()
 {}
 
 /// The end of a trace is reached from the tag, and so equivalent to it, in every registry.
-#[tactic(auto, using(crate::proofs::CanonicalForms::traces_reach_their_end))]
+#[tactic(auto, using(crate::proofs::UsualForms::traces_reach_their_end))]
 pub fn traces_reach_their_end()
     ensures { (R : List EntryParts) → TracesReachTheirEnd R }
 {}
 
 /// The steps of a trace lead from a tag to one end, in every registry.
-#[tactic(auto, using(crate::proofs::CanonicalForms::trace_determined))]
+#[tactic(auto, using(crate::proofs::UsualForms::trace_determined))]
 pub fn traces_have_one_end()
     ensures { (R : List EntryParts) → TracesHaveOneEnd R }
 {}
 
 /// A tag has one explanation, in every registry: the steps are fixed by which of them is the first that leads on.
-#[tactic(auto, using(crate::proofs::CanonicalForms::one_explanation))]
+#[tactic(auto, using(crate::proofs::TraceLemmas::one_explanation))]
 pub fn tags_have_one_explanation()
     ensures { (R : List EntryParts) → HasOneExplanation R }
 {}

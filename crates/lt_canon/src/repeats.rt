@@ -47,7 +47,7 @@ fn second_in_source(alloc: Global, extension: &Extension) -> Result<Option<Subta
 
 /// The leftmost variant that occurs a second time in the source of one of some extensions. Memory is taken only
 /// for the parts of a `t` extension in which a subtag occurs twice.
-#[tactic(auto, using(crate::proofs::CanonicalForms::sources_here, crate::proofs::CanonicalForms::sources_more))]
+#[tactic(auto, using(crate::proofs::RepeatedVariants::sources_here, crate::proofs::RepeatedVariants::sources_more))]
 pub(crate) fn second_in_sources(
     alloc: Global,
     extensions: &[Extension],

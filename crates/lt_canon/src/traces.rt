@@ -74,7 +74,7 @@ impl From<OutOfMemory> for TraceFault {
 }
 
 /// The tag to which steps lead one after another.
-#[tactic(auto, using(crate::proofs::CanonicalForms::misstep_here))]
+#[tactic(auto, using(crate::proofs::TraceLemmas::misstep_here))]
 fn follow<L: Lookup>(alloc: Global, table: &L, tag: &Tag, steps: &[Step]) -> Result<Tag, TraceFault>
     requires { IsProper (L.listed table.now) tag.now }
     ensures ok { IfOk result (λ end. IsTrace (L.listed table.now) tag.now steps.now end) }

@@ -12,4 +12,5 @@ mod SeenRanges
 mod Judging
 -- What this crate alone uses.
 mod TextLemmas
+mod CutLemmas
 mod FlagLemmas

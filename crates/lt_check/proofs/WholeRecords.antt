@@ -13,7 +13,7 @@ use Rattle.lt_registry.specs.declared.entries.EntryName.TheVariants as names
 use Rattle.lt_rewrite.specs.Rewriting.{Star}
 use Rattle.lt_rewrite.specs.CoreSteps.{CoreStep, IsCoreNormalForm}
 use Rattle.lt_rewrite.specs.Conditions.{HasFittingGrandfathered, MeetsCoreConditions}
-use Rattle.lt_rewrite.proofs.CoreLaws.{one_normal_form}
+use Rattle.lt_rewrite.proofs.CoreForms.{one_normal_form}
 use Rattle.lt_rewrite.proofs.Entries.{find_has}
 use Rattle.lt_rewrite.proofs.NormalForms.{star_keeps}
 use Rattle.lt_rewrite.proofs.ProperTags.{step_proper, proper_not_grandfathered}

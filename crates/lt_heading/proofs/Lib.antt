@@ -2,4 +2,5 @@
 pub mod NameLemmas
 pub mod RowLemmas
 pub mod TakenLemmas
-pub mod ReadLemmas
+mod FirstRowLemmas
+mod ReadLemmas

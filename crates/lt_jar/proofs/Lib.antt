@@ -5,8 +5,10 @@ pub mod WordLemmas
 pub mod TrimLemmas
 pub mod GroupLemmas
 pub mod ReadLemmas
-pub mod ReadingLemmas
+pub mod TurnLemmas
+mod ReadingLemmas
 pub mod SourceLemmas
 pub mod TestDeviceLemmas
 pub mod LentLemmas
+pub mod RestLemmas
 pub mod WorkedRows

@@ -19,7 +19,8 @@ use Rattle.lt_jar.specs.declared.devices.Device.{Device}
 use Rattle.lt_jar.specs.declared.faults.JarFaultKind.{JarFaultKind}
 use Rattle.lt_jar.specs.declared.sources.JarSource.{JarSource}
 use Rattle.lt_jar.specs.declared.sources.Status.TheVariants as state
-use Rattle.lt_jar.proofs.ReadingLemmas.{Refused, Runs, cut_short, fault_told, holds_here, lines_gather, reached_told, rest_some, runs_alone, runs_end, runs_out, runs_stops, runs_stops_last, runs_taken, said_no_other}
+use Rattle.lt_jar.proofs.TurnLemmas.{rest_some}
+use Rattle.lt_jar.proofs.ReadingLemmas.{Refused, Runs, cut_short, fault_told, holds_here, lines_gather, reached_told, runs_alone, runs_end, runs_out, runs_stops, runs_stops_last, runs_taken, said_no_other}
 
 -- so far the call has read these bytes, and gone over lines of them, and this rest is left
 pub record SourceTurn {R : Type 0} (remaining : R → Option (List ℕ)) (old now : JarSource) (before after : Device R) (rest : List ℕ) : Type 0 where

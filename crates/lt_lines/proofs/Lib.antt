@@ -10,6 +10,7 @@ mod KeptLemmas
 pub mod TextLemmas
 pub mod PieceLemmas
 pub mod MarkedLemmas
-pub mod TextRunLemmas
+mod TextRunLemmas
+mod TextEndLemmas
 pub mod RunLemmas
 pub mod FaultLemmas

@@ -9,7 +9,7 @@ use Rattle.lt_registry.specs.Validity.{IsValid}
 use Rattle.lt_rewrite.specs.TagSteps.{AreEquivalent}
 use Rattle.lt_rewrite.specs.Rewriting.{same}
 use Rattle.lt_check.specs.Conditions.{IsChecked}
-use Rattle.lt_canon.proofs.CanonicalForms.{canonical_or_repeats, repeat_together, equivalence_is_equality}
+use Rattle.lt_canon.proofs.RepeatedVariants.{canonical_or_repeats, repeat_together, equivalence_is_equality}
 use Rattle.lt_canon.proofs.EndForms.{equivalent_sym}
 use Rattle.lt_range.specs.Ranges.{RangeParts, range_of_tag}
 use Rattle.lt_match.specs.Matched.{HasCanonicalList, IsCanonicalRange}

@@ -1,12 +1,19 @@
 pub mod CoreFaultLemmas
 pub mod DistinctTests
 pub mod EqualityLemmas
-pub mod FoundLemmas
+mod FieldLemmas
+mod FoundLemmas
 pub mod ListLemmas
 pub mod OrderLemmas
 pub mod ReadingLaws
-pub mod RecordLaws
-pub mod SortedLemmas
+mod RecordTexts
+mod RecordLaws
+mod EntryLaws
+mod NumberLemmas
+mod SortedLemmas
+mod IndexLemmas
+mod SpanLemmas
+mod RangeLemmas
 pub mod SplitListLemmas
 pub mod TagFaultLemmas
 pub mod ValidityLaws

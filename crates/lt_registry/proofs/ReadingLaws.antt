@@ -14,7 +14,8 @@ use Rattle.lt_jar.specs.declared.faults.JarFault.{JarFault}
 use Rattle.lt_jar.specs.declared.faults.JarFaultKind.TheVariants as jars
 use Rattle.lt_jar.specs.declared.sources.JarSource.{JarSource}
 use Rattle.lt_jar.specs.declared.sources.Status.TheVariants as state
-use Rattle.lt_jar.proofs.LentLemmas.{lent_cut, lent_fault, lent_last, lent_more, lent_reached, lent_start, lent_within}
+use Rattle.lt_jar.proofs.LentLemmas.{lent_cut, lent_fault, lent_last, lent_more, lent_reached, lent_start}
+use Rattle.lt_jar.proofs.RestLemmas.{lent_within}
 use Rattle.lt_jar.proofs.SourceLemmas.{more_read}
 use Rattle.lt_registry.specs.ReadRegistry.{IsJarRefusal, IsReadWhole, Reads}
 

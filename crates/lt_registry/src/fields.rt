@@ -181,7 +181,7 @@ impl<'a> RecordFields<'a> {
     }
 
     /// Whether the record has a date and no type.
-    #[tactic(auto, using(crate::proofs::FoundLemmas::found_or_none))]
+    #[tactic(auto, using(crate::proofs::FieldLemmas::found_or_none))]
     pub(crate) fn are_header(&self) -> bool
         ensures { result ≡ record_words.is_header self.now.all.now }
     {
@@ -269,7 +269,7 @@ fn kind_in_any_case(text: &str) -> Option<Kind>
 }
 
 /// The bytes before the first two full stops, and those after them.
-#[tactic(auto, using(crate::proofs::RecordLaws::ends_found, crate::proofs::RecordLaws::ends_stay, crate::proofs::RecordLaws::ends_none, std::proofs::lemmas::List::take_rest))]
+#[tactic(auto, using(crate::proofs::RecordTexts::ends_found, crate::proofs::RecordTexts::ends_stay, crate::proofs::RecordTexts::ends_none, std::proofs::lemmas::List::take_rest))]
 pub(crate) fn ends_of(text: &[u8]) -> Option<(&[u8], &[u8])>
     ensures { MatchOption result (record_words.ends_of text.now ≡ None) (λ ends. record_words.ends_of text.now ≡ Some (ends.0.now, ends.1.now)) }
 {
@@ -310,7 +310,7 @@ fn cut(text: &[u8]) -> (&[u8], Option<&[u8]>)
 }
 
 /// The subtags of a Prefix, if it is a list of subtags.
-#[tactic(auto, using(crate::proofs::RecordLaws::piece_stays, crate::proofs::RecordLaws::piece_fails, crate::proofs::RecordLaws::piece_last, crate::proofs::RecordLaws::prefix_is))]
+#[tactic(auto, using(crate::proofs::RecordTexts::piece_stays, crate::proofs::RecordTexts::piece_fails, crate::proofs::RecordTexts::piece_last, crate::proofs::RecordTexts::prefix_is))]
 pub(crate) fn read_prefix(alloc: Global, text: &[u8]) -> Result<Option<Prefix>, OutOfMemory>
     ensures { IfOk result (λ prefix. prefix ≡ record_words.prefix_of text.now) }
 {

@@ -72,7 +72,7 @@ impl KindIndex {
     }
 
     /// The place of the record of a number, which is looked for among those that begin alike.
-    #[tactic(auto, using(crate::proofs::SortedLemmas::none_listed, crate::proofs::SortedLemmas::none_alike, crate::proofs::SortedLemmas::part_rises, crate::proofs::SortedLemmas::place_alike))]
+    #[tactic(auto, using(crate::proofs::SpanLemmas::none_listed, crate::proofs::SpanLemmas::none_alike, crate::proofs::SpanLemmas::part_rises, crate::proofs::SpanLemmas::place_alike))]
     fn place(&self, number: u64) -> Option<usize>
         requires rising { sorted.RowsRise self.now.singles.items }
         requires starts { sorted.AreStarts self.now.singles.items self.now.starts.items }
@@ -86,7 +86,7 @@ impl KindIndex {
     }
 
     /// The first range of the kind that holds a subtag.
-    #[tactic(auto, using(crate::proofs::SortedLemmas::range_found, crate::proofs::SortedLemmas::none_holds, crate::proofs::SortedLemmas::subtag_few))]
+    #[tactic(auto, using(crate::proofs::RangeLemmas::range_found, crate::proofs::RangeLemmas::none_holds, crate::proofs::NumberLemmas::subtag_few))]
     fn range<'a>(&self, entries: &'a [Entry], subtag: &Subtag) -> Option<&'a Entry>
         requires index { sorted.IsKindIndex entries.now self.now }
         requires forms { All IsEntry entries.now }

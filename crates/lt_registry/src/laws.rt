@@ -28,7 +28,7 @@ pub fn one_first_fault()
 {}
 
 /// Records give one list of entries.
-#[tactic(auto, using(crate::proofs::RecordLaws::one_list))]
+#[tactic(auto, using(crate::proofs::EntryLaws::one_list))]
 pub fn one_list_of_entries()
     ensures { (records : List (List Field)) (a b : List EntryParts) → HasEntries records a → HasEntries records b → a ≡ b }
 {}

@@ -241,7 +241,7 @@ fn read_prefixes(
     }
 }
 
-#[tactic(auto, using(crate::proofs::RecordLaws::field_taken, crate::proofs::RecordLaws::field_skipped, crate::proofs::RecordLaws::field_fails, crate::proofs::RecordLaws::no_field))]
+#[tactic(auto, using(crate::proofs::RecordTexts::field_taken, crate::proofs::RecordTexts::field_skipped, crate::proofs::RecordTexts::field_fails, crate::proofs::RecordTexts::no_field))]
 fn read_all_prefixes(alloc: Global, fields: &[JarField]) -> Result<Vec<Prefix>, RecordFaultKind>
     ensures ok { IfOk result (λ prefixes. record_words.prefixes_of (record_words.bodies record_words.prefix_name fields.now) ≡ Some prefixes.items) }
     ensures err { IfErr result (steps.IsPrefixesFault fields.now) }

@@ -35,7 +35,7 @@ impl Registry {
     /// The entries of a file's records, 100,000 at most: each record but the header gives one (RFC 5646, 3.1).
     /// A refusal names the lowest record at fault and, there, the first fault; where memory runs out, the
     /// record that was being read.
-    #[tactic(auto, using(crate::proofs::RecordLaws::made_stops))]
+    #[tactic(auto, using(crate::proofs::EntryLaws::made_stops))]
     pub fn from_records(alloc: Global, records: &[Record]) -> Result<Registry, RecordFault>
         requires { length records.now ≤ 100000 }
         ensures ok { IfOk result (HasEntries records.now) }
@@ -53,7 +53,7 @@ impl Registry {
     /// - `Jar`: what is wrong with the text, or that the device failed, or that 10,000,000 reads did not come
     ///   to its end, with the line; a fault of the text goes before one of a record.
     /// - `Record`: else the lowest record at fault, as `from_records` says it.
-    #[tactic(auto, using(crate::proofs::RecordLaws::draft_none, crate::proofs::RecordLaws::draft_next))]
+    #[tactic(auto, using(crate::proofs::EntryLaws::draft_none, crate::proofs::EntryLaws::draft_next))]
     pub fn read<R: Read>(alloc: Global, device: &mut Device<R>) -> Result<Registry, RegistryFault>
         ensures { ReadsRegistry R.remaining device.old device.new result }
     {

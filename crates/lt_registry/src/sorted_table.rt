@@ -61,7 +61,7 @@ impl Lookup for SortedTable {
         self.registry.entries()
     }
 
-    #[tactic(auto, using(crate::proofs::SortedLemmas::no_entry, crate::proofs::SortedLemmas::no_index))]
+    #[tactic(auto, using(crate::proofs::IndexLemmas::no_entry, crate::proofs::IndexLemmas::no_index))]
     fn entry(&self, kind: Kind, subtag: &Subtag) -> Option<&Entry> {
         let entries = self.registry.entries();
         self.indexes.of_kind(kind)?.find(entries, subtag)

@@ -49,7 +49,7 @@ fn byte_at(bytes: &[u8], index: usize) -> u8
 }
 
 /// The bytes, and zeros up to eight.
-#[tactic(auto, using(crate::proofs::SortedLemmas::filled_by_index))]
+#[tactic(auto, using(crate::proofs::NumberLemmas::filled_by_index))]
 fn filled(bytes: &[u8]) -> [u8; 8]
     requires { length bytes.now ≤ 8 }
     ensures { result ≡ padded bytes.now }
@@ -87,7 +87,7 @@ fn differ(numbers: &mut [u64]) -> bool
 }
 
 /// Whether a sort of their numbers shows that subtags differ. Of a few it is not asked, nor of more than 256.
-#[tactic(auto, using(crate::proofs::SortedLemmas::subtags_differ))]
+#[tactic(auto, using(crate::proofs::NumberLemmas::subtags_differ))]
 pub(crate) fn many_differ(subtags: &[Subtag]) -> bool
     ensures { result ≡ true → Distinct subtags.now }
 {

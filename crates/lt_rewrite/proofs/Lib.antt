@@ -8,14 +8,25 @@ pub mod Forms
 pub mod NameForms
 pub mod Same
 pub mod FirstSteps
-pub mod CoreLaws
-pub mod ExtensionLaws
+mod ListSteps
+pub mod CoreSteps
+pub mod CoreForms
+mod CoreSettling
+mod CoreLaws
+pub mod PartForms
+pub mod ExtensionForms
+mod ExtensionLaws
 pub mod ProperTags
 pub mod StepLaws
 -- What this crate alone uses.
 mod Sorting
+mod PartSorting
 mod OrderingRows
 mod ChainWalks
+mod ShortcutWalks
 mod VariantPlaces
+mod CoreLeading
+mod ExtensionLeading
 mod TagLeading
+mod PartRuns
 mod ExtensionRuns

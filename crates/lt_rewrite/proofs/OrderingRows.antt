@@ -4,7 +4,8 @@ use Rattle.std.specs.Prelude.{codes}
 use Rattle.lt_tag.specs.Parts.{FieldParts}
 use Rattle.lt_rewrite.specs.Extensions.{separator_cmp, singleton_cmp}
 use Rattle.lt_rewrite.proofs.Sorting.{sorted}
-use Rattle.lt_rewrite.proofs.ExtensionLaws.{u_form, with_types as keyword, with_parts as parts, extension}
+use Rattle.lt_rewrite.proofs.PartForms.{u_form, with_types as keyword, with_parts as parts}
+use Rattle.lt_rewrite.proofs.ExtensionForms.{extension}
 
 abbrev field : List ℕ → List (List ℕ) → FieldParts
 field separator values = record { separator = separator; values = values }

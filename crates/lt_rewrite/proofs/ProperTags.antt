@@ -18,7 +18,8 @@ use Rattle.lt_rewrite.specs.Conditions.{HasFittingGrandfathered, MeetsCoreCondit
 use Rattle.lt_rewrite.specs.Laws.{IsProperValue, StepsKeepTagsProper}
 use Rattle.lt_rewrite.proofs.CoreLaws.{steps_keep_proper}
 use Rattle.lt_rewrite.proofs.PartLists.{all_both, all_step, all_swapped, all_middle, all_replaced, if_some_is, is_if_some}
-use Rattle.lt_rewrite.proofs.ExtensionLaws.{one_transform, extension_step_singleton, extensions_step_values, extensions_step_count}
+use Rattle.lt_rewrite.proofs.ExtensionForms.{extension_step_singleton, extensions_step_values, extensions_step_count}
+use Rattle.lt_tag.proofs.PartsLaws.{t_unique as one_transform}
 use Rattle.lt_tag.specs.Lists.{longest_text}
 pub use Rattle.lt_rewrite.proofs.CoreLaws.{step_proper, proper_not_grandfathered, proper_spells_none}
 

@@ -73,7 +73,7 @@ fn settle_region<L: Lookup>(table: &L, shortcuts: Option<&Shortcuts>, core: &mut
 }
 
 /// Replaces each variant by the end of its chain of variants.
-#[tactic(auto, using(crate::proofs::CoreLaws::none_settled))]
+#[tactic(auto, using(crate::proofs::CoreSettling::none_settled))]
 fn settle_variants<L: Lookup>(table: &L, shortcuts: Option<&Shortcuts>, core: &mut Core)
     requires chains { All (HasEndingChain (L.listed table.now)) (L.listed table.now) }
     requires shortcuts { IfSome shortcuts (λ s. AreShortcuts (L.listed table.now) s.now) }
@@ -172,7 +172,7 @@ fn settle_variant_languages<L: Lookup>(table: &L, shortcuts: Option<&Shortcuts>,
 
 /// Replaces each of at most 256 variants by the end of its chain of variants, by shortcuts, and gives the places of
 /// their entries.
-#[tactic(auto, using(crate::proofs::CoreLaws::none_settled, crate::proofs::CoreLaws::all_final))]
+#[tactic(auto, using(crate::proofs::CoreSettling::none_settled, crate::proofs::CoreSettling::all_final))]
 fn settle_few_variants<L: Lookup>(
     table: &L,
     shortcuts: &Shortcuts,

@@ -104,7 +104,7 @@ fn find_change<L: Lookup>(
 }
 
 /// Two neighbouring extensions change places.
-#[tactic(auto, using(crate::proofs::TagLeading::swaps_answers))]
+#[tactic(auto, using(crate::proofs::ExtensionLeading::swaps_answers))]
 fn swap_extensions(extensions: &mut Vec<Extension>, start: usize, step: Step) -> bool
     requires kind { step.kind ≡ kinds.SwapExtensions }
     requires few { start + length (spell_extensions extensions.old.items) ≤ 1100000 }

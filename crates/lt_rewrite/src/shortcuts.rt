@@ -57,7 +57,7 @@ impl Shortcuts {
 
     /// The subtag as many values on from a subtag as there are records: the end of its chain, if it
     /// has one.
-    #[tactic(auto, using(std::proofs::lemmas::Option::slice_get_within, crate::proofs::ChainWalks::entry_there, crate::proofs::ChainWalks::onward_rest, crate::proofs::ChainWalks::entry_next, crate::proofs::ChainWalks::none_follows, crate::proofs::ChainWalks::next_by, crate::proofs::ChainWalks::led_to, crate::proofs::ChainWalks::led_far, crate::proofs::ChainWalks::some_follows))]
+    #[tactic(auto, using(std::proofs::lemmas::Option::slice_get_within, crate::proofs::ChainWalks::entry_there, crate::proofs::ShortcutWalks::onward_rest, crate::proofs::ShortcutWalks::entry_next, crate::proofs::ShortcutWalks::none_follows, crate::proofs::ChainWalks::next_by, crate::proofs::ShortcutWalks::led_to, crate::proofs::ShortcutWalks::led_far, crate::proofs::ShortcutWalks::some_follows))]
     fn further<'a, L: Lookup>(&self, table: &'a L, kind: Kind, subtag: &'a Subtag) -> &'a Subtag
         requires { AreShortcuts (L.listed table.now) self.now }
         ensures onward { IsOnward (conditions.next_value (L.listed table.now) kind) (length (L.listed table.now)) subtag.now result.now }
@@ -181,7 +181,7 @@ pub(crate) fn place_of(entries: &[Entry], entry: &Entry) -> usize
 
 /// The place of the entry of the value that follows an entry at a place, or its own place where that
 /// value is the last.
-#[tactic(auto, using(std::proofs::lemmas::Option::slice_get_within, crate::proofs::ChainWalks::entry_there, crate::proofs::ChainWalks::to_itself, crate::proofs::ChainWalks::to_next, crate::proofs::ChainWalks::next_by))]
+#[tactic(auto, using(std::proofs::lemmas::Option::slice_get_within, crate::proofs::ChainWalks::entry_there, crate::proofs::ShortcutWalks::to_itself, crate::proofs::ShortcutWalks::to_next, crate::proofs::ChainWalks::next_by))]
 fn next_place<L: Lookup>(table: &L, entry: &Entry, place: usize) -> usize
     requires { slice_get (L.listed table.now) place ≡ Some entry.now }
     ensures within { result < length (L.listed table.now) }

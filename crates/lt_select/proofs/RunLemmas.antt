@@ -1,7 +1,7 @@
 -- What a run that selects lines did.
 use Rattle.std.proofs.Common.{◌≡◌, ◌≤◌, ◌+◌, ◌++◌, ◌∷◌, ◌∙◌, inl, inr, ℕ, List, [], length, take, sym, ap, subst, arith, append-nil, length-append, take_all}
 use Rattle.lt_jar.specs.Lines.{whole_lines}
-use Rattle.lt_jar.proofs.ReadingLemmas.{whole-append}
+use Rattle.lt_jar.proofs.TurnLemmas.{whole-append}
 use Rattle.lt_select.specs.Selection.{AreOwed, AreSelected, Selection, longest_kept}
 use Rattle.lt_select.proofs.MatchedLemmas.{TellsByFront}
 use Rattle.lt_select.proofs.SelectionLemmas.{selected_no, selected_yes}

@@ -4,7 +4,7 @@ use Rattle.std.specs.Io.KnownBytes.{Appends}
 use Rattle.lt_jar.specs.Devices.{failures_of, inner_of}
 use Rattle.lt_jar.specs.Lines.{IsOneLine, lines_of, whole_lines}
 use Rattle.lt_jar.specs.declared.devices.Device.{Device}
-use Rattle.lt_jar.proofs.ReadingLemmas.{lines_of-whole}
+use Rattle.lt_jar.proofs.TurnLemmas.{lines_of-whole}
 use Rattle.lt_stream.specs.Lines.{Answered, EndsAs, HasLine, IsAnsweredToLastFeed, IsBegun, RunsOverLines}
 use Rattle.lt_stream.specs.Lined.{EndsLine, Finishes, IsCutOff, IsDuring, IsTaken, KeepsMore, Stops, WritesOwed}
 use Rattle.lt_stream.specs.Pieces.{HasRoom, IsStoppedByRead, IsStoppedByTurns, IsWithoutMemory, RunsPieces}

@@ -5,7 +5,7 @@ use Rattle.std.proofs.lemmas.List.Elements.{All-append, All-nil}
 use Rattle.lt_jar.specs.Lines.{IsOneLine, lines_of, whole_lines}
 use Rattle.lt_jar.specs.declared.devices.Device.{Device}
 use Rattle.lt_jar.proofs.CutLemmas.{lines_of-ended, lines_of-last}
-use Rattle.lt_jar.proofs.ReadingLemmas.{lines_of-whole, whole-append}
+use Rattle.lt_jar.proofs.TurnLemmas.{lines_of-whole, whole-append}
 use Rattle.lt_rows.proofs.RowLemmas.{each-last}
 use Rattle.lt_stream.specs.DeviceOutput.{IsFrontOf}
 use Rattle.lt_stream.specs.Lines.{Answered, IsBegun}

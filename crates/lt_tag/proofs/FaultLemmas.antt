@@ -12,7 +12,8 @@ use Rattle.lt_tag.specs.Lists.{pieces, list_of, longest_text}
 use Rattle.lt_tag.specs.Listing.{kind_of, listed}
 use Rattle.lt_tag.specs.WellFormed.{spell, IsTag, IsWellFormed, Begins, IsFirstMisplaced, IsShaped, IsNotGrandfathered}
 use Rattle.lt_tag.specs.Faults.{IsFault, IsFirstBadPiece, HasList, HasBadList, HasFault, HasTag}
-use Rattle.lt_tag.proofs.DraftLemmas.{Begins-take, draft_of, draft_is, finished_is, unfinished, refused, bad_language, of_first, of_more, bad_list, misplaced_behind}
+use Rattle.lt_tag.proofs.DraftLemmas.{draft_of}
+use Rattle.lt_tag.proofs.MisplacedLemmas.{Begins-take, draft_is, finished_is, unfinished, refused, bad_language, of_first, of_more, bad_list, misplaced_behind}
 use Rattle.lt_tag.proofs.LetterLemmas.{to_HasList}
 use Rattle.lt_tag.proofs.ShapeLemmas.{tag_subtags}
 use Rattle.lt_tag.specs.declared.faults.TagFault.{TagFault}

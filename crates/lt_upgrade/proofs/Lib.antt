@@ -1,2 +1,4 @@
 -- What this crate alone uses.
+mod RangeCoverage
 mod UpgradeChecks
+mod UpgradeLaws

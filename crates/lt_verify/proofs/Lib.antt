@@ -1,2 +1,4 @@
 -- Lemmas on judging an explanation.
-pub mod JudgingLemmas
+mod LineLemmas
+mod JudgingLemmas
+mod FollowingLemmas

@@ -65,7 +65,7 @@ struct Words<'a> {
 }
 
 /// A name, a place and a number, each with a space after it, and the text that follows.
-#[tactic(auto, using(crate::proofs::JudgingLemmas::three_words))]
+#[tactic(auto, using(crate::proofs::LineLemmas::three_words))]
 fn words_of<'a>(line: &'a [u8]) -> Option<Words<'a>>
     ensures { MatchOption result (HasFewWords line.now) (λ w. HasWords line.now w.name.now w.place.now w.number.now w.text.now) }
 {

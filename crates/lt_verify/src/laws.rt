@@ -24,7 +24,7 @@ fn numbers_fit<L: Lookup>(table: &L)
 }
 
 /// What `explanation_text` gives for the text of a tag is judged right, by the same table.
-#[tactic(auto, using(crate::proofs::JudgingLemmas::explanations_right))]
+#[tactic(auto, using(crate::proofs::FollowingLemmas::explanations_right))]
 pub fn explanations_are_right<L: Lookup>(table: &L)
     ensures { ExplanationsAreRight (L.listed table.now) }
 {

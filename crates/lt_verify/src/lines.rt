@@ -56,7 +56,7 @@ impl Following {
     }
 
     /// Judges the line that is kept, and goes on after it.
-    #[tactic(auto, using(crate::proofs::JudgingLemmas::ends_on, crate::proofs::JudgingLemmas::leads_on))]
+    #[tactic(auto, using(crate::proofs::FollowingLemmas::ends_on, crate::proofs::FollowingLemmas::leads_on))]
     fn judge_kept<L: Lookup>(
         &mut self,
         alloc: Global,
@@ -101,7 +101,7 @@ impl Following {
     }
 
     /// Takes the next bytes, and judges the lines that they end.
-    #[tactic(auto, using(crate::proofs::JudgingLemmas::first_turn, crate::proofs::JudgingLemmas::turn_proper, crate::proofs::JudgingLemmas::next_turn, crate::proofs::JudgingLemmas::turn_room))]
+    #[tactic(auto, using(crate::proofs::FollowingLemmas::first_turn, crate::proofs::FollowingLemmas::turn_proper, crate::proofs::FollowingLemmas::next_turn, crate::proofs::FollowingLemmas::turn_room))]
     fn take_piece<L: Lookup>(
         &mut self,
         alloc: Global,

@@ -1,4 +1,4 @@
-use Rattle.lt_cache.proofs.KeptEnds.{fields_shared}
+use Rattle.lt_cache.proofs.SourceLemmas.{fields_shared}
 use Rattle.lt_cache.proofs.laws.fields_are_shared.Goals as goal
 
 pub returns : goal.returns

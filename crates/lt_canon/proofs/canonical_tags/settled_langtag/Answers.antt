@@ -1,4 +1,4 @@
-use Rattle.lt_canon.proofs.CanonicalForms.{source_refused}
+use Rattle.lt_canon.proofs.RepeatedVariants.{source_refused}
 use Rattle.lt_canon.proofs.canonical_tags.settled_langtag.Goals as goal
 
 pub returns-in-Some-clause-refusal : goal.returns-in-Some-clause-refusal

@@ -1,4 +1,4 @@
-use Rattle.lt_canon.proofs.CanonicalForms.{explained}
+use Rattle.lt_canon.proofs.TraceLemmas.{explained}
 use Rattle.lt_canon.proofs.explaining.explain.Goals as goal
 
 pub returns-clause-ok : goal.returns-clause-ok

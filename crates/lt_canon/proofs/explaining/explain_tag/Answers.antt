@@ -8,7 +8,7 @@ use Rattle.lt_rewrite.specs.Runs.{Adds}
 use Rattle.lt_canon.specs.Explaining.{rank_in}
 use Rattle.lt_rewrite.proofs.ProperTags.{proper_parts}
 use Rattle.lt_canon.proofs.TagForm.{core_spells_none}
-use Rattle.lt_canon.proofs.CanonicalForms.{few_in_tag, first_adds, plain_explained, langtag_explained}
+use Rattle.lt_canon.proofs.TraceLemmas.{few_in_tag, first_adds, plain_explained, langtag_explained}
 use Rattle.lt_canon.proofs.explaining.explain_tag.Goals as goal
 use Rattle.lt_canon.proofs.explaining.explain_tag.Goals.{Then-is_some}
 

@@ -1,7 +1,7 @@
 use Rattle.std.proofs.Common.{◌≡◌, None, Some, ap, ◌∙◌, arith}
 use Rattle.lt_tag.specs.Values.{core_of}
 use Rattle.lt_check.proofs.CheckedRegistry.{value_plain}
-use Rattle.lt_canon.proofs.CanonicalForms.{value_rests_by}
+use Rattle.lt_canon.proofs.TraceLemmas.{value_rests_by}
 use Rattle.lt_canon.proofs.explaining.explain_whole.Goals as goal
 
 pub returns-in_default-core : goal.returns-in_default-core

@@ -1,4 +1,5 @@
-use Rattle.lt_canon.proofs.CanonicalForms.{repeat_together, twice_is_once, text_twice_is_once}
+use Rattle.lt_canon.proofs.RepeatedVariants.{repeat_together}
+use Rattle.lt_canon.proofs.CanonicalForms.{twice_is_once, text_twice_is_once}
 use Rattle.lt_canon.proofs.laws.confluence.Goals as goal
 
 pub returns-clause-together : goal.returns-clause-together

@@ -1,6 +1,6 @@
 use Rattle.std.proofs.Common.{◌≡◌, None, sym, ap, ◌∙◌, arith}
 use Rattle.lt_tag.specs.Parts.{TForm}
-use Rattle.lt_canon.proofs.CanonicalForms.{of_parts, of_source, distinct_subtags}
+use Rattle.lt_canon.proofs.RepeatedVariants.{of_parts, of_source, distinct_subtags}
 use Rattle.lt_canon.proofs.repeats.second_in_source.Goals as goal
 
 pub returns-in-Some : goal.returns-in-Some

@@ -1,6 +1,6 @@
 use Rattle.lt_rewrite.specs.Labels.{step_at}
 use Rattle.lt_rewrite.specs.declared.steps.StepKind.TheVariants as kinds
-use Rattle.lt_canon.proofs.CanonicalForms.{trace_here}
+use Rattle.lt_canon.proofs.TraceLemmas.{trace_here}
 use Rattle.lt_canon.proofs.traces.follow.Goals as goal
 
 pub loop-index-preserved : goal.loop-index-preserved

@@ -4,7 +4,7 @@ use Rattle.lt_tag.specs.OrderLaws.{same_exactly, tag_total, tags_apart}
 use Rattle.lt_registry.specs.Validity.{IsValid}
 use Rattle.lt_registry.proofs.ValidityLaws.{valid_law}
 use Rattle.lt_canon.specs.declared.traces.TraceFault.TheVariants as faults
-use Rattle.lt_canon.proofs.CanonicalForms.{invalid_trace, follow_fault, fault_excludes, ends_elsewhere}
+use Rattle.lt_canon.proofs.TraceLemmas.{invalid_trace, follow_fault, fault_excludes, ends_elsewhere}
 use Rattle.lt_canon.proofs.traces.verify.Goals as goal
 use Rattle.lt_canon.proofs.traces.verify.Goals.{After-extensions}
 

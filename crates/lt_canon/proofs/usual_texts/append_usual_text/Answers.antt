@@ -1,4 +1,4 @@
-use Rattle.lt_canon.proofs.CanonicalForms.{stays_appended}
+use Rattle.lt_canon.proofs.UsualForms.{stays_appended}
 use Rattle.lt_canon.proofs.usual_texts.append_usual_text.Goals as goal
 
 pub returns-clause-exact : goal.returns-clause-exact

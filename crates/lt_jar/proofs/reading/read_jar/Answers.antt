@@ -1,6 +1,6 @@
 use Rattle.std.proofs.Common.{append-nil, arith, inr, sym}
 use Rattle.std.proofs.lemmas.Result.{err_from_is_err_and}
-use Rattle.lt_jar.proofs.LentLemmas.{said_of, text_begins, text_ends, text_more, text_refused, text_runs}
+use Rattle.lt_jar.proofs.RestLemmas.{said_of, text_begins, text_ends, text_more, text_refused, text_runs}
 use Rattle.lt_jar.proofs.ReadingLemmas.{runs_out, runs_stops, runs_stops_last, runs_taken}
 use Rattle.lt_jar.proofs.reading.read_jar.Goals as goal
 

@@ -1,5 +1,5 @@
 use Rattle.std.proofs.Common.{length}
-use Rattle.lt_jar.proofs.LentLemmas.{TextTurn}
+use Rattle.lt_jar.proofs.RestLemmas.{TextTurn}
 use Rattle.lt_jar.proofs.reading.read_jar.Given as goal
 
 abbrev pub invariant-loop-after : goal.invariant-loop-after

@@ -1,6 +1,6 @@
 use Rattle.std.proofs.Common.{◌≡◌, take, drop}
 use Rattle.lt_registry.specs.Records.{ends_of}
-use Rattle.lt_registry.proofs.RecordLaws.{behind}
+use Rattle.lt_registry.proofs.RecordTexts.{behind}
 use Rattle.lt_registry.proofs.fields.ends_of.Given as goal
 
 -- no two full stops so far

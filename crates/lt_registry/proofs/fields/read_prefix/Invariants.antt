@@ -1,7 +1,7 @@
 use Rattle.std.proofs.Common.{◌≡◌, length}
 use Rattle.lt_tag.specs.Lists.{pieces}
 use Rattle.lt_registry.specs.Records.{subtags_of}
-use Rattle.lt_registry.proofs.RecordLaws.{after}
+use Rattle.lt_registry.proofs.RecordTexts.{after}
 use Rattle.lt_registry.proofs.fields.read_prefix.Given as goal
 
 -- the subtags so far are before those of the rest

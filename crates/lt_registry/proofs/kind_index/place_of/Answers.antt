@@ -1,7 +1,7 @@
 use Rattle.std.proofs.Common.{rules}
 use Rattle.std.proofs.lemmas.List.Sorted.{answers_always}
 use Rattle.lt_registry.specs.declared.rows.Row.{Row}
-use Rattle.lt_registry.proofs.SortedLemmas.{place_found, place_missing, searchable}
+use Rattle.lt_registry.proofs.SpanLemmas.{place_found, place_missing, searchable}
 use Rattle.lt_registry.proofs.kind_index.place_of.Goals as goal
 
 pub returns-in-Ok : goal.returns-in-Ok

@@ -4,7 +4,8 @@ use Rattle.std.proofs.lemmas.Cmp.{nat_cmp_total}
 use Rattle.std.proofs.lemmas.Fn.{dedup_same}
 use Rattle.lt_registry.specs.Sorted.{single_row}
 use Rattle.lt_registry.specs.declared.rows.Row.{Row}
-use Rattle.lt_registry.proofs.SortedLemmas.{indexed, single_placed, nats_equal}
+use Rattle.lt_registry.proofs.SortedLemmas.{indexed, nats_equal}
+use Rattle.lt_registry.proofs.IndexLemmas.{single_placed}
 use Rattle.lt_registry.proofs.kind_index.sorted_rows.Goals as goal
 
 pub returns : goal.returns

@@ -1,7 +1,7 @@
 use Rattle.std.proofs.Common.{◌≡◌, ◌+◌, ◌-◌, ◌++◌, length, take, replicate, get_or, ap, subst, ◌∙◌, arith}
 use Rattle.std.proofs.lemmas.List.{get_or_default}
 use Rattle.lt_registry.specs.declared.rows.Row.{Row}
-use Rattle.lt_registry.proofs.SortedLemmas.{StartsSoFar, starts_more, starts_all}
+use Rattle.lt_registry.proofs.SpanLemmas.{StartsSoFar, starts_more, starts_all}
 use Rattle.lt_registry.proofs.kind_index.starts.Goals as goal
 
 pub loop-place-preserved : goal.loop-place-preserved

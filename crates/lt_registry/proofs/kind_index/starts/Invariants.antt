@@ -1,4 +1,4 @@
-use Rattle.lt_registry.proofs.SortedLemmas.{StartsSoFar}
+use Rattle.lt_registry.proofs.SpanLemmas.{StartsSoFar}
 use Rattle.lt_registry.proofs.kind_index.starts.Given as goal
 
 -- the starts for the rows so far

@@ -1,4 +1,4 @@
-use Rattle.lt_registry.proofs.RecordLaws.{entries_or_fault}
+use Rattle.lt_registry.proofs.EntryLaws.{entries_or_fault}
 use Rattle.lt_registry.proofs.laws.fault_or_entries.Goals as goal
 
 pub returns : goal.returns

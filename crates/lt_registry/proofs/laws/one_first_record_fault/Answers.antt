@@ -1,4 +1,4 @@
-use Rattle.lt_registry.proofs.RecordLaws.{one_record_fault}
+use Rattle.lt_registry.proofs.EntryLaws.{one_record_fault}
 use Rattle.lt_registry.proofs.laws.one_first_record_fault.Goals as goal
 
 pub returns : goal.returns

@@ -1,6 +1,6 @@
 use Rattle.std.proofs.Common.{◌≡◌, drop}
 use Rattle.lt_registry.specs.Records.{prefixes_of, bodies, prefix_name}
-use Rattle.lt_registry.proofs.RecordLaws.{after}
+use Rattle.lt_registry.proofs.RecordTexts.{after}
 use Rattle.lt_registry.proofs.records.read_all_prefixes.Given as goal
 
 -- the Prefixes so far are before those of the fields that are left

@@ -1,7 +1,7 @@
 use Rattle.std.proofs.Common.{◌≡◌, ltb, rules, subst}
 use Rattle.std.specs.List.{IsAllAdjacentAnswer}
 use Rattle.std.proofs.lemmas.List.Sorted.{answers_always}
-use Rattle.lt_registry.proofs.SortedLemmas.{rising_differ}
+use Rattle.lt_registry.proofs.NumberLemmas.{rising_differ}
 use Rattle.lt_registry.proofs.subtag_numbers.differ.Goals as goal
 
 pub returns : goal.returns

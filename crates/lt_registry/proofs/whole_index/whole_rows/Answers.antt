@@ -1,7 +1,7 @@
 use Rattle.std.proofs.Common.{sym, ap, ◌∙◌}
 use Rattle.lt_registry.specs.Sorted.{whole_row}
 use Rattle.lt_registry.specs.declared.rows.Row.{Row}
-use Rattle.lt_registry.proofs.SortedLemmas.{rows_more, rows_skipped, whole_placed}
+use Rattle.lt_registry.proofs.IndexLemmas.{rows_more, rows_skipped, whole_placed}
 use Rattle.lt_registry.proofs.whole_index.whole_rows.Goals as goal
 use Rattle.lt_registry.proofs.whole_index.whole_rows.Goals.{in-Some+in_ok-push, in_default}
 

@@ -3,7 +3,7 @@ use Rattle.lt_tag.specs.Parts.{CoreParts, ExtensionParts}
 use Rattle.lt_tag.specs.Spelling.{spell_extensions}
 use Rattle.lt_tag.specs.Values.{extensions_of}
 use Rattle.lt_rewrite.proofs.TagLeading.{fits, few_subtags, core_changed, extensions_changed, kept}
-use Rattle.lt_rewrite.proofs.ExtensionLaws.{extensions_step_count}
+use Rattle.lt_rewrite.proofs.ExtensionForms.{extensions_step_count}
 use Rattle.lt_rewrite.proofs.applying.change_parts.Goals as goal
 
 pub returns-in-Some : goal.returns-in-Some

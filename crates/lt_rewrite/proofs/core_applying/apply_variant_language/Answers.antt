@@ -3,8 +3,8 @@ use Rattle.std.proofs.lemmas.Option.{slice_get_read}
 use Rattle.lt_tag.specs.Parts.{CoreParts}
 use Rattle.lt_rewrite.specs.Applying.{CoreLeads}
 use Rattle.lt_rewrite.specs.CoreSteps.{at_variant_language}
-use Rattle.lt_rewrite.proofs.CoreLaws.{none_of, there_alone, has_leftmost}
-use Rattle.lt_rewrite.proofs.TagLeading.{leads_at, variant_language_there, variant_language_elsewhere}
+use Rattle.lt_rewrite.proofs.CoreSteps.{none_of, there_alone, has_leftmost}
+use Rattle.lt_rewrite.proofs.CoreLeading.{leads_at, variant_language_there, variant_language_elsewhere}
 use Rattle.lt_rewrite.proofs.core_applying.apply_variant_language.Goals as goal
 
 pub returns-then-step-start : goal.returns-then-step-start

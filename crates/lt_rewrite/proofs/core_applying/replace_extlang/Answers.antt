@@ -2,8 +2,8 @@ use Rattle.std.proofs.Common.{◌≡◌, ℕ, List, [], ◌∷◌, refl, sym, ap
 use Rattle.lt_tag.specs.Parts.{CoreParts}
 use Rattle.lt_rewrite.specs.Applying.{CoreLeads}
 use Rattle.lt_rewrite.specs.CoreSteps.{at_extlang}
-use Rattle.lt_rewrite.proofs.CoreLaws.{extlang_there, sole}
-use Rattle.lt_rewrite.proofs.TagLeading.{leads_at}
+use Rattle.lt_rewrite.proofs.CoreSteps.{extlang_there, sole}
+use Rattle.lt_rewrite.proofs.CoreLeading.{leads_at}
 use Rattle.lt_rewrite.proofs.core_applying.replace_extlang.Goals as goal
 
 pub returns : goal.returns

@@ -2,8 +2,8 @@ use Rattle.std.proofs.Common.{ℕ, List, Some, refl, sym, ap, ◌∙◌, subst, 
 use Rattle.lt_registry.specs.declared.entries.Kind.TheVariants as kinds
 use Rattle.lt_rewrite.specs.Applying.{IsValueBy, CoreLeads}
 use Rattle.lt_rewrite.specs.CoreSteps.{at_language}
-use Rattle.lt_rewrite.proofs.CoreLaws.{none_of, there_alone}
-use Rattle.lt_rewrite.proofs.TagLeading.{leads_at}
+use Rattle.lt_rewrite.proofs.CoreSteps.{none_of, there_alone}
+use Rattle.lt_rewrite.proofs.CoreLeading.{leads_at}
 use Rattle.lt_rewrite.proofs.core_applying.replace_language.Goals as goal
 
 pub returns-in-Some : goal.returns-in-Some

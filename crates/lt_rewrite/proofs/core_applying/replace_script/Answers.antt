@@ -2,7 +2,7 @@ use Rattle.std.proofs.Common.{ℕ, List, Some, sym, ap, ◌∙◌, subst, arith}
 use Rattle.std.specs.Option.{option_copied}
 use Rattle.lt_rewrite.specs.Applying.{CoreLeads}
 use Rattle.lt_rewrite.specs.CoreSteps.{at_script}
-use Rattle.lt_rewrite.proofs.TagLeading.{leads_at}
+use Rattle.lt_rewrite.proofs.CoreLeading.{leads_at}
 use Rattle.lt_rewrite.proofs.core_applying.replace_script.Goals as goal
 
 pub returns-in-Some-value_by : goal.returns-in-Some-value_by

@@ -4,7 +4,7 @@ use Rattle.lt_registry.specs.Entries.{is_short}
 use Rattle.lt_rewrite.specs.Applying.{CoreLeads}
 use Rattle.lt_rewrite.specs.CoreSteps.{at_variant}
 use Rattle.lt_rewrite.specs.Runs.{rank_of}
-use Rattle.lt_rewrite.proofs.TagLeading.{variant_value_from, leads_at, needs_variant, variant_without}
+use Rattle.lt_rewrite.proofs.CoreLeading.{variant_value_from, leads_at, needs_variant, variant_without}
 use Rattle.lt_rewrite.proofs.core_applying.replace_variant.Goals as goal
 
 pub returns-in_default : goal.returns-in_default

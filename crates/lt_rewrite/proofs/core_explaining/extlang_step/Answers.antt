@@ -1,8 +1,8 @@
 use Rattle.std.proofs.Common.{◌≡◌, ℕ, List, [], ◌∷◌, refl, sym, ◌∙◌, arith}
-use Rattle.lt_rewrite.proofs.CoreLaws.{sole, extlang_there}
+use Rattle.lt_rewrite.proofs.CoreSteps.{sole, extlang_there}
 use Rattle.lt_registry.specs.Entries.{replacement}
 use Rattle.lt_rewrite.specs.CoreSteps.{at_extlang}
-use Rattle.lt_rewrite.proofs.TagLeading.{first_part}
+use Rattle.lt_rewrite.proofs.CoreLeading.{first_part}
 use Rattle.lt_rewrite.proofs.core_explaining.extlang_step.Goals as goal
 
 pub returns : goal.returns

@@ -1,4 +1,4 @@
-use Rattle.lt_rewrite.proofs.TagLeading.{first_after, last}
+use Rattle.lt_rewrite.proofs.CoreLeading.{first_after, last}
 use Rattle.lt_rewrite.proofs.core_explaining.first_core_step.Goals as goal
 
 pub returns-in-Some : goal.returns-in-Some

@@ -3,8 +3,8 @@ use Rattle.std.specs.Option.{option_copied}
 use Rattle.lt_registry.specs.Entries.{entry, preferred_value, number_of}
 use Rattle.lt_registry.specs.declared.entries.Kind.TheVariants as kinds
 use Rattle.lt_rewrite.specs.CoreSteps.{at_language}
-use Rattle.lt_rewrite.proofs.CoreLaws.{none_of, there_alone}
-use Rattle.lt_rewrite.proofs.TagLeading.{first_part}
+use Rattle.lt_rewrite.proofs.CoreSteps.{none_of, there_alone}
+use Rattle.lt_rewrite.proofs.CoreLeading.{first_part}
 use Rattle.lt_rewrite.proofs.core_explaining.language_step.Goals as goal
 
 pub returns : goal.returns

@@ -1,7 +1,7 @@
 use Rattle.std.proofs.Common.{refl, sym, ap, ◌∙◌, arith}
 use Rattle.std.specs.Option.{option_copied}
 use Rattle.lt_rewrite.specs.CoreSteps.{at_region}
-use Rattle.lt_rewrite.proofs.TagLeading.{first_part}
+use Rattle.lt_rewrite.proofs.CoreLeading.{first_part}
 use Rattle.lt_rewrite.proofs.core_explaining.region_step.Goals as goal
 
 pub returns : goal.returns

@@ -1,6 +1,6 @@
 use Rattle.lt_rewrite.specs.Applying.{CoreLeads}
 use Rattle.lt_rewrite.specs.Runs.{kind_rank}
-use Rattle.lt_rewrite.proofs.TagLeading.{applied}
+use Rattle.lt_rewrite.proofs.CoreLeading.{applied}
 use Rattle.lt_rewrite.proofs.CoreLaws.{weight_falls}
 use Rattle.lt_rewrite.proofs.FirstSteps.{adds_more}
 use Rattle.lt_rewrite.proofs.core_explaining.take_core_steps.Goals as goal

@@ -1,7 +1,7 @@
 use Rattle.std.proofs.Common.{◌≡◌, ℕ, List, Some, get_or, refl, sym, ◌∙◌, subst, slice_get, arith}
 use Rattle.std.proofs.lemmas.Option.{slice_get_read}
-use Rattle.lt_rewrite.proofs.CoreLaws.{none_of}
-use Rattle.lt_rewrite.proofs.TagLeading.{first_variant_language, none_variant_language}
+use Rattle.lt_rewrite.proofs.CoreSteps.{none_of}
+use Rattle.lt_rewrite.proofs.CoreLeading.{first_variant_language, none_variant_language}
 use Rattle.lt_rewrite.proofs.core_explaining.variant_language_step.Goals as goal
 
 pub returns-in_default : goal.returns-in_default

@@ -4,7 +4,7 @@ use Rattle.std.proofs.lemmas.List.{take_all}
 use Rattle.std.proofs.lemmas.List.Elements.{All-more}
 use Rattle.std.proofs.lemmas.Option.{slice_get_read}
 use Rattle.lt_registry.specs.Entries.{variant_value}
-use Rattle.lt_rewrite.proofs.TagLeading.{first_variant, none_varies}
+use Rattle.lt_rewrite.proofs.CoreLeading.{first_variant, none_varies}
 use Rattle.lt_rewrite.proofs.core_explaining.variant_step.Goals as goal
 
 pub returns-in-Some : goal.returns-in-Some

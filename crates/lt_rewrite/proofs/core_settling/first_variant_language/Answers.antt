@@ -1,7 +1,7 @@
 use Rattle.std.proofs.Common.{rules, ◌≡◌, ℕ, List, None, All, ◌∙◌, subst}
 use Rattle.std.proofs.lemmas.List.{take_all}
 use Rattle.lt_rewrite.specs.CoreSteps.{language_beside}
-use Rattle.lt_rewrite.proofs.CoreLaws.{first_variant_language_at, none_more}
+use Rattle.lt_rewrite.proofs.CoreSettling.{first_variant_language_at, none_more}
 use Rattle.lt_rewrite.proofs.core_settling.first_variant_language.Goals as goal
 
 pub returns-in-Some-clause-variant_language : goal.returns-in-Some-clause-variant_language

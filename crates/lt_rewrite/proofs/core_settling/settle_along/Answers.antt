@@ -1,7 +1,7 @@
 use Rattle.std.proofs.lemmas.Bool.{eqb-false}
 use Rattle.std.proofs.Common.{length, sym, ap, ◌∙◌, rules}
 use Rattle.lt_tag.specs.Parts.{CoreParts}
-use Rattle.lt_rewrite.proofs.CoreLaws.{rests_settled}
+use Rattle.lt_rewrite.proofs.CoreSettling.{rests_settled}
 use Rattle.lt_rewrite.proofs.core_settling.settle_along.Goals as goal
 
 pub returns-then-is_empty : goal.returns-then-is_empty

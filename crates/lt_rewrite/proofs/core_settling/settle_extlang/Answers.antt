@@ -1,5 +1,5 @@
 use Rattle.std.proofs.Common.{arith}
-use Rattle.lt_rewrite.proofs.CoreLaws.{extlang_reached}
+use Rattle.lt_rewrite.proofs.CoreSettling.{extlang_reached}
 use Rattle.lt_rewrite.proofs.core_settling.settle_extlang.Goals as goal
 
 pub returns-in-len1-clause-reached : goal.returns-in-len1-clause-reached

@@ -4,7 +4,7 @@ use Rattle.lt_tag.specs.Parts.{CoreParts}
 use Rattle.lt_rewrite.specs.VariantLanguages.{ArePlaces}
 use Rattle.lt_rewrite.proofs.VariantPlaces.{placed_without}
 use Rattle.lt_rewrite.proofs.Stars.{star_trans}
-use Rattle.lt_rewrite.proofs.CoreLaws.{language_settled, others_left}
+use Rattle.lt_rewrite.proofs.CoreSettling.{language_settled, others_left}
 use Rattle.lt_rewrite.proofs.core_settling.settle_few_variant_languages.Goals as goal
 use Rattle.lt_registry.specs.Entries.{variant_value}
 

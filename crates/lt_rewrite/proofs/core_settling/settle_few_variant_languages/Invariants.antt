@@ -1,6 +1,6 @@
 use Rattle.std.proofs.Common.{length}
 use Rattle.lt_rewrite.specs.VariantLanguages.{ArePlaces}
-use Rattle.lt_rewrite.proofs.CoreLaws.{LanguageSettled}
+use Rattle.lt_rewrite.proofs.CoreSettling.{LanguageSettled}
 use Rattle.lt_rewrite.proofs.core_settling.settle_few_variant_languages.Given as goal
 
 -- the entries of the variants stand at their places

@@ -1,7 +1,7 @@
 use Rattle.std.proofs.Common.{◌+◌, ◌++◌, ◌∷◌, [], take, sym, ap, subst, arith, rules}
 use Rattle.lt_tag.specs.Parts.{CoreParts}
 use Rattle.lt_rewrite.specs.VariantLanguages.{ArePlaces}
-use Rattle.lt_rewrite.proofs.CoreLaws.{one_settled, all_settled}
+use Rattle.lt_rewrite.proofs.CoreSettling.{one_settled, all_settled}
 use Rattle.lt_rewrite.proofs.VariantPlaces.{placed_more}
 use Rattle.lt_rewrite.proofs.core_settling.settle_few_variants.Goals as goal
 

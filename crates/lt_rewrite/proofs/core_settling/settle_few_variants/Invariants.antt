@@ -1,6 +1,6 @@
 use Rattle.std.proofs.Common.{◌≡◌, take, length}
 use Rattle.lt_rewrite.specs.VariantLanguages.{ArePlaces}
-use Rattle.lt_rewrite.proofs.CoreLaws.{VariantsSettled}
+use Rattle.lt_rewrite.proofs.CoreSettling.{VariantsSettled}
 use Rattle.lt_rewrite.proofs.core_settling.settle_few_variants.Given as goal
 
 -- the entries of the variants so far stand at their places

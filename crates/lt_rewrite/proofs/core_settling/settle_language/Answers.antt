@@ -1,5 +1,5 @@
 use Rattle.std.proofs.Common.{rules}
-use Rattle.lt_rewrite.proofs.CoreLaws.{language_reached}
+use Rattle.lt_rewrite.proofs.CoreSteps.{language_reached}
 use Rattle.lt_rewrite.proofs.core_settling.settle_language.Goals as goal
 
 pub returns-clause-reached : goal.returns-clause-reached

@@ -1,5 +1,5 @@
 use Rattle.std.proofs.Common.{rules}
-use Rattle.lt_rewrite.proofs.CoreLaws.{region_reached}
+use Rattle.lt_rewrite.proofs.CoreSteps.{region_reached}
 use Rattle.lt_rewrite.proofs.core_settling.settle_region.Goals as goal
 
 pub returns-in-Some-clause-reached : goal.returns-in-Some-clause-reached

@@ -1,4 +1,4 @@
-use Rattle.lt_rewrite.proofs.CoreLaws.{language_settled}
+use Rattle.lt_rewrite.proofs.CoreSettling.{language_settled}
 use Rattle.lt_rewrite.proofs.core_settling.settle_variant_languages.Goals as goal
 
 pub loop-index-preserved : goal.loop-index-preserved

@@ -1,5 +1,5 @@
 use Rattle.std.proofs.Common.{length}
-use Rattle.lt_rewrite.proofs.CoreLaws.{LanguageSettled}
+use Rattle.lt_rewrite.proofs.CoreSettling.{LanguageSettled}
 use Rattle.lt_rewrite.proofs.core_settling.settle_variant_languages.Given as goal
 
 abbrev pub invariant-loop-index : goal.invariant-loop-index

@@ -1,5 +1,5 @@
 use Rattle.std.proofs.Common.{rules}
-use Rattle.lt_rewrite.proofs.CoreLaws.{one_settled, all_final}
+use Rattle.lt_rewrite.proofs.CoreSettling.{one_settled, all_final}
 use Rattle.lt_rewrite.proofs.core_settling.settle_variants.Goals as goal
 
 pub loop-index-preserved : goal.loop-index-preserved

@@ -1,4 +1,4 @@
-use Rattle.lt_rewrite.proofs.CoreLaws.{VariantsSettled}
+use Rattle.lt_rewrite.proofs.CoreSettling.{VariantsSettled}
 use Rattle.lt_rewrite.proofs.core_settling.settle_variants.Given as goal
 
 abbrev pub invariant-loop-index : goal.invariant-loop-index

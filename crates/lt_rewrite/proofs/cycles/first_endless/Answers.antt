@@ -5,7 +5,8 @@ use Rattle.lt_registry.specs.Parts.{EntryParts}
 use Rattle.lt_rewrite.specs.Conditions.{HasEndingChain}
 use Rattle.lt_rewrite.specs.Cycles.{IsFirstCycle, EarlierEnd, place}
 use Rattle.lt_rewrite.specs.declared.cycles.Order.TheVariants as orders
-use Rattle.lt_rewrite.proofs.ChainWalks.{lower_are_before, file_order, first_there}
+use Rattle.lt_rewrite.proofs.ChainWalks.{file_order}
+use Rattle.lt_rewrite.proofs.ShortcutWalks.{lower_are_before, first_there}
 use Rattle.lt_rewrite.proofs.cycles.first_endless.Goals as goal
 
 pub returns-then-not-ends_or_falls : goal.returns-then-not-ends_or_falls

@@ -1,8 +1,8 @@
 use Rattle.std.proofs.Common.{arith}
 use Rattle.lt_registry.specs.Entries.{IsRegistry}
 use Rattle.lt_rewrite.proofs.CoreLaws.{step_shaped}
-use Rattle.lt_rewrite.proofs.ExtensionLaws.{t_shaped, t_step_length}
-use Rattle.lt_rewrite.proofs.TagLeading.{transform_changed, inside_t}
+use Rattle.lt_rewrite.proofs.PartForms.{t_shaped, t_step_length}
+use Rattle.lt_rewrite.proofs.ExtensionLeading.{transform_changed, inside_t}
 use Rattle.lt_rewrite.proofs.extension_applying.apply_in_transform.Goals as goal
 
 pub returns-then-not-apply_to_transform : goal.returns-then-not-apply_to_transform

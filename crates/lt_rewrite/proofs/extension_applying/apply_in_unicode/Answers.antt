@@ -1,5 +1,5 @@
-use Rattle.lt_rewrite.proofs.ExtensionLaws.{u_shaped}
-use Rattle.lt_rewrite.proofs.TagLeading.{unicode_changed, inside_u}
+use Rattle.lt_rewrite.proofs.PartForms.{u_shaped}
+use Rattle.lt_rewrite.proofs.ExtensionLeading.{unicode_changed, inside_u}
 use Rattle.lt_rewrite.proofs.extension_applying.apply_in_unicode.Goals as goal
 
 pub returns-then-not-apply_to_unicode : goal.returns-then-not-apply_to_unicode

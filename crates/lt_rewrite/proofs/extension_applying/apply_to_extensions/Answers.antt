@@ -1,4 +1,4 @@
-use Rattle.lt_rewrite.proofs.TagLeading.{leads_inside, none_inside}
+use Rattle.lt_rewrite.proofs.ExtensionLeading.{leads_inside, none_inside}
 use Rattle.lt_rewrite.proofs.extension_applying.apply_to_extensions.Goals as goal
 
 pub returns-in-SwapExtensions : goal.returns-in-SwapExtensions

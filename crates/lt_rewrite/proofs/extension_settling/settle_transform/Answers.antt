@@ -7,7 +7,7 @@ use Rattle.lt_rewrite.specs.Extensions.{separator_cmp, TransformStep}
 use Rattle.lt_tag.specs.Extensions.{spell_t, IsT}
 use Rattle.lt_rewrite.proofs.CoreLaws.{step_shaped}
 use Rattle.lt_rewrite.proofs.NormalForms.{star_keeps, star_no_more}
-use Rattle.lt_rewrite.proofs.ExtensionLaws.{OnSome, none_settles, source_settles, transform_settles, t_shaped, t_step_length}
+use Rattle.lt_rewrite.proofs.PartForms.{OnSome, none_settles, source_settles, transform_settles, t_shaped, t_step_length}
 use Rattle.lt_rewrite.proofs.extension_settling.settle_transform.Goals as goal
 use Rattle.lt_rewrite.proofs.extension_settling.settle_transform.Goals.{in-Some, in_default}
 

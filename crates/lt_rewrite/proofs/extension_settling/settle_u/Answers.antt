@@ -8,7 +8,8 @@ use Rattle.lt_rewrite.specs.Extensions.{text_cmp, key_cmp}
 use Rattle.lt_rewrite.specs.ExtensionSettling.{untrue}
 use Rattle.lt_tag.specs.Extensions.{spell_u, IsU}
 use Rattle.lt_rewrite.proofs.NormalForms.{star_keeps, star_no_more}
-use Rattle.lt_rewrite.proofs.ExtensionLaws.{unicode_settles, u_shaped, u_step_length}
+use Rattle.lt_rewrite.proofs.PartForms.{u_shaped, u_step_length}
+use Rattle.lt_rewrite.proofs.ExtensionLaws.{unicode_settles}
 use Rattle.lt_rewrite.proofs.extension_settling.settle_u.Goals as goal
 
 pub loop-keyword-preserved : goal.loop-keyword-preserved

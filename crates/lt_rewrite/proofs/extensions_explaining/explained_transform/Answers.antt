@@ -3,7 +3,8 @@ use Rattle.lt_tag.specs.Parts.{ExtensionParts}
 use Rattle.lt_tag.specs.Extensions.{transform, spell_t}
 use Rattle.lt_rewrite.specs.Applying.{TransformLeads}
 use Rattle.lt_rewrite.specs.Runs.{kind_rank}
-use Rattle.lt_rewrite.proofs.ExtensionLaws.{none_there, FoundAt, found_there, form_of_transform as transform_form, t_step_length}
+use Rattle.lt_rewrite.proofs.PartForms.{t_step_length}
+use Rattle.lt_rewrite.proofs.ExtensionLaws.{none_there, FoundAt, found_there, form_of_transform as transform_form}
 use Rattle.lt_rewrite.proofs.ExtensionRuns.{t_explained}
 use Rattle.lt_rewrite.proofs.FirstSteps.{adds_keeps}
 use Rattle.lt_tag.specs.Lists.{longest_text}

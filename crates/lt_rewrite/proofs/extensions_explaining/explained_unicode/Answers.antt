@@ -3,7 +3,8 @@ use Rattle.lt_tag.specs.Parts.{ExtensionParts}
 use Rattle.lt_tag.specs.Extensions.{unicode, spell_u}
 use Rattle.lt_rewrite.specs.Applying.{UnicodeLeads}
 use Rattle.lt_rewrite.specs.Runs.{kind_rank}
-use Rattle.lt_rewrite.proofs.ExtensionLaws.{none_there, FoundAt, found_there, u_step_length}
+use Rattle.lt_rewrite.proofs.PartForms.{u_step_length}
+use Rattle.lt_rewrite.proofs.ExtensionLaws.{none_there, FoundAt, found_there}
 use Rattle.lt_rewrite.proofs.ExtensionRuns.{u_explained}
 use Rattle.lt_rewrite.proofs.FirstSteps.{adds_keeps}
 use Rattle.lt_tag.specs.Lists.{longest_text}

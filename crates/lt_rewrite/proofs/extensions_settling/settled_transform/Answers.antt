@@ -3,7 +3,8 @@ use Rattle.lt_tag.specs.Parts.{ExtensionParts}
 use Rattle.lt_tag.specs.Extensions.{transform}
 use Rattle.lt_rewrite.specs.Rewriting.{IsNormalForm}
 use Rattle.lt_rewrite.specs.Extensions.{ExtensionStep}
-use Rattle.lt_rewrite.proofs.ExtensionLaws.{transform_settled, found_there, found_settles, form_of_transform as transform_form}
+use Rattle.lt_rewrite.proofs.ExtensionForms.{transform_settled}
+use Rattle.lt_rewrite.proofs.ExtensionLaws.{found_there, found_settles, form_of_transform as transform_form}
 use Rattle.lt_rewrite.proofs.extensions_settling.settled_transform.Goals as goal
 
 pub split_t-requires : goal.split_t-requires

@@ -3,7 +3,8 @@ use Rattle.lt_tag.specs.Parts.{ExtensionParts}
 use Rattle.lt_tag.specs.Extensions.{unicode}
 use Rattle.lt_rewrite.specs.Rewriting.{IsNormalForm}
 use Rattle.lt_rewrite.specs.Extensions.{ExtensionStep}
-use Rattle.lt_rewrite.proofs.ExtensionLaws.{unicode_settled, found_there, found_settles}
+use Rattle.lt_rewrite.proofs.ExtensionForms.{unicode_settled}
+use Rattle.lt_rewrite.proofs.ExtensionLaws.{found_there, found_settles}
 use Rattle.lt_rewrite.proofs.extensions_settling.settled_unicode.Goals as goal
 
 pub split_u-requires : goal.split_u-requires

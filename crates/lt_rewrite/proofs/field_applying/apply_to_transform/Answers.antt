@@ -1,5 +1,5 @@
 use Rattle.lt_tag.specs.Parts.{TForm}
-use Rattle.lt_rewrite.proofs.TagLeading.{source_answers, no_source}
+use Rattle.lt_rewrite.proofs.ExtensionLeading.{source_answers, no_source}
 use Rattle.lt_rewrite.proofs.field_applying.apply_to_transform.Goals as goal
 use Rattle.lt_rewrite.proofs.field_applying.apply_to_transform.Goals.{in-Some, in-None}
 

@@ -1,4 +1,4 @@
-use Rattle.lt_rewrite.proofs.TagLeading.{to_fields, fields_answers}
+use Rattle.lt_rewrite.proofs.ExtensionLeading.{to_fields, fields_answers}
 use Rattle.lt_rewrite.proofs.field_applying.swap_fields.Goals as goal
 
 pub returns-then-step-ne0 : goal.returns-then-step-ne0

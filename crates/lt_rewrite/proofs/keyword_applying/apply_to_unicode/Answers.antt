@@ -4,8 +4,8 @@ use Rattle.lt_tag.specs.Parts.{UForm}
 use Rattle.lt_tag.specs.Extensions.{spell_keyword, spell_u}
 use Rattle.lt_rewrite.specs.Extensions.{key_cmp, text_cmp}
 use Rattle.lt_rewrite.specs.Applying.{Answers, SwapLeads, DropLeads, TrueLeads, UnicodeLeads}
-use Rattle.lt_rewrite.proofs.ExtensionLaws.{attributes_count}
-use Rattle.lt_rewrite.proofs.TagLeading.{u_answers, u_parts, one_subtag, swap_attributes, drop_attribute, swap_keywords, drop_keyword, drop_true}
+use Rattle.lt_rewrite.proofs.PartForms.{attributes_count}
+use Rattle.lt_rewrite.proofs.ExtensionLeading.{u_answers, u_parts, one_subtag, swap_attributes, drop_attribute, swap_keywords, drop_keyword, drop_true}
 use Rattle.lt_rewrite.specs.Runs.{rank_of}
 use Rattle.lt_rewrite.proofs.keyword_applying.apply_to_unicode.Goals as goal
 

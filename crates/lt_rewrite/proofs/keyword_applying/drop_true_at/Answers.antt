@@ -2,7 +2,7 @@ use Rattle.std.proofs.Common.{[], set, sym, ap, ◌∙◌, subst, arith}
 use Rattle.std.proofs.lemmas.List.{get_or_read}
 use Rattle.lt_tag.specs.Parts.{KeywordParts}
 use Rattle.lt_rewrite.specs.Applying.{TrueLeads}
-use Rattle.lt_rewrite.proofs.TagLeading.{true_step, true_led}
+use Rattle.lt_rewrite.proofs.ExtensionLeading.{true_step, true_led}
 use Rattle.lt_rewrite.proofs.FirstSteps.{holds_at}
 use Rattle.lt_rewrite.proofs.keyword_applying.drop_true_at.Goals as goal
 

@@ -2,7 +2,7 @@ use Rattle.std.proofs.Common.{◌≡◌, ℕ, Bool, true, false, List, [], ◌�
 use Rattle.std.specs.Prelude.{codes}
 use Rattle.std.proofs.lemmas.Slice.Eq.{bytes_eq-Decides}
 use Rattle.lt_tag.specs.Parts.{KeywordParts}
-use Rattle.lt_rewrite.proofs.CoreLaws.{sole}
+use Rattle.lt_rewrite.proofs.CoreSteps.{sole}
 use Rattle.lt_rewrite.proofs.keyword_applying.has_sole_true.Goals as goal
 
 sole_true : (r : Bool) (only : List ℕ) (types : List (List ℕ)) → types ≡ only ∷ [] → r ≡ bytes_eq only (codes "true") → MatchBool r (types ≡ codes "true" ∷ []) (types ≡ codes "true" ∷ [] → ⊥)

@@ -1,7 +1,7 @@
 use Rattle.std.proofs.Common.{◌≡◌, ◌+◌, ◌*◌, ◌++◌, ℕ, List, length, take, drop, ap, sym, ◌∙◌, subst, arith}
 use Rattle.std.proofs.Math.Seq.{take-append_seam}
 use Rattle.lt_rewrite.specs.Shortcuts.{LeadOn}
-use Rattle.lt_rewrite.proofs.ChainWalks.{lead_less}
+use Rattle.lt_rewrite.proofs.ShortcutWalks.{lead_less}
 use Rattle.lt_rewrite.proofs.shortcuts.last_places.Goals as goal
 
 pub loop-steps-preserved : goal.loop-steps-preserved

@@ -1,7 +1,7 @@
 use Rattle.std.proofs.Common.{◌≡◌, ◌<◌, ℕ, List, Some, length, set, slice_get, get_or, sym, subst, arith}
 use Rattle.std.proofs.lemmas.List.{length-set}
 use Rattle.std.proofs.lemmas.Option.{slice_get-get_or}
-use Rattle.lt_rewrite.proofs.ChainWalks.{each_set, one_doubled, all_doubled}
+use Rattle.lt_rewrite.proofs.ShortcutWalks.{each_set, one_doubled, all_doubled}
 use Rattle.lt_rewrite.proofs.shortcuts.lengthen.Goals as goal
 
 pub loop-index-preserved : goal.loop-index-preserved

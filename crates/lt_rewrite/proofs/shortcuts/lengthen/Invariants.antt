@@ -1,7 +1,7 @@
 use Rattle.std.proofs.Common.{◌≡◌, ◌<◌, ℕ, List, Some, length, slice_get}
 use Rattle.lt_registry.specs.Parts.{EntryParts}
 use Rattle.lt_rewrite.specs.Shortcuts.{LeadOn}
-use Rattle.lt_rewrite.proofs.ChainWalks.{PartDoubled}
+use Rattle.lt_rewrite.proofs.ShortcutWalks.{PartDoubled}
 use Rattle.lt_rewrite.proofs.shortcuts.lengthen.Given as goal
 
 -- those so far are twice as long

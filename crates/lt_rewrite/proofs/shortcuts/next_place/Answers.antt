@@ -2,7 +2,7 @@ use Rattle.std.proofs.Common.{ℕ, List, sym, ap, ◌∙◌}
 use Rattle.lt_registry.specs.Parts.{EntryParts}
 use Rattle.lt_registry.specs.Entries.{entry}
 use Rattle.lt_rewrite.specs.ChainEnds.{following}
-use Rattle.lt_rewrite.proofs.ChainWalks.{to_itself, none_after}
+use Rattle.lt_rewrite.proofs.ShortcutWalks.{to_itself, none_after}
 use Rattle.lt_rewrite.proofs.shortcuts.next_place.Goals as goal
 
 pub returns-in-None-clause-shortcut : goal.returns-in-None-clause-shortcut

@@ -2,7 +2,7 @@ use Rattle.std.proofs.Common.{rules, length, ltb, refl, arith}
 use Rattle.std.proofs.lemmas.List.Sorted.{IsPartitionPoint-from_clause, IsPartitionedBy-ltb}
 use Rattle.std.proofs.lemmas.Option.{slice_get_read}
 use Rattle.lt_registry.specs.Parts.{EntryParts}
-use Rattle.lt_rewrite.proofs.ChainWalks.{not_falling, numbered_there, first_not_lower}
+use Rattle.lt_rewrite.proofs.ShortcutWalks.{not_falling, numbered_there, first_not_lower}
 use Rattle.lt_rewrite.proofs.shortcuts.place_of.Goals as goal
 
 pub returns-in-Some : goal.returns-in-Some

@@ -3,7 +3,7 @@ use Rattle.std.proofs.lemmas.Result.{IfOk-weaker}
 use Rattle.lt_tag.specs.Parts.{CoreParts, TForm}
 use Rattle.lt_rewrite.specs.Applying.{CoreLeads}
 use Rattle.lt_rewrite.specs.Runs.{NoneLeads, AddsOnTransform}
-use Rattle.lt_rewrite.proofs.ExtensionRuns.{t_parts, source_explained}
+use Rattle.lt_rewrite.proofs.PartRuns.{t_parts, source_explained}
 use Rattle.lt_rewrite.proofs.transform_explaining.explain_source.Goals as goal
 
 pub returns-clause-adds : goal.returns-clause-adds

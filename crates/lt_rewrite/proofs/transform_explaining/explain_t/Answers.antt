@@ -3,10 +3,10 @@ use Rattle.lt_tag.specs.Parts.{TForm}
 use Rattle.lt_tag.specs.Extensions.{IsT}
 use Rattle.lt_rewrite.specs.Applying.{TransformLeads}
 use Rattle.lt_rewrite.specs.Runs.{kind_rank, AddsOnTransform}
-use Rattle.lt_rewrite.proofs.ExtensionRuns.{IsSourceAtRest, t_parts, fields_explained, transform_rests}
+use Rattle.lt_rewrite.proofs.PartRuns.{IsSourceAtRest, t_parts, fields_explained, transform_rests}
 use Rattle.lt_rewrite.proofs.FirstSteps.{adds_all, adds_keeps}
 use Rattle.lt_rewrite.proofs.CoreLaws.{step_shaped}
-use Rattle.lt_rewrite.proofs.ExtensionLaws.{t_shaped}
+use Rattle.lt_rewrite.proofs.PartForms.{t_shaped}
 use Rattle.lt_rewrite.proofs.transform_explaining.explain_t.Goals as goal
 
 pub returns : goal.returns

@@ -4,7 +4,7 @@ use Rattle.lt_tag.specs.Parts.{KeywordParts}
 use Rattle.lt_tag.specs.Extensions.{spell_keyword}
 use Rattle.lt_rewrite.specs.declared.steps.Step.{Step}
 use Rattle.lt_rewrite.specs.declared.steps.StepKind.TheVariants as steps
-use Rattle.lt_rewrite.proofs.ExtensionRuns.{bare, bare_kept, bare_more, bare_all, bare_few}
+use Rattle.lt_rewrite.proofs.PartRuns.{bare, bare_kept, bare_more, bare_all, bare_few}
 use Rattle.lt_rewrite.proofs.unicode_explaining.drop_trues.Goals as goal
 use Rattle.lt_rewrite.proofs.unicode_explaining.drop_trues.Goals.{then-has_sole_true+in_ok-push, else-has_sole_true}
 

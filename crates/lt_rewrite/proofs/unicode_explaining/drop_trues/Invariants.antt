@@ -1,4 +1,4 @@
-use Rattle.lt_rewrite.proofs.ExtensionRuns.{IsBareSoFar}
+use Rattle.lt_rewrite.proofs.PartRuns.{IsBareSoFar}
 use Rattle.lt_rewrite.proofs.unicode_explaining.drop_trues.Given as goal
 
 -- the keywords so far have lost their sole types true

@@ -4,10 +4,11 @@ use Rattle.lt_tag.specs.Parts.{KeywordParts, UForm}
 use Rattle.lt_tag.specs.Extensions.{spell_keyword, spell_u, IsU}
 use Rattle.lt_rewrite.specs.Runs.{kind_rank}
 use Rattle.lt_rewrite.specs.Applying.{UnicodeLeads}
-use Rattle.lt_rewrite.proofs.ExtensionLaws.{attributes_count, u_shaped}
-use Rattle.lt_rewrite.proofs.FirstSteps.{drops_few, swaps_few, adds_keeps}
-use Rattle.lt_rewrite.proofs.TagLeading.{one_subtag, u_parts}
-use Rattle.lt_rewrite.proofs.ExtensionRuns.{unicode_explained}
+use Rattle.lt_rewrite.proofs.PartForms.{attributes_count, u_shaped}
+use Rattle.lt_rewrite.proofs.FirstSteps.{adds_keeps}
+use Rattle.lt_rewrite.proofs.ListSteps.{drops_few, swaps_few}
+use Rattle.lt_rewrite.proofs.ExtensionLeading.{one_subtag, u_parts}
+use Rattle.lt_rewrite.proofs.PartRuns.{unicode_explained}
 use Rattle.lt_rewrite.proofs.unicode_explaining.explain_u.Goals as goal
 
 -- the subtags of the attributes and of the keywords are no more than all

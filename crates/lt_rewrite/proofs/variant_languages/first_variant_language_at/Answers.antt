@@ -2,7 +2,7 @@ use Rattle.std.proofs.Common.{rules, ◌≡◌, ℕ, true, List, None, All, get_
 use Rattle.std.proofs.lemmas.List.{take_all}
 use Rattle.lt_rewrite.specs.CoreSteps.{language_beside}
 use Rattle.lt_rewrite.specs.VariantLanguages.{ArePlaces}
-use Rattle.lt_rewrite.proofs.CoreLaws.{first_variant_language_at, none_more}
+use Rattle.lt_rewrite.proofs.CoreSettling.{first_variant_language_at, none_more}
 use Rattle.lt_rewrite.proofs.VariantPlaces.{placed_at}
 use Rattle.lt_rewrite.proofs.variant_languages.first_variant_language_at.Goals as goal
 

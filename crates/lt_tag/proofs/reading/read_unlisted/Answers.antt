@@ -8,7 +8,7 @@ use Rattle.lt_tag.specs.DraftViews.{draft_view}
 use Rattle.lt_tag.proofs.GrandfatheredTexts.{cut_left}
 use Rattle.lt_tag.proofs.ListedLemmas.{length-pieces}
 use Rattle.lt_tag.proofs.TextLemmas.{piece_fault}
-use Rattle.lt_tag.proofs.DraftLemmas.{HasRead, read_first, fault_behind_first, misplaced_first, fault_here, read_next, fault_behind, misplaced_here, read_room, whole_listed, whole_draft, whole_length, whole_value, whole_unfinished}
+use Rattle.lt_tag.proofs.MisplacedLemmas.{HasRead, read_first, fault_behind_first, misplaced_first, fault_here, read_next, fault_behind, misplaced_here, read_room, whole_listed, whole_draft, whole_length, whole_value, whole_unfinished}
 use Rattle.lt_tag.proofs.reading.read_unlisted.Goals as goal
 
 pub check_pieces-requires : goal.check_pieces-requires

@@ -1,7 +1,7 @@
 use Rattle.std.proofs.Common.{◌≤◌, ◌+◌, length}
 use Rattle.lt_tag.specs.Rest.{pieces_left}
 use Rattle.lt_tag.specs.DraftViews.{draft_view}
-use Rattle.lt_tag.proofs.DraftLemmas.{HasRead}
+use Rattle.lt_tag.proofs.MisplacedLemmas.{HasRead}
 use Rattle.lt_tag.proofs.reading.read_unlisted.Given as goal
 
 -- the draft is that of the subtags so far

@@ -1,4 +1,4 @@
-use Rattle.lt_upgrade.proofs.UpgradeChecks.{covered_compared}
+use Rattle.lt_upgrade.proofs.RangeCoverage.{covered_compared}
 use Rattle.lt_upgrade.proofs.upgrade_checks.stays_registered.Goals as goal
 
 pub returns-in-Range : goal.returns-in-Range

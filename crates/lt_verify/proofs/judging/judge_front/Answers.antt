@@ -1,7 +1,7 @@
 use Rattle.std.proofs.Common.{◌++◌, inl, inr, length, ap, refl, arith}
 use Rattle.lt_tag.specs.Texts.{text_of}
 use Rattle.lt_verify.specs.StepLines.{end_line}
-use Rattle.lt_verify.proofs.JudgingLemmas.{front_names_nothing, front_other, step_goes_on, step_within}
+use Rattle.lt_verify.proofs.LineLemmas.{front_names_nothing, front_other, step_goes_on, step_within}
 use Rattle.lt_verify.proofs.judging.judge_front.Goals as goal
 
 pub returns-in_default-read_step : goal.returns-in_default-read_step

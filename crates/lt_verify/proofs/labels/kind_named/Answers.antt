@@ -1,5 +1,5 @@
 use Rattle.std.proofs.Common.{arith}
-use Rattle.lt_verify.proofs.JudgingLemmas.{kind_at}
+use Rattle.lt_verify.proofs.LineLemmas.{kind_at}
 use Rattle.lt_verify.proofs.labels.kind_named.Goals as goal
 
 pub returns : goal.returns

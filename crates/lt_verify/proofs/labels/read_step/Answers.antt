@@ -1,6 +1,6 @@
 use Rattle.std.proofs.Common.{sym, decimal}
 use Rattle.lt_rewrite.specs.Names.{name_of}
-use Rattle.lt_verify.proofs.JudgingLemmas.{one_words, step_words}
+use Rattle.lt_verify.proofs.LineLemmas.{one_words, step_words}
 use Rattle.lt_verify.proofs.labels.read_step.Goals as goal
 
 pub returns-in_err-words : goal.returns-in_err-words

@@ -1,6 +1,6 @@
 use Rattle.std.proofs.Common.{◌∙◌, sym}
 use Rattle.lt_rows.proofs.SplitLemmas.{no_split}
-use Rattle.lt_verify.proofs.JudgingLemmas.{one_split}
+use Rattle.lt_verify.proofs.LineLemmas.{one_split}
 use Rattle.lt_verify.proofs.labels.words_of.Goals as goal
 
 pub returns-in_err-name : goal.returns-in_err-name

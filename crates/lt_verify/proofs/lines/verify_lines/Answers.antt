@@ -1,6 +1,6 @@
 use Rattle.std.proofs.Common.{◌≡◌, refl}
 use Rattle.lt_verify.specs.Verifying.{IsFollowed}
-use Rattle.lt_verify.proofs.JudgingLemmas.{followed_none, run_lacks, run_verifies}
+use Rattle.lt_verify.proofs.FollowingLemmas.{followed_none, run_lacks, run_verifies}
 use Rattle.lt_verify.proofs.lines.verify_lines.Goals as goal
 
 pub returns-in_err-new : goal.returns-in_err-new

@@ -1,6 +1,7 @@
 use Rattle.std.proofs.Common.{ℕ, refl, arith, sym, ◌∙◌}
 use Rattle.std.proofs.Math.Seq.{take-append-add}
-use Rattle.lt_check.proofs.TextLemmas.{shown_cut, shown_stays, shown_cased, stays_shown}
+use Rattle.lt_check.proofs.TextLemmas.{shown_cut}
+use Rattle.lt_check.proofs.CutLemmas.{shown_stays, shown_cased, stays_shown}
 use Rattle.lt_check.proofs.usual_subtags.UsualSubtags.append_text.Goals as goal
 
 pub returns-in_default-clause-exact : goal.returns-in_default-clause-exact

@@ -1,4 +1,4 @@
-use Rattle.lt_heading.proofs.ReadLemmas.{begun_of, finish_begun, finish_last, undecided_of}
+use Rattle.lt_heading.proofs.FirstRowLemmas.{begun_of, finish_begun, finish_last, undecided_of}
 use Rattle.lt_heading.proofs.first_rows.FirstRow.finish.Goals as goal
 
 pub returns-then-self : goal.returns-then-self

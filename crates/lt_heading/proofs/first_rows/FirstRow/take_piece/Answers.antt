@@ -1,7 +1,7 @@
 use Rattle.std.proofs.Common.{◌≡◌, ◌↔◌, ◌∙◌, Bool, IsTrue, ℕ, List, true, false, refl, subst, sym}
 use Rattle.lt_rows.specs.Marks.{IsWide, MayBeMark}
 use Rattle.lt_heading.specs.declared.first_rows.FirstRow.{FirstRow}
-use Rattle.lt_heading.proofs.ReadLemmas.{begun_of, piece_begins, piece_begun, undecided_of}
+use Rattle.lt_heading.proofs.FirstRowLemmas.{begun_of, piece_begins, piece_begun, undecided_of}
 use Rattle.lt_heading.proofs.first_rows.FirstRow.take_piece.Goals as goal
 
 pub returns-then-self : goal.returns-then-self

@@ -4,7 +4,7 @@ use Rattle.std.proofs.lemmas.Bool.Decides.{nat_tests}
 use Rattle.std.proofs.lemmas.List.{length-take-le}
 use Rattle.lt_jar.specs.Records.{Field}
 use Rattle.lt_jar.specs.Reading.{lengthened}
-use Rattle.lt_jar.proofs.ReadingLemmas.{continued-set}
+use Rattle.lt_jar.proofs.TurnLemmas.{continued-set}
 use Rattle.lt_jar.proofs.drafts.Draft.continue_field.Goals as goal
 
 pub returns : goal.returns

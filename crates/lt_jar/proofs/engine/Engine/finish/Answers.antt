@@ -5,7 +5,8 @@ use Rattle.std.proofs.lemmas.Result.{err_from_is_err_and}
 use Rattle.lt_jar.specs.Pieces.{fields_in, last_line}
 use Rattle.lt_jar.specs.Reading.{going_on, steps, take_line}
 use Rattle.lt_jar.specs.Views.{IsSaid}
-use Rattle.lt_jar.proofs.ReadingLemmas.{last_some, last_taken}
+use Rattle.lt_jar.proofs.TurnLemmas.{last_some}
+use Rattle.lt_jar.proofs.ReadingLemmas.{last_taken}
 use Rattle.lt_jar.proofs.engine.Engine.finish.Goals as goal
 
 pub returns-then-is_empty : goal.returns-then-is_empty

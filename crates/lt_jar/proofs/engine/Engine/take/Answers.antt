@@ -4,7 +4,7 @@ use Rattle.std.proofs.lemmas.List.Elements.{All-append}
 use Rattle.lt_jar.specs.Lines.{IsOneLine}
 use Rattle.lt_jar.specs.Pieces.{fields_in}
 use Rattle.lt_jar.proofs.CutLemmas.{IsNoEnd}
-use Rattle.lt_jar.proofs.ReadingLemmas.{first_refused, turn_all, turn_ends, turn_next, turn_stops, unended_refused}
+use Rattle.lt_jar.proofs.TurnLemmas.{first_refused, turn_all, turn_ends, turn_next, turn_stops, unended_refused}
 use Rattle.lt_jar.proofs.engine.Engine.take.Goals as goal
 
 pub returns-in_err-end_line : goal.returns-in_err-end_line

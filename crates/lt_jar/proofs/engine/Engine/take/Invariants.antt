@@ -1,5 +1,5 @@
 use Rattle.std.proofs.Common.{length}
-use Rattle.lt_jar.proofs.ReadingLemmas.{PieceTurn}
+use Rattle.lt_jar.proofs.TurnLemmas.{PieceTurn}
 use Rattle.lt_jar.proofs.engine.Engine.take.Given as goal
 
 abbrev pub invariant-loop-line : goal.invariant-loop-line

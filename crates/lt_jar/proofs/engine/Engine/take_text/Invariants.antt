@@ -1,7 +1,7 @@
 use denote.Shadow.{shadow}
 use denote.Text.{Utf8}
 use Rattle.std.proofs.Common.{length}
-use Rattle.lt_jar.proofs.ReadingLemmas.{PieceTurn}
+use Rattle.lt_jar.proofs.TurnLemmas.{PieceTurn}
 use Rattle.lt_jar.proofs.engine.Engine.take_text.Given as goal
 
 abbrev pub invariant-loop-line : goal.invariant-loop-line

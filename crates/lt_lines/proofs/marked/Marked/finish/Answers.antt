@@ -1,6 +1,6 @@
 use Rattle.std.proofs.Common.{arith}
 use Rattle.std.proofs.lemmas.Result.{err_from_is_err_and}
-use Rattle.lt_lines.proofs.TextRunLemmas.{finish_front, finish_stopped, finish_text}
+use Rattle.lt_lines.proofs.TextEndLemmas.{finish_front, finish_stopped, finish_text}
 use Rattle.lt_lines.proofs.marked.Marked.finish.Goals as goal
 
 pub finish-requires : goal.finish-requires

@@ -1,5 +1,5 @@
 use Rattle.std.proofs.Common.{Some, None, ◌∙◌}
-use Rattle.lt_registry.proofs.FoundLemmas.{body_there}
+use Rattle.lt_registry.proofs.FieldLemmas.{body_there}
 use Rattle.lt_registry.proofs.fields.RecordFields.body.Goals as goal
 
 pub returns-in-Some : goal.returns-in-Some

@@ -1,6 +1,6 @@
 use Rattle.std.proofs.Common.{◌≡◌, ◌+◌, get_or, ap, ◌∙◌}
 use Rattle.lt_registry.specs.Sorted.{beginning, place_of}
-use Rattle.lt_registry.proofs.SortedLemmas.{none_alike, place_alike}
+use Rattle.lt_registry.proofs.SpanLemmas.{none_alike, place_alike}
 use Rattle.lt_registry.proofs.kind_index.KindIndex.place.Goals as goal
 use Rattle.lt_registry.proofs.kind_index.KindIndex.place.Goals.{In_ok-start, In_ok-end, In_ok-alike}
 

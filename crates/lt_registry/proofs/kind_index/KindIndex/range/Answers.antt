@@ -1,5 +1,5 @@
 use Rattle.std.proofs.Common.{sym, ◌∙◌}
-use Rattle.lt_registry.proofs.SortedLemmas.{none_holds}
+use Rattle.lt_registry.proofs.RangeLemmas.{none_holds}
 use Rattle.lt_registry.proofs.kind_index.KindIndex.range.Goals as goal
 
 pub returns-then-not-is_alphabetic : goal.returns-then-not-is_alphabetic

@@ -1,7 +1,8 @@
 use Rattle.std.proofs.Common.{sym, ap, ◌∙◌}
 use Rattle.std.specs.List.{slice_get}
 use Rattle.std.specs.Option.{option_and_then, option_copied}
-use Rattle.lt_registry.proofs.SortedLemmas.{single_at, subtag_few}
+use Rattle.lt_registry.proofs.NumberLemmas.{subtag_few}
+use Rattle.lt_registry.proofs.IndexLemmas.{single_at}
 use Rattle.lt_registry.proofs.kind_index.KindIndex.single.Goals as goal
 
 pub returns-in_err-place : goal.returns-in_err-place

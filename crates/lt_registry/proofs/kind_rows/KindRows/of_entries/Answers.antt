@@ -2,7 +2,8 @@ use Rattle.std.proofs.Common.{[], ◌++◌, ◌∙◌, ap, refl, sym}
 use Rattle.std.specs.List.{cons_option}
 use Rattle.lt_registry.specs.Sorted.{range_row, single_row}
 use Rattle.lt_registry.specs.declared.rows.Row.{Row}
-use Rattle.lt_registry.proofs.SortedLemmas.{rows_turn, rows_turned, single_placed}
+use Rattle.lt_registry.proofs.IndexLemmas.{rows_turned, single_placed}
+use Rattle.lt_registry.proofs.RangeLemmas.{rows_turn}
 use Rattle.lt_registry.proofs.kind_rows.KindRows.of_entries.Goals as goal
 
 pub loop-place-preserved : goal.loop-place-preserved

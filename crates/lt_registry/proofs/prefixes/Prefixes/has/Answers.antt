@@ -1,5 +1,5 @@
 use Rattle.std.proofs.Common.{◌∙◌}
-use Rattle.lt_registry.proofs.SortedLemmas.{lists_found}
+use Rattle.lt_registry.proofs.NumberLemmas.{lists_found}
 use Rattle.lt_registry.proofs.prefixes.Prefixes.has.Goals as goal
 
 pub returns : goal.returns

@@ -1,4 +1,4 @@
-use Rattle.lt_registry.proofs.RecordLaws.{made_none, made_next}
+use Rattle.lt_registry.proofs.EntryLaws.{made_none, made_next}
 use Rattle.lt_registry.proofs.registry.Registry.from_records.Goals as goal
 
 pub loop-index-init : goal.loop-index-init

@@ -1,4 +1,4 @@
-use Rattle.lt_registry.proofs.RecordLaws.{Made}
+use Rattle.lt_registry.proofs.EntryLaws.{Made}
 use Rattle.lt_registry.proofs.registry.Registry.from_records.Given as goal
 
 -- the entries so far are those of the records so far, of which none has a fault

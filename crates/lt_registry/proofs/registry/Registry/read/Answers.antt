@@ -1,7 +1,7 @@
 use Rattle.std.proofs.Common.{◌∙◌, sym, ap, Ok, rules}
 use Rattle.std.proofs.lemmas.Result.{err_from_is_err_and}
 use Rattle.lt_registry.specs.AddedRecords.{finished}
-use Rattle.lt_registry.proofs.RecordLaws.{draft_ended, draft_stops}
+use Rattle.lt_registry.proofs.EntryLaws.{draft_ended, draft_stops}
 use Rattle.lt_registry.proofs.registry.Registry.read.Goals as goal
 
 pub returns-in_err-take_next : goal.returns-in_err-take_next

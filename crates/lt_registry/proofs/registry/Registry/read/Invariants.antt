@@ -2,7 +2,7 @@ use Rattle.std.proofs.Common.{◌≡◌, ◌-◌}
 use Rattle.lt_jar.specs.Limits.{most_records}
 use Rattle.lt_jar.specs.Sources.{lent_by}
 use Rattle.lt_registry.proofs.ReadingLaws.{HasReadSoFar}
-use Rattle.lt_registry.proofs.RecordLaws.{IsDraftOf}
+use Rattle.lt_registry.proofs.EntryLaws.{IsDraftOf}
 use Rattle.lt_registry.proofs.registry.Registry.read.Given as goal
 
 -- the draft is made of the records that were lent

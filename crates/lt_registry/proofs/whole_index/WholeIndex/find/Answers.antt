@@ -2,7 +2,7 @@ use Rattle.std.proofs.Common.{rules, of_calls, sym, ◌∙◌, Some}
 use Rattle.std.proofs.lemmas.Fn.{always_returns_same}
 use Rattle.lt_registry.specs.Sorted.{whole_key_cmp, whole_key}
 use Rattle.lt_registry.specs.declared.rows.Row.{Row}
-use Rattle.lt_registry.proofs.SortedLemmas.{whole_found, whole_absent}
+use Rattle.lt_registry.proofs.IndexLemmas.{whole_found, whole_absent}
 use Rattle.lt_registry.proofs.whole_index.WholeIndex.find.Goals as goal
 
 pub returns-in-Ok : goal.returns-in-Ok

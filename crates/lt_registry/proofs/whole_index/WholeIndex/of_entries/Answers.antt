@@ -4,7 +4,8 @@ use Rattle.std.proofs.lemmas.Fn.{always_returns_same, dedup_same}
 use Rattle.std.proofs.lemmas.List.Sorted.{ranks_by}
 use Rattle.lt_registry.specs.Sorted.{whole_key, whole_row, whole_cmp}
 use Rattle.lt_registry.specs.declared.rows.Row.{Row}
-use Rattle.lt_registry.proofs.SortedLemmas.{same_key, row_total, indexed, whole_placed, key_total}
+use Rattle.lt_registry.proofs.SortedLemmas.{same_key, row_total, indexed}
+use Rattle.lt_registry.proofs.IndexLemmas.{whole_placed, key_total}
 use Rattle.lt_registry.proofs.whole_index.WholeIndex.of_entries.Goals as goal
 
 pub returns : goal.returns

@@ -2,7 +2,7 @@ use Rattle.std.proofs.Common.{sym, subst}
 use Rattle.lt_rewrite.specs.CoreSteps.{EndsIn}
 use Rattle.lt_rewrite.specs.Conditions.{next_value}
 use Rattle.lt_rewrite.proofs.Entries.{chains_end}
-use Rattle.lt_rewrite.proofs.ChainWalks.{onward_end}
+use Rattle.lt_rewrite.proofs.ShortcutWalks.{onward_end}
 use Rattle.lt_rewrite.proofs.shortcuts.Shortcuts.certain_end.Goals as goal
 
 pub returns-clause-end : goal.returns-clause-end

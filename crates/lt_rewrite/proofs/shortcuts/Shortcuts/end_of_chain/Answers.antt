@@ -1,5 +1,5 @@
 use Rattle.std.proofs.Common.{sym}
-use Rattle.lt_rewrite.proofs.ChainWalks.{onward_endless}
+use Rattle.lt_rewrite.proofs.ShortcutWalks.{onward_endless}
 use Rattle.lt_rewrite.proofs.shortcuts.Shortcuts.end_of_chain.Goals as goal
 
 pub returns-in-Some-clause-cycle : goal.returns-in-Some-clause-cycle

@@ -3,7 +3,7 @@ use Rattle.lt_registry.specs.Parts.{EntryParts}
 use Rattle.lt_rewrite.specs.Conditions.{next_value}
 use Rattle.lt_rewrite.specs.ChainEnds.{following}
 use Rattle.lt_rewrite.specs.Shortcuts.{IsOnward, ShortcutParts}
-use Rattle.lt_rewrite.proofs.ChainWalks.{onward_form, led_far, some_follows}
+use Rattle.lt_rewrite.proofs.ShortcutWalks.{onward_form, led_far, some_follows}
 use Rattle.lt_rewrite.proofs.shortcuts.Shortcuts.further.Goals as goal
 
 pub returns-clause-onward : goal.returns-clause-onward

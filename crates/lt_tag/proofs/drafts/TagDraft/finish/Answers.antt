@@ -1,7 +1,7 @@
 use Rattle.std.proofs.Common.{◌∷◌, [], ap, arith, length}
 use Rattle.std.proofs.lemmas.List.{length-append}
 use Rattle.lt_tag.specs.Spelling.{x_subtag}
-use Rattle.lt_tag.proofs.DraftLemmas.{few_closed}
+use Rattle.lt_tag.proofs.MisplacedLemmas.{few_closed}
 use Rattle.lt_tag.proofs.drafts.TagDraft.finish.Goals as goal
 
 pub from_parts-requires-in-InExtension-clause-few_extensions : goal.from_parts-requires-in-InExtension-clause-few_extensions

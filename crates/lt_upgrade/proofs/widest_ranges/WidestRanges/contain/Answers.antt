@@ -4,7 +4,7 @@ use Rattle.std.proofs.lemmas.Bool.{le-ltb}
 use Rattle.std.proofs.lemmas.List.Sorted.{IsPartitionPoint-from_clause}
 use Rattle.lt_upgrade.specs.WidestRanges.{is_up_to, contains}
 use Rattle.lt_upgrade.specs.declared.widest_ranges.RangeRow.{RangeRow}
-use Rattle.lt_upgrade.proofs.UpgradeChecks.{last_holds, search_finds}
+use Rattle.lt_upgrade.proofs.RangeCoverage.{last_holds, search_finds}
 use Rattle.lt_upgrade.proofs.widest_ranges.WidestRanges.contain.Goals as goal
 use Rattle.lt_upgrade.proofs.widest_ranges.WidestRanges.contain.Goals.{After-partition_point-count}
 

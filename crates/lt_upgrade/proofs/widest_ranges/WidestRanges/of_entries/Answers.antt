@@ -1,4 +1,4 @@
-use Rattle.lt_upgrade.proofs.UpgradeChecks.{rows_hold}
+use Rattle.lt_upgrade.proofs.RangeCoverage.{rows_hold}
 use Rattle.lt_upgrade.proofs.widest_ranges.WidestRanges.of_entries.Goals as goal
 
 pub returns : goal.returns

@@ -2,7 +2,7 @@ use Rattle.std.proofs.Common.{rules, of_calls}
 use Rattle.std.proofs.lemmas.Fn.{always_returns_same, dedup_same}
 use Rattle.std.proofs.lemmas.List.Sorted.{ranks_by}
 use Rattle.lt_upgrade.specs.declared.widest_ranges.RangeRow.{RangeRow}
-use Rattle.lt_upgrade.proofs.UpgradeChecks.{end_total, begins_before, ends_by, widest_of}
+use Rattle.lt_upgrade.proofs.RangeCoverage.{end_total, begins_before, ends_by, widest_of}
 use Rattle.lt_upgrade.proofs.widest_ranges.WidestRanges.of_rows.Goals as goal
 
 pub invariant_of-result : goal.invariant_of-result

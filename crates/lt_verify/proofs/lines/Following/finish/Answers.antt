@@ -1,6 +1,6 @@
 use Rattle.std.proofs.Common.{◌∙◌, sym, []}
 use Rattle.lt_stream.proofs.PartLemmas.{some_items}
-use Rattle.lt_verify.proofs.JudgingLemmas.{last_judged}
+use Rattle.lt_verify.proofs.FollowingLemmas.{last_judged}
 use Rattle.lt_verify.proofs.lines.Following.finish.Goals as goal
 
 pub returns-in-Some : goal.returns-in-Some

@@ -1,7 +1,7 @@
 use Rattle.std.proofs.Common.{◌∙◌, refl, sym}
 use Rattle.std.proofs.lemmas.Result.{IfOk-weaker}
 use Rattle.lt_stream.proofs.PartLemmas.{some_items}
-use Rattle.lt_verify.proofs.JudgingLemmas.{begun_line, settled_rest}
+use Rattle.lt_verify.proofs.FollowingLemmas.{begun_line, settled_rest}
 use Rattle.lt_verify.proofs.lines.Following.judge_rest.Goals as goal
 
 pub returns-in_default : goal.returns-in_default

@@ -1,5 +1,5 @@
 use Rattle.std.proofs.lemmas.Result.{IfOk-weaker}
-use Rattle.lt_verify.proofs.JudgingLemmas.{last_turn, settled_turn}
+use Rattle.lt_verify.proofs.FollowingLemmas.{last_turn, settled_turn}
 use Rattle.lt_verify.proofs.lines.Following.take_piece.Goals as goal
 
 pub returns-in-Some-2 : goal.returns-in-Some-2

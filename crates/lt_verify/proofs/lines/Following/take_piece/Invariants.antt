@@ -1,5 +1,5 @@
 use Rattle.std.proofs.Common.{length}
-use Rattle.lt_verify.proofs.JudgingLemmas.{PieceTurn}
+use Rattle.lt_verify.proofs.FollowingLemmas.{PieceTurn}
 use Rattle.lt_verify.proofs.lines.Following.take_piece.Given as goal
 
 abbrev pub invariant-loop-part : goal.invariant-loop-part

@@ -1,6 +1,6 @@
 use Rattle.std.proofs.Common.{arith, refl}
 use Rattle.std.proofs.lemmas.Result.{err_from_is_err_and}
-use Rattle.lt_verify.proofs.JudgingLemmas.{followed_proper, followed_room, judged_all}
+use Rattle.lt_verify.proofs.FollowingLemmas.{followed_proper, followed_room, judged_all}
 use Rattle.lt_verify.proofs.lines.VerifyingPiecesUnit.finish.Goals as goal
 
 pub finish-requires : goal.finish-requires

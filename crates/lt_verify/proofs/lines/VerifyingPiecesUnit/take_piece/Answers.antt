@@ -1,7 +1,7 @@
 use Rattle.std.proofs.Common.{◌≡◌, refl}
 use Rattle.std.proofs.lemmas.Result.{err_from_is_err_and}
 use Rattle.lt_verify.specs.Verifying.{IsFollowed, Settles}
-use Rattle.lt_verify.proofs.JudgingLemmas.{followed_piece, followed_proper, followed_room, settled_piece, takes_or_settles}
+use Rattle.lt_verify.proofs.FollowingLemmas.{followed_piece, followed_proper, followed_room, settled_piece, takes_or_settles}
 use Rattle.lt_verify.proofs.lines.VerifyingPiecesUnit.take_piece.Goals as goal
 
 pub take_piece-requires : goal.take_piece-requires

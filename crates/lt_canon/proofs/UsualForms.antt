@@ -1,0 +1,117 @@
+-- Langtags whose subtags stay as they are, which are their own canonical forms.
+use Rattle.std.proofs.Common.{◌≡◌, ℕ, ◌+◌, inr, List, [], ◌∷◌, ◌++◌, Some, None, refl, sym, ap, ◌∙◌, subst, false, arith, Bool, Err, Ok, All, rules}
+use Rattle.std.specs.Prelude.{MatchResult, Result}
+use Rattle.lt_tag.specs.Parts.{CoreParts, TagForm}
+use Rattle.lt_registry.specs.Parts.{EntryParts}
+use Rattle.lt_registry.specs.Validity.{IsValid}
+use Rattle.lt_registry.specs.Faults.{HasNoFault, HasFault, IsFirstFault}
+use Rattle.lt_rewrite.specs.Rewriting.{done, then}
+use Rattle.lt_rewrite.proofs.PartLists.{empty_middle}
+use Rattle.lt_check.specs.Conditions.{IsChecked}
+use Rattle.lt_canon.specs.Answers.{IsCanonicalFormOf}
+use Rattle.lt_canon.specs.Settled.{IsDistinctForm, IsSettledTag}
+use Rattle.lt_canon.proofs.TagForm.{none_rests}
+use Rattle.lt_rewrite.specs.TagSteps.{IsReached}
+use Rattle.lt_rewrite.proofs.CoreSteps.{AtRest, rests}
+use Rattle.lt_check.proofs.CheckedRegistry.{found_name}
+use Rattle.lt_canon.proofs.EndForms.{star_equivalent}
+use Rattle.lt_tag.specs.WellFormed.{spell}
+use Rattle.lt_tag.specs.Conventional.{conventional}
+use Rattle.lt_tag.specs.Faults.{HasTag}
+use Rattle.lt_tag.specs.Values.{IsTagValue, core_of, core_alone}
+use Rattle.lt_registry.proofs.ValidityLaws.{valid_law}
+use Rattle.lt_registry.specs.Entries.{is_whole, tag_of, whole}
+use Rattle.lt_tag.specs.Lists.{list_of}
+use Rattle.std.proofs.lemmas.Slice.Eq.{bytes_eq-Decides}
+use Rattle.lt_rewrite.proofs.Entries.{find_has}
+use Rattle.std.proofs.lemmas.List.Folds.{list_any_at}
+use Rattle.lt_check.specs.Staying.{replaces_plain_of, StaysAs, IsStaying}
+use Rattle.lt_canon.specs.Texts.{AppendsCanonicalText}
+use Rattle.lt_canon.specs.UsualTags.{IsUsual, core_valued}
+use Rattle.lt_registry.specs.Checking.{Counted, core_check, variants_check}
+use Rattle.lt_registry.specs.declared.faults.ValidFault.{ValidFault}
+use Rattle.lt_registry.proofs.CoreFaultLemmas.{core_tells}
+use Rattle.lt_registry.proofs.VariantFaultLemmas.{first_same}
+use Rattle.lt_registry.proofs.TagFaultLemmas.{tag_core_first}
+use Rattle.lt_rewrite.proofs.Stars.{star_path}
+use Rattle.lt_rewrite.specs.Labels.{IsTrace}
+use Rattle.lt_rewrite.specs.declared.steps.Step.{Step}
+use Rattle.lt_rewrite.proofs.StepLaws.{steps_determined}
+use Rattle.lt_canon.specs.TraceLaws.{TracesReachTheirEnd, TracesHaveOneEnd}
+use Rattle.lt_rewrite.specs.declared.steps.StepKind.TheVariants as steps
+use Rattle.lt_canon.proofs.CanonicalForms.{core, settled_canonical}
+
+-- the test of a usual core tells what the check of the core tells
+usual_told : (R : List EntryParts) (c : CoreParts) → IsUsual c → (r : Result Bool ValidFault) → core_valued R c ≡ r → MatchResult r (λ _. core_check R false 0 c ≡ Ok tt) (λ fault. core_check R false 0 c ≡ Err fault)
+unfolding core_valued core_check variants_check
+usual_told R c u (Ok b) h = grind arith
+usual_told R c u (Err fault) h = grind arith
+
+module _ (R : List EntryParts) (t : TagForm) (c : CoreParts) (u : IsUsual c) (k : t ≡ core_alone c) where
+  -- a subtag that is not registered
+  pub usual_refused : (fault : ValidFault) → core_valued R c ≡ Err fault → IsFirstFault R t fault.kind fault.place
+  usual_refused fault h =
+      first_same (Counted false (HasFault R t)) (HasFault R t) fault.kind fault.place (record { there = λ kind place f. f.0; back = λ kind place f. (f, λ e. cc) }) (tag_core_first R false t c fault (sym (ap core_of k)) (usual_told R c u (Err fault) h))
+
+  no_fault : core_check R false 0 c ≡ Ok tt → HasNoFault R (core_alone c)
+  no_fault told kind place f = let tells = rw told at (core_tells R false 0 c) in grind (arith, empty_middle, tells)
+
+  -- each subtag is registered
+  pub usual_valid : (b : Bool) → IsTagValue t → core_valued R c ≡ Ok b → IsValid R t
+  usual_valid b v h = (valid_law R t v).1 (rw k (no_fault (usual_told R c u (Ok b) h)))
+
+  -- none has a value, so its parts are in their normal forms
+  pub usual_settled : IsTagValue t → core_valued R c ≡ Ok false → IsSettledTag R t t
+  unfolding core_valued
+  usual_settled v h =
+      let rest : AtRest R c = grind arith in
+      let form : IsDistinctForm R c c = record { normal = record { reached = done; at_rest = λ d s. rests R c d rest s }; distinct = (rw k at (usual_valid false v h)).distinct.0 } in
+      let settled : IsSettledTag R (core_alone c) t = record { core = c; extensions = []; is = k; form = form; normal = record { reached = done; at_rest = none_rests R }; distinct = tt } in
+      subst (λ a. IsSettledTag R a t) (sym k) settled
+
+-- ---- no subtag has a value
+
+module _ (R : List EntryParts) (text : List ℕ) (c : CoreParts) (stay : StaysAs R text c) where
+  valued : core_valued R c ≡ Ok false
+  unfolding core_valued
+  valued = grind arith
+
+  -- ---- no whole record replaces it
+
+  replaces_none : All (λ (e : EntryParts). replaces_plain_of c.language e ≡ false) R
+  replaces_none k d within = grind (arith, list_any_at)
+
+  no_value : (e : EntryParts) → whole R (core_alone c) ≡ Some e → tag_of e.value ≡ None
+  no_value e h =
+      let other = (find_has (λ (e : EntryParts). replaces_plain_of c.language e ≡ false) (λ (e : EntryParts). is_whole (core_alone c) e.name) R e replaces_none h).0 in
+      let name = found_name R (core_alone c) e h in
+      grind (arith, bytes_eq-Decides)
+
+  pub stays_canonical : IsChecked R → IsCanonicalFormOf R (core_alone c) (core_alone c)
+  stays_canonical C =
+      let usual : IsUsual c = record { extlangs = stay.extlangs; variants = stay.variants } in
+      let value : IsTagValue (core_alone c) = record { tag = stay.read.tag; counts = (rw stay.variants (omega arith), omega arith, tt, omega arith) } in
+      settled_canonical R C (core_alone c) (core_alone c) (core_alone c) (usual_valid R (core_alone c) c usual refl false value valued) (usual_settled R (core_alone c) c usual refl value valued)
+      (inr (record { none = λ _. grind (arith, no_value); same = refl }))
+
+-- a canonical text that was appended is that of the form that was given
+pub appended : (R : List EntryParts) (text : List ℕ) (tag form : TagForm) (old new : List ℕ) → HasTag text tag → IsCanonicalFormOf R tag form
+    → new ≡ old ++ conventional (spell form) → AppendsCanonicalText R text old new
+appended R text tag form old new read is grown = search rules
+
+-- its conventional text is its canonical text
+pub stays_appended : (R : List EntryParts) → IsChecked R → (text old new : List ℕ) → IsStaying R text → new ≡ old ++ conventional (list_of text) → AppendsCanonicalText R text old new
+stays_appended R C text old new stay grown =
+    appended R text (core_alone stay.0) (core_alone stay.0) old new stay.1.read (stays_canonical R text stay.0 stay.1 C) (grown ∙ ap (λ l. old ++ conventional l) (sym stay.1.read.spelled))
+
+pub trace_determined : (R : List EntryParts) → TracesHaveOneEnd R
+trace_determined R t a b [] h k = sym h ∙ k
+trace_determined R t a b (step ∷ steps) h k =
+    trace_determined R h.0 a b steps h.2 (rw (steps_determined R t k.0 h.0 step step k.1 h.1 refl refl).result at k.2)
+
+trace_reached : (R : List EntryParts) (steps : List Step) (t end : TagForm) → IsTrace R t steps end → IsReached R t end
+trace_reached R [] t end h = star_path t end h
+trace_reached R (step ∷ steps) t end h = (then) h.1.0 (trace_reached R steps h.0 end h.2)
+
+pub traces_reach_their_end : (R : List EntryParts) → TracesReachTheirEnd R
+traces_reach_their_end R t end steps h = let r = trace_reached R steps t end h in (r, star_equivalent r)
