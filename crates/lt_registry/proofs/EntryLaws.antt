@@ -278,15 +278,17 @@ answer_of (Err fault) items = Err (registry_faults.Record fault)
 -- the text has ended, and the draft has no fault, or has one
 pub draft_ended : {R : Type 0} (remaining : R → Option (List ℕ)) (first old new : JarSource) (before now after : Device R) (d : Draft) → HasReadSoFar remaining first old before now (IsDraftOf d)
     → Advances remaining old new now after (Ok false) → ReadsRegistry remaining before after (answer_of (finished d.entries d.fault) (λ v. v.items))
+unfolding ReadsRegistry
 draft_ended remaining first old new before now after d so advances =
     read_ended remaining first old new before now after (IsDraftOf d) _ _ so advances (λ bytes reads records whole draft. by bytes reads records whole d.fault draft.drafted)
   where
     by : (bytes : List ℕ) (reads : ℕ) (records : List (List Field)) → IsReadWhole remaining before after bytes records → (o : Option RecordFault) → HasDrafted records d.entries.items o
-        → AnswersAs remaining before after bytes reads (answer_of (finished d.entries o) (λ v. v.items))
+        → AnswersAs remaining (answer_of (finished d.entries o) (λ v. v.items)) before after bytes reads
     by bytes reads records whole None made = (records, whole, subst (λ rs. EntriesFrom 1 rs d.entries.items) (take_all (length records) records (omega arith)) made.entries)
     by bytes reads records whole (Some fault) refusal = (records, whole, refusal)
 
 -- the reader answered a fault
 pub draft_stops : {R : Type 0} (remaining : R → Option (List ℕ)) (first old new : JarSource) (before now after : Device R) (d : Draft) (fault : JarFault) → HasReadSoFar remaining first old before now (IsDraftOf d)
     → Advances remaining old new now after (Err fault) → ReadsRegistry remaining before after (Err (registry_faults.Jar fault))
+unfolding ReadsRegistry
 draft_stops remaining first old new before now after d fault so advances = read_stops remaining first old new before now after (IsDraftOf d) _ _ fault so advances (λ bytes reads is. is) (λ is. is)

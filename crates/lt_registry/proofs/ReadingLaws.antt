@@ -81,8 +81,8 @@ read_more {R} remaining first old new before now after IsMade IsNext so advances
     by_stand (inr ended) = absurd (let over = (advances.over ended.0).0 in cc)
 
 -- the whole text was read
-whole_reads : {R : Type 0} (remaining : R → Option (List ℕ)) (first last : JarSource) (before after : Device R) (Answers : List ℕ → ℕ → Type 0) (IsFailure : Type 0) (bytes : List ℕ) (reads : ℕ) → first.turns ≡ 0
-    → IsRead remaining first last before after bytes reads → failures_of after ≡ failures_of before → Answers bytes reads → Reads remaining before after Answers IsFailure
+whole_reads : {R : Type 0} (remaining : R → Option (List ℕ)) (first last : JarSource) (before after : Device R) (Answers : Device R → Device R → List ℕ → ℕ → Type 0) (IsFailure : Type 0) (bytes : List ℕ) (reads : ℕ) → first.turns ≡ 0
+    → IsRead remaining first last before after bytes reads → failures_of after ≡ failures_of before → Answers before after bytes reads → Reads remaining before after Answers IsFailure
 whole_reads remaining first last before after Answers IsFailure bytes reads none is works answers = record {
   bytes = bytes;
   reads = reads;
@@ -95,9 +95,9 @@ whole_reads remaining first last before after Answers IsFailure bytes reads none
 }
 
 -- the text has ended
-pub read_ended : {R : Type 0} (remaining : R → Option (List ℕ)) (first old new : JarSource) (before now after : Device R) (IsMade : List (List Field) → Type 0) (Answers : List ℕ → ℕ → Type 0) (IsFailure : Type 0)
+pub read_ended : {R : Type 0} (remaining : R → Option (List ℕ)) (first old new : JarSource) (before now after : Device R) (IsMade : List (List Field) → Type 0) (Answers : Device R → Device R → List ℕ → ℕ → Type 0) (IsFailure : Type 0)
     → HasReadSoFar remaining first old before now IsMade → Advances remaining old new now after (Ok false)
-    → ((bytes : List ℕ) (reads : ℕ) (records : List (List Field)) → IsReadWhole remaining before after bytes records → IsMade records → Answers bytes reads) → Reads remaining before after Answers IsFailure
+    → ((bytes : List ℕ) (reads : ℕ) (records : List (List Field)) → IsReadWhole remaining before after bytes records → IsMade records → Answers before after bytes reads) → Reads remaining before after Answers IsFailure
 read_ended {R} remaining first old new before now after IsMade Answers IsFailure so advances answers = by_stand so.stands
   where
     by_stand : Stands remaining now old so.bytes so.reads so.records → Reads remaining before after Answers IsFailure
@@ -119,9 +119,9 @@ read_ended {R} remaining first old new before now after IsMade Answers IsFailure
         (subst (λ (z : Device R). IsRead remaining first old before z so.bytes so.reads) same so.is_read) whole.works (answers so.bytes so.reads so.records whole so.made)
 
 -- the reader answered a fault
-pub read_stops : {R : Type 0} (remaining : R → Option (List ℕ)) (first old new : JarSource) (before now after : Device R) (IsMade : List (List Field) → Type 0) (Answers : List ℕ → ℕ → Type 0) (IsFailure : Type 0) (fault : JarFault)
+pub read_stops : {R : Type 0} (remaining : R → Option (List ℕ)) (first old new : JarSource) (before now after : Device R) (IsMade : List (List Field) → Type 0) (Answers : Device R → Device R → List ℕ → ℕ → Type 0) (IsFailure : Type 0) (fault : JarFault)
     → HasReadSoFar remaining first old before now IsMade → Advances remaining old new now after (Err fault)
-    → ((bytes : List ℕ) (reads : ℕ) → IsJarRefusal remaining before after bytes reads fault → Answers bytes reads) → (fault.kind ≡ jars.Read → IsFailure) → Reads remaining before after Answers IsFailure
+    → ((bytes : List ℕ) (reads : ℕ) → IsJarRefusal remaining before after bytes reads fault → Answers before after bytes reads) → (fault.kind ≡ jars.Read → IsFailure) → Reads remaining before after Answers IsFailure
 read_stops {R} remaining first old new before now after IsMade Answers IsFailure fault so advances answers fails = by_stand so.stands
   where
     line : fault.line ≡ line_of_kept new

@@ -42,13 +42,13 @@ pub record IsJarRefusal {R : Type 0} (remaining : R → Option (List ℕ))
   pub first : fault.kind ≢ jars.Failed
 
 -- the entries of the records, or the fault of the lowest record at fault; a fault of the text goes first
-abbrev pub AnswersAs : {R : Type 0} → (R → Option (List ℕ)) → (before after : Device R)
-    → List ℕ → ℕ → Reading → Type 0
-AnswersAs remaining before after bytes reads (Ok registry) =
+abbrev pub AnswersAs : {R : Type 0} → (R → Option (List ℕ)) → Reading → (before after : Device R)
+    → List ℕ → ℕ → Type 0
+AnswersAs remaining (Ok registry) before after bytes reads =
     (records : List (List Field)) × IsReadWhole remaining before after bytes records × HasEntries records registry
-AnswersAs remaining before after bytes reads (Err (faults.Record fault)) =
+AnswersAs remaining (Err (faults.Record fault)) before after bytes reads =
     (records : List (List Field)) × IsReadWhole remaining before after bytes records × IsRecordRefusal records fault
-AnswersAs remaining before after bytes reads (Err (faults.Jar fault)) =
+AnswersAs remaining (Err (faults.Jar fault)) before after bytes reads =
     IsJarRefusal remaining before after bytes reads fault
 
 -- the answer is that a read failed
@@ -60,17 +60,17 @@ IsReadFailure (Err (faults.Jar fault)) = fault.kind ≡ jars.Read
 -- This many reads gave these bytes, together at most 65,536 for each read, and the answer is theirs. The device fails
 -- only where it is reported.
 pub record Reads {R : Type 0} (remaining : R → Option (List ℕ)) (before after : Device R)
-    (Answers : (bytes : List ℕ) → (reads : ℕ) → Type 0) (IsFailure : Type 0) : Type 0 where
+    (Answers : (before after : Device R) → (bytes : List ℕ) → (reads : ℕ) → Type 0) (IsFailure : Type 0) : Type 0 where
   pub bytes : List ℕ
   pub reads : ℕ
   pub consumes : Consumes (remaining (inner_of before)) (remaining (inner_of after)) bytes
   pub calls : reads_of after ≡ after_reads (reads_of before) reads
   pub bounded : reads ≤ most_reads
   pub each : length bytes ≤ 65536 * reads
-  pub answers : Answers bytes reads
+  pub answers : Answers before after bytes reads
   pub rises : failures_of before < failures_of after → IsFailure
 
 -- the same of a registry
-abbrev pub ReadsRegistry : {R : Type 0} → (R → Option (List ℕ)) → (before after : Device R) → Reading → Type 0
+unfoldable pub ReadsRegistry : {R : Type 0} → (R → Option (List ℕ)) → (before after : Device R) → Reading → Type 0
 ReadsRegistry remaining before after result =
-    Reads remaining before after (λ bytes reads. AnswersAs remaining before after bytes reads result) (IsReadFailure result)
+    Reads remaining before after (AnswersAs remaining result) (IsReadFailure result)

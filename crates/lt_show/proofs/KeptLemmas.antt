@@ -22,10 +22,12 @@ kept_more remaining first old new before now after d e so advances takes =
 -- the text has ended
 pub kept_ended : {R : Type 0} (remaining : R → Option (List ℕ)) (first old new : JarSource) (before now after : Device R) (d : Draft) → HasReadSoFar remaining first old before now (HasKept d)
     → Advances remaining old new now after (Ok false) → ReadsDraft remaining before after (Ok d)
+unfolding ReadsDraft
 kept_ended remaining first old new before now after d so advances =
     read_ended remaining first old new before now after (HasKept d) _ _ so advances (λ bytes reads records whole kept. (records, whole, kept))
 
 -- the reader answered a fault
 pub kept_stops : {R : Type 0} (remaining : R → Option (List ℕ)) (first old new : JarSource) (before now after : Device R) (d : Draft) (fault : JarFault) → HasReadSoFar remaining first old before now (HasKept d)
     → Advances remaining old new now after (Err fault) → ReadsDraft remaining before after (Err fault)
+unfolding ReadsDraft
 kept_stops remaining first old new before now after d fault so advances = read_stops remaining first old new before now after (HasKept d) _ _ fault so advances (λ bytes reads is. is) (λ is. is)

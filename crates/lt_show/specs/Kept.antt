@@ -32,11 +32,11 @@ abbrev pub HasKept : Draft → List (List Field) → Type 0
 HasKept draft records = draft.lacks ≡ false → draft.records.items ≡ records
 
 -- the records of the bytes were kept, or the bytes are refused
-abbrev pub AnswersDraft : {R : Type 0} → (R → Option (List ℕ)) → (before after : Device R)
-    → List ℕ → ℕ → Result Draft JarFault → Type 0
-AnswersDraft remaining before after bytes reads (Ok draft) =
+abbrev pub AnswersDraft : {R : Type 0} → (R → Option (List ℕ)) → Result Draft JarFault → (before after : Device R)
+    → List ℕ → ℕ → Type 0
+AnswersDraft remaining (Ok draft) before after bytes reads =
     (records : List (List Field)) × IsReadWhole remaining before after bytes records × HasKept draft records
-AnswersDraft remaining before after bytes reads (Err fault) = IsJarRefusal remaining before after bytes reads fault
+AnswersDraft remaining (Err fault) before after bytes reads = IsJarRefusal remaining before after bytes reads fault
 
 -- the answer is that a read failed
 abbrev pub IsJarFailure : Result Draft JarFault → Type 0
@@ -44,6 +44,6 @@ IsJarFailure (Ok draft) = ⊥
 IsJarFailure (Err fault) = fault.kind ≡ jars.Read
 
 -- this many reads gave these bytes, and the answer is theirs
-abbrev pub ReadsDraft : {R : Type 0} → (R → Option (List ℕ)) → (before after : Device R) → Result Draft JarFault → Type 0
+unfoldable pub ReadsDraft : {R : Type 0} → (R → Option (List ℕ)) → (before after : Device R) → Result Draft JarFault → Type 0
 ReadsDraft remaining before after result =
-    Reads remaining before after (λ bytes reads. AnswersDraft remaining before after bytes reads result) (IsJarFailure result)
+    Reads remaining before after (AnswersDraft remaining result) (IsJarFailure result)

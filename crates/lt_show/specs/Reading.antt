@@ -14,13 +14,13 @@ Reading = Result (List EntryParts × List (List Field)) RecordsFault
 
 -- The bytes have these records, of which these are the entries; or they are refused as where the entries are read alone;
 -- or memory ran out.
-abbrev pub AnswersWith : {R : Type 0} → (R → Option (List ℕ)) → (before after : Device R)
-    → List ℕ → ℕ → Reading → Type 0
-AnswersWith remaining before after bytes reads (Ok both) =
+abbrev pub AnswersWith : {R : Type 0} → (R → Option (List ℕ)) → Reading → (before after : Device R)
+    → List ℕ → ℕ → Type 0
+AnswersWith remaining (Ok both) before after bytes reads =
     IsReadWhole remaining before after bytes both.1 × HasEntries both.1 both.0
-AnswersWith remaining before after bytes reads (Err (faults.Registry fault)) =
-    AnswersAs remaining before after bytes reads (Err fault)
-AnswersWith remaining before after bytes reads (Err faults.OutOfMemory) = Unit {0}
+AnswersWith remaining (Err (faults.Registry fault)) before after bytes reads =
+    AnswersAs remaining (Err fault) before after bytes reads
+AnswersWith remaining (Err faults.OutOfMemory) before after bytes reads = Unit {0}
 
 -- the answer is that a read failed
 abbrev pub IsFailure : Reading → Type 0
@@ -29,6 +29,6 @@ IsFailure (Err (faults.Registry fault)) = IsReadFailure (Err fault)
 IsFailure (Err faults.OutOfMemory) = ⊥
 
 -- This many reads gave these bytes, and the answer is theirs.
-abbrev pub ReadsRecords : {R : Type 0} → (R → Option (List ℕ)) → (before after : Device R) → Reading → Type 0
+unfoldable pub ReadsRecords : {R : Type 0} → (R → Option (List ℕ)) → (before after : Device R) → Reading → Type 0
 ReadsRecords remaining before after result =
-    Reads remaining before after (λ bytes reads. AnswersWith remaining before after bytes reads result) (IsFailure result)
+    Reads remaining before after (AnswersWith remaining result) (IsFailure result)

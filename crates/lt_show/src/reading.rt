@@ -113,6 +113,7 @@ fn read_draft<R: Read>(alloc: Global, device: &mut Device<R>) -> Result<Draft, J
 /// The registry that a device gives, and the records of its file, of which the entries are made: the record of an entry's
 /// number is the one of its number in the file, counted from 1. The device is read to its end, record by record, once. It
 /// is refused as `Registry::read` refuses it; and by `OutOfMemory` where memory runs out for the records.
+#[tactic(auto, unfolding(crate::specs::Kept::ReadsDraft, crate::specs::Reading::ReadsRecords))]
 pub fn read_records<R: Read>(
     alloc: Global,
     device: &mut Device<R>,
