@@ -222,7 +222,7 @@ class Round:
     """Edits of which one check judges each, of a crate."""
 
     def __init__(self, edits, crate=None, wave=0):
-        self.edits, self.crate, self.wave = list(edits), crate, wave
+        self.edits, self.crate, self.wave, self.was_killed = list(edits), crate, wave, False
 
     def fits(self, edit):
         return not any(edit.clashes(other) for other in self.edits)
@@ -481,14 +481,14 @@ class Crate:
 class Pool:
     """Tries rounds of many crates side by side: one a processor, and as many as memory holds."""
 
-    def __init__(self, ended, busy=lambda: 0, is_last=lambda: True):
+    def __init__(self, ended, busy=lambda: 0, is_last=lambda: True, share=1.0):
         """ended: what to call with each crate whose edits are all judged. busy: how many processors something else uses. is_last:
-        whether nothing else will need them."""
+        whether nothing else will need them. share: the part of the memory to plan with until then."""
         number = os.environ.get("RT_JOBS", "")
         self.is_fixed = number.isdigit() and int(number) > 0
         self.lanes, self.memory = int(number) if self.is_fixed else rt.processors(), 0.85 * rt.free()
         self.waiting, self.running, self.is_open, self.fault = [], [], True, None
-        self.ended, self.busy, self.is_last, self.changed = ended, busy, is_last, threading.Condition()
+        self.ended, self.busy, self.is_last, self.share, self.changed = ended, busy, is_last, share, threading.Condition()
 
     def add(self, crate, is_current=False):
         """Adds a crate, whose rounds can be tried from now on. Any thread may call this."""
@@ -506,15 +506,19 @@ class Pool:
     def next(self):
         """Takes the next round that memory has room for, or None: first what waited for other rounds, then the dearest."""
         idle = self.lanes - len(self.running) - self.busy()
-        room = self.memory - sum(it.crate.need for it in self.running)
+        is_last = self.is_last()
+        room = self.memory * (1 if is_last else self.share) - sum(it.crate.need for it in self.running)
         if idle <= 0:
             return None
         self.waiting.sort(key=lambda it: (-it.wave, -it.cost()))
         for it in self.waiting:
+            if it.was_killed and (self.running or not is_last):
+                # (its memory was needed by what ran beside it)
+                continue
             if self.is_fixed or not self.running or it.crate.need <= room:
                 self.waiting.remove(it)
                 parts = min(idle - len(self.waiting), len(it.edits) // LEAST)
-                if parts > 1 and not self.is_open and self.is_last():
+                if parts > 1 and not self.is_open and is_last:
                     # (else processors would be idle while one is busy for long)
                     it, *others = it.cut(parts)
                     self.waiting += it.crate.waits_for(others)
@@ -525,10 +529,12 @@ class Pool:
     def try_one(self, tried):
         try:
             said, used = tried.check()
-            if said.was_killed:
-                said, used = tried.check()
             with self.changed:
-                self.waiting += tried.crate.take(tried, said, used)
+                if said.was_killed and not tried.was_killed:
+                    tried.was_killed = True
+                    self.waiting.append(tried)
+                else:
+                    self.waiting += tried.crate.take(tried, said, used)
                 is_done = tried.crate.is_done()
             if is_done:
                 tried.crate.room.cleanup()

@@ -381,10 +381,42 @@ class Pooled(unittest.TestCase):
         self.tried(self.pool(4, is_last=lambda: False), self.crate(*("f%d_" % it for it in range(12))))
         self.assertEqual([*map(len, self.checked)], [12])
 
-    def test_a_check_that_was_killed_is_made_again(self):
-        it, told = self.crate("f"), [["killed"]]
-        self.tried(self.pool(1, lambda names: told.pop() if told else self.fails(names)), it)
+    def test_a_part_of_the_memory_is_left_to_others(self):
+        at_once, alone = [], [True] * 4
+
+        def text(names):
+            at_once.append(len(pool.running))
+            time.sleep(0.1)
+            return self.fails(names)
+
+        pool = self.pool(2, text, is_last=lambda: not alone or alone.pop() is None, share=0.5)
+        made = [self.crate(it, it + "2") for it in "abc"]
+        for it in made:
+            it.need = 400
+        self.tried(pool, *made)
+        self.assertEqual(at_once[0], 1)
+        self.assertEqual(at_once[-2], 2)
+
+    def test_a_check_that_was_killed_is_made_again_alone(self):
+        told, beside = [["killed"]], []
+
+        def text(names):
+            beside.append((names, len(pool.running)))
+            if told:
+                return told.pop()
+            time.sleep(0.1)
+            return self.fails(names)
+
+        it, others, pool = self.crate("f"), self.crate("g", "g2", "g3"), self.pool(2, text)
+        self.tried(pool, it, others)
         self.assertEqual([kind for kind, _ in it.told.values()], ["clause"])
+        again = [number for names, number in beside if names == beside[0][0]][-1]
+        self.assertEqual(again, 1)
+
+    def test_a_check_that_was_killed_twice_is_no_refusal(self):
+        it = self.crate("f")
+        self.tried(self.pool(1, lambda names: ["killed"]), it)
+        self.assertEqual([kind for kind, _ in it.told.values()], ["BAD EDIT"])
 
     def test_a_fault_ends_the_run(self):
         def text(names):

@@ -5,13 +5,13 @@ Usage: tests/gate.py [--anew] [COMMAND..]
 
 `rt ci` proves everything from nothing, and runs each program and test. It proves one crate after another where they stand on
 each other, so that processors are left for the edits: those of a crate are tried by tests/edits.py, with less priority, from
-when the crate is proved, over what its proof has checked, on the processors that no proof uses: memory would not hold more. --anew
+when the crate is proved, over what its proof has checked, on the processors that no proof uses, and in a part of the memory. --anew
 tries also those that were refused before.
 
-`rt ci` is run as the kit has it, but for two things. Its libraries keep their checked proofs, where it would leave their
-statements alone. And a proof has one job while edits can use the other processors, since more jobs read what each other checks.
-What it makes comes to crates/*/out, where rt and the scripts look for it; the checked proofs too, so that `rt check` and `rt lib`
-there take what is proved. A library that rt has built there stays, if nothing has changed since.
+`rt ci` is run as the kit has it, but for three things. Its libraries keep their checked proofs, where it would leave their
+statements alone. While edits are tried, a proof has one job, since more jobs read what each other checks; and proofs plan with a
+part of the memory. What `rt ci` makes comes to crates/*/out, where rt and the scripts look for it; the checked proofs too, so that
+`rt check` and `rt lib` there take what is proved. A library that rt has built there stays, if nothing has changed since.
 
 COMMAND is run beside, as soon as all programs, static libraries and the crates of tests in GROWN are there.
 
@@ -35,8 +35,8 @@ ROOT = os.path.dirname(os.path.dirname(os.path.abspath(__file__)))
 COPY = os.path.join(ROOT, "build", "gate")
 # The words by which this script runs `rt ci` in the copy, the second so that each proof has one job.
 CI, CI_ONE_JOB = "--ci", "--ci-one-job"
-# How many edits fill the processors that proofs leave.
-MANY = 100
+# How many edits fill the processors that proofs leave, and which part of the memory proofs may plan with then.
+MANY, PROOFS = 100, 0.8
 # What rattle is told to leave a static library's checked proof in, as it does in the rlib of a library.
 CHECKED = "out/checked"
 # The crates of tests whose programs the scripts run.
@@ -78,6 +78,8 @@ def ci(one_job):
         return proves(self, flags, tests)
 
     crate.ci = keeps
+    free = rt.free
+    rt.free = lambda: free() * (PROOFS if one_job else 1)
     return rt.main(["ci"])
 
 
@@ -242,7 +244,7 @@ def main():
     for it in tried:
         if it.edits and it.crate.name not in todo:
             ended(it)
-    pool = edits.Pool(ended, busy=lambda: gate.busy(), is_last=lambda: gate.status is not None)
+    pool = edits.Pool(ended, busy=lambda: gate.busy(), is_last=lambda: gate.status is not None, share=1 - PROOFS)
 
     def proves(name, is_current):
         """Has the edits of a crate tried, now that it and those below it are proved."""
