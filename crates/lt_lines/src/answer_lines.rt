@@ -7,8 +7,8 @@ ghost use Rattle.lt_lines.specs.Answering.{AppendsTextReply};
 ghost use Rattle.lt_lines.specs.Refusals.{AppendsRefusal, AppendsTold};
 
 use itoa::Buffer;
-use lt_canon::{Checked, TextRefusal};
 use lt_cache::RecentEnds;
+use lt_canon::{Checked, TextRefusal};
 use lt_registry::Lookup;
 use lt_tag::OutOfMemory;
 use std::alloc::{AllocError, Global};

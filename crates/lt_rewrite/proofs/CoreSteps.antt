@@ -25,8 +25,6 @@ use Rattle.lt_rewrite.proofs.Entries.{some_if}
 -- A core step by the part that it replaces, the lists of variants cut at the variant: what each leads to, and each from
 -- what it needs.
 
-
-
 pub none_of : (xs : List (List ℕ)) → eqb (length xs) 0 ≡ true → xs ≡ []
 none_of xs h = nil_from_length xs (eqb-true (length xs) 0 h)
 

@@ -1,7 +1,7 @@
 //! Ends of tags that come again after other fronts.
 use super::upgrades::checked;
-use lt_canon::Checked;
 use lt_cache::RecentEnds;
+use lt_canon::Checked;
 use lt_registry::Lookup;
 use lt_test_tables::sample;
 use std::alloc::Global;

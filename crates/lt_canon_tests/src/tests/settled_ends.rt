@@ -1,8 +1,8 @@
 //! Texts whose ends are canonical already, and such as are nearly so.
 use super::upgrades::checked;
+use lt_cache::append_canonical_text;
 use lt_canon::Checked;
 use lt_registry::Lookup;
-use lt_cache::append_canonical_text;
 use lt_test_tables::sample;
 use std::alloc::Global;
 use std::test::Fail;

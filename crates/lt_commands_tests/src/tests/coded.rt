@@ -326,9 +326,7 @@ fn words_of_codes(rt: HostRuntime) {
     assert!(rt;
         matches!(&codes, Ok(command) if command.first_file() == Some("registry") && command.second_file() == Some("table"))
     );
-    assert!(rt;
-        matches!(&codes, Ok(command) if command.reads_input() && command.has_summary())
-    );
+    assert!(rt; matches!(&codes, Ok(command) if command.reads_input() && command.has_summary()));
     for words in [
         &["tsv", "registry", "2", "--codes", "table"] as &[&str],
         &["csv", "registry", "2", "--codes", "table"],
