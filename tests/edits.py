@@ -233,6 +233,12 @@ class Round:
         lone = any(not it.functions for it in self.edits)
         return self.crate.lines / 200 + 7 * (10 if lone else len(self.edits or self.crate.left()))
 
+    def need(self):
+        """The memory that it is likely to take, in bytes."""
+        # (a check of some functions alone was seen to take at most half of what one of the crate from nothing is reckoned to)
+        is_of_some = self.edits and not any(it.is_of_others for it in self.edits)
+        return self.crate.need * (0.6 if is_of_some else 1)
+
     def cut(self, number):
         """As many rounds that hold these edits."""
         return [Round(self.edits[at::number], self.crate, self.wave) for at in range(number)]
@@ -507,7 +513,7 @@ class Pool:
         """Takes the next round that memory has room for, or None: first what waited for other rounds, then the dearest."""
         idle = self.lanes - len(self.running) - self.busy()
         is_last = self.is_last()
-        room = self.memory * (1 if is_last else self.share) - sum(it.crate.need for it in self.running)
+        room = self.memory * (1 if is_last else self.share) - sum(it.need() for it in self.running)
         if idle <= 0:
             return None
         self.waiting.sort(key=lambda it: (-it.wave, -it.cost()))
@@ -515,7 +521,7 @@ class Pool:
             if it.was_killed and (self.running or not is_last):
                 # (its memory was needed by what ran beside it)
                 continue
-            if self.is_fixed or not self.running or it.crate.need <= room:
+            if self.is_fixed or not self.running or it.need() <= room:
                 self.waiting.remove(it)
                 parts = min(idle - len(self.waiting), len(it.edits) // LEAST)
                 if parts > 1 and not self.is_open and is_last:

@@ -221,6 +221,7 @@ class MadeEdit:
         found = types.SimpleNamespace(key=key, symbols=lambda told: [it for it in told if it == "made::" + key])
         self.functions = [found] if key else []
         self.lines, self.is_alone, self.name = {("src/lib.rt", function): ""}, not function, function
+        self.is_of_others = not function
 
     clashes = edits.Edit.clashes
 
@@ -352,7 +353,7 @@ class Pooled(unittest.TestCase):
             return self.fails(names)
 
         it, pool = self.crate("f", "f2", "g", "g2"), self.pool(4, text)
-        it.need = 600
+        it.need = 1000
         self.tried(pool, it)
         self.assertEqual(len(it.told), 4)
 
@@ -392,7 +393,7 @@ class Pooled(unittest.TestCase):
         pool = self.pool(2, text, is_last=lambda: not alone or alone.pop() is None, share=0.5)
         made = [self.crate(it, it + "2") for it in "abc"]
         for it in made:
-            it.need = 400
+            it.need = 700
         self.tried(pool, *made)
         self.assertEqual(at_once[0], 1)
         self.assertEqual(at_once[-2], 2)
