@@ -31,8 +31,8 @@ sqlite: lib
 	gcc -O2 -fPIC -shared -fvisibility=hidden -Wl,--exclude-libs,ALL -Wall -Ibindings/c -o build/bcp47_sqlite.so \
 	    bindings/sqlite/bcp47_sqlite.c build/libbcp47.a
 
-# The tests that must pass for each change: proves everything from nothing and runs each test and program, tries all wrong
-# bodies, many in one check; then refuses growths of memory in the tests that name a line or a record, and runs the program on
+# The tests that must pass for each change: proves from nothing what no earlier run on this machine proved, runs each test and
+# program, and tries all wrong bodies, many in one check; then refuses growths of memory in the tests that name a line or a record, and runs the program on
 # real files and streams, README's commands, what is linked to the library for C, and what is packaged.
 test: statement
 	tests/repository.sh
