@@ -3,10 +3,10 @@
 
 Usage: tests/gate.py [--anew] [COMMAND..]
 
-`rt ci` proves from nothing what no earlier run on this machine proved, and runs each program and test. It proves one crate after another where they stand on
-each other, so that processors are left for the edits: those of a crate are tried by tests/edits.py, with less priority, from
-when the crate is proved, over what its proof has checked, on the processors that no proof uses, and in a part of the memory. --anew
-tries also those that were refused before.
+`rt ci` proves from nothing what no earlier run on this machine proved, and runs each program and test. It proves one crate after
+another where they stand on each other, so that processors are left for the edits: those of a crate are tried by tests/edits.py,
+with less priority, from when the crate is proved, over what its proof has checked, on the processors that no proof uses, and in a
+part of the memory. --anew tries also those that were refused before.
 
 `rt ci` is run as the kit has it, but for three things. Its libraries keep their checked proofs, where it would leave their
 statements alone. While edits are tried, a proof has one job, since more jobs read what each other checks; and proofs plan with a
