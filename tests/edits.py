@@ -514,13 +514,13 @@ class Pool:
         idle = self.lanes - len(self.running) - self.busy()
         is_last = self.is_last()
         room = self.memory * (1 if is_last else self.share) - sum(it.need() for it in self.running)
-        if idle <= 0:
+        if idle <= 0 or any(it.was_killed for it in self.running):
             return None
-        self.waiting.sort(key=lambda it: (-it.wave, -it.cost()))
+        # (what was killed waits until nothing runs beside it, since its memory was needed there)
+        self.waiting.sort(key=lambda it: (it.was_killed, -it.wave, -it.cost()))
         for it in self.waiting:
             if it.was_killed and (self.running or not is_last):
-                # (its memory was needed by what ran beside it)
-                continue
+                return None
             if self.is_fixed or not self.running or it.need() <= room:
                 self.waiting.remove(it)
                 parts = min(idle - len(self.waiting), len(it.edits) // LEAST)
