@@ -138,8 +138,8 @@ Status:
   3  the words name no command, or a column that is missing or stands twice, or a range that is refused
   4  a file, the input, the output or memory failed";
 
-/// The version, and the line of the kit that proves and builds the program.
-const VERSION: &str = "1.1.0 (rattle-kit-13f logic dac8208d650f15bf)";
+/// The version, and the kits that prove and build the program, by their logic.
+const VERSION: &str = "1.1.0 (rattle-kit-13 logic dac8208d650f15bf)";
 
 /// An argument.
 fn new_argument<'a>(alloc: Global, wanted: &Argument) -> Arg<'a>
