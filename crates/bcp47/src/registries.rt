@@ -93,10 +93,11 @@ fn check_entries(alloc: Global, entries: Entries) -> Result<Registry, RegistryEr
     }
 }
 
-/// What holds of each table that passes the check.
+/// Does nothing when it runs: its clause says what holds of each table that passes the check.
 fn know_promise(checked: &Checked<SortedTable>)
     ensures { Promise checked.now }
 {
+    // So that the forms of the entries are known.
     let _ = checked.table();
     confluence(checked);
 }

@@ -10,7 +10,7 @@ use Rattle.bcp47_c.specs.declared.outcomes.Said.{Said}
 abbrev pub ended : ℕ → Said
 ended status = record { status = status; detail = 0; place = 0 }
 
--- what is said, and the length of the text
+-- what is said, and the length of the text; the last two are 0 but where a call over two texts tells which
 abbrev pub outcome : Said → ℕ → Outcome
 outcome said length =
     record {
@@ -27,13 +27,13 @@ pub record StandsIn (text before after : List ℕ) : Type 0 where
   pub front : take (length text) after ≡ text
   pub rest : drop (length text) after ≡ drop (length text) before
 
--- What is said is answered with the text, where it fits the buffer. Else nothing is written, and the status says so.
--- The text's length is reported in both cases.
+-- What is said is answered with the text, where it fits the buffer. Else nothing is written, and the status is
+-- BufferTooSmall (5). The text's length is reported in both cases.
 pub record IsDelivered (said : Said) (text before after : List ℕ) (o : Outcome) : Type 0 where
   pub fits : length text ≤ length before → (o ≡ outcome said (length text)) × StandsIn text before after
   pub too_long : length before < length text → (o ≡ outcome (ended 5) (length text)) × (after ≡ before)
 
--- what is said of a refusal
+-- what is said of a refusal: no tag (1), not valid (2), a variant that steps can repeat (3), no memory (4)
 abbrev pub refusal_said : TextRefusal → Said
 refusal_said (refusals.NotATag fault) = record { status = 1; detail = tag_fault fault.kind; place = fault.place }
 refusal_said (refusals.Invalid fault) = record { status = 2; detail = valid_fault fault.kind; place = fault.place }

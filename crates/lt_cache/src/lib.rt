@@ -6,7 +6,6 @@
 
 mod ends;
 pub mod laws;
-mod pieces;
 mod recent;
 mod recent_ends;
 mod short_texts;

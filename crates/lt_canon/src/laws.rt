@@ -39,6 +39,7 @@ pub fn confluence<L: Lookup>(checked: &Checked<L>)
     ensures text_twice { CanonicalTextTwiceIsOnce (L.listed checked.now) }
     ensures named { RepeatsAreNamed (L.listed checked.now) }
 {
+    // By its clause the table passes the check, and so each law holds of it.
     let _ = checked.table();
 }
 

@@ -114,6 +114,7 @@ pub fn verify<L: Lookup>(
     traces_have_one_end();
     let table = checked.table();
     validate(alloc, table, tag)?;
+    // So that their shapes are known.
     let _ = tag.extensions();
     let end = follow(alloc, table, tag, &trace.steps)?;
     if end == trace.last {

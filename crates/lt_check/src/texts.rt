@@ -109,7 +109,7 @@ impl UsualSubtags {
         }
     }
 
-    /// A text that begins with a language of 2 letters.
+    /// A text that begins with a language of 2 letters, if all its subtags have their flags.
     #[inline(always)]
     fn shown_two(&self, a: u8, b: u8, rest: &[u8]) -> Option<Shown>
         ensures value { result ≡ shown.shown_two self.now a b rest.now }
@@ -130,7 +130,7 @@ impl UsualSubtags {
         }
     }
 
-    /// A text that begins with a language of 3 letters.
+    /// A text that begins with a language of 3 letters, if all its subtags have their flags.
     #[inline(always)]
     fn shown_three(&self, a: u8, b: u8, c: u8, rest: &[u8]) -> Option<Shown>
         ensures value { result ≡ shown.shown_three self.now a b c rest.now }
@@ -151,7 +151,8 @@ impl UsualSubtags {
         }
     }
 
-    /// A text in conventional case.
+    /// A text in conventional case, exactly if it is a language of 2 or 3 letters, alone or with a script, a region or
+    /// both, and each of them has its flag.
     #[inline(always)]
     pub(crate) fn shown(&self, text: &[u8]) -> Option<Shown>
         ensures value { result ≡ shown.shown_text self.now text.now }

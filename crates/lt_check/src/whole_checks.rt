@@ -44,7 +44,7 @@ pub(crate) fn has_valid_whole<L: Lookup>(alloc: Global, table: &L, entry: &Entry
     }
 }
 
-/// Looks at the entries, so that their forms and the order of their numbers are known.
+/// Does nothing when it runs: by its clause the forms of the entries and the order of their numbers are known.
 pub(crate) fn know_entries<L: Lookup>(table: &L)
     ensures { IsRegistry (L.listed table.now) }
 {

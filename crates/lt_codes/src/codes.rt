@@ -82,7 +82,7 @@ impl CodeTable {
         })
     }
 
-    /// Looks at the table, so that the form of its codes is known.
+    /// Does nothing when it runs: by its clause the form of the codes is known.
     pub fn know_codes(&self)
         ensures { All IsCode self.now }
     {

@@ -34,7 +34,8 @@ fn next_field(rest: &[u8]) -> Option<(&[u8], &[u8])>
     split_first(b'|', rest)
 }
 
-/// The fields of a line, if there are five, with a vertical bar between each two.
+/// The first three fields of a line, which are codes, if it has five with a vertical bar between each two. The other two
+/// are names, and are left out.
 #[tactic(auto, using(crate::proofs::SplitLemmas::field_some))]
 pub(crate) fn fields_of(line: &[u8]) -> Option<Fields<'_>>
     ensures { MatchOption result ((b t w : List ℕ) → HasFields line.now b t w → ⊥)

@@ -1,5 +1,5 @@
 -- What is owed for a row.
-use Rattle.std.proofs.Common.{refl, ◌≡◌, ◌≤◌, ◌-◌, ◌++◌, ◌∷◌, ◌∙◌, [], ℕ, Bool, false, true, List, inl, inr, ap, arith, append_assoc, append-nil, codes, drop, length, subst, sym, take, take-append-drop}
+use Rattle.std.proofs.Common.{refl, ◌≡◌, ◌≤◌, ◌-◌, ◌++◌, ◌∷◌, ◌∙◌, [], ℕ, Bool, false, true, List, inl, inr, ap, arith, append_assoc, codes, drop, length, subst, sym, take, take-append-drop}
 use Rattle.std.proofs.lemmas.List.{drop-drop, drop-take, take_rest, take-take}
 use Rattle.lt_jar.specs.Lines.{content_of}
 use Rattle.lt_codes.specs.Codes.{replaced}
@@ -42,7 +42,7 @@ module _ (S : Separator) (G : Ground) (row : RowForm) (line front field after qu
   }
 
   -- the row was refused
-  pub row_refused : (refusal : TextRefusal) → IsTextRefusal G.entries (replaced G.codes text) refusal → filled ≡ fronted → EndsRefused S refusal text quotes after line filled new → AppendsRowReply S G row line old new true
+  pub row_refused : (refusal : TextRefusal) → IsTextRefusal G.entries (replaced G.codes text) refusal → filled ≡ fronted → EndsRefused S refusal (text ++ (quotes ++ after)) line filled new → AppendsRowReply S G row line old new true
   row_refused refusal is same e = record {
     bytes = row_line S (content_of line) e.told line;
     grown = rw (e.grown, same, first, at.row_is, is_text.field_is) (simp append_assoc);
@@ -123,7 +123,7 @@ module _ (S : Separator) (G : Ground) (line text old fronted filled new : List �
     owed = inl (a.is_canonical, refl, refl);
   }
 
-  pub kept_refused : (refusal : TextRefusal) → IsTextRefusal G.entries (replaced G.codes text) refusal → filled ≡ fronted → EndsRefused S refusal [] [] [] line filled new → AppendsKept S G text line old new true
+  pub kept_refused : (refusal : TextRefusal) → IsTextRefusal G.entries (replaced G.codes text) refusal → filled ≡ fronted → EndsRefused S refusal [] line filled new → AppendsKept S G text line old new true
   kept_refused refusal is same e = record {
     canonical = [];
     told = e.told;
@@ -164,12 +164,12 @@ module _ (S : Separator) (G : Ground) (row : RowForm) (line old fronted filled n
       (subst (λ t. AppendsCanonicalText G.entries (replaced G.codes t) fronted filled) h.text_is a) (last ∙ ap (λ l. filled ++ row_line S l [] line) h.after_is)
 
   pub found_refused : row.is_kept ≡ false → fronted ≡ old ++ take place.start (content_of line) → (refusal : TextRefusal) → IsTextRefusal G.entries (replaced G.codes text) refusal → filled ≡ fronted
-      → EndsRefused S refusal (drop place.start (content_of line)) [] [] line filled new → AppendsRowReply S G row line old new true
+      → EndsRefused S refusal (drop place.start (content_of line)) line filled new → AppendsRowReply S G row line old new true
   found_refused changed first refusal is same e =
       let rest = text_and_rest (content_of line) h.text (h.quotes ++ h.after) place h.ordered h.text_is h.after_is in
       row_refused S G row line h.front h.field h.after h.quotes h.text old fronted filled new h.at h.is_text none changed (first ∙ ap (λ l. old ++ l) h.front_is) refusal
       (subst (λ t. IsTextRefusal G.entries (replaced G.codes t) refusal) h.text_is is) same
-      (record { told = e.told; is_told = e.is_told; grown = e.grown ∙ ap (λ l. filled ++ row_line S l e.told line) (append-nil (drop place.start (content_of line)) ∙ rest) })
+      (record { told = e.told; is_told = e.is_told; grown = e.grown ∙ ap (λ l. filled ++ row_line S l e.told line) rest })
 
   pub found_kept : (refused : Bool) → row.is_kept ≡ true → AppendsKept S G text line old new refused → AppendsRowReply S G row line old new refused
   found_kept refused kept a =

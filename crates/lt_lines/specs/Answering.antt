@@ -133,11 +133,11 @@ abbrev pub FieldReply : List EntryParts → List ℕ → (old new : List ℕ) �
 FieldReply R field old new None = AppendsCanonicalText R field old new
 FieldReply R field old new (Some refusal) = IsTextRefusal R field refusal × (new ≡ old)
 
--- a field that is refused was appended, with what follows it in its row and what is reported of it
-pub record EndsRefused (S : Separator) (refusal : TextRefusal) (text quotes after line old new : List ℕ) : Type 0 where
+-- a row was appended from the text of a field that is refused on, with what is reported of it
+pub record EndsRefused (S : Separator) (refusal : TextRefusal) (text line old new : List ℕ) : Type 0 where
   pub told : List ℕ
   pub is_told : IsTold refusal told
-  pub grown : new ≡ old ++ row_line S (text ++ (quotes ++ after)) told line
+  pub grown : new ≡ old ++ row_line S text told line
 
 -- what a place has for a text is right: the answer to a tag, and the canonical text of a field
 abbrev pub IsRight : List EntryParts → LineForm → Kept → Type 0

@@ -55,7 +55,7 @@ fn append_longer(
     append_end(lines, line)
 }
 
-/// Appends what follows the canonical text of a field in a row, and one field more, which is empty.
+/// Appends what follows the canonical text of a field in a row, an empty field after all others, and the end of the line.
 #[inline(always)]
 fn end_answered(
     lines: &mut Vec<u8>,
@@ -70,22 +70,18 @@ fn end_answered(
     append_end(lines, line)
 }
 
-/// Appends the text of a field that is refused, what follows it in a row, and one field more, which says why.
+/// Appends a row from the text of a field that is refused on, a field after all others, which says why, and the end of the line.
 #[inline(never)]
 fn end_refused(
     lines: &mut Vec<u8>,
     separator: Separator,
     refusal: &TextRefusal,
     text: &[u8],
-    quotes: &[u8],
-    after: &[u8],
     line: &[u8],
 ) -> Result<(), OutOfMemory>
-    ensures { OnOk result (EndsRefused separator refusal.now text.now quotes.now after.now line.now lines.old.items lines.new.items) }
+    ensures { OnOk result (EndsRefused separator refusal.now text.now line.now lines.old.items lines.new.items) }
 {
     lines.extend_from_slice(text)?;
-    lines.extend_from_slice(quotes)?;
-    lines.extend_from_slice(after)?;
     lines.push(separator.byte())?;
     append_told(lines, refusal)?;
     append_end(lines, line)?;
@@ -120,7 +116,7 @@ fn append_kept<L: Lookup>(
             Ok(false)
         }
         Some(refusal) => {
-            end_refused(lines, separator, &refusal, b"", b"", b"", line)?;
+            end_refused(lines, separator, &refusal, b"", line)?;
             Ok(true)
         }
     }
@@ -165,7 +161,7 @@ fn append_found<L: Lookup>(
         }
         Some(refusal) => {
             let rest = &row[place.start..];
-            end_refused(lines, separator, &refusal, rest, b"", b"", line)?;
+            end_refused(lines, separator, &refusal, rest, line)?;
             Ok(true)
         }
     }

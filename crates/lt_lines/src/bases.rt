@@ -18,7 +18,7 @@ pub struct Basis<'a, L: Lookup> {
 impl<L: Lookup> Basis<'_, L> {
     ghost use Rattle.lt_lines.specs.Owed.{codes_in};
 
-    /// Looks at the codes, so that their form is known.
+    /// Does nothing when it runs: by its clause the form of the codes is known.
     pub(crate) fn know_codes(&self)
         ensures { All IsCode (codes_in self.now.codes) }
     {

@@ -70,7 +70,7 @@ pub(crate) fn look_ahead(
     }
 }
 
-/// The place after more bytes of a line, by that before them.
+/// The place after these bytes of a line, by the place before them.
 pub(crate) fn place_then(form: LineForm, place: Place, part: &[u8]) -> Place
     ensures { result ≡ spec.place_then form place part.now }
 {
@@ -80,7 +80,8 @@ pub(crate) fn place_then(form: LineForm, place: Place, part: &[u8]) -> Place
     }
 }
 
-/// Whether a line ends within quotes with these bytes more, as a look at it tells, or its place before them.
+/// Whether a line that ends with these bytes ends within quotes: as the look at it found, or, where there was no look, by the
+/// place before them.
 #[inline(always)]
 pub(crate) fn is_open(form: LineForm, look: &Option<Look>, place: Place, part: &[u8]) -> bool
     ensures { MatchOption look.now (result ≡ is_quoted (spec.place_then form place part.now)) (λ look. result ≡ look.is_open) }

@@ -1,12 +1,12 @@
 //! Where the parts of a tag are in its text.
-ghost use Rattle.std.specs.Prelude.{◌≡◌, ◌==◌, IfOk, position};
+ghost use Rattle.std.specs.Prelude.{◌≡◌, IfOk};
 ghost use Rattle.lt_tag.specs.Lists.{pieces};
 ghost use Rattle.lt_tag.specs.Texts.{text_of};
 ghost use Rattle.lt_parts.specs.Places.{parts_of, placed, Spell};
 
 use crate::kinds::PartKind;
 use crate::walks::part_kinds;
-use lt_tag::{OutOfMemory, Tag, write_tag};
+use lt_tag::{OutOfMemory, Tag, first_hyphen, write_tag};
 use std::alloc::Global;
 
 /// A part of a tag: what it is, and where it is in the text of the tag in conventional case (RFC 5646, 2.1.1).
@@ -20,13 +20,6 @@ pub struct Part {
     pub length: usize,
 }
 
-/// Where the first hyphen is.
-fn hyphen(text: &[u8]) -> Option<usize>
-    ensures { result ≡ position (λ byte. byte == 45) text.now }
-{
-    text.iter().position(|byte| *byte == b'-')
-}
-
 /// What is between the hyphens of a text, each with its kind.
 fn place(alloc: Global, kinds: &[PartKind], text: &[u8]) -> Result<Vec<Part>, OutOfMemory>
     ensures { IfOk result (λ parts. parts.items ≡ placed 0 kinds.now (pieces text.now)) }
@@ -35,7 +28,7 @@ fn place(alloc: Global, kinds: &[PartKind], text: &[u8]) -> Result<Vec<Part>, Ou
     let mut start = 0;
     for kind in kinds {
         let rest = &text[start..];
-        let end = hyphen(rest);
+        let end = first_hyphen(rest);
         let length = end.unwrap_or(rest.len());
         parts.push(Part {
             kind: *kind,

@@ -2,7 +2,6 @@
 //! is nothing here: the crate `lt_match` matches canonical forms.
 #![tactic(auto)]
 
-mod cuts;
 mod faults;
 mod filters;
 pub mod laws;

@@ -6,11 +6,10 @@ ghost use Rattle.lt_range.specs.Ranges.{range_of_tag};
 ghost use Rattle.lt_range.specs.Reading as reading;
 ghost use Rattle.lt_range.specs.Reading.{range_of, later_pieces, AppendsRead, IsRefused, IsRangeFault};
 
-use crate::cuts::cut;
 use crate::faults::RangeFault;
 use crate::tag_subtags::TagSubtags;
 use lt_subtag::Subtag;
-use lt_tag::{OutOfMemory, copy_subtags};
+use lt_tag::{OutOfMemory, copy_subtags, first_piece};
 use std::alloc::Global;
 use std::marker::Model;
 
@@ -82,7 +81,7 @@ fn append_pieces(named: &mut Vec<Subtag>, pieces: Option<&[u8]>) -> Result<(), R
 {
     let mut rest = pieces;
     while let Some(bytes) = rest {
-        let (piece, after) = cut(bytes);
+        let (piece, after) = first_piece(bytes);
         if let Some(subtag) = later_piece(piece)? {
             named.push(subtag)?;
         }
@@ -103,7 +102,7 @@ impl LanguageRange {
         ensures range { IfOk result (λ range. range_of text.now ≡ Ok range) }
         ensures fault { IfErr result (IsRangeFault text.now) }
     {
-        let (piece, rest) = cut(text);
+        let (piece, rest) = first_piece(text);
         let first = first_piece(piece)?;
         let wild = first.is_none();
         let mut named = Vec::new(alloc);

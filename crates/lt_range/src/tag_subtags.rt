@@ -5,10 +5,9 @@ ghost use Rattle.lt_tag.specs.Lists.{list_of};
 ghost use Rattle.lt_tag.specs.Faults.{HasList};
 ghost use Rattle.lt_tag.specs.WellFormed.{spell};
 
-use crate::cuts::cut;
 use lt_subtag::Subtag;
 use lt_tag::laws::text_of_tag_has_its_list;
-use lt_tag::{OutOfMemory, Tag, write_tag};
+use lt_tag::{OutOfMemory, Tag, first_piece, write_tag};
 use std::alloc::Global;
 use std::marker::Model;
 
@@ -35,7 +34,7 @@ fn read_subtags(alloc: Global, text: &[u8]) -> Result<Vec<Subtag>, OutOfMemory>
     let mut subtags = Vec::new(alloc);
     let mut rest = Some(text);
     while let Some(bytes) = rest {
-        let (piece, after) = cut(bytes);
+        let (piece, after) = first_piece(bytes);
         let Ok(subtag) = Subtag::read(piece) else {
             unreachable!()
         };
@@ -51,6 +50,7 @@ impl TagSubtags {
         ensures { IfOk result (λ subtags. subtags ≡ spell tag.now) }
     {
         text_of_tag_has_its_list();
+        // So that their shapes are known.
         let _ = tag.private();
         let text = write_tag(alloc, tag)?;
         let subtags = read_subtags(alloc, &text)?;

@@ -1,4 +1,4 @@
--- Why records give no entries; running out of memory aside.
+-- Why records give no entries: what is wrong with the first record at fault, or that memory ran out before it was found.
 use Rattle.std.specs.Prelude.{◌≡◌, ◌⊎◌, List}
 use Rattle.lt_jar.specs.Records.{Field}
 use Rattle.lt_registry.specs.Records.{IsFirstOfRecord, IsFirstRecordFault, IsRecordReached}
@@ -10,8 +10,8 @@ use Rattle.lt_registry.specs.declared.faults.RecordFaultKind.TheVariants as faul
 abbrev pub IsRefused : List Field → RecordFaultKind → Type 0
 IsRefused r kind = (kind ≡ faults.OutOfMemory) ⊎ IsFirstOfRecord r kind
 
--- the first fault of the lowest record that has one; or memory ran out at a record that is not the header, below
--- which none has one
+-- the first fault of the record at fault with the least number; or memory ran out at a record, not the header, before which no
+-- record has a fault
 abbrev pub IsRecordRefusal : List (List Field) → RecordFault → Type 0
 IsRecordRefusal records fault =
     ((fault.kind ≡ faults.OutOfMemory) × IsRecordReached records fault.number)

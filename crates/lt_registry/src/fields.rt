@@ -1,10 +1,9 @@
 //! The fields of a record that count.
-ghost use Rattle.std.specs.Prelude.{◌≡◌, ◌==◌, ◌<◌, ◌∷◌, ◌++◌, [], ℕ, List, length, position, Some, None, MatchOption, IfSome, IfOk, option_map};
+ghost use Rattle.std.specs.Prelude.{◌≡◌, ◌++◌, ℕ, List, length, Some, None, MatchOption, IfOk, option_map};
 ghost use Rattle.std.specs.List.{slice_get};
 ghost use Rattle.std.specs.Option.{option_copied};
 ghost use Rattle.std.specs.Str.{str_eq_ignore_ascii_case};
 ghost use Rattle.lt_tag.specs.Lists.{pieces};
-ghost use Rattle.lt_tag.specs.Rest.{pieces_left};
 ghost use Rattle.lt_jar.specs.Records.{Field};
 ghost use Rattle.lt_registry.specs.Entries as entry_words;
 ghost use Rattle.lt_registry.specs.Records as record_words;
@@ -13,7 +12,7 @@ ghost use Rattle.lt_registry.specs.RecordSteps as steps;
 use crate::entries::{Kind, Prefix};
 use lt_jar::JarField;
 use lt_subtag::Subtag;
-use lt_tag::OutOfMemory;
+use lt_tag::{OutOfMemory, first_piece};
 use std::alloc::Global;
 
 /// Whether two texts are the same, letter case aside.
@@ -290,25 +289,6 @@ fn begins_dots(text: &[u8]) -> bool
     }
 }
 
-/// Where the first hyphen is.
-fn hyphen(text: &[u8]) -> Option<usize>
-    ensures { result ≡ position (λ byte. byte == 45) text.now }
-{
-    text.iter().position(|byte| *byte == b'-')
-}
-
-/// The bytes before the first hyphen, and those after it, if there is one.
-#[tactic(auto, using(lt_tag::proofs::PiecesLemmas::pieces_cut, lt_tag::proofs::PiecesLemmas::pieces_one))]
-fn cut(text: &[u8]) -> (&[u8], Option<&[u8]>)
-    ensures pieces { pieces text.now ≡ result.0.now ∷ pieces_left result.1 }
-    ensures shorter { IfSome result.1 (λ rest. length rest.now < length text.now) }
-{
-    match hyphen(text) {
-        Some(index) => (&text[..index], Some(&text[index + 1..])),
-        None => (text, None),
-    }
-}
-
 /// The subtags of a Prefix, if it is a list of subtags.
 #[tactic(auto, using(crate::proofs::RecordTexts::piece_stays, crate::proofs::RecordTexts::piece_fails, crate::proofs::RecordTexts::piece_last, crate::proofs::RecordTexts::prefix_is))]
 pub(crate) fn read_prefix(alloc: Global, text: &[u8]) -> Result<Option<Prefix>, OutOfMemory>
@@ -317,7 +297,7 @@ pub(crate) fn read_prefix(alloc: Global, text: &[u8]) -> Result<Option<Prefix>, 
     let mut subtags = Vec::new(alloc);
     let mut rest = text;
     'pieces: loop {
-        let (piece, after) = cut(rest);
+        let (piece, after) = first_piece(rest);
         match Subtag::read(piece) {
             Ok(subtag) => subtags.push(subtag)?,
             Err(_) => return Ok(None),

@@ -81,6 +81,7 @@ fn read_whole(alloc: Global, text: &[u8]) -> Result<Option<WholeTag>, OutOfMemor
 {
     match read_tag(alloc, text) {
         Ok(tag) => {
+            // So that its shape is known.
             let _ = tag.core();
             Ok(Some(WholeTag::of_tag(alloc, tag)?))
         }

@@ -27,7 +27,7 @@ abbrev pub StepsKeepNormalForm : List EntryParts → Type 0
 StepsKeepNormalForm R = (c d e : CoreParts) → CoreStep R c d
     → IsCoreNormalForm R c e → IsCoreNormalForm R d e
 
--- a proper core as a value has it
+-- a proper core that the type Core can have: its subtags have their shapes, and it is no longer than a text
 pub record IsProperValue (R : List EntryParts) (c : CoreParts) : Type 0 where
   pub value : IsCoreValue c
   pub proper : IsProperCore R c

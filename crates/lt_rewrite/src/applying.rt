@@ -170,6 +170,7 @@ pub fn apply<L: Lookup>(alloc: Global, table: &L, tag: &Tag, step: &Step) -> Res
     let Some(changed) = change(alloc, table, tag, *step)? else {
         return Err(ApplyFault::NoSuchStep);
     };
+    // So that their shapes are known.
     let _ = changed.extensions();
     if proper(alloc, table, &changed)? {
         Ok(changed)

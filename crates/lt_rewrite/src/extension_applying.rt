@@ -45,6 +45,7 @@ fn apply_in_transform<L: Lookup>(
     requires few { start ≤ 1150000 }
     ensures { IfOk result (λ changed. Changes (ExtensionLeads (L.listed table.now) start extension.now step) changed) }
 {
+    // So that the forms of the entries are known.
     let _ = table.entries();
     let mut parts = match split_t(alloc, extension) {
         Ok(parts) => parts,

@@ -26,7 +26,7 @@ fn drop_true(keyword: &mut Keyword)
     }
 }
 
-/// What every table says of its entries: their numbers rise, and each has its forms.
+/// Does nothing when it runs: by its clause the forms of the entries and the order of their numbers are known.
 pub(crate) fn recall_forms<L: Lookup>(table: &L)
     ensures { IsRegistry (L.listed table.now) }
 {

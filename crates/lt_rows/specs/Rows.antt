@@ -16,7 +16,7 @@ abbrev pub IsRowField : Separator → List ℕ → Type 0
 IsRowField separators.Tab text = All (λ byte. byte ≢ 9) text
 IsRowField (separators.Delimiter delimiter) text = IsFreeOutside delimiter delimiter places.Fresh text
 
--- a separator may end the field: it does not end within quotes, where delimiters part fields
+-- a separator after this field would end it: in CSV, the field does not end within quotes
 abbrev pub IsClosed : Separator → List ℕ → Type 0
 IsClosed separators.Tab text = Unit {0}
 IsClosed (separators.Delimiter delimiter) text = is_quoted (place_at delimiter places.Fresh text) ≡ false
@@ -52,7 +52,7 @@ pub record HasField (S : Separator) (count : ℕ) (row front field after : List 
   pub ends : IsAfterField S field after
   pub row_is : row ≡ front ++ field ++ after
 
--- a row has this many fields, or fewer
+-- a row is too short: it has no field with this many fields before it
 pub record HasFewer (S : Separator) (count : ℕ) (row : List ℕ) : Type 0 where
   pub before : List (List ℕ)
   pub last : List ℕ
@@ -61,7 +61,7 @@ pub record HasFewer (S : Separator) (count : ℕ) (row : List ℕ) : Type 0 wher
   pub row_is : row ≡ separated S before ++ last
   pub fewer : length before < count
 
--- a carriage return (13) is outside of quotes, where delimiters part fields
+-- in CSV, a carriage return (13) is outside of quotes
 abbrev pub HasReturn : Separator → List ℕ → Type 0
 HasReturn separators.Tab row = ⊥
 HasReturn (separators.Delimiter delimiter) row = IsFreeOutside delimiter 13 places.Fresh row → ⊥
@@ -70,7 +70,7 @@ HasReturn (separators.Delimiter delimiter) row = IsFreeOutside delimiter 13 plac
 abbrev pub IsQuoted : List ℕ → Type 0
 IsQuoted field = (text : List ℕ) × (field ≡ 34 ∷ text ++ 34 ∷ [])
 
--- what is at both ends of the text of a field: a quote where delimiters part fields and the field is quoted, else nothing
+-- what is at both ends of the text of a field: in CSV a quote if the field is quoted, else nothing
 abbrev pub AreQuotes : Separator → List ℕ → List ℕ → Type 0
 AreQuotes separators.Tab field quotes = quotes ≡ []
 AreQuotes (separators.Delimiter delimiter) field quotes = (quotes ≡ 34 ∷ []) ⊎ ((quotes ≡ []) × (IsQuoted field → ⊥))

@@ -65,6 +65,7 @@ fn is_matched<L: Lookup>(
 ) -> Result<bool, OutOfMemory>
     ensures { IfOk result (λ matched. IsTrue matched ↔ IsMatched (L.listed checked.now) scheme ranges.now text.now) }
 {
+    // So that the table is known to pass the check.
     let _ = checked.table();
     matching_is_determined();
     match subtags_of(alloc, checked, text)? {

@@ -22,10 +22,6 @@ use Rattle.lt_tag.proofs.LetterLemmas.{join_pieces, list_of_is, to_HasList}
 use Rattle.std.proofs.lemmas.List.Sums.{sum_by-cons}
 use Rattle.std.proofs.lemmas.Bool.Decides.{nat_tests}
 
-pub cut_left : (ps : List (List ℕ)) (p : List ℕ) (after : Option (Bor (List ℕ))) → MatchOption after (ps ≡ p ∷ []) (λ rest. ps ≡ p ∷ pieces rest.now) → ps ≡ p ∷ pieces_left after
-cut_left ps p None h = h
-cut_left ps p (Some rest) h = h
-
 -- what is at a place, where the list is known from there on
 pub next_is : (list : List (List ℕ)) (i : ℕ) (s x : List ℕ) (more : List (List ℕ)) → i < length list → s ≡ get_or list i s → list ≡ take i list ++ x ∷ more → s ≡ x
 next_is list i s x more within read e =

@@ -12,8 +12,8 @@ fills_million before after = not (after / 1000000 == before / 1000000)
 abbrev pub progress_line : (lines : ℕ) → List ℕ
 progress_line lines = decimal lines ++ codes " lines" ++ 13 ∷ []
 
--- a person is told how many lines there are only if a million more is full and the lines are told; and then unless there
--- is no memory for it
+-- a person is told nothing, or how many lines there are, the latter only if a million more is full and the lines are told;
+-- nothing says that they are told where there is memory for it
 abbrev pub TellsProgress : {T : Type 0} → (told : Bool) → (before after : ℕ) → Stream T → Type 0
 TellsProgress told before after people =
     IsUntouched people ⊎ ((told && fills_million before after ≡ true) × Says people (progress_line after))

@@ -1,10 +1,11 @@
 //! What to do about a fault that refused a text.
-ghost use Rattle.std.specs.Prelude.{◌≡◌, ◌==◌, ◌++◌, OnOk, map, option_map, position};
+ghost use Rattle.std.specs.Prelude.{◌≡◌, ◌++◌, OnOk, map, option_map};
 ghost use Rattle.lt_terminal.specs.Advice as spec;
 ghost use Rattle.lt_terminal.specs.Codes.{two_letters};
 
 use crate::codes::CODES;
 use crate::meanings::{first_of, message_of};
+use lt_tag::first_hyphen;
 use std::alloc::AllocError;
 
 /// What is said of a language that is longer than a code.
@@ -26,19 +27,12 @@ fn code_message(code: &[u8]) -> Option<&'static str>
     first_of(codes(), code)
 }
 
-/// Where the first hyphen is.
-fn hyphen(text: &[u8]) -> Option<usize>
-    ensures { result ≡ position (λ byte. byte == 45) text.now }
-{
-    text.iter().position(|byte| *byte == b'-')
-}
-
 /// What is before the first hyphen.
 #[tactic(auto, using(lt_lines::proofs::FaultLemmas::before_found, lt_lines::proofs::FaultLemmas::before_none))]
 fn first_subtag(text: &[u8]) -> &[u8]
     ensures { result.now ≡ spec.first_subtag text.now }
 {
-    match hyphen(text) {
+    match first_hyphen(text) {
         Some(end) => &text[..end],
         None => text,
     }

@@ -27,6 +27,7 @@ fn keep_front(front: &mut ArrayVec<u8, MOST_KEPT>, bytes: &[u8])
     ensures { front.new.items ≡ front_then front.old.items bytes.now }
 {
     let count = (MOST_KEPT - front.len()).min(bytes.len());
+    // There is room for so many.
     let _ = front.try_extend_from_slice(&bytes[..count]);
 }
 

@@ -149,7 +149,7 @@ pub record RunsAfter {I O E : Type 0} (form : LineForm) (codes : List Code) (rea
 -- a run that can't go on says why on its errors, and has printed nothing
 pub record SaysUsage {O E : Type 0} (output : Stream O) (errors : Stream E) (text : List ℕ) (result : ℕ) : Type 0 where
   pub usage : result ≡ code_of status.Usage
-  pub printed : IsUntouched output
+  pub unprinted : IsUntouched output
   pub said : Says errors text
 
 -- how a run ended by what was found of the column: the lines of all bytes of the input were answered by its number; or no

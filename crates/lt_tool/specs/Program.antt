@@ -65,7 +65,7 @@ pub record RefusesFile {I O E : Type 0} (error : Error) (input : Stream I)
     (output : Stream O) (errors : Stream E) (answered : Handed) (result : ℕ) : Type 0 where
   pub failed : result ≡ code_of status.Failed
   pub read : IsUntouched input
-  pub printed : IsUntouched output
+  pub unprinted : IsUntouched output
   pub kept : HandsNone answered
   pub said : Says errors (open_line (error_kind error))
 
@@ -153,7 +153,7 @@ pub record RefusesInput {P F O E : Type 0} (opener : Opener P F)
     (output : Stream O) (errors : Stream E) (answered : Handed) (result : ℕ) : Type 0 where
   pub failed : result ≡ code_of status.Failed
   pub opened : opener.after ≡ opener.before
-  pub printed : IsUntouched output
+  pub unprinted : IsUntouched output
   pub kept : HandsNone answered
   pub said : Says errors input_line
 

@@ -62,7 +62,7 @@ range_line number refusal = codes "! " ++ name_of refusal ++ codes " range " ++ 
 pub record SaysRange {O E : Type 0} (output : Stream O) (errors : Stream E) (number : ℕ) (refusal : RangeRefusal)
     (result : ℕ) : Type 0 where
   pub usage : result ≡ code_of status.Usage
-  pub printed : IsUntouched output
+  pub unprinted : IsUntouched output
   pub said : Says errors (range_line number refusal)
 
 -- a range was refused, and the errors say why, or that there was no memory

@@ -64,7 +64,7 @@ pub record VerifiesTag {I O E : Type 0} (Prints : Printing) (R : List EntryParts
   pub runs : VerifiesLines R tag input.bytes input.before input.after end
   pub ends : EndsVerifying Prints output errors end result
 
--- what a run did by a registry
+-- the text is refused and no line is read, or the lines were judged with its tag
 abbrev pub VerifiesText : {I O E : Type 0} → Printing → List EntryParts
     → List ℕ → Stream I → Stream O → Stream E → ℕ → Type 0
 VerifiesText Prints R text input output errors result =

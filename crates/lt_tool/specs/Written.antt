@@ -64,8 +64,8 @@ pub record LacksRest {O E : Type 0} (output : Stream O) (errors : Stream E) (tex
   pub failed : result ≡ code_of status.Failed
   pub said : Says errors memory_line
 
--- a run that had no memory for its answer
+-- a run that had no memory for its answer: nothing is on its output, and the errors say so
 pub record LacksMemory {O E : Type 0} (output : Stream O) (errors : Stream E) (result : ℕ) : Type 0 where
   pub failed : result ≡ code_of status.Failed
-  pub printed : IsUntouched output
+  pub unprinted : IsUntouched output
   pub said : Says errors memory_line

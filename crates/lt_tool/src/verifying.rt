@@ -33,6 +33,7 @@ fn valid_tag<L: Lookup>(
     ensures refusal { IfErr result (IsValidityRefusal (L.listed checked.now) text.now) }
 {
     let tag = read_tag(alloc, text)?;
+    // So that their shapes are known.
     let _ = tag.extensions();
     match validate(alloc, checked.table(), &tag) {
         Ok(()) => Ok(tag),
@@ -80,7 +81,8 @@ fn end_verifying<O: Write, E: Write>(
     }
 }
 
-/// Judges the lines of the input as an explanation of a text, by a registry.
+/// Judges the lines of the input as an explanation of a text, by a registry, and prints the verdict. Of a text that is no
+/// valid tag it prints why, and reads no line.
 fn verify_text<L: Lookup, I: Read, O: Write, E: Write>(
     alloc: Global,
     checked: &Checked<L>,

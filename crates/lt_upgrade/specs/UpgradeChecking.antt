@@ -1,4 +1,4 @@
--- What a walk over the records of two registries finds.
+-- What a walk over the records of an older registry A and a newer one B finds, and what a look at one record tells.
 use Rattle.std.specs.Prelude.{ℕ, ◌<◌, ◌≤◌, ◌==◌, ◌&&◌, Bool, true, false, List, [], ◌∷◌, length, Option, Some, None, All, codes}
 use Rattle.std.specs.List.{list_any}
 use Rattle.lt_registry.specs.Parts.{EntryParts}
@@ -44,7 +44,7 @@ upgrade_fault_name_of faults.OutOfMemory = codes "OutOfMemory"
 
 -- ---- what a look at one record tells
 
--- the name is a range of the same length that goes from a first to a last at least
+-- the name is a range of subtags of the same length that holds all from a first to a last
 abbrev pub covers : EntryName → List ℕ → List ℕ → Bool
 covers (names.Range low high) first last =
     (length low == length first) && (letters_le low first && letters_le last high)
@@ -54,7 +54,7 @@ covers _ first last = false
 abbrev pub some_covers : List EntryParts → Kind → List ℕ → List ℕ → Bool
 some_covers R kind first last = list_any (λ (e : EntryParts). same_kind e.kind kind && covers e.name first last) R
 
--- a Prefix is among others, if it is one subtag
+-- a Prefix is among others, if it is one subtag; a longer one is no language, so it is not asked for
 abbrev pub is_among : List (List (List ℕ)) → List (List ℕ) → Bool
 is_among others (language ∷ []) = has_prefix others language
 is_among others _ = true

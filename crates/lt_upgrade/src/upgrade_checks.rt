@@ -220,6 +220,7 @@ fn meet_in_canonical<L: Lookup>(
     requires second { RepeatsNoVariant second.now }
     ensures { IfOk result (λ meet. IsTrue meet ↔ MeetInCanonical (L.listed newer.now) first.now second.now) }
 {
+    // So that the table is known to pass the check.
     let _ = newer.table();
     let refusal = match equivalent(alloc, newer, first, second) {
         Ok(answer) => return Ok(answer),
@@ -252,6 +253,7 @@ pub(crate) fn keeps_whole<A: Lookup, B: Lookup>(
     requires { Contains (A.listed older.now) entry.now }
     ensures { IfOk result (λ meets. IsTrue meets ↔ KeepsWhole (B.listed newer.now) entry.now) }
 {
+    // So that the table is known to pass the check.
     let _ = older.table();
     let table = newer.table();
     match tag_and_value(entry) {

@@ -151,6 +151,7 @@ pub fn upgrade_check<A: Lookup, B: Lookup>(
     ensures fault { IfErr result (IsUpgradeFault (A.listed older.now) (B.listed newer.now)) }
 {
     upgrades_keep_tags();
+    // So that the table is known to pass the check.
     let _ = older.table();
     let ranges = WidestRanges::of_entries(alloc, newer.table().entries())?;
     for condition in IN_ORDER {

@@ -44,7 +44,7 @@ returns-in_ok-end_refused-in-Some-clause-owed g c = λ recent.
     found_refused c.args.separator G c.args.form line c.args.lines.now.items c.extend_from_slice.new.self.items c.append_field.new.lines.items c.end_refused.new.lines.items
     c.args.place c.requires.place c.requires.none c.if-form.false (front_is g at.After-append_field) refusal
     (subst (λ (t : List ℕ). IsTextRefusal G.entries (replaced G.codes t) refusal) (text_is g at.After-without_return-row) made.0) made.1
-    (subst (λ (l : List ℕ). EndsRefused c.args.separator refusal l [] [] line c.append_field.new.lines.items c.end_refused.new.lines.items) (rest_is g at.After-without_return-row c.args.place.start) c.in_ok-end_refused-in-Some.ensures)
+    (subst (λ (l : List ℕ). EndsRefused c.args.separator refusal l line c.append_field.new.lines.items c.end_refused.new.lines.items) (rest_is g at.After-without_return-row c.args.place.start) c.in_ok-end_refused-in-Some.ensures)
 
 -- a row that is kept
 pub returns-then-form-clause-owed : goal.returns-then-form-clause-owed

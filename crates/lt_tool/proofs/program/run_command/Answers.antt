@@ -35,6 +35,6 @@ returns-in-Err g c =
       };
       goes_on = (
         refl,
-        record { failed = c.refuse_input.ensures.status; opened = refl; printed = refl; kept = refl; said = c.refuse_input.ensures.said },
+        record { failed = c.refuse_input.ensures.status; opened = refl; unprinted = refl; kept = refl; said = c.refuse_input.ensures.said },
       );
     })

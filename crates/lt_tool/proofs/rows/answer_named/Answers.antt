@@ -26,7 +26,7 @@ returns-in-Err-Name g c = λ reading holds. record {
   between = c.find_column.new.input;
   found = c.find_column.result;
   finds = c.find_column.ensures;
-  ends = rw (c.in-Err-Name.is, c.in-Err-Name.field-0-is) (refl, refl, record { usage = refl; printed = refl; said = rw (c.as_bytes.ensures.value, c.in-Err-Name.line-is) at c.say.ensures });
+  ends = rw (c.in-Err-Name.is, c.in-Err-Name.field-0-is) (refl, refl, record { usage = refl; unprinted = refl; said = rw (c.as_bytes.ensures.value, c.in-Err-Name.line-is) at c.say.ensures });
 }
 
 pub returns-in-Err-Heading : goal.returns-in-Err-Heading
