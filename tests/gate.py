@@ -9,8 +9,8 @@ with less priority, from when the crate is proved, over what its proof has check
 part of the memory. --anew tries also those that were refused before.
 
 `rt ci` is run as the kit has it, but for three things. Its libraries keep their checked proofs, where it would leave their
-statements alone. While edits are tried, a proof has one job, since more jobs read what each other checks; and proofs plan with a
-part of the memory. What `rt ci` makes comes to crates/*/out, where rt and the scripts look for it; the checked proofs too, so that
+statements alone. While edits are tried, a proof has one job, since more jobs read what each other checks, but two jobs on the longest
+chain of crates that stand on each other, which the others have to wait for; and proofs plan with a part of the memory. What `rt ci` makes comes to crates/*/out, where rt and the scripts look for it; the checked proofs too, so that
 `rt check` and `rt lib` there take what is proved. A library that rt has built there stays, if nothing has changed since.
 
 COMMAND is run beside, as soon as all programs, static libraries and the crates of tests in GROWN are there.
@@ -37,6 +37,8 @@ COPY = os.path.join(ROOT, "build", "gate")
 CI, CI_ONE_JOB = "--ci", "--ci-one-job"
 # How many edits fill the processors that proofs leave, and which part of the memory proofs may plan with then.
 MANY, PROOFS = 100, 0.8
+# A crate is on the longest chain if one through it has at least this part of that one's lines.
+LONG = 0.95
 # What rattle is told to leave a static library's checked proof in, as it does in the rlib of a library.
 CHECKED = "out/checked"
 # The crates of tests whose programs the scripts run.
@@ -64,14 +66,28 @@ def copied():
     os.mkdir(os.path.join(COPY, ".git"))
 
 
+def on_longest_chain(crates):
+    """The names of the crates on the longest chain of crates that stand on each other, by their lines."""
+    lines = {it.name: it.count(rb"\n") for it in crates}
+    below, above = dict(lines), dict(lines)
+    in_order = sorted(crates, key=lambda it: len(it.below()))
+    for it in in_order:
+        below[it.name] += max((below[other.name] for other in it.below()), default=0)
+    for it in reversed(in_order):
+        for other in it.below():
+            above[other.name] = max(above[other.name], lines[other.name] + above[it.name])
+    longest = max(below.values(), default=0)
+    return {name for name in lines if below[name] + above[name] - lines[name] >= LONG * longest}
+
+
 def ci(one_job):
     """Runs `rt ci` so that libraries keep their checked proofs."""
     rt, crate = edits.rt, edits.rt.Crate
-    proves = crate.ci
+    proves, chain = crate.ci, on_longest_chain(edits.rtlib.crates_below(os.getcwd()))
 
     def keeps(self, flags, tests):
-        # (with four a small crate's proof takes two fifths more of the processors)
-        flags = ["--jobs", "1"] if one_job else flags
+        # (lt_tag's proof takes 4.1 minutes with one job, and 2.6 with two, of 5.1 of the processors)
+        flags = ["--jobs", "2" if self.name in chain else "1"] if one_job else flags
         if self.is_static and not tests:
             return self.prove(["check", *self.words(flags, keeps=False), "-o", CHECKED])
         self.cuts_libraries = False

@@ -6,7 +6,7 @@ ghost use Rattle.lt_tag.specs.Lists.{list_of};
 ghost use Rattle.lt_cache.specs.SettledEnds as settled;
 
 use lt_subtag::Subtag;
-use lt_tag::first_piece;
+use lt_tag::cut_piece;
 use std::cmp::Ordering;
 
 /// Whether a key comes after another in the order of keys (RFC 6067, 2.1.1), if there is another.
@@ -61,7 +61,7 @@ fn keys_rise(text: &[u8]) -> bool
     let mut last = None;
     let mut rest = Some(text);
     while let Some(bytes) = rest {
-        let (piece, after) = first_piece(bytes);
+        let (piece, after) = cut_piece(bytes);
         let Some(key) = next_key(last, piece) else {
             return false;
         };

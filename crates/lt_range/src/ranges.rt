@@ -9,7 +9,7 @@ ghost use Rattle.lt_range.specs.Reading.{range_of, later_pieces, AppendsRead, Is
 use crate::faults::RangeFault;
 use crate::tag_subtags::TagSubtags;
 use lt_subtag::Subtag;
-use lt_tag::{OutOfMemory, copy_subtags, first_piece};
+use lt_tag::{OutOfMemory, copy_subtags, cut_piece};
 use std::alloc::Global;
 use std::marker::Model;
 
@@ -81,7 +81,7 @@ fn append_pieces(named: &mut Vec<Subtag>, pieces: Option<&[u8]>) -> Result<(), R
 {
     let mut rest = pieces;
     while let Some(bytes) = rest {
-        let (piece, after) = first_piece(bytes);
+        let (piece, after) = cut_piece(bytes);
         if let Some(subtag) = later_piece(piece)? {
             named.push(subtag)?;
         }
@@ -102,7 +102,7 @@ impl LanguageRange {
         ensures range { IfOk result (λ range. range_of text.now ≡ Ok range) }
         ensures fault { IfErr result (IsRangeFault text.now) }
     {
-        let (piece, rest) = first_piece(text);
+        let (piece, rest) = cut_piece(text);
         let first = first_piece(piece)?;
         let wild = first.is_none();
         let mut named = Vec::new(alloc);

@@ -7,7 +7,7 @@ ghost use Rattle.lt_tag.specs.WellFormed.{spell};
 
 use lt_subtag::Subtag;
 use lt_tag::laws::text_of_tag_has_its_list;
-use lt_tag::{OutOfMemory, Tag, first_piece, write_tag};
+use lt_tag::{OutOfMemory, Tag, cut_piece, write_tag};
 use std::alloc::Global;
 use std::marker::Model;
 
@@ -34,7 +34,7 @@ fn read_subtags(alloc: Global, text: &[u8]) -> Result<Vec<Subtag>, OutOfMemory>
     let mut subtags = Vec::new(alloc);
     let mut rest = Some(text);
     while let Some(bytes) = rest {
-        let (piece, after) = first_piece(bytes);
+        let (piece, after) = cut_piece(bytes);
         let Ok(subtag) = Subtag::read(piece) else {
             unreachable!()
         };

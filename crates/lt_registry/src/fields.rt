@@ -12,7 +12,7 @@ ghost use Rattle.lt_registry.specs.RecordSteps as steps;
 use crate::entries::{Kind, Prefix};
 use lt_jar::JarField;
 use lt_subtag::Subtag;
-use lt_tag::{OutOfMemory, first_piece};
+use lt_tag::{OutOfMemory, cut_piece};
 use std::alloc::Global;
 
 /// Whether two texts are the same, letter case aside.
@@ -297,7 +297,7 @@ pub(crate) fn read_prefix(alloc: Global, text: &[u8]) -> Result<Option<Prefix>, 
     let mut subtags = Vec::new(alloc);
     let mut rest = text;
     'pieces: loop {
-        let (piece, after) = first_piece(rest);
+        let (piece, after) = cut_piece(rest);
         match Subtag::read(piece) {
             Ok(subtag) => subtags.push(subtag)?,
             Err(_) => return Ok(None),

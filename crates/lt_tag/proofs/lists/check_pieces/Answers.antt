@@ -11,8 +11,8 @@ returns-in_err-subtag_at c =
     let p = err_from_is_err_and c.from_residual.result c.from_residual.ensures.1 in
     let front = c.loop-rest.invariant.1.0 in
     let whole = rw c.in-Some.is at c.loop-rest.invariant.1.1 in
-    let split = c.first_piece.ensures.pieces in
-    let stop = front_stop front c.loop-rest.place c.first_piece.result.0.now (pieces_left c.first_piece.result.1) c.in_err-subtag_at.field-0.0 (sym c.subtag_at.ensures ∙ c.in_err-subtag_at.was) in
+    let split = c.cut_piece.ensures.pieces in
+    let stop = front_stop front c.loop-rest.place c.cut_piece.result.0.now (pieces_left c.cut_piece.result.1) c.in_err-subtag_at.field-0.0 (sym c.subtag_at.ensures ∙ c.in_err-subtag_at.was) in
     rw (p.1, p.2) (sym whole ∙ ap (λ (z : List (List ℕ)). with_front front (listed c.loop-rest.place z)) split ∙ stop)
 
 pub loop-rest-preserved : goal.loop-rest-preserved
@@ -20,9 +20,9 @@ loop-rest-preserved c =
     let front = c.loop-rest.invariant.1.0 in
     let whole = rw c.in-Some.is at c.loop-rest.invariant.1.1 in
     let few = rw c.in-Some.is at c.loop-rest.invariant.0 in
-    let split = c.first_piece.ensures.pieces in
+    let split = c.cut_piece.ensures.pieces in
     let count = ap length split in
-    let step = front_next front c.loop-rest.place c.first_piece.result.0.now (pieces_left c.first_piece.result.1) c.in_ok-subtag_at.field-0 (sym c.subtag_at.ensures ∙ c.in_ok-subtag_at.was) in
+    let step = front_next front c.loop-rest.place c.cut_piece.result.0.now (pieces_left c.cut_piece.result.1) c.in_ok-subtag_at.field-0 (sym c.subtag_at.ensures ∙ c.in_ok-subtag_at.was) in
     (omega (arith, few, count), (front ++ c.in_ok-subtag_at.field-0 ∷ [], sym step ∙ sym (ap (λ (z : List (List ℕ)). with_front front (listed c.loop-rest.place z)) split) ∙ whole))
 
 pub returns : goal.returns

@@ -12,57 +12,57 @@ use Rattle.lt_tag.proofs.reading.read_unlisted.Goals as goal
 
 pub check_pieces-requires : goal.check_pieces-requires
 check_pieces-requires c =
-    let split = c.first_piece.ensures.pieces in
+    let split = c.cut_piece.ensures.pieces in
     omega (arith, ap length split, length-pieces c.args.text.now, c.requires.short)
 
 pub returns-in_err-check_pieces-clause-fault : goal.returns-in_err-check_pieces-clause-fault
 returns-in_err-check_pieces-clause-fault c =
     let p = err_from_is_err_and c.from_residual-in_err-check_pieces.result c.from_residual-in_err-check_pieces.ensures.1 in
-    let split = c.first_piece.ensures.pieces in
+    let split = c.cut_piece.ensures.pieces in
     let read = sym c.subtag_at.ensures ∙ c.in_ok-subtag_at.was in
     rw (p.1, p.2) (piece_fault c.args.text.now c.in_err-check_pieces.field-0.0 c.requires.short (fault_behind_first c.args.text.now _ _ _ split read c.in_err-check_pieces.field-0.0 c.in_err-check_pieces.ensures))
 
 pub returns-in_default-clause-fault : goal.returns-in_default-clause-fault
 returns-in_default-clause-fault c =
-    let split = c.first_piece.ensures.pieces in
+    let split = c.cut_piece.ensures.pieces in
     misplaced_first c.args.text.now _ _ _ split (sym c.subtag_at.ensures ∙ c.in_ok-subtag_at.was) (sym c.in_default.ensures) c.in_ok-check_pieces.ensures c.requires.short c.requires.other
 
 pub loop-rest-init : goal.loop-rest-init
 loop-rest-init c =
-    let split = c.first_piece.ensures.pieces in
+    let split = c.cut_piece.ensures.pieces in
     let first = read_first c.args.text.now _ _ _ split (sym c.subtag_at.ensures ∙ c.in_ok-subtag_at.was) (draft_view c.in-Some.draft) (sym c.in-Some.ensures) in
     (omega (arith, ap length split, length-pieces c.args.text.now, c.requires.short), first)
 
 pub returns-in_err-subtag_at-2-clause-fault : goal.returns-in_err-subtag_at-2-clause-fault
 returns-in_err-subtag_at-2-clause-fault c =
     let p = err_from_is_err_and c.from_residual-in_err-subtag_at-2.result c.from_residual-in_err-subtag_at-2.ensures.1 in
-    let has = subst (λ (left : List (List ℕ)). HasRead c.args.text.now c.loop-rest.place left (draft_view c.loop-rest.draft)) (ap pieces_left c.in-Some-rest.is ∙ c.first_piece-in-Some-rest.ensures.pieces) c.loop-rest.invariant.1 in
+    let has = subst (λ (left : List (List ℕ)). HasRead c.args.text.now c.loop-rest.place left (draft_view c.loop-rest.draft)) (ap pieces_left c.in-Some-rest.is ∙ c.cut_piece-in-Some-rest.ensures.pieces) c.loop-rest.invariant.1 in
     let read = sym c.subtag_at-in-Some-rest.ensures ∙ c.in_err-subtag_at-2.was in
     rw (p.1, p.2) (piece_fault c.args.text.now c.in_err-subtag_at-2.field-0.0 c.requires.short (fault_here c.args.text.now c.loop-rest.place (draft_view c.loop-rest.draft) _ _ has c.in_err-subtag_at-2.field-0.0 read))
 
 pub add-requires-clause-shaped : goal.add-requires-clause-shaped
-add-requires-clause-shaped c = (read_room c.args.text.now c.loop-rest.place (draft_view c.loop-rest.draft) _ c.loop-rest.invariant.1 (omega (arith, c.loop-rest.invariant.0, ap length (ap pieces_left c.in-Some-rest.is ∙ c.first_piece-in-Some-rest.ensures.pieces)))).0
+add-requires-clause-shaped c = (read_room c.args.text.now c.loop-rest.place (draft_view c.loop-rest.draft) _ c.loop-rest.invariant.1 (omega (arith, c.loop-rest.invariant.0, ap length (ap pieces_left c.in-Some-rest.is ∙ c.cut_piece-in-Some-rest.ensures.pieces)))).0
 
 pub add-requires-clause-room : goal.add-requires-clause-room
-add-requires-clause-room c = (read_room c.args.text.now c.loop-rest.place (draft_view c.loop-rest.draft) _ c.loop-rest.invariant.1 (omega (arith, c.loop-rest.invariant.0, ap length (ap pieces_left c.in-Some-rest.is ∙ c.first_piece-in-Some-rest.ensures.pieces)))).1
+add-requires-clause-room c = (read_room c.args.text.now c.loop-rest.place (draft_view c.loop-rest.draft) _ c.loop-rest.invariant.1 (omega (arith, c.loop-rest.invariant.0, ap length (ap pieces_left c.in-Some-rest.is ∙ c.cut_piece-in-Some-rest.ensures.pieces)))).1
 
 pub returns-in_err-check_pieces-2-clause-fault : goal.returns-in_err-check_pieces-2-clause-fault
 returns-in_err-check_pieces-2-clause-fault c =
     let p = err_from_is_err_and c.from_residual-in_err-check_pieces-2.result c.from_residual-in_err-check_pieces-2.ensures.1 in
-    let has = subst (λ (left : List (List ℕ)). HasRead c.args.text.now c.loop-rest.place left (draft_view c.loop-rest.draft)) (ap pieces_left c.in-Some-rest.is ∙ c.first_piece-in-Some-rest.ensures.pieces) c.loop-rest.invariant.1 in
+    let has = subst (λ (left : List (List ℕ)). HasRead c.args.text.now c.loop-rest.place left (draft_view c.loop-rest.draft)) (ap pieces_left c.in-Some-rest.is ∙ c.cut_piece-in-Some-rest.ensures.pieces) c.loop-rest.invariant.1 in
     let read = sym c.subtag_at-in-Some-rest.ensures ∙ c.in_ok-subtag_at-2.was in
     rw (p.1, p.2) (piece_fault c.args.text.now c.in_err-check_pieces-2.field-0.0 c.requires.short (fault_behind c.args.text.now c.loop-rest.place (draft_view c.loop-rest.draft) _ _ has c.in_ok-subtag_at-2.field-0 read c.in_err-check_pieces-2.field-0.0 c.in_err-check_pieces-2.ensures))
 
 pub returns-then-not-branch-clause-fault : goal.returns-then-not-branch-clause-fault
 returns-then-not-branch-clause-fault c =
-    let has = subst (λ (left : List (List ℕ)). HasRead c.args.text.now c.loop-rest.place left (draft_view c.loop-rest.draft)) (ap pieces_left c.in-Some-rest.is ∙ c.first_piece-in-Some-rest.ensures.pieces) c.loop-rest.invariant.1 in
+    let has = subst (λ (left : List (List ℕ)). HasRead c.args.text.now c.loop-rest.place left (draft_view c.loop-rest.draft)) (ap pieces_left c.in-Some-rest.is ∙ c.cut_piece-in-Some-rest.ensures.pieces) c.loop-rest.invariant.1 in
     let read = sym c.subtag_at-in-Some-rest.ensures ∙ c.in_ok-subtag_at-2.was in
     let none : drafted (draft_view c.loop-rest.draft) c.in_ok-subtag_at-2.field-0 ≡ None = rw c.if-not-branch.true at c.in_ok-add.ensures in
     misplaced_here c.args.text.now c.loop-rest.place (draft_view c.loop-rest.draft) _ _ has c.in_ok-subtag_at-2.field-0 read none c.in_ok-check_pieces-2.ensures c.requires.short c.requires.other
 
 pub loop-rest-preserved : goal.loop-rest-preserved
 loop-rest-preserved c =
-    let split = ap pieces_left c.in-Some-rest.is ∙ c.first_piece-in-Some-rest.ensures.pieces in
+    let split = ap pieces_left c.in-Some-rest.is ∙ c.cut_piece-in-Some-rest.ensures.pieces in
     let has = subst (λ (left : List (List ℕ)). HasRead c.args.text.now c.loop-rest.place left (draft_view c.loop-rest.draft)) split c.loop-rest.invariant.1 in
     let read = sym c.subtag_at-in-Some-rest.ensures ∙ c.in_ok-subtag_at-2.was in
     let some : drafted (draft_view c.loop-rest.draft) c.in_ok-subtag_at-2.field-0 ≡ Some (draft_view c.add.new.self) = rw c.if-not-branch.false at c.in_ok-add.ensures in

@@ -9,8 +9,8 @@ use Rattle.lt_tag.proofs.writing.Style.put_pieces.Goals as goal
 pub loop-others-preserved : goal.loop-others-preserved
 loop-others-preserved g c =
     let before = c.loop-others.invariant.put in
-    let piece = c.first_piece.result.0.now in
-    let found = c.first_piece.ensures.pieces ∙ ap (λ (o : Option (Bor (List ℕ))). piece ∷ pieces_left o) c.in-Some.is in
+    let piece = c.cut_piece.result.0.now in
+    let found = c.cut_piece.ensures.pieces ∙ ap (λ (o : Option (Bor (List ℕ))). piece ∷ pieces_left o) c.in-Some.is in
     record {
       put = (
         before.0 ++ piece ∷ [],
@@ -23,5 +23,5 @@ loop-others-preserved g c =
 pub returns-in-None-clause-put : goal.returns-in-None-clause-put
 returns-in-None-clause-put g c =
     let before = c.loop-others.invariant.put in
-    let found = c.first_piece.ensures.pieces ∙ ap (λ (o : Option (Bor (List ℕ))). c.first_piece.result.0.now ∷ pieces_left o) c.in-None.is in
+    let found = c.cut_piece.ensures.pieces ∙ ap (λ (o : Option (Bor (List ℕ))). c.cut_piece.result.0.now ∷ pieces_left o) c.in-None.is in
     prints_as (ap (λ (l : List (List ℕ)). before.0 ++ l) (sym found) ∙ before.1) (prints_append before.2 c.in_ok-put.ensures.put)
