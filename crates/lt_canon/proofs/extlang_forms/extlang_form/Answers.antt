@@ -3,6 +3,7 @@ use Rattle.lt_canon.proofs.CanonicalForms.{extlang_answer, extlang_form_is, no_e
 use Rattle.lt_canon.proofs.extlang_forms.extlang_form.Goals as goal
 use Rattle.lt_canon.proofs.extlang_forms.extlang_form.Goals.{In-Some-extlang_prefix, After-set_extlang}
 
+-- as an extlang the language has this one Prefix, which is a registered language
 fitting : (g : _) (c : In-Some-extlang_prefix g) → IsFittingPrefix (g.L.Lookup.listed c.args.checked.now) c.in-Some.canonical_core.now.language c.in-Some-extlang_prefix.prefix.now
 fitting g c = fitting_prefix (g.L.Lookup.listed c.args.checked.now) c.table-table.ensures.checked c.in-Some.canonical_core.now.language c.in-Some-extlang_prefix.prefix.now (rw (← c.table-table.ensures.value, ← c.language.ensures.value) (sym c.in-Some-extlang_prefix.ensures))
 

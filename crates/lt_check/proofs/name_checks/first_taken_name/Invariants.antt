@@ -3,6 +3,7 @@ use Rattle.lt_check.proofs.FirstFaults.{AllBefore}
 use Rattle.lt_check.proofs.OwnNames.{Seen}
 use Rattle.lt_check.proofs.name_checks.first_taken_name.Given as goal
 
+-- no entry so far clashes with an earlier one, and the ranges that were seen are those of these entries
 abbrev pub invariant-loop-entry : goal.invariant-loop-entry
 invariant-loop-entry g l =
     let R = g.L.Lookup.listed l.table in

@@ -3,6 +3,7 @@ use Rattle.std.specs.Str.{IsCharBoundary}
 use Rattle.lt_jar.specs.LineKinds.{trim_start}
 use Rattle.lt_jar.proofs.lines.trim_end.Given as goal
 
+-- the bytes after this end are blank, and no character is cut there
 abbrev pub invariant-loop-end : goal.invariant-loop-end
 invariant-loop-end l = record {
   within : l.end ≤ length l.text;

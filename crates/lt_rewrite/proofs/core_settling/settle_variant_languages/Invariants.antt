@@ -2,6 +2,7 @@ use Rattle.std.proofs.Common.{length}
 use Rattle.lt_rewrite.proofs.CoreSettling.{LanguageSettled}
 use Rattle.lt_rewrite.proofs.core_settling.settle_variant_languages.Given as goal
 
+-- steps lead to this core, whose language and variants are at the ends of their chains
 abbrev pub invariant-loop-index : goal.invariant-loop-index
 invariant-loop-index g l = LanguageSettled (g.L.Lookup.listed l.table) l.fn.core l.core
 

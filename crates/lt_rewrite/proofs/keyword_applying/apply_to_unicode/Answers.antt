@@ -9,6 +9,7 @@ use Rattle.lt_rewrite.proofs.ExtensionLeading.{u_answers, u_parts, one_subtag, s
 use Rattle.lt_rewrite.specs.Runs.{rank_of}
 use Rattle.lt_rewrite.proofs.keyword_applying.apply_to_unicode.Goals as goal
 
+-- the attributes of an extension have room where the extension has
 few : (start : ℕ) (p : UForm) (as' : List (List ℕ)) → as' ≡ p.attributes → start + 1 + length (spell_u p) < 2 ^ 32 → start + length (flat_map (λ a. a ∷ []) as') < 2 ^ 32
 few start p as' e h =
     omega (arith, h, attributes_count as', length-append p.attributes (flat_map spell_keyword p.keywords), ap length e)

@@ -20,6 +20,7 @@ overflow_cast-here c =
 set_count : (ks ls : List KeywordParts) (i : ℕ) (k l : KeywordParts) (n : ℕ) → i < length ks → ls ≡ set ks i k → l ≡ get_or ls i l → n ≡ length (spell_keyword l) → n ≡ length (spell_keyword k)
 set_count ks ls i k l n h e is count = count ∙ ap (λ x. length (spell_keyword x)) (is ∙ ap (λ xs. get_or xs i l) e ∙ get_or-set_same ks i k l h)
 
+-- the part at an index where nothing was set
 same_count : (ks ls : List KeywordParts) (i : ℕ) (k l : KeywordParts) (n : ℕ) → i < length ks → ls ≡ ks → k ≡ get_or ks i k → l ≡ get_or ls i l → n ≡ length (spell_keyword l) → n ≡ length (spell_keyword k)
 same_count ks ls i k l n h e was is count = count ∙ ap (λ x. length (spell_keyword x)) (is ∙ ap (λ xs. get_or xs i l) e ∙ sym (get_or_read ks i k h was l))
 

@@ -3,6 +3,7 @@ use Rattle.lt_rows.specs.Quotes.{IsFreeOutside, place_at}
 use Rattle.lt_rows.specs.declared.quotes.Place.TheVariants as places
 use Rattle.lt_rows.proofs.quotes.split_outside.Given as goal
 
+-- each such byte so far is within quotes, and the place is the one after the bytes so far
 abbrev pub invariant-loop-front : goal.invariant-loop-front
 invariant-loop-front l = record {
   inside : l.passed ≤ length l.text;

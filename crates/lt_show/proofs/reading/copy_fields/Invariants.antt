@@ -1,5 +1,6 @@
 use Rattle.std.proofs.Common.{◌≡◌, take}
 use Rattle.lt_show.proofs.reading.copy_fields.Given as goal
 
+-- the copies are the fields so far
 abbrev pub invariant-loop-field : goal.invariant-loop-field
 invariant-loop-field l = l.copies.items ≡ take l.field-index l.fields

@@ -3,6 +3,7 @@ use Rattle.lt_jar.specs.Devices.{failures_of, inner_of}
 use Rattle.std.specs.Io.KnownBytes.{Appends}
 use Rattle.lt_stream.proofs.device_output.write_text.Given as goal
 
+-- the bytes so far were written, and no write failed
 abbrev pub invariant-loop-at : goal.invariant-loop-at
 invariant-loop-at g l = record {
   appends : Appends (g.W.Write.contents (inner_of l.fn.output)) (g.W.Write.contents (inner_of l.output)) (take l.at l.text);

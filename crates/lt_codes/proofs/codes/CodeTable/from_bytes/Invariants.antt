@@ -2,6 +2,7 @@ use Rattle.std.proofs.Common.{length}
 use Rattle.lt_codes.proofs.TableLemmas.{IsRead}
 use Rattle.lt_codes.proofs.codes.CodeTable.from_bytes.Given as goal
 
+-- the table has the codes of the lines before the rest, which are counted
 abbrev pub invariant-loop-part : goal.invariant-loop-part
 invariant-loop-part l = IsRead l.text l.table l.rest l.line
 

@@ -6,12 +6,15 @@ use Rattle.lt_codes.proofs.IndexLemmas.{indexed_known, indexed_new, number_small
 use Rattle.lt_codes.proofs.codes.CodeTable.push.Goals as goal
 use Rattle.lt_codes.proofs.codes.CodeTable.push.Goals.{After-index}
 
+-- the code that is added, with what is registered for it
 abbrev code : (c : After-index) → Code
 code c = record { code = c.args.code; registered = c.args.registered }
 
+-- the number is that of the code
 number : (c : After-index) → number_of c.args.code ≡ Some c.in-Some.number
 number c = ap number_of (sym c.bytes.ensures.same) ∙ sym c.number_of-number.ensures.number ∙ c.in-Some.is
 
+-- what was read is the place that is kept for the number
 place : (c : After-index) → c.index.result.now ≡ get_or c.self.inside.places.items c.in-Some.number 0
 place c = c.index.ensures ∙ get_or_default_zero c.self.inside.places.items c.in-Some.number c.index.result.now
     (omega (arith, number_small c.args.code c.in-Some.number (number c), c.self.invariant.full))

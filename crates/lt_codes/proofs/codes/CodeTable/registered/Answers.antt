@@ -11,6 +11,7 @@ returns-in_err-number c =
     let none : found_in c.args.self.now c.args.text.now ≡ None = rw (← c.self.view_is) (found_none c.self.inside.codes.items c.args.text.now c.self.invariant.each (sym c.in_err-number.ensures.number)) in
     rw (none, c.from_residual.ensures) refl
 
+-- the first code that is this text is at the place that was read, counted from 1
 found : (c : Else-place-eq0) → (x : Code) × (found_in c.self.inside.codes.items c.args.text.now ≡ Some x) × (slice_get c.self.inside.codes.items (c.index-place.result.now - 1) ≡ Some x)
 found c = at_place c.self.inside.codes.items c.args.text.now c.index-place.result.now c.if-place-eq0.false
     (place_at c.self.inside.codes.items c.self.inside.places.items c.args.text.now c.in_ok-number.number c.index-place.result.now c.self.invariant (sym c.in_ok-number.ensures.number) c.index-place.ensures)

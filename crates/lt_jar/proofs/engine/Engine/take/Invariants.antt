@@ -2,6 +2,7 @@ use Rattle.std.proofs.Common.{length}
 use Rattle.lt_jar.proofs.TurnLemmas.{PieceTurn}
 use Rattle.lt_jar.proofs.engine.Engine.take.Given as goal
 
+-- the lines of the piece before the rest were taken, and none of them ends the record
 abbrev pub invariant-loop-line : goal.invariant-loop-line
 invariant-loop-line l = PieceTurn l.fn.self l.self l.piece l.rest
 

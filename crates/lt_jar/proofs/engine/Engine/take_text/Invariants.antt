@@ -4,6 +4,7 @@ use Rattle.std.proofs.Common.{length}
 use Rattle.lt_jar.proofs.TurnLemmas.{PieceTurn}
 use Rattle.lt_jar.proofs.engine.Engine.take_text.Given as goal
 
+-- the lines before the rest were taken, none of them ends the record, and the rest is UTF-8
 abbrev pub invariant-loop-line : goal.invariant-loop-line
 invariant-loop-line l = PieceTurn l.fn.self l.self l.piece l.rest × shadow (Utf8 l.rest)
 

@@ -4,9 +4,11 @@ use Rattle.lt_registry.proofs.SpanLemmas.{none_alike, place_alike}
 use Rattle.lt_registry.proofs.kind_index.KindIndex.place.Goals as goal
 use Rattle.lt_registry.proofs.kind_index.KindIndex.place.Goals.{In_ok-start, In_ok-end, In_ok-alike}
 
+-- where the rows start that have the beginning of the number
 start_is : (c : In_ok-start) → c.in_ok-start.field-0.now ≡ get_or c.args.self.now.starts.items (beginning c.args.number) 0
 start_is c = c.in_ok-start.ensures.lookup.3.1 0 ∙ ap (λ zs. get_or zs c.beginning-beginning.result 0) c.deref.ensures.value ∙ ap (λ k. get_or c.args.self.now.starts.items k 0) c.beginning-beginning.ensures
 
+-- where those of the next beginning start
 end_is : (c : In_ok-end) → c.in_ok-end.field-0.now ≡ get_or c.args.self.now.starts.items (beginning c.args.number + 1) 0
 end_is c = c.in_ok-end.ensures.lookup.3.1 0 ∙ ap (λ zs. get_or zs (c.beginning-beginning.result + 1) 0) c.deref-2.ensures.value ∙ ap (λ k. get_or c.args.self.now.starts.items (k + 1) 0) c.beginning-beginning.ensures
 

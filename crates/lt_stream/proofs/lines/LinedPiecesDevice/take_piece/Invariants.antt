@@ -2,6 +2,7 @@ use Rattle.std.proofs.Common.{length}
 use Rattle.lt_stream.proofs.LineRunLemmas.{PieceTurn}
 use Rattle.lt_stream.proofs.lines.LinedPiecesDevice.take_piece.Given as goal
 
+-- the piece before the rest was taken
 abbrev pub invariant-loop-line : goal.invariant-loop-line
 invariant-loop-line g l = PieceTurn g.A.Lines.answered g.A.Lines.longest g.W.Write.contents l.piece l.rest l.fn.output l.output l.fn.self l.self
 
