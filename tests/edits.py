@@ -46,7 +46,7 @@ CLAUSE, NAME, NOT_REFUSED, BAD = KINDS = ["clause", "name", "NOT REFUSED", "BAD 
 PRIORITY = []
 # The most edits that a round holds, so that none takes long after the others, and the fewest that a part of a round is cut
 # for: to read the crate takes a check as long as some three.
-MOST, LEAST = 20, 5
+MOST, LEAST = 40, 5
 # After how many seconds a pool looks again whether a processor is free.
 LOOK = 1.0
 NEEDED = {

@@ -428,5 +428,24 @@ class Pooled(unittest.TestCase):
             self.tried(self.pool(2, text), self.crate("f", "f2", "g"))
 
 
+class Chained(unittest.TestCase):
+    """The crates of which tests/gate.py takes it that the others wait for them."""
+
+    def test_the_longest_chain(self):
+        spec = importlib.util.spec_from_file_location("gate", FOLDER / "gate.py")
+        gate = importlib.util.module_from_spec(spec)
+        spec.loader.exec_module(gate)
+
+        def crate(name, lines, *below):
+            all_below = {other.name: other for it in below for other in (it, *it.below())}
+            return types.SimpleNamespace(name=name, count=lambda _: lines, below=lambda: [*all_below.values()])
+
+        base = crate("base", 50)
+        short, long = crate("short", 10, base), crate("long", 100, base)
+        top, tests, alone = crate("top", 30, short, long), crate("tests", 27, long), crate("alone", 90)
+        self.assertEqual(gate.on_longest_chain([alone, tests, top, long, short, base]), {"base", "long", "top", "tests"})
+        self.assertEqual(gate.on_longest_chain([]), set())
+
+
 if __name__ == "__main__":
     unittest.main()

@@ -1,6 +1,6 @@
 //! Texts with their tags, or with their faults and places.
 use super::words::{has_class, has_words, long_text};
-use lt_tag::{Class, TagFault, read_tag};
+use lt_tag::{Class, TagFault, cut_piece, first_hyphen, read_tag};
 use std::alloc::{AllocError, Global};
 
 /// Texts with the names and the places of their faults.
@@ -35,6 +35,30 @@ fn has_fault(alloc: Global, text: &[u8], name: &str, place: u32) -> bool {
     match read_tag(alloc, text) {
         Ok(_) => false,
         Err(fault) => fault.kind.name() == name && fault.place == place,
+    }
+}
+
+/// Texts, the place of the first hyphen of each, and what is before and after that.
+const CUTS: [(&str, Option<usize>, &str, Option<&str>); 4] = [
+    ("zh-Hant-CN", Some(2), "zh", Some("Hant-CN")),
+    ("en_US", None, "en_US", None),
+    ("-", Some(0), "", Some("")),
+    ("", None, "", None),
+];
+
+#[test]
+fn texts_are_cut(rt: HostRuntime) {
+    for (text, hyphen, piece, rest) in &CUTS {
+        let (first, after) = cut_piece(text.as_bytes());
+        let is_after = match (after, rest) {
+            (Some(after), Some(rest)) => after == rest.as_bytes(),
+            (None, None) => true,
+            _ => false,
+        };
+        assert!(rt;
+            first_hyphen(text.as_bytes()) == *hyphen && first == piece.as_bytes() && is_after,
+            "{text}"
+        );
     }
 }
 
