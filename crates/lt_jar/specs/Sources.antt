@@ -24,7 +24,7 @@ most_reads = 10000000
 abbrev pub unread_in : JarSource → List ℕ
 unread_in s = take (s.end - s.start) (drop s.start s.buffer)
 
--- all bytes that were read and are in no whole line yet
+-- the bytes that were read and belong to no line that was taken in yet
 abbrev pub kept_in : JarSource → List ℕ
 kept_in s = s.engine.partial.items ++ unread_in s
 
@@ -81,7 +81,7 @@ FillsAs remaining old new before after read reads (Err kind) =
     ⊎ ((kind ≡ kinds.TooManyTurns) × (failures_of after ≡ failures_of before)
     × (new.turns ≡ most_reads) × (reads ≡ 0) × (last_given_of after ≡ last_given_of before)))
 
--- a further read of the device, unless one too many was made before
+-- a further read of the device, unless the most reads were made already
 pub record Fills {R : Type 0} (remaining : R → Option (List ℕ)) (old new : JarSource)
     (before after : Device R) (result : Result Bool JarFaultKind) : Type 0 where
   pub read : List ℕ
