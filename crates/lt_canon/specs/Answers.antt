@@ -39,8 +39,8 @@ pub record HasDistinctForm (R : List EntryParts) (c : CoreParts) : Type 0 where
   pub normal : IsCoreNormalForm R c form
   pub distinct : Distinct form.variants
 
--- the variant that a refusal names: the one that is repeated in the core, or, where none is, in the source of a `t`
--- extension
+-- the variant that a refusal names: the first repeated one in the core's normal form, or, where none is, in that of a
+-- source
 abbrev pub IsNamedRepeat : List EntryParts → TagForm → List ℕ → Type 0
 IsNamedRepeat R (LangTag c es ps) v = IsRepeatOfCore R c v ⊎ (HasDistinctForm R c × IsRepeatOfSource R es v)
 IsNamedRepeat R (PrivateUse ps) v = ⊥

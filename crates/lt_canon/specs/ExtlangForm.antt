@@ -7,7 +7,7 @@ use Rattle.lt_registry.specs.Validity.{IsValid}
 use Rattle.lt_registry.specs.declared.entries.Kind.TheVariants as kinds
 use Rattle.lt_canon.specs.Answers.{IsCanonicalFormOf}
 
--- the first of these Prefixes, if it is one subtag of 2 or 3 letters, so that an extlang may follow it
+-- the first of these Prefixes, if it is one subtag, which is short enough for an extlang to follow it
 abbrev pub prefix_of : List (List (List ℕ)) → Option (List ℕ)
 prefix_of ((p ∷ []) ∷ rest) = if is_short p then Some p else None
 prefix_of _ = None
@@ -27,7 +27,7 @@ extlang_form R (LangTag c es ps) = LangTag (extlang_core R c) es ps
 extlang_form R (PrivateUse ps) = PrivateUse ps
 extlang_form R (Grandfathered n) = Grandfathered n
 
--- `form` is the extlang form of the canonical form of `t`: it is valid, and has the same canonical form.
+-- `form` is the extlang form of the canonical form of `t`: it is valid, and has the same canonical form
 pub record IsExtlangFormOf (R : List EntryParts) (t form : TagForm) : Type 0 where
   pub canonical : TagForm
   pub canonical_form : IsCanonicalFormOf R t canonical

@@ -8,13 +8,12 @@ use Rattle.lt_rewrite.specs.TagSteps.{AreEquivalent}
 use Rattle.lt_range.specs.Ranges.{RangeParts}
 use Rattle.lt_match.specs.Matched.{HasCanonicalList, IsCanonicalRange, MatchingScheme, MatchesTag}
 
--- equivalent tags match the same ranges: a range that matches one matches each valid tag that is equivalent to it
+-- equivalent tags match the same ranges: a range that matches a tag matches each valid tag equivalent to it
 abbrev pub EquivalentTagsMatchAlike : List EntryParts → Type 0
 EquivalentTagsMatchAlike R = (scheme : MatchingScheme) (text : List ℕ) (t u : TagForm) → IsValid R u
     → AreEquivalent R t u → MatchesTag R scheme text t → MatchesTag R scheme text u
 
--- equivalent ranges match the same tags: a tag that matches one matches each range of a valid tag that is equivalent to
--- it
+-- the ranges of equivalent valid tags match the same tags
 abbrev pub EquivalentRangesMatchAlike : List EntryParts → Type 0
 EquivalentRangesMatchAlike R = (scheme : MatchingScheme) (a b : List ℕ) (t u v : TagForm) → HasTag a t → HasTag b u
     → IsValid R t → IsValid R u → AreEquivalent R t u → MatchesTag R scheme a v → MatchesTag R scheme b v

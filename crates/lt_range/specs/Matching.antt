@@ -48,8 +48,8 @@ abbrev pub NamesAfterFirst : List (List ℕ) → List (List ℕ) → Type 0
 NamesAfterFirst ss (t ∷ ts) = AreInTurn ss ts
 NamesAfterFirst _ _ = ⊥
 
--- extended filtering: the first subtag of a range, or `*`, is that of the tag, and the others follow in turn (RFC 4647,
--- 3.3.2)
+-- extended filtering: the first subtag of a range is that of the tag, or is `*`, and the others follow in turn (RFC
+-- 4647, 3.3.2)
 abbrev pub MatchesExtended : RangeParts → List (List ℕ) → Type 0
 MatchesExtended range tag =
     ((range.wild ≡ true) × NamesAfterFirst range.named tag) ⊎ ((range.wild ≡ false) × NamesInTurn range.named tag)
@@ -58,8 +58,8 @@ MatchesExtended range tag =
 abbrev pub ends_long : List (List ℕ) → Bool
 ends_long list = option_map_or is_no_singleton (slice_get list (length list - 1)) false
 
--- What is left of a range that is cut from its end: a subtag at least, and a singleton is not the last, since it is cut
--- with the subtag after it (RFC 4647, 3.4).
+-- What is left of a range that is cut from its end, if at all: one subtag or more, of which after a cut the last is no
+-- singleton, since that is cut with the subtag after it (RFC 4647, 3.4).
 pub record IsLeft (range left : List (List ℕ)) : Type 0 where
   pub begins : BeginsWith left range
   pub some : 0 < length left

@@ -12,7 +12,7 @@ use Rattle.lt_rewrite.specs.ChainEnds.{following}
 abbrev pub IsOnward : (List ℕ → Option (List ℕ)) → ℕ → List ℕ → List ℕ → Type 0
 IsOnward f n s t = (m : ℕ) × (n ≤ m) × (chase f m s ≡ t)
 
--- a record of the kind is at the place in the list, and its own value is `n` values on from `v`
+-- a record of the kind is at the place in the list, and its value is onward from `v` by `n` values, as `IsOnward` says
 pub record LeadsTo (R : List EntryParts) (kind : Kind) (n : ℕ) (v : List ℕ) (place : ℕ) : Type 0 where
   pub entry : EntryParts
   pub there : slice_get R place ≡ Some entry
@@ -21,12 +21,12 @@ pub record LeadsTo (R : List EntryParts) (kind : Kind) (n : ℕ) (v : List ℕ) 
   pub follows : following entry.kind entry ≡ Some value
   pub onward : IsOnward (next_value R kind) n v value
 
--- from the record at `i` a shortcut leads to the record at `j`, `n` values further on
+-- from the record at `i` a shortcut leads to the record at `j`, onward by `n` values
 abbrev pub IsShortcut : List EntryParts → ℕ → ℕ → ℕ → Type 0
 IsShortcut R n i j =
     (e : EntryParts) (v : List ℕ) → slice_get R i ≡ Some e → following e.kind e ≡ Some v → LeadsTo R e.kind n v j
 
--- each record has a shortcut to one that is `n` values further on
+-- each record has a shortcut to another, onward by `n` values
 pub record LeadOn (R : List EntryParts) (n : ℕ) (places : List ℕ) : Type 0 where
   pub one_each : length places ≡ length R
   pub within : (i j : ℕ) → slice_get places i ≡ Some j → j < length R

@@ -11,7 +11,7 @@ use Rattle.lt_stream.specs.declared.faults.ToolFault.{ToolFault}
 use Rattle.lt_stream.specs.declared.faults.ToolFault.TheVariants as faults
 use Rattle.lt_stream.specs.declared.lines.Lined.{Lined}
 
--- once this many bytes of answers wait to be written, they are written before the next read
+-- answers are written once this many bytes of them wait, and at the latest before the next read
 abbrev pub full : ℕ
 full = 65536
 

@@ -49,7 +49,7 @@ are_values values = nat_lt 0 (length values) && list_all is_long values
 abbrev pub has_values : FieldParts → Bool
 has_values field = are_values field.values
 
--- the parts of a u extension with these subtags, if there is such an extension
+-- the parts of a `u` extension with these subtags, if there is such an extension
 unfoldable pub unicode_of : List (List ℕ) → Option UForm
 unicode_of subtags =
     if nat_lt 0 (length subtags) && list_all is_extension_subtag subtags
@@ -60,7 +60,7 @@ unicode_of subtags =
 abbrev pub with_fields : List FieldParts → Option CoreParts → TForm
 with_fields fields source = record { source = source; fields = fields }
 
--- the parts of a t extension with these subtags, if they have its form
+-- the parts of a `t` extension with these subtags, if they have its form
 unfoldable pub transform_of : List (List ℕ) → Option TForm
 transform_of subtags =
     if nat_lt 0 (length subtags) && list_all has_values (fields_of subtags)

@@ -21,7 +21,8 @@ use Rattle.lt_tool.specs.Written.{Says}
 use Rattle.lt_tool.specs.declared.status.Status.{Status}
 use Rattle.lt_tool.specs.declared.status.Status.TheVariants as status
 
--- of a statement on a line and a status, the statement that such a line is printed, or that there was no memory for it
+-- how printing is described: by what is true of a line and its status, that such a line is printed, or that there was
+-- no memory for it
 abbrev pub Printing : Type 1
 Printing = (List ℕ → Status → Type 0) → Type 0
 

@@ -1,4 +1,4 @@
--- The ranges of a registry in an order in which a range that holds another is found fast.
+-- The widest ranges of a registry, in order, and whether one of them holds a given range.
 use Rattle.std.specs.Prelude.{ℕ, ◌≡◌, Bool, true, ◌&&◌, List, [], ◌∷◌, length, Option, Some, None}
 use Rattle.std.specs.List.{AllByRecursion, list_any, filter_map}
 use Rattle.std.specs.Ordering.{nat_cmp, ordering_then, is_le}
