@@ -39,7 +39,7 @@ pub record HasDistinctForm (R : List EntryParts) (c : CoreParts) : Type 0 where
   pub normal : IsCoreNormalForm R c form
   pub distinct : Distinct form.variants
 
--- the variant that a refusal names: the first repeated one in the core's normal form, or, where none is, in that of a
+-- the variant that a refusal names: the first repeated one in the core normal form of the core, or, where none is, of a
 -- source
 abbrev pub IsNamedRepeat : List EntryParts → TagForm → List ℕ → Type 0
 IsNamedRepeat R (LangTag c es ps) v = IsRepeatOfCore R c v ⊎ (HasDistinctForm R c × IsRepeatOfSource R es v)

@@ -1,6 +1,6 @@
 -- Steps of any kind: what they reach, where they end, what they make equivalent, and when they are confluent.
 
--- steps lead from one value to another, none or one or more (RFC 5646, 4.5)
+-- steps lead from one value to another: none, one or more (RFC 5646, 4.5)
 pub data Star {A : Type 0} (Step : A → A → Type 0) : A → A → Type 0 where
   done : {a : A} → Star Step a a
   then : {a b c : A} → Step a b → Star Step b c → Star Step a c
