@@ -82,7 +82,7 @@ abbrev pub long_fault : Separator → ToolFault
 long_fault separators.Tab = faults.BadTsv 1
 long_fault (separators.Delimiter delimiter) = faults.BadCsv 1
 
--- why a heading was not read
+-- why a heading was not read; OutOfMemory may be answered of any
 abbrev pub StopsHeading : {I : Type 0} → Separator → (I → Option (List ℕ)) → (before after : Device I)
     → (reads : ℕ) → (read : List ℕ) → ToolFault → Type 0
 StopsHeading S remaining before after reads read faults.Read = HasFailed before after

@@ -51,7 +51,7 @@ pub record IsStoppedByMark (read written : List ℕ) (tallies : List Tally) : Ty
   pub nothing : written ≡ []
   pub none : tallies ≡ []
 
--- how the run ended: with its counts, or with a fault
+-- how the run ended: with its counts, or with a fault; an end by OutOfMemory says nothing more
 abbrev pub EndsAs : {I O : Type 0} → Terms → (I → Option (List ℕ))
     → (input input' : Device I) → (output output' : Device O)
     → ℕ → (read written : List ℕ) → List Tally → Result Counts ToolFault → Type 0

@@ -1,4 +1,5 @@
--- What each step of reading a record of a registry gives. No public contract cites this.
+-- What each step of reading a record of a registry gives; OutOfMemory may be the fault of any. No public contract cites
+-- this.
 use Rattle.std.specs.Prelude.{ℕ, ◌≡◌, true, false, if◌then◌else◌, List, Option, Some, None, is_some, Result, Ok, Err}
 use Rattle.std.specs.List.{position_from}
 use Rattle.std.specs.Str.{str_eq_ignore_ascii_case}
@@ -52,7 +53,7 @@ kind_by None = Err faults.MissingType
 abbrev pub IsNameIn : Kind → List Field → EntryName → Type 0
 IsNameIn k r name = (s : List ℕ) × (body (name_field k) r ≡ Some s) × IsName k s name
 
--- a fault of the name of a record of this kind
+-- a fault of the name of a record of this kind, or OutOfMemory
 abbrev pub IsNameFault : Kind → List Field → RecordFaultKind → Type 0
 IsNameFault k r faults.RepeatedField = ⊥
 IsNameFault k r faults.MissingType = ⊥
@@ -67,7 +68,7 @@ IsNameFault k r faults.BadPreferred = ⊥
 IsNameFault k r faults.BadPrefix = ⊥
 IsNameFault k r faults.OutOfMemory = Unit {0}
 
--- a fault of the text of a value, in a record of this kind
+-- a fault of the text of a value, in a record of this kind, or OutOfMemory
 abbrev pub IsTextFault : Kind → List ℕ → RecordFaultKind → Type 0
 IsTextFault k s faults.BadPreferred = (v : EntryValue) → IsValue k s v → ⊥
 IsTextFault k s faults.OutOfMemory = Unit {0}
@@ -80,7 +81,7 @@ IsTextFault k s faults.BadSubtag = ⊥
 IsTextFault k s faults.BadTag = ⊥
 IsTextFault k s faults.BadPrefix = ⊥
 
--- a fault of the value of a record of this kind
+-- a fault of the value of a record of this kind, or OutOfMemory
 abbrev pub IsValueFault : Kind → List Field → RecordFaultKind → Type 0
 IsValueFault k r faults.BadPreferred =
     (s : List ℕ) × (body value_name r ≡ Some s) × ((v : EntryValue) → IsValue k s v → ⊥)
@@ -94,7 +95,7 @@ IsValueFault k r faults.BadSubtag = ⊥
 IsValueFault k r faults.BadTag = ⊥
 IsValueFault k r faults.BadPrefix = ⊥
 
--- a fault of the Prefixes of a record of this kind
+-- a fault of the Prefixes of a record of this kind, or OutOfMemory
 abbrev pub IsPrefixFault : Kind → List Field → RecordFaultKind → Type 0
 IsPrefixFault k r faults.BadPrefix = prefixes_in k r ≡ None
 IsPrefixFault k r faults.OutOfMemory = Unit {0}
@@ -107,7 +108,7 @@ IsPrefixFault k r faults.BadSubtag = ⊥
 IsPrefixFault k r faults.BadTag = ⊥
 IsPrefixFault k r faults.BadPreferred = ⊥
 
--- a fault of the Prefixes of a record, one of which is no list of subtags
+-- a fault of the Prefixes of a record, one of which is no list of subtags, or OutOfMemory
 abbrev pub IsPrefixesFault : List Field → RecordFaultKind → Type 0
 IsPrefixesFault r faults.BadPrefix = prefixes_of (bodies prefix_name r) ≡ None
 IsPrefixesFault r faults.OutOfMemory = Unit {0}

@@ -54,7 +54,8 @@ abbrev pub LooksUp : List EntryParts → List RangeParts → (lines : List (List
 LooksUp R ranges lines None = FindsNoLine R ranges lines
 LooksUp R ranges lines (Some line) = FindsLine R ranges lines line.items
 
--- how a run ended: with what lookup finds among all lines of the reader, or with a fault
+-- how a run ended: with what lookup finds among all lines of the reader, or with a fault; an end by OutOfMemory says
+-- nothing more
 abbrev pub EndsAs : {I : Type 0} → List EntryParts → List RangeParts → (I → Option (List ℕ)) → (input input' : Device I)
     → ℕ → List ℕ → Result (Option (Vec ℕ Global)) ToolFault → Type 0
 EndsAs R ranges remaining input input' reads read (Ok found) =

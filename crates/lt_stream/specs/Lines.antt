@@ -71,7 +71,7 @@ pub record IsStoppedByTurns {I A : Type 0} (Q : Answered A) (input' : Device I) 
   pub last_gave : 0 < last_given_of input'
   pub owed : IsAnsweredToLastFeed Q read written answers
 
--- how the run ended: done, or with a fault
+-- how the run ended: done, or with a fault; an end by OutOfMemory says nothing more
 abbrev pub EndsAs : {I O A : Type 0} → Answered A → (I → Option (List ℕ)) → (input input' : Device I)
     → (output output' : Device O) → ℕ → (read written : List ℕ) → A → Result (Unit {0}) ToolFault → Type 0
 EndsAs Q remaining input input' output output' reads read written answers (Ok _) =

@@ -19,7 +19,8 @@ use Rattle.lt_verify.specs.declared.verdicts.Verdict.{Verdict}
 abbrev pub IsVerdictOf : List EntryParts → TagForm → Verdict → List ℕ → Type 0
 IsVerdictOf R t v bytes = IsVerdict R t (lines_of bytes) v
 
--- how a run ended: with the verdict on all that the reader gives, read or not; or with a fault
+-- how a run ended: with the verdict on all that the reader gives, read or not; or with a fault, of which OutOfMemory
+-- says nothing more
 abbrev pub EndsAs : {I : Type 0} → List EntryParts → TagForm
     → (I → Option (List ℕ)) → (input input' : Device I) → ℕ → List ℕ
     → Result Verdict ToolFault → Type 0

@@ -260,7 +260,7 @@ abbrev pub IsPrinted : Option (List ℕ) → List ℕ → Type 0
 IsPrinted None text = ⊤
 IsPrinted (Some printed) text = text ≡ printed
 
--- the fault of a parse that failed with this kind of error, and prints this
+-- the fault of a parse that failed with this kind of error, and prints this; OutOfMemory may be answered in any case
 abbrev pub IsFaultOf : ErrorKind → Option (List ℕ) → WordsFault → Type 0
 IsFaultOf k printed (fault.Help text) = (k ≡ kind.DisplayHelp) × IsPrinted printed (string_bytes text)
 IsFaultOf k printed (fault.Version text) = (k ≡ kind.DisplayVersion) × IsPrinted printed (string_bytes text)
