@@ -91,7 +91,8 @@ pub record AppendsTextReply (R : List EntryParts) (text old new : List ℕ) (ref
   pub grown : new ≡ old ++ bytes
   pub owed : IsTextReply R text (reply bytes refused)
 
--- the row was appended unchanged, followed by the canonical text of its field, or by why the field is refused
+-- the row was appended unchanged, with two further fields, one of them empty: the canonical text of its field, and why
+-- that is refused
 pub record AppendsKept (S : Separator) (G : Ground) (text line old new : List ℕ) (refused : Bool) : Type 0 where
   pub canonical : List ℕ
   pub told : List ℕ
@@ -159,7 +160,8 @@ pub record AreRecent (R : List EntryParts) (form : LineForm) (recent : RecentAns
   pub whole : All (IsRecent R form) recent.whole
   pub ends : AreEnds R recent.ends
 
--- These bytes were read. Their whole lines are answered, each answer is written or waits to be, and the rest is kept.
+-- These bytes were read. Their whole lines are answered, each answer is written or waits to be, and what is needed of
+-- the rest is kept.
 pub record IsTaken (T : Terms) (bytes written : List ℕ) (state : Answering) : Type 0 where
   pub lines : List (List ℕ)
   pub last : List ℕ
