@@ -1,4 +1,4 @@
--- How a registry and its error are printed.
+-- How a registry, and the error for which bytes are none, are printed.
 use Rattle.std.specs.Prelude.{ℕ, List, [], ◌∷◌, ◌++◌, length, codes}
 use Rattle.std.specs.Fmt.{decimal}
 use Rattle.lt_jar.specs.Names as jar_names
@@ -8,11 +8,11 @@ use Rattle.lt_check.specs.Codes as condition_codes
 use Rattle.bcp47.specs.declared.errors.RegistryError.{RegistryError}
 use Rattle.bcp47.specs.declared.errors.RegistryError.TheVariants as errors
 
--- a registry is shown by the number of its entries
+-- what a registry is printed as: the number of its entries
 abbrev pub registry_shown : List EntryParts → List ℕ
 registry_shown R = codes "Registry { entries: " ++ decimal (length R) ++ codes " }"
 
--- the name of an error: of a fault that of its kind, of a finding the code of its condition
+-- the name of an error: that of the fault, or the code of the condition that fails
 abbrev pub error_name_of : RegistryError → List ℕ
 error_name_of (errors.Jar fault) = jar_names.name_of fault.kind
 error_name_of (errors.Record fault) = record_names.record_name_of fault.kind

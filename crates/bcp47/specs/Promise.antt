@@ -1,4 +1,4 @@
--- What a registry of this crate promises, on one page: what it is, how it is read, and what holds of every one.
+-- What a registry of this crate promises, on one page: what is true of every one, and how one is read.
 use Rattle.std.specs.Prelude.{◌≡◌, ◌≢◌, ℕ, List, Option, Result, Ok, Err}
 use Rattle.lt_jar.specs.Records.{Field, HasRecords, IsWithin}
 use Rattle.lt_jar.specs.Views.{IsFaultOf}
@@ -38,7 +38,7 @@ pub record Promise (R : List EntryParts) : Type 0 where
 
 -- ---- how it is read (RFC 5646, 3.1)
 
--- what bytes are read as; nothing is owed where memory ran out
+-- what bytes are read as: the entries of their records, or the fault for which there are none
 abbrev pub IsReadingOf : List ℕ → Reading → Type 0
 IsReadingOf bytes (Ok R) =
     (records : List (List Field)) × HasRecords bytes records × IsWithin bytes records × HasEntries records R
@@ -46,7 +46,7 @@ IsReadingOf bytes (Err (faults.Record fault)) =
     (records : List (List Field)) × HasRecords bytes records × IsWithin bytes records × IsRecordRefusal records fault
 IsReadingOf bytes (Err (faults.Jar fault)) = IsFaultOf bytes fault
 
--- why what was read is no registry; nothing is owed where memory ran out
+-- why there is no registry that passes the check; OutOfMemory may be answered of any reading
 abbrev pub IsRefusal : Reading → RegistryError → Type 0
 IsRefusal reading (errors.Jar fault) = (reading ≡ Err (faults.Jar fault)) × (fault.kind ≢ jar_kinds.OutOfMemory)
 IsRefusal reading (errors.Record fault) =
@@ -55,16 +55,16 @@ IsRefusal reading (errors.Check finding) =
     (R : List EntryParts) × (reading ≡ Ok R) × IsFinding R finding.condition finding.number
 IsRefusal reading errors.OutOfMemory = Unit {0}
 
--- the entries that were read, which pass the check; or the refusal that is owed
+-- the answer is the entries that were read, which pass the check, or why there is no such registry
 abbrev pub IsJudged : Reading → Result (List EntryParts) RegistryError → Type 0
 IsJudged reading (Ok R) = (reading ≡ Ok R) × IsChecked R
 IsJudged reading (Err error) = IsRefusal reading error
 
--- a registry is read from bytes
+-- a registry was read from bytes, with this answer
 abbrev pub ReadsBytes : List ℕ → Result (List EntryParts) RegistryError → Type 0
 ReadsBytes bytes result = (reading : Reading) × IsReadingOf bytes reading × IsJudged reading result
 
--- and from a device; `ReadsRegistry` says what that is for the bytes that were read
+-- a registry was read from a device, with this answer; `ReadsRegistry` relates the reading to the bytes that were read
 abbrev pub ReadsDevice : {F : Type 0} → (F → Option (List ℕ)) → (before after : Device F)
     → Result (List EntryParts) RegistryError → Type 0
 ReadsDevice remaining before after result =

@@ -1,4 +1,4 @@
--- How each call ends.
+-- What each call of the C library answers, and what it leaves in its buffers and handles.
 use Rattle.std.specs.Prelude.{ℕ, ◌≡◌, ◌≢◌, ◌⊎◌, if◌then◌else◌, Bool, List, [], Some, None, Ok, Err}
 use Rattle.lt_tag.specs.Classes.{class_of}
 use Rattle.lt_tag.specs.Conventional.{conventional}
@@ -31,56 +31,58 @@ use Rattle.bcp47_c.specs.declared.outcomes.Said.{Said}
 
 -- ---- opening, sharing and keeping
 
--- what is said of bytes that are no registry
+-- the status, detail and place for bytes that are no registry: BadFile (7), BadRecord (8), Rejected (9) or OutOfMemory
+-- (4)
 abbrev pub error_said : RegistryError → Said
 error_said (errors.Jar fault) = record { status = 7; detail = file_fault fault.kind; place = fault.line }
 error_said (errors.Record fault) = record { status = 8; detail = record_fault fault.kind; place = fault.number }
 error_said (errors.Check finding) = record { status = 9; detail = condition finding.condition; place = finding.number }
 error_said errors.OutOfMemory = ended 4
 
--- the registry that the bytes are is held, and no record is kept with it
+-- the registry that the bytes are is held, no record is kept with it, and the status is Done (0)
 pub record IsOpened (held : Held) (bytes before after : List ℕ) (o : Outcome) : Type 0 where
   pub registry : List EntryParts
   pub holds : held ≡ Some (registry, [])
   pub read : ReadsBytes bytes (Ok registry)
   pub delivered : IsDelivered (ended 0) [] before after o
 
--- an error is reported, and the line is written that the program prints
+-- the error is answered, with the line that the program prints for it
 abbrev pub IsTold : RegistryError → List ℕ → List ℕ → Outcome → Type 0
 IsTold error before after o = IsDelivered (error_said error) (error_text error) before after o
 
--- an error is reported, or that memory ran out to tell it
+-- the error is answered, with the line that the program prints for it, or else OutOfMemory
 abbrev pub IsRefusedRegistry : RegistryError → List ℕ → List ℕ → Outcome → Type 0
 IsRefusedRegistry error before after o = IsTold error before after o ⊎ IsTold errors.OutOfMemory before after o
 
--- or nothing is, and the line is written that the program prints
+-- no registry is held, and the error of the bytes is answered
 pub record IsNotOpened (held : Held) (bytes before after : List ℕ) (o : Outcome) : Type 0 where
   pub holds : held ≡ None
   pub error : RegistryError
   pub read : ReadsBytes bytes (Err error)
   pub told : IsTold error before after o
 
--- the registry is held, or the bytes are refused
+-- the registry that the bytes are is held, or their error is answered
 abbrev pub Opens : Held → List ℕ → List ℕ → List ℕ → Outcome → Type 0
 Opens held bytes before after o = IsOpened held bytes before after o ⊎ IsNotOpened held bytes before after o
 
--- another handle holds the same registry, or memory ran out for it
+-- another handle holds the same registry (status Done, 0), or memory ran out for it (4)
 abbrev pub Shares : Kept → Held → ℕ → Type 0
 Shares registry held status = ((status ≡ 0) × (held ≡ Some registry)) ⊎ ((status ≡ 4) × (held ≡ None))
 
--- the records of the bytes are kept with the registry (RFC 5646, 3.1.1)
+-- the records of the bytes are now held with the registry (RFC 5646, 3.1.1)
 pub record IsKept (registry : Kept) (held : Held) (bytes : List ℕ) : Type 0 where
   pub records : List (List Field)
   pub read : HasRecords bytes records
   pub holds : held ≡ Some (registry.0, records)
 
--- the bytes are not in the format
+-- the bytes are not in the record-jar format
 pub record HasNoRecords (bytes : List ℕ) : Type 0 where
   pub fault : JarFault
   pub owed : IsFaultOf bytes fault
   pub named : fault.kind ≢ jar_kinds.OutOfMemory
 
--- the records are kept; or what was held is held, since the bytes are not in the format, or memory ran out
+-- The records of the bytes are kept with the registry (status Done, 0). Or all is held as before, since the bytes are
+-- not in the format (BadFile, 7) or memory ran out (4).
 abbrev pub Keeps : Kept → Held → List ℕ → ℕ → Type 0
 Keeps registry held bytes status =
     ((status ≡ 0) × IsKept registry held bytes)
@@ -88,7 +90,7 @@ Keeps registry held bytes status =
 
 -- ---- tags
 
--- the text of the tag in conventional case is written, and its class told (RFC 5646, 2.1)
+-- the text of the tag in conventional case is written, and its class is answered as the detail (RFC 5646, 2.1)
 pub record IsClassified (text before after : List ℕ) (o : Outcome) : Type 0 where
   pub tag : TagForm
   pub read : HasTag text tag
@@ -96,58 +98,59 @@ pub record IsClassified (text before after : List ℕ) (o : Outcome) : Type 0 wh
       IsDelivered (record { status = 0; detail = class (class_of tag); place = 0 }) (conventional (spell tag)) before
       after o
 
--- the tag is classified, or the text is read as none
+-- the tag is classified, or why the text is no tag is answered
 abbrev pub Classifies : List ℕ → List ℕ → List ℕ → Outcome → Type 0
 Classifies text before after o =
     IsClassified text before after o ⊎ IsRefusedAsOwed (IsReadingRefusal text) before after o
 
--- the tag is valid, or the refusal is reported; no text goes with either
+-- that the tag is valid is answered (status Done, 0), or why not; no text is written
 abbrev pub Validates : List EntryParts → List ℕ → Outcome → Type 0
 Validates R text o =
     (IsValidText R text × (o ≡ outcome (ended 0) 0)) ⊎ IsRefusedAsOwed (IsValidityRefusal R text) [] [] o
 
--- the number of steps is told
+-- the number of steps to the canonical form is answered as the place
 pub record IsCounted (R : List EntryParts) (text before after : List ℕ) (o : Outcome) : Type 0 where
   pub count : ℕ
   pub is_count : IsStepCount R text count
   pub delivered : IsDelivered (record { status = 0; detail = 0; place = count }) [] before after o
 
--- or the text or its tag is refused
+-- the number of steps to the canonical form is answered, or why the text is refused
 abbrev pub CountsSteps : List EntryParts → List ℕ → List ℕ → List ℕ → Outcome → Type 0
 CountsSteps R text before after o =
     IsCounted R text before after o ⊎ IsRefusedAsOwed (IsTextRefusal R text) before after o
 
--- the status says whether the tags are equivalent
+-- the status says whether the tags are equivalent: Done (0) if so, Different (6) if not
 pub record IsCompared (R : List EntryParts) (first second before after : List ℕ) (o : Outcome) : Type 0 where
   pub answer : Bool
   pub is_answer : IsEqualityOf R first second answer
   pub delivered : IsDelivered (ended (if answer then 0 else 6)) [] before after o
 
--- the tags are compared, or one of the texts or tags is refused
+-- whether the tags are equivalent is answered, or why one of the texts is refused
 abbrev pub Compares : List EntryParts → List ℕ → List ℕ → List ℕ → List ℕ → Outcome → Type 0
 Compares R first second before after o =
     IsCompared R first second before after o ⊎ IsRefusedAsOwed (IsPairRefusal R first second) before after o
 
 -- ---- upgrades
 
--- what is said of a registry that is no upgrade
+-- the status, detail and place for a registry that is no upgrade: NoUpgrade (10) with the condition and the record, or
+-- OutOfMemory (4)
 abbrev pub upgrade_said : UpgradeFault → Said
 upgrade_said (upgrade_faults.Fails failing number) =
     record { status = 10; detail = upgrade_condition failing; place = number }
 upgrade_said upgrade_faults.OutOfMemory = ended 4
 
--- the newer registry upgrades the older one, so that tags keep what they mean
+-- the newer registry upgrades the older one, so that tags keep their meaning, and the status is Done (0)
 pub record IsUpgrade (older newer : List EntryParts) (o : Outcome) : Type 0 where
   pub upgrades : Upgrades older newer
   pub keeps : UpgradeKeepsTags older newer
   pub told : o ≡ outcome (ended 0) 0
 
--- or it does not, and the fault is reported
+-- a fault of the upgrade is answered
 pub record IsNoUpgrade (older newer : List EntryParts) (o : Outcome) : Type 0 where
   pub fault : UpgradeFault
   pub owed : IsUpgradeFault older newer fault
   pub told : o ≡ outcome (upgrade_said fault) 0
 
--- the newer registry upgrades the older one, or the fault is reported
+-- that the newer registry upgrades the older one is answered, or a fault of the upgrade
 abbrev pub ChecksUpgrade : List EntryParts → List EntryParts → Outcome → Type 0
 ChecksUpgrade older newer o = IsUpgrade older newer o ⊎ IsNoUpgrade older newer o

@@ -1,4 +1,4 @@
--- What a handle owns: nothing, or what a box of its registry does.
+-- What a handle of the C library owns: nothing, or the box of a registry.
 use base.Fml.{Fml, ftrue}
 use base.Stored.{Coded}
 use denote.RawPtr.{Ptr}
@@ -9,15 +9,15 @@ use Rattle.std.specs.Global.{Global}
 use Rattle.std_heap.specs.contracts.GlobalAllocator.TheImpl.{ghosts}
 use Rattle.bcp47_c.specs.contracts.opened.Opened.{the_row}
 
--- the registry that is held, if one is
+-- the registry that a handle holds, if it holds one
 abbrev pub Held : Type 0
 Held = Option the_row.Denot
 
--- what is owned for it
+-- what memory is owned for what a handle holds
 abbrev pub held_owns : Global → Ptr → Held → Fml
 held_owns alloc place (Some registry) = box_owns (ghosts.dealloc_token alloc) the_row place registry
 held_owns alloc place None = ftrue
 
--- how what is held is coded as a value of a proof
+-- how what a handle holds is coded as a value of a proof
 abbrev pub held_coded : Coded Held
 held_coded = coded_option the_row.coded

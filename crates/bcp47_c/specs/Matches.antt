@@ -1,4 +1,4 @@
--- Whether a language range matches a tag (RFC 4647, 3), and how the call ends that tells it.
+-- Whether a language range matches a tag (RFC 4647, 3), and what the call answers that tells it.
 use Rattle.std.specs.Prelude.{ℕ, ◌≡◌, ◌≢◌, ◌==◌, ◌⊎◌, ◌↔◌, if◌then◌else◌, Bool, IsTrue, List, [], Option, Some, None}
 use Rattle.lt_tag.specs.Faults.{HasTag}
 use Rattle.lt_tag.specs.Parts.{TagForm}
@@ -19,18 +19,18 @@ use Rattle.bcp47_c.specs.declared.outcomes.Said.{Said}
 
 -- ---- schemes
 
--- their numbers
+-- the number of a scheme of matching in C
 abbrev pub scheme_number : Scheme → ℕ
 scheme_number schemes.Basic = 1
 scheme_number schemes.Extended = 2
 scheme_number schemes.Lookup = 3
 
--- the scheme that has a number, or that none has
+-- the scheme of matching that has a number, None if none has it
 abbrev pub IsSchemeOf : ℕ → Option Scheme → Type 0
 IsSchemeOf n (Some scheme) = n ≡ scheme_number scheme
 IsSchemeOf n None = (scheme : Scheme) → n ≢ scheme_number scheme
 
--- what they are (RFC 4647, 3.3.1, 3.3.2 and 3.4)
+-- the scheme of matching as the contracts have it (RFC 4647, 3.3.1, 3.3.2 and 3.4)
 abbrev pub matching : Scheme → MatchingScheme
 matching schemes.Basic = BasicFiltering
 matching schemes.Extended = ExtendedFiltering
@@ -38,7 +38,7 @@ matching schemes.Lookup = Lookup
 
 -- ---- what is answered
 
--- A range and a tag, of which both have a canonical form, match or do not (RFC 5646, 4.5; RFC 4647, 3).
+-- A range and a tag both have a canonical form, and `answer` is whether they match (RFC 5646, 4.5; RFC 4647, 3).
 pub record IsMatchOf (R : List EntryParts) (scheme : Scheme) (range text : List ℕ) (answer : Bool) : Type 0 where
   pub parts : RangeParts
   pub is_range : IsCanonicalRange R range parts
@@ -48,7 +48,7 @@ pub record IsMatchOf (R : List EntryParts) (scheme : Scheme) (range text : List 
   pub canonical : HasCanonicalList R tag list
   pub matches : IsTrue answer ↔ MatchesTag R (matching scheme) range tag
 
--- the status says whether they do
+-- the status says whether the range matches the tag: Done (0) if so, Different (6) if not
 pub record IsMatchTold (R : List EntryParts) (scheme : Scheme) (range text before after : List ℕ) (o : Outcome)
     : Type 0 where
   pub answer : Bool
@@ -57,19 +57,19 @@ pub record IsMatchTold (R : List EntryParts) (scheme : Scheme) (range text befor
 
 -- ---- what is refused
 
--- what is said of a range that is refused
+-- the status and detail for a range that is refused: NotATag (1), ReplacementRepeats (3) or OutOfMemory (4)
 abbrev pub range_said : RangeRefusal → Said
 range_said (refusals.NotARange fault) = record { status = 1; detail = range_fault fault; place = 0 }
 range_said (refusals.ReplacementRepeats variant) = ended 3
 range_said refusals.OutOfMemory = ended 4
 
--- the text that goes with it: the variant that can be repeated
+-- the text that is written with the refusal of a range: the variant that steps can repeat, else none
 abbrev pub range_text : RangeRefusal → List ℕ
 range_text (refusals.NotARange fault) = []
 range_text (refusals.ReplacementRepeats variant) = variant
 range_text refusals.OutOfMemory = []
 
--- an outcome of one of two texts
+-- the outcome, with the number of the text that it is on, 1 or 2
 abbrev pub told_of : ℕ → Outcome → Outcome
 told_of number o =
     record {
@@ -81,11 +81,11 @@ told_of number o =
       reserved = o.reserved;
     }
 
--- which of two texts an outcome is of: of none where memory ran out
+-- the outcome, with the number of the text that it is on, unless memory ran out (status 4)
 abbrev pub of_text : ℕ → Outcome → Outcome
 of_text number o = if o.status == 4 then o else told_of number o
 
--- the range is refused
+-- why the range is refused is answered, with the number of its text, 1
 pub record IsRangeRefused (R : List EntryParts) (range before after : List ℕ) (o : Outcome) : Type 0 where
   pub refusal : RangeRefusal
   pub owed : IsRangeRefusal R range refusal
@@ -93,7 +93,7 @@ pub record IsRangeRefused (R : List EntryParts) (range before after : List ℕ) 
   pub delivered : IsDelivered (range_said refusal) (range_text refusal) before after alone
   pub told : o ≡ of_text 1 alone
 
--- or the tag is, and the range is not
+-- the range has a canonical form, and why the tag is refused is answered, with the number of its text, 2
 pub record IsTagRefused (R : List EntryParts) (range text before after : List ℕ) (o : Outcome) : Type 0 where
   pub parts : RangeParts
   pub is_range : IsCanonicalRange R range parts
@@ -103,24 +103,25 @@ pub record IsTagRefused (R : List EntryParts) (range text before after : List �
 
 -- ---- the call
 
--- it is told whether the range matches the tag, or one of them is refused
+-- whether the range matches the tag is answered, or why one of them is refused
 abbrev pub TellsMatch : List EntryParts → Scheme → List ℕ → List ℕ → List ℕ → List ℕ → Outcome → Type 0
 TellsMatch R scheme range text before after o =
     IsMatchTold R scheme range text before after o
     ⊎ (IsRangeRefused R range before after o ⊎ IsTagRefused R range text before after o)
 
--- the number is that of a scheme, by which it is told
+-- the number is that of a scheme, by which is answered whether the range matches the tag
 pub record TellsByNumber (R : List EntryParts) (number : ℕ) (range text before after : List ℕ) (o : Outcome)
     : Type 0 where
   pub scheme : Scheme
   pub numbered : number ≡ scheme_number scheme
   pub told : TellsMatch R scheme range text before after o
 
--- or it is that of none, and the call is wrong
+-- the number is that of no scheme, and the status says that the call is wrong (14)
 pub record IsWrongNumber (number : ℕ) (before after : List ℕ) (o : Outcome) : Type 0 where
   pub none : (scheme : Scheme) → number ≢ scheme_number scheme
   pub delivered : IsDelivered (ended 14) [] before after o
 
+-- whether the range matches the tag by the scheme of a number is answered, or why not
 abbrev pub Matches : List EntryParts → ℕ → List ℕ → List ℕ → List ℕ → List ℕ → Outcome → Type 0
 Matches R number range text before after o =
     TellsByNumber R number range text before after o ⊎ IsWrongNumber number before after o

@@ -1,14 +1,15 @@
--- The names of statuses and faults, each at its number.
+-- The names of the statuses and faults of the C library, in the order of their numbers from 0.
 use Rattle.std.specs.Prelude.{ℕ, List, [], ◌∷◌, codes}
 
--- those of the statuses
+-- the names of the statuses 0 to 12
 unfoldable pub status_names : List (List ℕ)
 status_names =
     codes "Done" ∷ codes "NotATag" ∷ codes "Invalid" ∷ codes "ReplacementRepeats" ∷ codes "OutOfMemory" ∷
     codes "BufferTooSmall" ∷ codes "Different" ∷ codes "BadFile" ∷ codes "BadRecord" ∷ codes "Rejected" ∷
     codes "NoUpgrade" ∷ codes "NoSuchStep" ∷ codes "WrongEnd" ∷ []
 
--- those of no fault, of a text, a tag, the bytes of a registry, a record, the check, an upgrade and a language range
+-- the names of the faults 0 to 53: none, then those of a text, a tag, the bytes of a registry, a record, the check, an
+-- upgrade and a language range
 unfoldable pub fault_names : List (List ℕ)
 fault_names =
     codes "None" ∷ codes "TooLong" ∷ codes "EmptySubtag" ∷ codes "BadByte" ∷ codes "LongSubtag" ∷

@@ -1,4 +1,5 @@
--- The numbers of faults, as C sees them; 0 is none, and is beside the status where memory runs out.
+-- The numbers of faults, classes and kinds of step in C. A fault's 0 means none, as where memory ran out, which the
+-- status says.
 use Rattle.std.specs.Prelude.{ℕ, ◌≡◌, ◌≢◌, Option, Some, None}
 use Rattle.lt_subtag.specs.declared.SubtagFault.{SubtagFault}
 use Rattle.lt_subtag.specs.declared.SubtagFault.TheVariants as subtag_kinds
@@ -21,7 +22,7 @@ use Rattle.lt_upgrade.specs.declared.conditions.UpgradeCondition.TheVariants as 
 use Rattle.lt_tag.specs.declared.tags.Class.{Class}
 use Rattle.lt_tag.specs.declared.tags.Class.TheVariants as classes
 
--- of a text
+-- the number of the fault of a text
 abbrev pub tag_fault : TagFaultKind → ℕ
 tag_fault tag_kinds.TooLong = 1
 tag_fault tag_kinds.EmptySubtag = 2
@@ -32,7 +33,7 @@ tag_fault tag_kinds.Misplaced = 6
 tag_fault tag_kinds.Unfinished = 7
 tag_fault tag_kinds.OutOfMemory = 0
 
--- of a tag
+-- the number of the fault of a tag that is not valid
 abbrev pub valid_fault : ValidFaultKind → ℕ
 valid_fault valid_kinds.UnknownLanguage = 8
 valid_fault valid_kinds.UnknownExtlang = 9
@@ -45,7 +46,7 @@ valid_fault valid_kinds.DuplicateVariant = 15
 valid_fault valid_kinds.DuplicateSingleton = 16
 valid_fault valid_kinds.BadTransform = 17
 
--- of the bytes of a registry
+-- the number of the fault of the bytes of a registry
 abbrev pub file_fault : JarFaultKind → ℕ
 file_fault file_kinds.LineTooLong = 18
 file_fault file_kinds.NotUtf8 = 19
@@ -57,7 +58,7 @@ file_fault file_kinds.TooManyTurns = 24
 file_fault file_kinds.Failed = 25
 file_fault file_kinds.OutOfMemory = 0
 
--- of a record
+-- the number of the fault of a record
 abbrev pub record_fault : RecordFaultKind → ℕ
 record_fault record_kinds.RepeatedField = 26
 record_fault record_kinds.MissingType = 27
@@ -70,7 +71,7 @@ record_fault record_kinds.BadPreferred = 33
 record_fault record_kinds.BadPrefix = 34
 record_fault record_kinds.OutOfMemory = 0
 
--- the conditions of the check, C1 to C12
+-- the number of a condition of the check, C1 to C12
 abbrev pub condition : Condition → ℕ
 condition conditions.OwnName = 35
 condition conditions.RegisteredValue = 36
@@ -85,7 +86,7 @@ condition conditions.RestingWhole = 44
 condition conditions.AgreeingWhole = 45
 condition conditions.NoRangeValue = 46
 
--- the conditions on an upgrade, U1 to U6
+-- the number of a condition on an upgrade, U1 to U6
 abbrev pub upgrade_condition : UpgradeCondition → ℕ
 upgrade_condition upgrades.StaysRegistered = 47
 upgrade_condition upgrades.SameEnds = 48
@@ -94,25 +95,25 @@ upgrade_condition upgrades.SameVariantLanguage = 50
 upgrade_condition upgrades.NoNewVariantLanguage = 51
 upgrade_condition upgrades.SameWhole = 52
 
--- of a piece of a language range: those of a text
+-- the number of the fault of a piece of a language range, as of a piece of a text
 abbrev pub subtag_fault : SubtagFault → ℕ
 subtag_fault subtag_kinds.Empty = 2
 subtag_fault subtag_kinds.BadByte = 3
 subtag_fault subtag_kinds.TooLong = 4
 
--- of a language range
+-- the number of the fault of a language range
 abbrev pub range_fault : RangeFault → ℕ
 range_fault (range_kinds.BadSubtag fault) = subtag_fault fault
 range_fault range_kinds.BadFirst = 53
 range_fault range_kinds.OutOfMemory = 0
 
--- the three kinds of tag (RFC 5646, 2.1)
+-- the number of a class of tag (RFC 5646, 2.1)
 abbrev pub class : Class → ℕ
 class classes.LangTag = 1
 class classes.PrivateUse = 2
 class classes.Grandfathered = 3
 
--- the kinds of step
+-- the number of a kind of step
 abbrev pub step_kind : StepKind → ℕ
 step_kind steps.Extlang = 1
 step_kind steps.Language = 2
@@ -129,7 +130,7 @@ step_kind steps.SwapKeywords = 12
 step_kind steps.DropTrue = 13
 step_kind steps.SwapFields = 14
 
--- the kind that has a number, or that none has
+-- the kind of step that has a number, None if none has it
 abbrev pub IsKindOf : ℕ → Option StepKind → Type 0
 IsKindOf n (Some kind) = n ≡ step_kind kind
 IsKindOf n None = (kind : StepKind) → n ≢ step_kind kind

@@ -1,4 +1,4 @@
--- What a call answers, and what it leaves in a buffer.
+-- What calls of the C library answer (an outcome), and what they leave in a buffer.
 use Rattle.std.specs.Prelude.{ℕ, ◌≡◌, ◌≤◌, ◌<◌, ◌⊎◌, List, [], take, drop, length}
 use Rattle.lt_canon.specs.declared.refusals.TextRefusal.{TextRefusal}
 use Rattle.lt_canon.specs.declared.refusals.TextRefusal.TheVariants as refusals
@@ -6,11 +6,11 @@ use Rattle.bcp47_c.specs.Numbers.{tag_fault, valid_fault}
 use Rattle.bcp47_c.specs.declared.outcomes.Outcome.{Outcome}
 use Rattle.bcp47_c.specs.declared.outcomes.Said.{Said}
 
--- a status alone
+-- a status without detail and place
 abbrev pub ended : ℕ → Said
 ended status = record { status = status; detail = 0; place = 0 }
 
--- what is said, and the length of the text; the last two are 0 but where a call over two texts tells which
+-- the outcome of a status, detail and place, and of a text's length; on which text it is, and the reserved part, are 0
 abbrev pub outcome : Said → ℕ → Outcome
 outcome said length =
     record {
@@ -22,47 +22,47 @@ outcome said length =
       reserved = 0;
     }
 
--- a text is at the front of a buffer, and what was after it is there still
+-- the text is at the front of the buffer, and the rest of the buffer is as before
 pub record StandsIn (text before after : List ℕ) : Type 0 where
   pub front : take (length text) after ≡ text
   pub rest : drop (length text) after ≡ drop (length text) before
 
--- What is said is answered with the text, where it fits the buffer. Else nothing is written, and the status is
--- BufferTooSmall (5). The text's length is reported in both cases.
+-- If the text fits the buffer, it is written there and what is said is answered. Else nothing is written, and the
+-- status is BufferTooSmall (5). The text's length is answered in both cases.
 pub record IsDelivered (said : Said) (text before after : List ℕ) (o : Outcome) : Type 0 where
   pub fits : length text ≤ length before → (o ≡ outcome said (length text)) × StandsIn text before after
   pub too_long : length before < length text → (o ≡ outcome (ended 5) (length text)) × (after ≡ before)
 
--- what is said of a refusal: no tag (1), not valid (2), a variant that steps can repeat (3), no memory (4)
+-- the status, detail and place for a refusal: NotATag (1), Invalid (2), ReplacementRepeats (3) or OutOfMemory (4)
 abbrev pub refusal_said : TextRefusal → Said
 refusal_said (refusals.NotATag fault) = record { status = 1; detail = tag_fault fault.kind; place = fault.place }
 refusal_said (refusals.Invalid fault) = record { status = 2; detail = valid_fault fault.kind; place = fault.place }
 refusal_said (refusals.ReplacementRepeats variant) = ended 3
 refusal_said refusals.OutOfMemory = ended 4
 
--- the text that goes with it: the variant that can be repeated
+-- the text that is written with a refusal: the variant that steps can repeat, else none
 abbrev pub refusal_text : TextRefusal → List ℕ
 refusal_text (refusals.NotATag fault) = []
 refusal_text (refusals.Invalid fault) = []
 refusal_text (refusals.ReplacementRepeats variant) = variant
 refusal_text refusals.OutOfMemory = []
 
--- a refusal is answered
+-- the refusal is answered, with its text
 abbrev pub IsRefused : TextRefusal → List ℕ → List ℕ → Outcome → Type 0
 IsRefused refusal before after o = IsDelivered (refusal_said refusal) (refusal_text refusal) before after o
 
--- a text that is owed is answered
+-- a text of which `IsOwed` is true is written, and the status is Done (0)
 pub record IsWritten (IsOwed : List ℕ → Type 0) (before after : List ℕ) (o : Outcome) : Type 0 where
   pub text : List ℕ
   pub owed : IsOwed text
   pub delivered : IsDelivered (ended 0) text before after o
 
--- or a refusal that is owed
+-- a refusal of which `IsOwed` is true is answered
 pub record IsRefusedAsOwed (IsOwed : TextRefusal → Type 0) (before after : List ℕ) (o : Outcome) : Type 0 where
   pub refusal : TextRefusal
   pub owed : IsOwed refusal
   pub refused : IsRefused refusal before after o
 
--- what a call answers that writes a text
+-- what a call answers that writes a text, or refuses to
 abbrev pub Answers : (List ℕ → Type 0) → (TextRefusal → Type 0) → List ℕ → List ℕ → Outcome → Type 0
 Answers IsText IsRefusal before after o = IsWritten IsText before after o ⊎ IsRefusedAsOwed IsRefusal before after o

@@ -1,4 +1,4 @@
--- The parts of a tag in numbers, and how the call ends that writes them.
+-- The parts of a tag in numbers, and what the call answers that writes them.
 use Rattle.std.specs.Prelude.{ℕ, ◌≡◌, ◌≢◌, ◌≤◌, ◌<◌, ◌⊎◌, List, [], take, drop, length, map, Option, Some, None}
 use Rattle.lt_tag.specs.Faults.{HasTag}
 use Rattle.lt_tag.specs.Parts.{TagForm}
@@ -13,7 +13,7 @@ use Rattle.bcp47_c.specs.declared.outcomes.Outcome.{Outcome}
 use Rattle.bcp47_c.specs.declared.outcomes.Said.{Said}
 use Rattle.bcp47_c.specs.declared.parts.PartNumbers.{PartNumbers}
 
--- the kinds of part
+-- the number of a kind of part
 abbrev pub part_kind : PartKind → ℕ
 part_kind kinds.Language = 1
 part_kind kinds.Extlang = 2
@@ -36,26 +36,26 @@ part_kind kinds.PrivateUseSingleton = 18
 part_kind kinds.PrivateUse = 19
 part_kind kinds.Grandfathered = 20
 
--- the kind of part that has a number, or that none has
+-- the kind of part that has a number, None if none has it
 abbrev pub IsPartKindOf : ℕ → Option PartKind → Type 0
 IsPartKindOf n (Some kind) = n ≡ part_kind kind
 IsPartKindOf n None = (kind : PartKind) → n ≢ part_kind kind
 
--- a part in numbers
+-- a part in numbers: its kind, and where it starts and how long it is in the tag's text
 abbrev pub in_numbers : Part → PartNumbers
 in_numbers part = record { kind = part_kind part.kind; start = part.start; length = part.length }
 
--- parts are at the front of a room, and what was after them is there still
+-- the parts are at the front of a room for parts, and the rest of the room is as before
 pub record StandIn (parts before after : List PartNumbers) : Type 0 where
   pub front : take (length parts) after ≡ parts
   pub rest : drop (length parts) after ≡ drop (length parts) before
 
--- a status, and how many parts there are
+-- a status, with the number of parts as the place
 abbrev pub counted : ℕ → List PartNumbers → Said
 counted status parts = record { status = status; detail = 0; place = length parts }
 
--- A text and its parts are answered, where both fit. Else nothing is written, and the status says so. How many parts
--- there are, and the text's length, are reported in both cases.
+-- If a text and its parts fit, they are written. Else nothing is, and the status is BufferTooSmall (5). The number of
+-- parts and the text's length are answered in both cases.
 pub record AreDelivered (parts : List PartNumbers) (text : List ℕ) (room filled : List PartNumbers) (before after : List ℕ)
     (o : Outcome) : Type 0 where
   pub fit : length parts ≤ length room → length text ≤ length before
@@ -65,26 +65,26 @@ pub record AreDelivered (parts : List PartNumbers) (text : List ℕ) (room fille
   pub too_long : length before < length text
       → (o ≡ outcome (counted 5 parts) (length text)) × (filled ≡ room) × (after ≡ before)
 
--- the text is read as a tag, and these are its parts in numbers and its text in conventional case
+-- the text is read as a tag, `shown` is that tag's text in conventional case, and `parts` are its parts in numbers
 pub record HasParts (text : List ℕ) (shown : List ℕ) (parts : List PartNumbers) : Type 0 where
   pub tag : TagForm
   pub read : HasTag text tag
   pub is_shown : shown ≡ text_of tag
   pub are_parts : parts ≡ map in_numbers (parts_of tag)
 
--- they are answered
+-- the parts of the tag and its text are answered
 pub record AreWritten (text : List ℕ) (room filled : List PartNumbers) (before after : List ℕ) (o : Outcome) : Type 0 where
   pub shown : List ℕ
   pub parts : List PartNumbers
   pub owed : HasParts text shown parts
   pub delivered : AreDelivered parts shown room filled before after o
 
--- the text is read as no tag, and no part is written
+-- why the text is no tag is answered, and no part is written
 pub record AreNotWritten (text : List ℕ) (room filled : List PartNumbers) (before after : List ℕ) (o : Outcome) : Type 0 where
   pub refused : IsRefusedAsOwed (IsReadingRefusal text) before after o
   pub kept : filled ≡ room
 
--- the parts of the tag are written, or the text is read as none
+-- the parts of the tag are answered, or why the text is no tag
 abbrev pub TellsParts : List ℕ → List PartNumbers → List PartNumbers → List ℕ → List ℕ → Outcome → Type 0
 TellsParts text room filled before after o =
     AreWritten text room filled before after o ⊎ AreNotWritten text room filled before after o

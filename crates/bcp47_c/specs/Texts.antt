@@ -1,4 +1,4 @@
--- What calls owe for texts that are read as tags.
+-- What calls of the C library answer of texts that are read as tags.
 use Rattle.std.specs.Prelude.{ℕ, ◌≡◌, List, length}
 use Rattle.lt_tag.specs.Faults.{HasFault, HasTag}
 use Rattle.lt_tag.specs.Parts.{TagForm}
@@ -10,7 +10,7 @@ use Rattle.lt_canon.specs.Texts.{ReadsAs}
 use Rattle.lt_canon.specs.declared.refusals.TextRefusal.{TextRefusal}
 use Rattle.lt_canon.specs.declared.refusals.TextRefusal.TheVariants as refusals
 
--- the text is read as no tag; running out of memory aside
+-- why the text is no tag; OutOfMemory may be answered of any text
 abbrev pub IsReadingRefusal : List ℕ → TextRefusal → Type 0
 IsReadingRefusal text (refusals.NotATag fault) = HasFault text fault.kind fault.place
 IsReadingRefusal text (refusals.Invalid fault) = ⊥
@@ -21,7 +21,7 @@ IsReadingRefusal text refusals.OutOfMemory = Unit {0}
 abbrev pub IsValidText : List EntryParts → List ℕ → Type 0
 IsValidText R text = ReadsAs text (HasNoFault R)
 
--- the text is read as a tag, and its explanation has so many steps (RFC 5646, 4.5)
+-- the text is read as a tag, and `count` is the number of steps of its explanation (RFC 5646, 4.5)
 pub record IsStepCount (R : List EntryParts) (text : List ℕ) (count : ℕ) : Type 0 where
   pub tag : TagForm
   pub read : HasTag text tag

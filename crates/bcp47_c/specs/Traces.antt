@@ -1,4 +1,4 @@
--- What is owed for a trace in numbers that is to be verified.
+-- What is answered of a trace, steps in numbers from one tag to another, that is to be verified.
 use Rattle.std.specs.Prelude.{ℕ, ◌≡◌, ◌+◌, ◌⊎◌, List, [], ◌∷◌, ◌++◌, length, map, None}
 use Rattle.lt_tag.specs.Faults.{HasFault, HasTag}
 use Rattle.lt_tag.specs.Parts.{TagForm}
@@ -23,20 +23,20 @@ use Rattle.bcp47_c.specs.declared.steps.StepNumbers.{StepNumbers}
 
 -- ---- steps in numbers (RFC 5646, 4.5)
 
--- they tell steps that lead from the valid tag to the end, which is then equivalent to it
+-- the numbers are steps that lead from the valid tag to the end, which is then equivalent to the tag
 pub record TellsTrace (R : List EntryParts) (t : TagForm) (told : List StepNumbers) (end : TagForm) : Type 0 where
   pub steps : List Step
   pub are : told ≡ map in_numbers steps
   pub trace : IsValidTrace R t steps end
   pub equivalent : AreEquivalent R t end
 
--- the numbers tell a step that does not lead on from the tag
+-- the numbers are a step that leads nowhere from the tag
 pub record TellsMisstep (R : List EntryParts) (t : TagForm) (told : StepNumbers) : Type 0 where
   pub step : Step
   pub is : told ≡ in_numbers step
   pub stuck : (u : TagForm) → LeadsBy R t step u → ⊥
 
--- the nth, counted from 1, are the first that tell no step, or one that does not lead on
+-- the numbers at index `n`, counted from 1, are the first that are no step, or one that leads nowhere
 pub record HasMisstep (R : List EntryParts) (t : TagForm) (told : List StepNumbers) (n : ℕ) : Type 0 where
   pub before : List Step
   pub nth : StepNumbers
@@ -47,20 +47,20 @@ pub record HasMisstep (R : List EntryParts) (t : TagForm) (told : List StepNumbe
   pub led : IsTrace R t before tag
   pub stops : IsToldBy nth None ⊎ TellsMisstep R tag nth
 
--- they tell steps that lead to another tag
+-- the numbers are steps that lead to another tag than `end`
 pub record TellsOtherEnd (R : List EntryParts) (t : TagForm) (told : List StepNumbers) (end : TagForm) : Type 0 where
   pub steps : List Step
   pub are : told ≡ map in_numbers steps
   pub elsewhere : EndsElsewhere R t steps end
 
--- the fault that is reported; running out of memory aside
+-- what is wrong with a trace in numbers; OutOfMemory may be answered of any
 abbrev pub IsToldFault : List EntryParts → TagForm → List StepNumbers → TagForm → TraceFault → Type 0
 IsToldFault R t told end (faults.Invalid fault) = IsFirstFault R t fault.kind fault.place
 IsToldFault R t told end (faults.NoSuchStep n) = IsValid R t × HasMisstep R t told n
 IsToldFault R t told end faults.WrongEnd = IsValid R t × TellsOtherEnd R t told end
 IsToldFault R t told end faults.OutOfMemory = Unit {0}
 
--- what a fault of the first steps says of all, where the next numbers, the nth, tell no step
+-- the fault of a trace by that of its first steps, where the next numbers, the nth, are no step
 abbrev pub of_front : TraceFault → ℕ → TraceFault
 of_front (faults.Invalid fault) n = faults.Invalid fault
 of_front (faults.NoSuchStep m) n = faults.NoSuchStep m
@@ -69,7 +69,7 @@ of_front faults.OutOfMemory n = faults.OutOfMemory
 
 -- ---- texts and outcomes
 
--- one of two texts is read as no tag, the first before the second; running out of memory aside
+-- why one of two texts is no tag, the first before the second; OutOfMemory may be answered of any two texts
 abbrev pub IsPairReadingRefusal : List ℕ → List ℕ → TextRefusal → Type 0
 IsPairReadingRefusal first second (refusals.NotATag fault) =
     HasFault first fault.kind fault.place ⊎ ReadsAs first (λ tag. HasFault second fault.kind fault.place)
@@ -77,14 +77,14 @@ IsPairReadingRefusal first second (refusals.Invalid fault) = ⊥
 IsPairReadingRefusal first second (refusals.ReplacementRepeats variant) = ⊥
 IsPairReadingRefusal first second refusals.OutOfMemory = Unit {0}
 
--- what is said of a fault
+-- the status, detail and place for a fault of a trace: Invalid (2), NoSuchStep (11), WrongEnd (12) or OutOfMemory (4)
 abbrev pub trace_said : TraceFault → Said
 trace_said (faults.Invalid fault) = record { status = 2; detail = valid_fault fault.kind; place = fault.place }
 trace_said (faults.NoSuchStep n) = record { status = 11; detail = 0; place = n }
 trace_said faults.WrongEnd = ended 12
 trace_said faults.OutOfMemory = ended 4
 
--- what is said of the steps between two tags
+-- that the steps lead from one tag to the other is answered (status Done, 0), or what is wrong with them
 abbrev pub IsJudged : List EntryParts → TagForm → List StepNumbers → TagForm → Outcome → Type 0
 IsJudged R t told end o =
     (TellsTrace R t told end × (o ≡ outcome (ended 0) 0))
@@ -99,7 +99,7 @@ pub record JudgesTexts (R : List EntryParts) (text : List ℕ)
   pub read_end : HasTag last end
   pub judged : IsJudged R tag told end o
 
--- or one is read as none; no text goes with either
+-- the steps between the tags of two texts are judged, or why a text is no tag is answered; no text is written
 abbrev pub Verifies : List EntryParts → List ℕ → List StepNumbers → List ℕ → Outcome → Type 0
 Verifies R text told last o =
     JudgesTexts R text told last o ⊎ IsRefusedAsOwed (IsPairReadingRefusal text last) [] [] o

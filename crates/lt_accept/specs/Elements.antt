@@ -1,4 +1,4 @@
--- The reading of a list element of the header: a language range and its weight (RFC 9110, 12.5.4).
+-- How an element of the header Accept-Language is read: a language range and its weight (RFC 9110, 12.5.4).
 use Rattle.std.specs.Prelude.{ℕ, ◌≡◌, ◌==◌, ◌||◌, Bool, true, false, not, List, [], ◌∷◌, Option, Some, None, Result, Ok, Err}
 use Rattle.std.specs.List.{list_all}
 use Rattle.lt_range.specs.Ranges.{RangeParts}
@@ -10,38 +10,40 @@ use Rattle.lt_accept.specs.declared.elements.WeightedRange.{WeightedRange}
 use Rattle.lt_accept.specs.declared.faults.AcceptFaultKind.{AcceptFaultKind}
 use Rattle.lt_accept.specs.declared.faults.AcceptFaultKind.TheVariants as kinds
 
--- the text of a range, and its weight in thousandths
+-- the text of a language range, and its weight in thousandths
 pub record ElementParts : Type 0 where
   pub range : List ℕ
   pub weight : ℕ
 
+-- what contracts see of an element of the header
 abbrev pub parts_of : WeightedRange → ElementParts
 parts_of element = record { range = element.range.now; weight = element.weight }
 
--- no byte is a `*` (42)
+-- whether no byte of a text is a `*` (42)
 abbrev pub has_no_star : List ℕ → Bool
 has_no_star text = list_all (λ b. not (b == 42)) text
 
--- a range that is `*`, or has no `*`: a basic one (RFC 4647, 2.1)
+-- whether a text is `*`, or has no `*`, as a basic language range (RFC 4647, 2.1)
 abbrev pub is_basic : List ℕ → Bool
 is_basic text = is_star text || has_no_star text
 
--- why it is no basic range, if it is none
+-- why a text is no basic range, by what it is read as and whether it has that form; None if it is one
 abbrev pub fault_by : Result RangeParts RangeFault → Bool → Option AcceptFaultKind
 fault_by (Err fault) basic = Some (kinds.BadRange fault)
 fault_by (Ok range) false = Some kinds.ExtendedRange
 fault_by (Ok range) true = None
 
+-- why a text is no basic range; None if it is one
 abbrev pub range_fault : List ℕ → Option AcceptFaultKind
 range_fault text = fault_by (range_of text) (is_basic text)
 
--- the element of a range with a weight
+-- the element of a range with this weight, or its fault
 abbrev pub element_with : List ℕ → Option AcceptFaultKind → Option ℕ → Result (Option ElementParts) AcceptFaultKind
 element_with range (Some kind) weight = Err kind
 element_with range None None = Err kinds.BadWeight
 element_with range None (Some weight) = Ok (Some (record { range = range; weight = weight }))
 
--- by what follows the white space at the front; an element may be empty (RFC 9110, 5.6.1.2)
+-- the element that a text without white space at its front is, or its fault; it may be empty (RFC 9110, 5.6.1.2)
 abbrev pub element_at : List ℕ → Result (Option ElementParts) AcceptFaultKind
 element_at [] = Ok None
 element_at (b ∷ bs) =
@@ -49,16 +51,16 @@ element_at (b ∷ bs) =
     let others = rest is_word_byte (b ∷ bs) in
     element_with range (range_fault range) (weight_of others)
 
--- what is between two commas
+-- the element that is between two commas, or its fault
 unfoldable pub element_of : List ℕ → Result (Option ElementParts) AcceptFaultKind
 element_of piece = element_at (rest is_blank piece)
 
--- what was read is refused so; nothing is owed where memory ran out
+-- the reading gave this fault; OutOfMemory may be answered of any
 abbrev pub IsRefused : {X : Type 0} → Result X AcceptFaultKind → AcceptFaultKind → Type 0
 IsRefused read kinds.OutOfMemory = Unit {0}
 IsRefused read kind = read ≡ Err kind
 
--- it is this fault, if memory did not run out
+-- the fault is this one; OutOfMemory may be answered of any
 abbrev pub IsFoundFault : Option AcceptFaultKind → AcceptFaultKind → Type 0
 IsFoundFault fault kinds.OutOfMemory = Unit {0}
 IsFoundFault fault kind = fault ≡ Some kind

@@ -1,4 +1,4 @@
--- The grammar of the header (RFC 9110, 12.5.4): Accept-Language = #( language-range [ weight ] ).
+-- The grammar of the header Accept-Language (RFC 9110, 12.5.4): Accept-Language = #( language-range [ weight ] ).
 use Rattle.std.specs.Prelude.{ℕ, ◌≡◌, ◌⊎◌, true, List, [], ◌∷◌, ◌++◌, Option, Some, None, option_to_list, IsOk}
 use Rattle.std.specs.List.{list_all}
 use Rattle.lt_range.specs.Reading.{range_of}

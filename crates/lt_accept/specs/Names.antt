@@ -1,4 +1,4 @@
--- The names of faults, and how what is refused below is told.
+-- The names of the faults of the header Accept-Language, as they are printed.
 use Rattle.std.specs.Prelude.{ℕ, List, codes}
 use Rattle.lt_range.specs.Names as ranges
 use Rattle.lt_range.specs.declared.faults.RangeFault.{RangeFault}
@@ -7,18 +7,18 @@ use Rattle.lt_accept.specs.declared.faults.AcceptFault.{AcceptFault}
 use Rattle.lt_accept.specs.declared.faults.AcceptFaultKind.{AcceptFaultKind}
 use Rattle.lt_accept.specs.declared.faults.AcceptFaultKind.TheVariants as kinds
 
--- the name of a fault; that of a range is the name of the range's fault
+-- the name of a fault; for a fault of a range it is that fault's name
 abbrev pub name_of : AcceptFaultKind → List ℕ
 name_of (kinds.BadRange fault) = ranges.name_of fault
 name_of kinds.ExtendedRange = codes "ExtendedRange"
 name_of kinds.BadWeight = codes "BadWeight"
 name_of kinds.OutOfMemory = codes "OutOfMemory"
 
--- a range's fault
+-- the fault of an element whose range has this fault
 abbrev pub of_range_fault : RangeFault → AcceptFaultKind
 of_range_fault range_faults.OutOfMemory = kinds.OutOfMemory
 of_range_fault fault = kinds.BadRange fault
 
--- running out of memory
+-- the fault of running out of memory
 abbrev pub no_memory : AcceptFault
 no_memory = record { kind = kinds.OutOfMemory; place = 0 }

@@ -1,4 +1,4 @@
--- What is appended for the front and for the end of a text. No public contract cites this.
+-- What a cache appends to an answer for the front of a text and for its end. No public contract cites this.
 use Rattle.std.specs.Prelude.{ℕ, ◌≡◌, ◌+◌, Bool, true, false, List, [], ◌∷◌, ◌++◌, length, Option}
 use Rattle.std.specs.Char.{to_ascii_lowercase}
 use Rattle.lt_subtag.specs.Bytes.{folded}
@@ -12,30 +12,31 @@ use Rattle.lt_cache.specs.declared.recent.Kept.{Kept}
 use Rattle.lt_canon.specs.Texts.{IsCanonicalTextOf}
 use Rattle.lt_cache.specs.Ends.{AreEnds, IsCanonicalCore, IsEnd, IsEndText}
 
--- a canonical core was appended in conventional case, or nothing
+-- a canonical core was appended in conventional case; or, if false, nothing was
 abbrev pub AppendsFront : List EntryParts → (front old new : List ℕ) → Bool → Type 0
 AppendsFront R front old new true = IsCanonicalCore R front × (new ≡ old ++ conventional (list_of front))
 AppendsFront R front old new false = new ≡ old
 
--- what is kept for an end was appended, or nothing
+-- the answer that the cache has for an end was appended; or, if false, nothing was
 abbrev pub AppendsKept : List (Option Kept) → (end old new : List ℕ) → Bool → Type 0
 AppendsKept table end old new true =
     (answer : List ℕ) × (refused : Bool) × Holds table end answer refused × (new ≡ old ++ answer)
 AppendsKept table end old new false = new ≡ old
 
--- a `t` extension of a source was appended, and what is kept for its fields; or nothing
+-- a hyphen (45), `t`, a hyphen, the source in lower case and what the cache has for the fields were appended; or
+-- nothing, if false
 abbrev pub AppendsTransformed : List (Option Kept) → (source fields old new : List ℕ) → Bool → Type 0
 AppendsTransformed table source fields old new true =
     (answer : List ℕ) × (refused : Bool) × Holds table fields answer refused
     × (new ≡ old ++ (45 ∷ transform ∷ 45 ∷ folded source ++ answer))
 AppendsTransformed table source fields old new false = new ≡ old
 
--- what follows a canonical core with an end in a canonical text was appended, or nothing
+-- what follows each canonical core with this end in its canonical text was appended; or, if false, nothing was
 abbrev pub AppendsEnd : List EntryParts → List (Option Kept) → (end old new : List ℕ) → Bool → Type 0
 AppendsEnd R table end old new true = (rest : List ℕ) × (AreEnds R table → IsEndText R end rest) × (new ≡ old ++ rest)
 AppendsEnd R table end old new false = new ≡ old
 
--- from a place on, the texts are what follows a canonical core with an end in its canonical text
+-- from the place `from` on, the texts are what follows a canonical core with this end in its canonical text
 pub record EndStands (R : List EntryParts) (end : List ℕ) (from : ℕ) (texts : List ℕ) : Type 0 where
   pub front : List ℕ
   pub core : IsCanonicalCore R front
@@ -46,7 +47,7 @@ pub record EndStands (R : List EntryParts) (end : List ℕ) (from : ℕ) (texts 
   pub is_canonical : IsCanonicalTextOf R (front ++ end) canonical
   pub counted : from ≡ length before + length (conventional (list_of front))
 
--- a text is a canonical core, which has this many bytes in conventional case, and an end
+-- a text is a canonical core, which has `count` bytes in conventional case, and an end
 pub record EndsText (R : List EntryParts) (text end : List ℕ) (count : ℕ) : Type 0 where
   pub front : List ℕ
   pub whole : front ++ end ≡ text
@@ -54,7 +55,7 @@ pub record EndsText (R : List EntryParts) (text end : List ℕ) (count : ℕ) : 
   pub is_end : IsEnd end
   pub counted : count ≡ length (conventional (list_of front))
 
--- a hyphen, a separator and a hyphen begin the fields of a `t` extension (RFC 6497, 2.2)
+-- a hyphen (45), the separator of a field, of a letter and a digit, and a hyphen begin the text (RFC 6497, 2.2)
 pub record IsSeparated (fields : List ℕ) : Type 0 where
   pub letter : ℕ
   pub digit : ℕ
@@ -62,7 +63,7 @@ pub record IsSeparated (fields : List ℕ) : Type 0 where
   pub separator : is_separator (folded (letter ∷ digit ∷ [])) ≡ true
   pub whole : fields ≡ 45 ∷ letter ∷ digit ∷ 45 ∷ rest
 
--- a singleton `t`, with a hyphen on each side, and the rest are the text (RFC 6497, 2.2)
+-- the text is a hyphen (45), the singleton `t`, a hyphen and `rest` (RFC 6497, 2.2)
 pub record FollowsSingleton (rest text : List ℕ) : Type 0 where
   pub singleton : ℕ
   pub is_t : to_ascii_lowercase singleton ≡ transform

@@ -1,4 +1,5 @@
--- The end of a tag, from its first one-character subtag on, and its canonical text (RFC 5646, 2.2.6, 2.2.7 and 4.5).
+-- The end of a tag, from its first one-character subtag on, and what a cache keeps for it, as many tags share their
+-- ends (RFC 5646, 2.2.6, 2.2.7 and 4.5).
 use Rattle.std.specs.Prelude.{ℕ, ◌≡◌, ◌≢◌, ◌≤◌, ◌==◌, true, not, List, [], ◌∷◌, ◌++◌, length, Option, Some, None}
 use Rattle.std.specs.List.{All, list_all}
 use Rattle.std.specs.Char.{to_ascii_lowercase}
@@ -16,21 +17,22 @@ use Rattle.lt_rewrite.specs.TagSteps.{IsCanonical}
 use Rattle.lt_canon.specs.Texts.{IsCanonicalTextOf}
 use Rattle.lt_cache.specs.declared.recent.Kept.{Kept}
 
--- a hyphen, one byte that is none, and a hyphen begin it (RFC 5646, 2.2.6 and 2.2.7)
+-- an end of a tag: a hyphen (45), one byte that is no hyphen, and a hyphen begin it (RFC 5646, 2.2.6 and 2.2.7)
 pub record IsEnd (end : List ℕ) : Type 0 where
   pub singleton : ℕ
   pub rest : List ℕ
   pub single : singleton ≢ 45
   pub whole : end ≡ 45 ∷ singleton ∷ 45 ∷ rest
 
--- a hyphen and the separator of a field begin it, and each subtag has more than one character (RFC 6497, 2.2)
+-- fields of a `t` extension: a hyphen (45) and a field's separator begin them, and no subtag has one character (RFC
+-- 6497, 2.2)
 pub record IsFields (fields : List ℕ) : Type 0 where
   pub rest : List ℕ
   pub whole : fields ≡ 45 ∷ rest
   pub separator : before is_separator (list_of rest) ≡ []
   pub no_singleton : list_all (λ (s : List ℕ). not (length s == 1)) (list_of rest) ≡ true
 
--- a `t` extension of a source and fields (RFC 6497, 2.2)
+-- the end is a `t` extension of this source and these fields (RFC 6497, 2.2)
 pub record IsTransformed (source fields end : List ℕ) : Type 0 where
   pub singleton : ℕ
   pub is_t : to_ascii_lowercase singleton ≡ transform
@@ -43,27 +45,27 @@ pub record IsCanonicalCore (R : List EntryParts) (front : List ℕ) : Type 0 whe
   pub read : HasTag front (core_alone core)
   pub canonical : IsCanonical R (core_alone core)
 
--- the canonical text of each canonical core with this end is the core in conventional case, and this (RFC 5646, 2.1.1
--- and 4.5)
+-- `canonical` is what follows the core, in conventional case, in the canonical text of each canonical core with this
+-- end (RFC 5646, 2.1.1 and 4.5)
 abbrev pub IsEndText : List EntryParts → (end canonical : List ℕ) → Type 0
 IsEndText R end canonical =
     (front : List ℕ) → IsCanonicalCore R front → length (front ++ end) ≤ longest_text →
     IsCanonicalTextOf R (front ++ end) (conventional (list_of front) ++ canonical)
 
--- what follows the core in a canonical text, which is the same with each canonical core
+-- what follows the core in this canonical text follows each canonical core with the same end
 pub record TellsEnd (R : List EntryParts) (front end canonical : List ℕ) : Type 0 where
   pub rest : List ℕ
   pub whole : canonical ≡ conventional (list_of front) ++ rest
   pub shared : IsEndText R end rest
 
--- the canonical text of one canonical core with an end tells that of each with it (RFC 5646, 4.5)
+-- in canonical texts, the same follows each canonical core with the same end (RFC 5646, 4.5)
 abbrev pub EndsAreShared : List EntryParts → Type 0
 EndsAreShared R =
     (front end canonical : List ℕ) → IsCanonicalCore R front → IsEnd end → IsCanonicalTextOf R (front ++ end) canonical →
     TellsEnd R front end canonical
 
--- the canonical text of each canonical core with a `t` extension of a canonical source and these fields is the core in
--- conventional case, the source in lower case, and this (RFC 5646, 2.1.1 and 4.5; RFC 6497, 2.2)
+-- `canonical` is what follows the source in the canonical text of each canonical core with a `t` extension of a
+-- canonical source and these fields (RFC 5646, 2.1.1 and 4.5; RFC 6497, 2.2)
 abbrev pub IsFieldsText : List EntryParts → (fields canonical : List ℕ) → Type 0
 IsFieldsText R fields canonical =
     (front source end : List ℕ) → IsCanonicalCore R front → IsCanonicalCore R source → IsTransformed source fields end →
@@ -71,26 +73,26 @@ IsFieldsText R fields canonical =
     IsCanonicalTextOf R (front ++ end)
     (conventional (list_of front) ++ (45 ∷ transform ∷ 45 ∷ folded source ++ canonical))
 
--- what follows the source in a canonical text, which is the same with each canonical core and source
+-- what follows the source in this canonical text follows each canonical core and source with the same fields
 pub record TellsFields (R : List EntryParts) (front source fields canonical : List ℕ) : Type 0 where
   pub rest : List ℕ
   pub whole : canonical ≡ conventional (list_of front) ++ (45 ∷ transform ∷ 45 ∷ folded source ++ rest)
   pub shared : IsFieldsText R fields rest
 
--- the canonical text of one canonical core and source with fields tells that of each with them (RFC 5646, 4.5)
+-- in canonical texts, the same follows each canonical source with the same fields (RFC 5646, 4.5)
 abbrev pub FieldsAreShared : List EntryParts → Type 0
 FieldsAreShared R =
     (front source fields end canonical : List ℕ) → IsCanonicalCore R front → IsCanonicalCore R source →
     IsTransformed source fields end → IsCanonicalTextOf R (front ++ end) canonical →
     TellsFields R front source fields canonical
 
--- what a place has, if it has something, is an end and what follows a core in its canonical text, or fields and what
--- follows a source
+-- an entry of the cache is empty or right: it has an end and what follows a core with it, or fields and what follows a
+-- source with them
 abbrev pub IsKeptEnd : List EntryParts → Option Kept → Type 0
 IsKeptEnd R None = Unit {0}
 IsKeptEnd R (Some kept) =
     (IsEnd kept.line → IsEndText R kept.line kept.answer) × (IsFields kept.line → IsFieldsText R kept.line kept.answer)
 
--- so it is in each place
+-- each entry of the cache of ends is empty or right
 pub record AreEnds (R : List EntryParts) (table : List (Option Kept)) : Type 0 where
   pub each : All (IsKeptEnd R) table

@@ -1,6 +1,6 @@
--- A short text in 32 bytes.
+-- A short text, padded with zeros to 32 bytes.
 use Rattle.std.specs.Prelude.{◌++◌, ◌-◌, ℕ, List, length, replicate}
 
--- the bytes, and then zeros up to 32
+-- the bytes of a text, and then zeros up to 32 bytes
 abbrev pub padded : List ℕ → List ℕ
 padded s = s ++ replicate (32 - length s) 0

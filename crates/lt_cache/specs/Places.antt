@@ -1,12 +1,12 @@
--- The places of a table, which are made for its first answer.
+-- The places of a cache, which are made when it gets its first answer.
 use Rattle.std.specs.Prelude.{List, [], ◌∷◌, Option, None, replicate}
 use Rattle.lt_cache.specs.declared.recent.Kept.{Kept}
 
--- places that hold nothing
+-- the 16,384 places of a cache, all empty
 unfoldable pub blank_places : List (Option Kept)
 blank_places = replicate 16384 None
 
--- before places are made they hold nothing
+-- the places of a cache, which are empty where none were made yet
 abbrev pub made : List (Option Kept) → List (Option Kept)
 made [] = blank_places
 made (place ∷ places) = place ∷ places

@@ -10,32 +10,36 @@ use Rattle.lt_tag.specs.Extensions.{is_long}
 use Rattle.lt_tag.specs.Lists.{list_of}
 use Rattle.lt_rewrite.specs.Extensions.{text_cmp}
 
+-- whether an order is Greater
 abbrev pub is_above : Ordering → Bool
 is_above Less = false
 is_above Equal = false
 is_above Greater = true
 
--- a key comes after another, if there is another (RFC 6067, 2.1.1)
+-- whether a key comes after the key before it, if there is one (RFC 6067, 2.1.1)
 abbrev pub comes_after : Option (List ℕ) → List ℕ → Bool
 comes_after None key = true
 comes_after (Some last) key = is_above (text_cmp key last)
 
--- a type other than `true` (RFC 6067, 2.1)
+-- whether a subtag is a type of a keyword other than `true` (RFC 6067, 2.1)
 abbrev pub is_type : List ℕ → Bool
 is_type s = is_long s && not (bytes_eq s (codes "true"))
 
--- the last key after one subtag more, if that is a key after the last one or a type of it other than `true`
+-- the last key once a subtag follows it: that subtag if it is a later key, the same key if it is a type other than
+-- `true`; else None
 abbrev pub next_key : Option (List ℕ) → List ℕ → Option (List ℕ)
 next_key last s =
     if is_key s then (if comes_after last s then Some s else None)
     else (if is_type s then last else None)
 
--- after the last key, if there is one, come its types and keywords whose keys rise; no type is `true`
+-- whether subtags are types of the last key, if there is one, and then keywords in the order of their keys, with no
+-- type `true`
 abbrev pub keys_rise : Option (List ℕ) → List (List ℕ) → Bool
 keys_rise last [] = true
 keys_rise last (s ∷ ss) = option_map_or (λ (key : List ℕ). keys_rise (Some key) ss) (next_key last s) false
 
--- a singleton `u` and such keywords, or an `x` and subtags
+-- whether an end is canonical but for its case: `-u-` (45, 117 or 85, 45) and keywords in their order, or `-x-` (120 or
+-- 88) and subtags
 abbrev pub is_settled_end : List ℕ → Bool
 is_settled_end (h ∷ s ∷ i ∷ rest) =
     ((h == 45) && (i == 45))

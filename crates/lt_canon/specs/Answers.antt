@@ -9,7 +9,7 @@ use Rattle.lt_rewrite.specs.TagSteps.{IsReached, IsCanonical, CanRepeat}
 use Rattle.lt_canon.specs.declared.refusals.Refusal.{Refusal}
 use Rattle.lt_canon.specs.declared.refusals.Refusal.TheVariants as refusals
 
--- a variant that occurs a second time, leftmost
+-- from left to right, `v` is the first of the variants that occurs a second time
 pub record IsSecondOccurrence (variants : List (List ℕ)) (v : List ℕ) : Type 0 where
   pub before : List (List ℕ)
   pub between : List (List ℕ)
@@ -17,13 +17,13 @@ pub record IsSecondOccurrence (variants : List (List ℕ)) (v : List ℕ) : Type
   pub there : variants ≡ before ++ v ∷ (between ++ v ∷ after)
   pub first : Distinct (before ++ v ∷ between)
 
--- that variant where core steps on a core have come to rest
+-- `v` is the first variant that occurs a second time in the core normal form of `c`
 pub record IsRepeatOfCore (R : List EntryParts) (c : CoreParts) (v : List ℕ) : Type 0 where
   pub form : CoreParts
   pub normal : IsCoreNormalForm R c form
   pub second : IsSecondOccurrence form.variants v
 
--- and where they have on the source of an extension
+-- `v` is the first variant that occurs a second time in the core normal form of the source of one of the extensions
 pub record IsRepeatOfSource (R : List EntryParts) (es : List ExtensionParts) (v : List ℕ) : Type 0 where
   pub before : List ExtensionParts
   pub extension : ExtensionParts
@@ -33,33 +33,35 @@ pub record IsRepeatOfSource (R : List EntryParts) (es : List ExtensionParts) (v 
   pub has_source : HasSource extension source
   pub repeat : IsRepeatOfCore R source v
 
--- the core normal form of the core repeats no variant
+-- no variant occurs twice in the core normal form of `c`
 pub record HasDistinctForm (R : List EntryParts) (c : CoreParts) : Type 0 where
   pub form : CoreParts
   pub normal : IsCoreNormalForm R c form
   pub distinct : Distinct form.variants
 
--- the variant that a refusal names: of the core, or, where that repeats none, of the source
+-- the variant that a refusal names: the first repeated one in the core normal form of the core, or, where none is, of a
+-- source
 abbrev pub IsNamedRepeat : List EntryParts → TagForm → List ℕ → Type 0
 IsNamedRepeat R (LangTag c es ps) v = IsRepeatOfCore R c v ⊎ (HasDistinctForm R c × IsRepeatOfSource R es v)
 IsNamedRepeat R (PrivateUse ps) v = ⊥
 IsNamedRepeat R (Grandfathered n) v = ⊥
 
--- the canonical tag that a valid tag reaches where steps can repeat no variant (RFC 5646, 4.5 and 2.2.5)
+-- `c` is the canonical form of `t`: it is canonical and reached from `t`, which is valid and of which steps can repeat
+-- no variant (RFC 5646, 4.5 and 2.2.5)
 pub record IsCanonicalFormOf (R : List EntryParts) (t c : TagForm) : Type 0 where
   pub valid : IsValid R t
   pub canonical : IsCanonical R c
   pub reached : IsReached R t c
   pub repeats_none : CanRepeat R t → ⊥
 
--- steps can repeat a variant of a valid tag, and this one is named
+-- the tag is valid, steps can repeat a variant of it, and `v` is the one that a refusal names
 pub record IsRepeatOf (R : List EntryParts) (t : TagForm) (v : List ℕ) : Type 0 where
   pub valid : IsValid R t
   pub repeats : CanRepeat R t
   pub named : IsNamedRepeat R t v
 
--- A valid tag is refused only where steps can repeat a variant (RFC 5646, 4.5 and 2.2.5). Where memory runs out
--- nothing is said.
+-- A valid tag is refused only if steps can repeat a variant of it (RFC 5646, 4.5 and 2.2.5). OutOfMemory may be
+-- answered of any tag.
 abbrev pub RefusesOnlyRepeats : List EntryParts → TagForm → Refusal → Type 0
 RefusesOnlyRepeats R t (refusals.Invalid fault) = IsValid R t → ⊥
 RefusesOnlyRepeats R t (refusals.ReplacementRepeats v) = IsValid R t × CanRepeat R t

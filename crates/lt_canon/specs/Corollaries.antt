@@ -1,4 +1,4 @@
--- What follows from the laws of canonical tags, over a list of entries.
+-- What follows from the laws of canonical tags, over the entries of a registry.
 use Rattle.std.specs.Prelude.{◌≡◌, List}
 use Rattle.lt_tag.specs.Parts.{TagForm}
 use Rattle.lt_registry.specs.Parts.{EntryParts}
@@ -14,11 +14,11 @@ OneCanonicalTag R = (a b : TagForm) → IsCanonical R a → IsCanonical R b → 
 abbrev pub RepeatsHaveNoForm : List EntryParts → Type 0
 RepeatsHaveNoForm R = (t c : TagForm) → IsValid R t → CanRepeat R t → IsCanonical R c → AreEquivalent R t c → ⊥
 
--- of two valid tags that are equivalent both can repeat a variant or neither
+-- of two equivalent valid tags, steps can repeat a variant of both or of neither
 abbrev pub RepeatTogether : List EntryParts → Type 0
 RepeatTogether R = (t u : TagForm) → IsValid R t → IsValid R u → AreEquivalent R t u → CanRepeat R t → CanRepeat R u
 
--- two valid tags that can repeat no variant are equivalent exactly if their canonical forms are equal
+-- two valid tags of which steps can repeat no variant are equivalent exactly if their canonical forms are equal
 pub record EquivalenceIsEquality (R : List EntryParts) : Type 0 where
   pub equal : (t u c d : TagForm) → IsCanonicalFormOf R t c → IsCanonicalFormOf R u d → AreEquivalent R t u → c ≡ d
   pub equivalent : (t u c : TagForm) → IsCanonicalFormOf R t c → IsCanonicalFormOf R u c → AreEquivalent R t u

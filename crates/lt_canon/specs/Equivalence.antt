@@ -1,4 +1,4 @@
--- Whether two tags are equivalent, or the refusal that is owed.
+-- Whether two tags are equivalent, or why one of them is refused.
 use Rattle.std.specs.Prelude.{◌≡◌, ◌⊎◌, ◌↔◌, Bool, IsTrue, List}
 use Rattle.lt_tag.specs.Parts.{TagForm}
 use Rattle.lt_tag.specs.WellFormed.{spell}
@@ -9,8 +9,8 @@ use Rattle.lt_canon.specs.Answers.{IsCanonicalFormOf}
 use Rattle.lt_canon.specs.Refusals.{IsRefusedWith}
 use Rattle.lt_canon.specs.declared.refusals.Refusal.{Refusal}
 
--- Both tags have canonical forms; and whether the tags are equivalent is whether the forms are equal, and whether
--- their texts are.
+-- Both tags have canonical forms. The answer is whether the tags are equivalent, and so whether the forms are equal,
+-- and whether the forms' texts are.
 pub record IsEquivalenceAnswer (R : List EntryParts) (t u : TagForm) (answer : Bool) : Type 0 where
   pub first : TagForm
   pub second : TagForm
@@ -20,12 +20,12 @@ pub record IsEquivalenceAnswer (R : List EntryParts) (t u : TagForm) (answer : B
   pub equal : IsTrue answer ↔ (first ≡ second)
   pub equal_texts : IsTrue answer ↔ (conventional (spell first) ≡ conventional (spell second))
 
--- the second tag's refusal, where the first is not refused
+-- the refusal of the second tag, where the first has a canonical form
 pub record IsSecondRefusal (R : List EntryParts) (t u : TagForm) (refusal : Refusal) : Type 0 where
   pub first : TagForm
   pub first_form : IsCanonicalFormOf R t first
   pub refused : IsRefusedWith R u refusal
 
--- the first tag's refusal, else the second's
+-- the refusal of the first tag, or, where that has a canonical form, of the second
 abbrev pub IsFirstRefusal : List EntryParts → TagForm → TagForm → Refusal → Type 0
 IsFirstRefusal R t u refusal = IsRefusedWith R t refusal ⊎ IsSecondRefusal R t u refusal

@@ -15,23 +15,24 @@ use Rattle.lt_rewrite.specs.Runs.{kind_rank, extension_rank, IsRun, NoneLeads, A
 use Rattle.lt_rewrite.specs.declared.steps.Step.{Step}
 use Rattle.lt_canon.specs.Answers.{IsCanonicalFormOf}
 
--- a step on a core, that of a source if it is after the tag's own
+-- whether a step is one on the source of a `t` extension: it is of a kind on cores, and its place is after the tag's
+-- own core
 abbrev pub is_of_source : TagForm → Step → Bool
 is_of_source (LangTag c es ps) step = nat_le (kind_rank step) 6 && nat_le (length (spell_core c) + 1) step.place
 is_of_source (PrivateUse ps) step = false
 is_of_source (Grandfathered n) step = false
 
--- the ranks of the steps on a source lie between those of DropTrue and of SwapFields
+-- the rank of a step on a tag; those of steps on a source lie between those of DropTrue and of SwapFields
 abbrev pub rank_in : TagForm → Step → ℕ
 rank_in t step = if is_of_source t step then extension_rank step else kind_rank step
 
--- the steps lead to the canonical form, and each is the first that leads on
+-- the steps lead from a tag to its canonical form, and each is the first that leads on
 pub record IsExplanation (R : List EntryParts) (t : TagForm) (steps : List Step) (end : TagForm) : Type 0 where
   pub form : IsCanonicalFormOf R t end
   pub trace : IsTrace R t steps end
   pub is_run : IsRun (LeadsBy R) rank_in t steps end
 
--- a tag has one explanation
+-- a tag has at most one explanation
 abbrev pub HasOneExplanation : List EntryParts → Type 0
 HasOneExplanation R =
     (t a b : TagForm) (steps others : List Step) → IsExplanation R t steps a
@@ -41,7 +42,8 @@ HasOneExplanation R =
 abbrev pub RestsOnCore : List EntryParts → TagForm → Type 0
 RestsOnCore R t = (c : CoreParts) → core_of t ≡ Some c → NoneLeads (CoreLeads R 0 c)
 
--- steps are added, each the first that leads on, to a tag from which none does
+-- a run of steps, each the first that leads on, is added to others, and leads from a tag to one from which no step
+-- leads
 pub record LeadsToRest (R : List EntryParts) (t : TagForm) (old new : List Step) : Type 0 where
   pub end : TagForm
   pub adds : Adds (LeadsBy R) rank_in t end old new

@@ -11,15 +11,15 @@ use Rattle.lt_rewrite.specs.Names.{name_of}
 use Rattle.lt_rewrite.specs.declared.steps.Step.{Step}
 use Rattle.lt_canon.specs.Explaining.{IsExplanation}
 
--- the text of a tag, ended by a line feed
+-- the text of a tag, ended by a line feed (10)
 abbrev pub tag_line : TagForm → List ℕ
 tag_line t = text_of t ++ 10 ∷ []
 
--- the kind, the place and the number of a step, with a space after each, and then a text
+-- the kind, the place and the number of a step, with a space (32) after each, and then a text
 abbrev pub step_line : Step → List ℕ → List ℕ
 step_line step text = name_of step.kind ++ 32 ∷ (decimal step.place ++ 32 ∷ (decimal step.number ++ 32 ∷ text))
 
--- a step leads from a tag to one from which the steps after it lead on, and its line is before theirs
+-- the first of these lines is that of a step from `t` to a tag, and `Rest` is true of that tag and the other lines
 pub record StepPrinted (R : List EntryParts) (t : TagForm) (step : Step)
     (Rest : TagForm → List ℕ → Type 0) (lines : List ℕ) : Type 0 where
   pub after : TagForm
@@ -28,19 +28,19 @@ pub record StepPrinted (R : List EntryParts) (t : TagForm) (step : Step)
   pub printed : Rest after rest
   pub line_is : lines ≡ step_line step (tag_line after) ++ rest
 
--- the steps lead one after another from the tag to the end, and these are their lines
+-- these are the lines of steps that lead one after another from the tag to the end
 abbrev pub AreStepLines : List EntryParts → List Step → TagForm → TagForm → List ℕ → Type 0
 AreStepLines R [] end t lines = (t ≡ end) × (lines ≡ [])
 AreStepLines R (step ∷ steps) end t lines = StepPrinted R t step (AreStepLines R steps end) lines
 
--- the lines of the steps, and after them the text of the end
+-- these are the lines of the steps, and after them the line of the end: `= ` and its text
 pub record AreLines (R : List EntryParts) (t : TagForm)
     (steps : List Step) (end : TagForm) (lines : List ℕ) : Type 0 where
   pub of_steps : List ℕ
   pub are_steps : AreStepLines R steps end t of_steps
   pub all : lines ≡ of_steps ++ codes "= " ++ tag_line end
 
--- the text is read as a tag, and these are the lines of an explanation of the tag (RFC 5646, 4.5)
+-- the text is read as a tag, and these are the lines of its explanation (RFC 5646, 4.5)
 pub record IsExplanationTextOf (R : List EntryParts) (text lines : List ℕ) : Type 0 where
   pub tag : TagForm
   pub read : HasTag text tag
@@ -58,26 +58,26 @@ pub record StepsLeft : Type 0 where
   pub steps : List Step
   pub end : TagForm
 
--- the same from these
+-- the `StepsLeft` of these parts
 abbrev pub steps_left : List EntryParts → TagForm → List Step → TagForm → StepsLeft
 steps_left entries here steps end = record { entries = entries; here = here; steps = steps; end = end }
 
--- they lead there from a proper tag
+-- the steps that are left lead from a proper tag to the end
 pub record LeadsToEnd (left : StepsLeft) : Type 0 where
   pub proper : IsProper left.entries left.here
   pub trace : IsTrace left.entries left.here left.steps left.end
 
--- the lines of what is left
+-- the lines of what is left of an explanation
 abbrev pub AreLinesLeft : StepsLeft → List ℕ → Type 0
 AreLinesLeft left lines = AreLines left.entries left.here left.steps left.end lines
 
--- the whole explanation of the tag that a text is read as is left (RFC 5646, 4.5)
+-- all of the explanation of the tag that a text is read as is left (RFC 5646, 4.5)
 pub record IsWholeLeft (R : List EntryParts) (text : List ℕ) (left : StepsLeft) : Type 0 where
   pub by : left.entries ≡ R
   pub read : HasTag text left.here
   pub is_explanation : IsExplanation R left.here left.steps left.end
 
--- the line of the next step was appended, and what comes after it is left
+-- the line of the next step was appended, and the steps after it are left
 pub record AppendsStep (before after : StepsLeft) (old new : List ℕ) : Type 0 where
   pub step : Step
   pub steps : List Step
@@ -87,13 +87,13 @@ pub record AppendsStep (before after : StepsLeft) (old new : List ℕ) : Type 0 
   pub left : after ≡ record before { here = to; steps = steps }
   pub grown : new ≡ old ++ step_line step (tag_line to)
 
--- no step was left, and the text of the end was appended
+-- no step was left, and the line of the end was appended
 pub record AppendsEnd (before after : StepsLeft) (old new : List ℕ) : Type 0 where
   pub none : before.steps ≡ []
   pub left : after ≡ before
   pub grown : new ≡ old ++ codes "= " ++ tag_line before.end
 
--- the next line was appended: that of a step, after which there are more, or the last
+-- the next line of an explanation was appended: that of a step, after which there are `more`, or that of the end
 abbrev pub AppendsLine : (before after : StepsLeft) → (old new : List ℕ) → (more : Bool) → Type 0
 AppendsLine before after old new true = AppendsStep before after old new
 AppendsLine before after old new false = AppendsEnd before after old new

@@ -7,27 +7,27 @@ use Rattle.lt_registry.specs.Validity.{IsValid}
 use Rattle.lt_registry.specs.declared.entries.Kind.TheVariants as kinds
 use Rattle.lt_canon.specs.Answers.{IsCanonicalFormOf}
 
--- the one Prefix of a language as an extlang, if an extlang may be after it
+-- the first of these Prefixes, if it is one subtag, which is short enough for an extlang to follow it
 abbrev pub prefix_of : List (List (List ℕ)) → Option (List ℕ)
 prefix_of ((p ∷ []) ∷ rest) = if is_short p then Some p else None
 prefix_of _ = None
 
--- the Prefix is now the language, and what was the language is after it as an extlang
+-- the core with the Prefix as its language, and its language as the extlang; without a Prefix the core stays
 abbrev pub behind : Option (List ℕ) → CoreParts → CoreParts
 behind None c = c
 behind (Some p) c = record c { language = p; extlangs = c.language ∷ [] }
 
--- the core with the Prefix of its language in front, if that is an extlang (RFC 5646, 4.5)
+-- the extlang form of a core: if its language is an extlang too, its Prefix is put in front (RFC 5646, 4.5)
 abbrev pub extlang_core : List EntryParts → CoreParts → CoreParts
 extlang_core R c = behind (prefix_of (prefixes R kinds.Extlang c.language)) c
 
--- the tag with that core; a tag without a core stays as it is
+-- the extlang form of a tag; a tag without a core stays as it is
 abbrev pub extlang_form : List EntryParts → TagForm → TagForm
 extlang_form R (LangTag c es ps) = LangTag (extlang_core R c) es ps
 extlang_form R (PrivateUse ps) = PrivateUse ps
 extlang_form R (Grandfathered n) = Grandfathered n
 
--- The extlang form of the tag's canonical form: it is valid, and its canonical form is the same.
+-- `form` is the extlang form of the canonical form of `t`: it is valid, and has the same canonical form
 pub record IsExtlangFormOf (R : List EntryParts) (t form : TagForm) : Type 0 where
   pub canonical : TagForm
   pub canonical_form : IsCanonicalFormOf R t canonical

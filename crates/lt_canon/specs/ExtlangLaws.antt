@@ -1,4 +1,4 @@
--- The law of extlang forms, over a list of entries.
+-- The law of extlang forms, over the entries of a registry.
 use Rattle.std.specs.Prelude.{List}
 use Rattle.lt_tag.specs.Parts.{TagForm}
 use Rattle.lt_registry.specs.Parts.{EntryParts}

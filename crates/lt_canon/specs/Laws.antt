@@ -1,4 +1,4 @@
--- The laws of canonical tags, over a list of entries. What follows from them is in Corollaries.
+-- The laws of canonical tags, over the entries of a registry. What follows from them is in Corollaries.
 use Rattle.std.specs.Prelude.{ℕ, ◌≡◌, ◌≤◌, ◌⊎◌, ◌↔◌, List, length}
 use Rattle.lt_tag.specs.Parts.{TagForm}
 use Rattle.lt_tag.specs.WellFormed.{spell}
@@ -11,7 +11,7 @@ use Rattle.lt_canon.specs.Answers.{IsCanonicalFormOf}
 use Rattle.lt_canon.specs.Texts.{IsCanonicalTextOf}
 use Rattle.lt_tag.specs.Lists.{longest_text}
 
--- any two tags that steps reach from one proper tag lead on to a common one
+-- from any two tags that steps reach from one proper tag, steps reach a common third
 abbrev pub StepsAreConfluent : List EntryParts → Type 0
 StepsAreConfluent R = IsConfluent (IsProper R) (TagStep R)
 
@@ -26,8 +26,8 @@ pub record HasEndForms (R : List EntryParts) : Type 0 where
 abbrev pub CanonicalOrRepeats : List EntryParts → Type 0
 CanonicalOrRepeats R = (t : TagForm) → IsValid R t → ((c : TagForm) × IsCanonicalFormOf R t c) ⊎ CanRepeat R t
 
--- valid tags that can repeat no variant are equivalent exactly if the texts of their canonical forms are equal (RFC
--- 5646, 4.5)
+-- valid tags of which steps can repeat no variant are equivalent exactly if the texts of their canonical forms are
+-- equal (RFC 5646, 4.5)
 abbrev pub EquivalenceIsEqualText : List EntryParts → Type 0
 EquivalenceIsEqualText R = (t u c d : TagForm) → IsCanonicalFormOf R t c → IsCanonicalFormOf R u d →
     AreEquivalent R t u ↔ (conventional (spell c) ≡ conventional (spell d))

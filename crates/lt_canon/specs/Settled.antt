@@ -17,24 +17,24 @@ use Rattle.lt_canon.specs.declared.refusals.Refusal.{Refusal}
 use Rattle.lt_canon.specs.declared.refusals.Refusal.TheVariants as refusals
 use Rattle.lt_tag.specs.Values.{core_alone}
 
--- the core normal form of a core, in which no variant occurs twice
+-- `d` is the core normal form of `c`, and no variant occurs twice in it
 pub record IsDistinctForm (R : List EntryParts) (c d : CoreParts) : Type 0 where
   pub normal : IsCoreNormalForm R c d
   pub distinct : Distinct d.variants
 
--- the variant that occurs twice in the core normal form; running out of memory aside
+-- why a core is refused: the variant that occurs twice in its core normal form; OutOfMemory may be answered of any core
 abbrev pub IsCoreRefusal : List EntryParts → CoreParts → Refusal → Type 0
 IsCoreRefusal R c (refusals.Invalid fault) = ⊥
 IsCoreRefusal R c (refusals.ReplacementRepeats v) = IsRepeatOfCore R c v
 IsCoreRefusal R c refusals.OutOfMemory = Unit {0}
 
--- the leftmost variant that occurs a second time in the source of an extension
+-- `v` is the first variant that occurs a second time in the source of the extension
 pub record IsSecondInSource (e : ExtensionParts) (v : List ℕ) : Type 0 where
   pub source : CoreParts
   pub has_source : HasSource e source
   pub second : IsSecondOccurrence source.variants v
 
--- in that of one of the extensions
+-- `v` is the first variant that occurs a second time in the source of one of the extensions
 pub record IsSecondInSources (es : List ExtensionParts) (v : List ℕ) : Type 0 where
   pub before : List ExtensionParts
   pub extension : ExtensionParts
@@ -42,7 +42,7 @@ pub record IsSecondInSources (es : List ExtensionParts) (v : List ℕ) : Type 0 
   pub there : es ≡ before ++ extension ∷ after
   pub own : IsSecondInSource extension v
 
--- the value of a whole record, its core in core normal form
+-- `u` is the value `t` of a whole tag with its core in core normal form
 pub record IsSettledValue (R : List EntryParts) (t u : TagForm) : Type 0 where
   pub core : CoreParts
   pub form : CoreParts
@@ -50,7 +50,7 @@ pub record IsSettledValue (R : List EntryParts) (t u : TagForm) : Type 0 where
   pub to : u ≡ core_alone form
   pub normal : IsCoreNormalForm R core form
 
--- the langtag of the normal forms of a core and of extensions, in which no variant occurs twice
+-- `s` is the langtag of the normal forms of the core and of the extensions, in which no variant occurs twice
 pub record IsSettledLangTag (R : List EntryParts) (c : CoreParts) (es : List ExtensionParts)
     (ps : List (List ℕ)) (s : TagForm) : Type 0 where
   pub core : CoreParts
@@ -60,28 +60,28 @@ pub record IsSettledLangTag (R : List EntryParts) (c : CoreParts) (es : List Ext
   pub normal : IsNormalForm (ExtensionsStep R) es extensions
   pub distinct : AllByRecursion HasDistinctSource extensions
 
--- the tag with its parts in their normal forms
+-- `s` is the tag with its parts in their normal forms
 abbrev pub IsSettledTag : List EntryParts → TagForm → TagForm → Type 0
 IsSettledTag R (LangTag c es ps) s = IsSettledLangTag R c es ps s
 IsSettledTag R t s = s ≡ t
 
--- a tag that can be replaced whole has a value, and this is the value, its core in core normal form
+-- `t` can be replaced whole and has a value, and `u` is that value, its core in core normal form
 pub record HasSettledValue (R : List EntryParts) (t u : TagForm) : Type 0 where
   pub value : TagForm
   pub plain : CanBeReplacedWhole t
   pub has : whole_value R t ≡ Some value
   pub settled : IsSettledValue R value u
 
--- the tag has none, and this is the tag
+-- `t` can't be replaced whole or has no value, and `u` is `t`
 pub record StaysWhole (R : List EntryParts) (t u : TagForm) : Type 0 where
   pub none : CanBeReplacedWhole t → whole_value R t ≡ None
   pub same : u ≡ t
 
--- the one or the other
+-- `u` is the value of the whole tag `t`, its core in core normal form; or `t`, where that has no value to take
 abbrev pub IsReplacedWhole : List EntryParts → TagForm → TagForm → Type 0
 IsReplacedWhole R t u = HasSettledValue R t u ⊎ StaysWhole R t u
 
--- the canonical form, or the refusal that is owed
+-- the answer is the canonical form of the tag, or why it has none
 abbrev pub IsCanonicalAnswer : List EntryParts → TagForm → Result TagForm Refusal → Type 0
 IsCanonicalAnswer R t (Ok c) = IsCanonicalFormOf R t c
 IsCanonicalAnswer R t (Err refusal) = IsRefusedWith R t refusal

@@ -1,4 +1,4 @@
--- What is owed for a trace that is to be verified.
+-- When a trace, a list of steps from a tag to another, is right, and what is wrong with one.
 use Rattle.std.specs.Prelude.{ℕ, ◌≡◌, ◌≢◌, ◌+◌, List, ◌∷◌, ◌++◌, length, codes}
 use Rattle.lt_tag.specs.Parts.{TagForm}
 use Rattle.lt_registry.specs.Parts.{EntryParts}
@@ -12,12 +12,12 @@ use Rattle.lt_rewrite.specs.declared.steps.Step.{Step}
 use Rattle.lt_canon.specs.declared.traces.TraceFault.{TraceFault}
 use Rattle.lt_canon.specs.declared.traces.TraceFault.TheVariants as faults
 
--- the steps lead from a valid tag to the end
+-- the steps lead one after another from a valid tag to `end`
 pub record IsValidTrace (R : List EntryParts) (t : TagForm) (steps : List Step) (end : TagForm) : Type 0 where
   pub valid : IsValid R t
   pub trace : IsTrace R t steps end
 
--- the nth step, counted from 1, is the first that does not lead on
+-- step number `n`, counted from 1, is the first that leads nowhere
 pub record IsMisstep (R : List EntryParts) (t : TagForm) (steps : List Step) (n : ℕ) : Type 0 where
   pub before : List Step
   pub step : Step
@@ -28,36 +28,36 @@ pub record IsMisstep (R : List EntryParts) (t : TagForm) (steps : List Step) (n 
   pub led : IsTrace R t before tag
   pub stuck : (u : TagForm) → LeadsBy R tag step u → ⊥
 
--- the steps lead to another tag
+-- the steps lead from `t` to another tag than `end`
 pub record EndsElsewhere (R : List EntryParts) (t : TagForm) (steps : List Step) (end : TagForm) : Type 0 where
   pub tag : TagForm
   pub led : IsTrace R t steps tag
   pub other : tag ≢ end
 
--- the fault that is reported; running out of memory aside
+-- what is wrong with a trace; OutOfMemory may be answered of any trace
 abbrev pub IsTraceFault : List EntryParts → TagForm → List Step → TagForm → TraceFault → Type 0
 IsTraceFault R t steps end (faults.Invalid fault) = IsFirstFault R t fault.kind fault.place
 IsTraceFault R t steps end (faults.NoSuchStep n) = IsValid R t × IsMisstep R t steps n
 IsTraceFault R t steps end faults.WrongEnd = IsValid R t × EndsElsewhere R t steps end
 IsTraceFault R t steps end faults.OutOfMemory = Unit {0}
 
--- the names of the faults, as they are printed
+-- the name of a fault of a trace, as it is printed
 abbrev pub trace_fault_name_of : TraceFault → List ℕ
 trace_fault_name_of (faults.Invalid fault) = tags.name_of fault.kind
 trace_fault_name_of (faults.NoSuchStep n) = codes "NoSuchStep"
 trace_fault_name_of faults.WrongEnd = codes "WrongEnd"
 trace_fault_name_of faults.OutOfMemory = codes "OutOfMemory"
 
--- a tag that is not found valid has no trace
+-- the fault of a trace whose tag the test of validity refused
 abbrev pub of_invalid : ValidRefusal → TraceFault
 of_invalid (checks.Fault fault) = faults.Invalid fault
 of_invalid checks.OutOfMemory = faults.OutOfMemory
 
--- running out of memory
+-- the fault of a trace for lack of memory
 abbrev pub no_trace_memory : TraceFault
 no_trace_memory = faults.OutOfMemory
 
--- why the steps of a trace lead to no end; running out of memory aside
+-- why the steps of a trace lead to no end; OutOfMemory may be answered of any trace
 abbrev pub IsFollowFault : List EntryParts → TagForm → List Step → TraceFault → Type 0
 IsFollowFault R t steps (faults.Invalid fault) = ⊥
 IsFollowFault R t steps (faults.NoSuchStep n) = IsMisstep R t steps n

@@ -1,5 +1,5 @@
--- Langtags of a language, and a script and a region where there is one, and whether these have values. No public
--- contract cites this; it is shown to agree with what is valid and what rests.
+-- Langtags of a language, and at most a script and a region, and whether these have values. No public contract cites
+-- this; it is shown to agree with what is valid and what rests.
 use Rattle.std.specs.Prelude.{ℕ, ◌≡◌, ◌+◌, Bool, false, ◌||◌, List, [], Option, Some, None, is_some, length, Result, Ok, Err}
 use Rattle.std.specs.Option.{option_to_list}
 use Rattle.lt_tag.specs.Parts.{CoreParts}
@@ -11,31 +11,31 @@ use Rattle.lt_registry.specs.declared.faults.ValidFault.{ValidFault}
 use Rattle.lt_registry.specs.declared.faults.ValidFaultKind.{ValidFaultKind}
 use Rattle.lt_registry.specs.declared.faults.ValidFaultKind.TheVariants as faults
 
--- neither extlangs nor variants
+-- the core has neither extlangs nor variants
 pub record IsUsual (c : CoreParts) : Type 0 where
   pub extlangs : c.extlangs ≡ []
   pub variants : c.variants ≡ []
 
--- a test, or a fault
+-- the answer of a test, or a fault
 abbrev pub Test : Type 0
 Test = Result Bool ValidFault
 
--- the fault of the first test, else what follows from what it says
+-- the fault of the first test, else what follows from its answer
 abbrev pub on_test : Test → (Bool → Test) → Test
 on_test (Ok holds) next = next holds
 on_test (Err fault) next = Err fault
 
--- the record of a subtag has a value; the fault where there is no record
+-- whether the entry of a subtag has a value; without an entry, the fault
 abbrev pub one_valued : ValidFaultKind → ℕ → Option EntryParts → Test
 one_valued kind place (Some e) = Ok (is_some (one_of e.value))
 one_valued kind place None = Err (record { kind = kind; place = place })
 
--- a script or a region
+-- whether a script or a region, if there is one, has a value; without an entry, the fault
 abbrev pub part_valued : List EntryParts → Kind → ValidFaultKind → ℕ → Option (List ℕ) → Test
 part_valued R kind fault place (Some s) = one_valued fault place (entry R kind s)
 part_valued R kind fault place None = Ok false
 
--- the language, the script or the region
+-- whether the language, the script or the region of a core has a value; without an entry, the fault
 unfoldable pub core_valued : List EntryParts → CoreParts → Test
 core_valued R c =
     on_test (one_valued faults.UnknownLanguage 1 (entry R kinds.Language c.language)) (λ language.

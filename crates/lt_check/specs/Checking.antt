@@ -1,4 +1,4 @@
--- What a walk over the records finds.
+-- What the check of a registry computes as it walks over the records.
 use Rattle.std.specs.Prelude.{ℕ, ◌≡◌, ◌+◌, ◌≤◌, Bool, true, false, List, Option, Some, None, All}
 use Rattle.lt_registry.specs.Parts.{EntryParts}
 use Rattle.lt_rewrite.specs.Shortcuts.{ShortcutParts, AreShortcuts}
@@ -11,12 +11,12 @@ use Rattle.lt_check.specs.declared.rejections.Finding.{Finding}
 use Rattle.lt_check.specs.declared.rejections.RejectedCause.{RejectedCause}
 use Rattle.lt_check.specs.declared.rejections.RejectedCause.TheVariants as causes
 
--- the lowest record at fault by a condition
+-- this is the least number of a record that fails the condition
 pub record IsFirstAtFault (R : List EntryParts) (condition : Condition) (number : ℕ) : Type 0 where
   pub fault : IsAtFault R condition number
   pub first : (other : ℕ) → IsAtFault R condition other → number ≤ other
 
--- each record meets the condition, or this names it and the lowest that does not
+-- each record meets the condition, or the finding names the condition and the least number of a record that fails it
 abbrev pub IsLowestFault : List EntryParts → Condition → Option Finding → Type 0
 IsLowestFault R condition None = All (Meets condition R) R
 IsLowestFault R condition (Some finding) = (finding.condition ≡ condition) × IsFirstAtFault R condition finding.number
@@ -34,27 +34,29 @@ abbrev pub IsVerdict : List EntryParts → Option Finding → Type 0
 IsVerdict R None = Passes R
 IsVerdict R (Some finding) = IsFinding R finding.condition finding.number
 
--- all records meet each condition of a lower rank, or this is what the check finds
+-- all records meet each condition with a rank less than this, or this is what the check finds
 abbrev pub IsVerdictBelow : ℕ → List EntryParts → Option Finding → Type 0
 IsVerdictBelow rank R None = MeetsBelow rank R
 IsVerdictBelow rank R (Some finding) = IsFinding R finding.condition finding.number
 
--- the rank up to which all is judged once a condition is: the eleventh is judged along with the tenth
+-- the rank of the condition that is judged after this one: C11 is judged along with C10
 abbrev pub next_of : Condition → ℕ
 next_of conditions.RestingWhole = 12
 next_of condition = rank_of condition + 1
 
--- A rejection names a condition, and a record that does not meet it. Where memory runs out nothing is said.
+-- A rejection names a condition and a record that fails it. OutOfMemory may be answered of any registry.
 abbrev pub IsCause : List EntryParts → RejectedCause → Type 0
 IsCause R (causes.Finding finding) = IsAtFault R finding.condition finding.number
 IsCause R causes.OutOfMemory = Unit {0}
 
--- It is the first condition that fails, and there the lowest record. Where memory runs out nothing is said.
+-- A rejection names the first condition that fails, and the least number of a record that fails it. OutOfMemory may be
+-- answered of any registry.
 abbrev pub IsFirstCause : List EntryParts → RejectedCause → Type 0
 IsFirstCause R (causes.Finding finding) = IsFinding R finding.condition finding.number
 IsFirstCause R causes.OutOfMemory = Unit {0}
 
--- a table that passes the check, shortcuts along its chains, and flags of its subtags that stay as they are
+-- a registry that passes the check, with shortcuts along its chains of values, and flags of the subtags that stay as
+-- they are
 pub record IsCheckedAlong (R : List EntryParts) (shortcuts : ShortcutParts) (flags : List ℕ) : Type 0 where
   pub checked : IsChecked R
   pub along : AreShortcuts R shortcuts

@@ -1,11 +1,11 @@
--- The codes of the conditions, and the names of causes, as they are printed.
+-- The codes of the conditions of the check, and the names of the causes of a rejection, as they are printed.
 use Rattle.std.specs.Prelude.{ℕ, List, codes}
 use Rattle.lt_check.specs.declared.conditions.Condition.{Condition}
 use Rattle.lt_check.specs.declared.conditions.Condition.TheVariants as conditions
 use Rattle.lt_check.specs.declared.rejections.RejectedCause.{RejectedCause}
 use Rattle.lt_check.specs.declared.rejections.RejectedCause.TheVariants as causes
 
--- the code of a condition
+-- the code of a condition of the check
 abbrev pub code_of : Condition → List ℕ
 code_of conditions.OwnName = codes "C1"
 code_of conditions.RegisteredValue = codes "C2"
@@ -20,7 +20,7 @@ code_of conditions.RestingWhole = codes "C10"
 code_of conditions.AgreeingWhole = codes "C11"
 code_of conditions.NoRangeValue = codes "C12"
 
--- the code of the condition that fails
+-- the name of the cause of a rejection: the code of the condition that fails, or OutOfMemory
 abbrev pub cause_name_of : RejectedCause → List ℕ
 cause_name_of (causes.Finding finding) = code_of finding.condition
 cause_name_of causes.OutOfMemory = codes "OutOfMemory"

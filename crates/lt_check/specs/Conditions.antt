@@ -13,7 +13,7 @@ use Rattle.lt_check.specs.declared.conditions.Condition.{Condition}
 use Rattle.lt_check.specs.declared.conditions.Condition.TheVariants as conditions
 use Rattle.lt_tag.specs.Values.{core_alone}
 
--- of a whole record with a value: its tag and its value (RFC 5646, 3.1.7)
+-- if a record names a whole tag and has a tag as its value, `P` is true of the two (RFC 5646, 3.1.7)
 abbrev pub OfWhole : EntryParts → (TagForm → TagForm → Type 0) → Type 0
 OfWhole e P = (t u : TagForm) → e.name ≡ names.Whole t → tag_of e.value ≡ Some u → P t u
 
@@ -91,14 +91,14 @@ pub record IsChecked (R : List EntryParts) : Type 0 where
   pub registry : IsRegistry R
   pub passes : Passes R
 
--- a record of this number is at fault
+-- a record with this number fails the condition
 pub record IsAtFault (R : List EntryParts) (condition : Condition) (number : ℕ) : Type 0 where
   pub entry : EntryParts
   pub there : Contains R entry
   pub numbered : entry.number ≡ number
   pub fails : Meets condition R entry → ⊥
 
--- the lowest condition that fails, and there the lowest record at fault
+-- the first condition that fails, and the least number of a record that fails it
 pub record IsFinding (R : List EntryParts) (condition : Condition) (number : ℕ) : Type 0 where
   pub fault : IsAtFault R condition number
   pub lower : (other : Condition) → rank_of other < rank_of condition → All (Meets other R) R

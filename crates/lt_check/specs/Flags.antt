@@ -1,4 +1,4 @@
--- Flags by place, and what they say of the entries of a registry.
+-- A flag for each subtag that has a place in a table: whether it stays as it is, so that many tags need no search.
 use Rattle.std.specs.Prelude.{ℕ, ◌≡◌, ◌/◌, ◌%◌, ◌==◌, ◌&&◌, if◌then◌else◌, Bool, not, List, Some, All, bytes_eq, slice_index}
 use Rattle.std.specs.Int.{bit_at}
 use Rattle.std.specs.List.{list_any}
@@ -11,27 +11,28 @@ use Rattle.lt_registry.specs.declared.entries.Kind.TheVariants as kinds
 use Rattle.lt_check.specs.Places.{place}
 use Rattle.lt_check.specs.Staying.{has_no_value, replaces_plain_of, stays}
 
--- the flag of a place: a bit of one of the words
+-- the flag of a place: one bit of one of the words, which have 64 bits each
 abbrev pub flag : List ℕ → ℕ → Bool
 flag words n = bit_at (slice_index words (n / 64)) (n % 64) == 1
 
--- the place of each subtag that has one tells this of it, in whatever letter case
+-- the flag of each subtag that has a place is the answer of the test to it, in whatever letter case
 abbrev pub Tell : (Kind → List ℕ → Bool) → List ℕ → Type 0
 Tell test words = (k : Kind) (s : List ℕ) (n : ℕ) → place k s ≡ Some n → flag words n ≡ test k (folded s)
 
--- the same test but for one subtag
+-- the test, with the answer `set` to one subtag
 abbrev pub with_subtag : Kind → List ℕ → Bool → (Kind → List ℕ → Bool) → Kind → List ℕ → Bool
 with_subtag j t set test k s = if same_kind j k && bytes_eq t s then set else test k s
 
--- which subtags have a record of their own, without a value
+-- the flags tell which subtags have a record of their own, without a value
 abbrev pub TellSingles : List EntryParts → List ℕ → Type 0
 TellSingles R words = Tell (has_no_value R) words
 
--- the same without those of some whole records that have values
+-- whether a subtag has a record of its own without a value, and, if it is a language, none of these records replaces a
+-- tag of it without extlangs and variants
 abbrev pub stays_beside : List EntryParts → List EntryParts → Kind → List ℕ → Bool
 stays_beside R es k s = has_no_value R k s && not (same_kind k kinds.Language && list_any (replaces_plain_of s) es)
 
--- which subtags of a registry stay as they are
+-- the flags tell which subtags of a registry stay as they are
 pub record AreFlags (R : List EntryParts) (words : List ℕ) : Type 0 where
   pub forms : All IsEntry R
   pub tell : Tell (stays R) words

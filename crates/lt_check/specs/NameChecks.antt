@@ -1,4 +1,4 @@
--- The ranges among the names of records.
+-- Which names of records are ranges, and whether a name is new, as the condition C1 asks.
 use Rattle.std.specs.Prelude.{ℕ, ◌≡◌, ◌↔◌, ◌⊎◌, List, Option, Some, None, Contains, MatchOption}
 use Rattle.lt_registry.specs.Parts.{EntryParts}
 use Rattle.lt_registry.specs.declared.entries.Kind.{Kind}
@@ -8,7 +8,7 @@ use Rattle.lt_registry.specs.declared.entries.EntryName.TheVariants as names
 use Rattle.lt_rewrite.specs.Conditions.{HasOwnName}
 use Rattle.lt_check.specs.declared.range_names.RangeName.{RangeName}
 
--- each kind by a number
+-- a number for each kind of record
 abbrev pub kind_number : Kind → ℕ
 kind_number kinds.Language = 0
 kind_number kinds.Extlang = 1
@@ -18,25 +18,25 @@ kind_number kinds.Variant = 4
 kind_number kinds.Grandfathered = 5
 kind_number kinds.Redundant = 6
 
--- a range under a kind
+-- the range from `first` to `last` of subtags of a kind
 abbrev pub range_name : Kind → List ℕ → List ℕ → RangeName
 range_name kind first last = record { kind = kind_number kind; first = first; last = last }
 
--- the range that a name is, under a kind
+-- the range that the name of a record of this kind is, if it is one
 abbrev pub range_at : Kind → EntryName → Option RangeName
 range_at kind (names.Range first last) = Some (range_name kind first last)
 range_at kind (names.Single s) = None
 range_at kind (names.Whole t) = None
 
--- the range that a record names, under its kind
+-- the range that a record names, if it names one
 abbrev pub range_of : EntryParts → Option RangeName
 range_of e = range_at e.kind e.name
 
--- A range is new where it was not seen, and any other name where no lower record has it.
+-- A range is new if it is not among those that were seen, any other name if no record with a lower number has it.
 abbrev pub IsNew : List EntryParts → List RangeName → EntryParts → Type 0
 IsNew R seen e = MatchOption (range_of e) (HasOwnName R e) (λ name. Contains seen name → ⊥)
 
--- the range of a record, if it names one, is added to those that were seen
+-- the range that a record names, if it names one, is added to those that were seen
 abbrev pub SeesRange : EntryParts → List RangeName → List RangeName → Type 0
 SeesRange e old new =
     MatchOption (range_of e) (new ≡ old)

@@ -1,10 +1,10 @@
--- The place of each subtag in a table of flags.
+-- The place of the flag of each short subtag in a table of flags.
 use Rattle.std.specs.Prelude.{ℕ, ◌+◌, ◌-◌, ◌*◌, if◌then◌else◌, List, [], ◌∷◌, Option, Some, None}
 use Rattle.std.specs.Char.{is_ascii_alphabetic, is_ascii_digit, to_ascii_lowercase}
 use Rattle.lt_registry.specs.declared.entries.Kind.{Kind}
 use Rattle.lt_registry.specs.declared.entries.Kind.TheVariants as kinds
 
--- the place of a letter among the letters, in either case, and 26 for another byte
+-- the number of a letter, from 0 for `a`, in either case, and 26 for another byte
 abbrev pub letter : ℕ → ℕ
 letter b = if is_ascii_alphabetic b then to_ascii_lowercase b - 97 else 26
 
@@ -12,27 +12,27 @@ letter b = if is_ascii_alphabetic b then to_ascii_lowercase b - 97 else 26
 abbrev pub digit : ℕ → ℕ
 digit b = if is_ascii_digit b then b - 48 else 10
 
--- of a language of 2 letters
+-- the place of a language of 2 letters
 abbrev pub language_2 : ℕ → ℕ → ℕ
 language_2 a b = letter a * 27 + letter b
 
--- of a language of 3 letters
+-- the place of a language of 3 letters
 abbrev pub language_3 : ℕ → ℕ → ℕ → ℕ
 language_3 a b c = 729 + (letter a * 27 + letter b) * 27 + letter c
 
--- of a script
+-- the place of a script
 abbrev pub script_4 : ℕ → ℕ → ℕ → ℕ → ℕ
 script_4 a b c d = 20412 + ((letter a * 27 + letter b) * 27 + letter c) * 27 + letter d
 
--- of a region of 2 letters
+-- the place of a region of 2 letters
 abbrev pub region_2 : ℕ → ℕ → ℕ
 region_2 a b = 551853 + letter a * 27 + letter b
 
--- of a region of 3 digits
+-- the place of a region of 3 digits
 abbrev pub region_3 : ℕ → ℕ → ℕ → ℕ
 region_3 a b c = 552582 + (digit a * 11 + digit b) * 11 + digit c
 
--- of a subtag of a kind, if it has one
+-- the place of a subtag of this kind, if it has one
 abbrev pub place : Kind → List ℕ → Option ℕ
 place kinds.Language (a ∷ b ∷ []) = Some (language_2 a b)
 place kinds.Language (a ∷ b ∷ c ∷ []) = Some (language_3 a b c)

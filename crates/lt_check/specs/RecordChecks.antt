@@ -1,20 +1,20 @@
--- What a look at one record tells.
+-- What a look at one record finds of its languages.
 use Rattle.std.specs.Prelude.{ℕ, Bool, false, ◌&&◌, List, [], ◌∷◌, is_none}
 use Rattle.lt_registry.specs.Parts.{EntryParts}
 use Rattle.lt_registry.specs.Entries.{preferred_value, is_registered}
 use Rattle.lt_registry.specs.declared.entries.Kind.TheVariants as kinds
 use Rattle.lt_rewrite.specs.CoreSteps.{EndsIn}
 
--- a registered language without a value
+-- whether a language is registered and has no value
 abbrev pub is_final : List EntryParts → List ℕ → Bool
 is_final R l = is_registered R kinds.Language l && is_none (preferred_value R kinds.Language l)
 
--- a Prefix of one subtag, a registered language without a value
+-- whether a Prefix is one subtag, a registered language without a value
 abbrev pub is_final_prefix : List EntryParts → List (List ℕ) → Bool
 is_final_prefix R (l ∷ []) = is_final R l
 is_final_prefix R _ = false
 
--- the chains of two languages come to one end
+-- the chains of values from two languages end in one language
 abbrev pub EndAlike : List EntryParts → List ℕ → List ℕ → Type 0
 EndAlike R s t =
     (end : List ℕ) × EndsIn (preferred_value R kinds.Language) s end × EndsIn (preferred_value R kinds.Language) t end

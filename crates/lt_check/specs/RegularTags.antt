@@ -5,15 +5,16 @@ use Rattle.lt_registry.specs.Parts.{EntryParts}
 use Rattle.lt_registry.specs.Validity.{IsProperCore, Distinct}
 use Rattle.lt_rewrite.specs.Conditions.{second_entry}
 
--- a core of a language and an extlang
+-- the core of a language and an extlang
 abbrev pub with_extlang : List ℕ → List ℕ → CoreParts
 with_extlang l x = record { language = l; extlangs = x ∷ []; script = None; region = None; variants = [] }
 
--- a core of a language and a variant
+-- the core of a language and a variant
 abbrev pub with_variant : List ℕ → List ℕ → CoreParts
 with_variant l v = record { language = l; extlangs = []; script = None; region = None; variants = v ∷ [] }
 
--- Those of two subtags. The one of three, zh-min-nan, has two extlangs, and is valid in no registry.
+-- The regular grandfathered tags of two subtags, as cores. The one of three, zh-min-nan, has two extlangs, and is valid
+-- in no registry.
 abbrev pub regular_cores : List CoreParts
 regular_cores =
     with_variant (codes "art") (codes "lojban") ∷ with_variant (codes "cel") (codes "gaulish")
@@ -21,25 +22,25 @@ regular_cores =
     ∷ with_variant (codes "zh") (codes "guoyu") ∷ with_variant (codes "zh") (codes "hakka")
     ∷ with_extlang (codes "zh") (codes "min") ∷ with_variant (codes "zh") (codes "xiang") ∷ []
 
--- the core is valid, and this is the entry of its second subtag
+-- the core is valid in the registry, and `e` is the entry of its second subtag
 pub record Validates (R : List EntryParts) (c : CoreParts) (e : EntryParts) : Type 0 where
   pub proper : IsProperCore R c
   pub distinct : Distinct c.variants
   pub second : second_entry R c.extlangs c.variants ≡ Some e
 
--- the number of the record that makes a core valid, if one does
+-- the number of the record that makes a core valid, None if none does
 abbrev pub IsValidatedBy : List EntryParts → CoreParts → Option ℕ → Type 0
 IsValidatedBy R c None = (e : EntryParts) → Validates R c e → ⊥
 IsValidatedBy R c (Some number) = (e : EntryParts) × Validates R c e × (e.number ≡ number)
 
--- the same of each core
+-- for each of the cores, the number of the record that makes it valid, None if none does
 abbrev pub AreValidatedBy : List EntryParts → List CoreParts → List (Option ℕ) → Type 0
 AreValidatedBy R [] [] = Unit {0}
 AreValidatedBy R (c ∷ cs) (o ∷ os) = IsValidatedBy R c o × AreValidatedBy R cs os
 AreValidatedBy R [] (o ∷ os) = ⊥
 AreValidatedBy R (c ∷ cs) [] = ⊥
 
--- it is this number
+-- whether there is a number, and it is `n`
 abbrev pub is_number : ℕ → Option ℕ → Bool
 is_number n None = false
 is_number n (Some m) = m == n

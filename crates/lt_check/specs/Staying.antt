@@ -13,28 +13,27 @@ use Rattle.lt_registry.specs.declared.entries.Kind.TheVariants as kinds
 use Rattle.lt_registry.specs.declared.entries.EntryName.{EntryName}
 use Rattle.lt_registry.specs.declared.entries.EntryName.TheVariants as names
 
--- the first record of the kind that names this subtag and no other is there and has no value (RFC 5646, 3.1.4 and
--- 3.1.7)
+-- whether the first record of the kind that names this one subtag is there and has no value (RFC 5646, 3.1.4 and 3.1.7)
 abbrev pub has_no_value : List EntryParts → Kind → List ℕ → Bool
 has_no_value R k s =
     option_map_or (λ (e : EntryParts). is_none e.value)
     (find (λ (e : EntryParts). same_kind e.kind k && is_named s e.name) R) false
 
--- a core of this language, which has neither extlangs nor variants
+-- whether a core has this language, and neither extlangs nor variants
 abbrev pub is_plain_of : List ℕ → CoreParts → Bool
 is_plain_of l c = bytes_eq c.language l && ((length c.extlangs == 0) && (length c.variants == 0))
 
--- the name of a tag with such a core
+-- whether a name is a tag of this language without extlangs and variants
 abbrev pub names_plain_of : List ℕ → EntryName → Bool
 names_plain_of l (names.Whole t) = option_map_or (is_plain_of l) (core_of t) false
 names_plain_of l _ = false
 
--- the record of such a tag gives a tag as its value (RFC 5646, 3.1.7)
+-- whether a record has a tag as value for a tag of this language without extlangs and variants (RFC 5646, 3.1.7)
 abbrev pub replaces_plain_of : List ℕ → EntryParts → Bool
 replaces_plain_of l e = is_some (tag_of e.value) && names_plain_of l e.name
 
--- A subtag stays as it is: it has a record of its own, without a value; and no tag of a language and no more than a
--- script and a region beside it has a record with a value (RFC 5646, 4.5).
+-- Whether a subtag stays as it is: it has a record of its own, without a value, and, if it is a language, no record has
+-- a value for a tag of it without extlangs and variants (RFC 5646, 4.5).
 abbrev pub stays : List EntryParts → Kind → List ℕ → Bool
 stays R k s = has_no_value R k s && not (same_kind k kinds.Language && list_any (replaces_plain_of s) R)
 
@@ -49,6 +48,6 @@ pub record StaysAs (R : List EntryParts) (text : List ℕ) (c : CoreParts) : Typ
   pub script : IfSome c.script (λ s. stays R kinds.Script s ≡ true)
   pub region : IfSome c.region (λ s. stays R kinds.Region s ≡ true)
 
--- there is such a langtag
+-- the text is a langtag of a language, and at most a script and a region, each of which stays
 abbrev pub IsStaying : List EntryParts → List ℕ → Type 0
 IsStaying R text = (c : CoreParts) × StaysAs R text c

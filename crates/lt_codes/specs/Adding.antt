@@ -1,4 +1,4 @@
--- How the lines of a table are added. No public contract cites this.
+-- How the lines of a table of codes are added to its codes. No public contract cites this.
 use Rattle.std.specs.Prelude.{◌≡◌, ℕ, List, ◌++◌, Result, Ok, Err}
 use Rattle.std.specs.List.{All}
 use Rattle.lt_codes.specs.Rows.{codes_in}
@@ -8,14 +8,14 @@ use Rattle.lt_codes.specs.declared.faults.TableFaultKind.{TableFaultKind}
 use Rattle.lt_codes.specs.declared.faults.TableFaultKind.TheVariants as kinds
 use Rattle.lt_codes.specs.declared.rows.Row.{Row}
 
--- the codes of a row were added, or one of them does not agree with those before
+-- the codes of a row were added; or they don't agree with those before, or memory ran out
 abbrev pub AddsRow : (before after : List Code) → Row → Result (Unit {0}) TableFaultKind → Type 0
 AddsRow before after row (Ok done) = All (Agrees before) (codes_in row) × (after ≡ before ++ codes_in row)
 AddsRow before after row (Err kinds.RepeatedCode) = All (Agrees before) (codes_in row) → ⊥
 AddsRow before after row (Err kinds.OutOfMemory) = Unit {0}
 AddsRow before after row (Err kind) = ⊥
 
--- the codes of a line were added, or it is refused
+-- the codes of a line were added, or the line is refused
 abbrev pub AddsCodes : (before after : List Code) → List ℕ → Result (Unit {0}) TableFaultKind → Type 0
 AddsCodes before after line (Ok done) = (more : List Code) × AddsLine before line (Ok more) × (after ≡ before ++ more)
 AddsCodes before after line (Err kind) = AddsLine before line (Err kind)

@@ -1,4 +1,4 @@
--- The names of the faults of a table.
+-- The names of the faults of a table of codes, as they are printed.
 use Rattle.std.specs.Prelude.{ℕ, List, codes}
 use Rattle.lt_codes.specs.declared.faults.TableFaultKind.{TableFaultKind}
 use Rattle.lt_codes.specs.declared.faults.TableFaultKind.TheVariants as kinds

@@ -1,4 +1,4 @@
--- The table that a reader gives, and why it gives none.
+-- The table of codes that a reader gives, or why it gives none.
 use Rattle.std.specs.Prelude.{◌≡◌, ◌≤◌, ◌<◌, ◌⊎◌, ℕ, List, Option, Result, Ok, Err, length}
 use Rattle.std.specs.Io.KnownBytes.{Consumes, IsAtEnd}
 use Rattle.lt_jar.specs.Devices.{HasFailed, failures_of, inner_of}
@@ -14,13 +14,13 @@ use Rattle.lt_codes.specs.declared.faults.TableFaultKind.{TableFaultKind}
 use Rattle.lt_codes.specs.declared.faults.TableFaultKind.TheVariants as kinds
 use Rattle.lt_codes.specs.declared.reading.Whole.{Whole}
 
--- a read failed, in the line that the bytes before it reach
+-- a read failed, and the fault names the line up to which bytes were read
 pub record FailsRead {I : Type 0} (before after : Device I) (read : List ℕ) (fault : TableFault) : Type 0 where
   pub kind : fault.kind ≡ kinds.Read
   pub failed : HasFailed before after
   pub line : fault.line ≡ line_reached read
 
--- the bytes are those of a reader up to its end, or too many
+-- these are all the bytes of a reader, or more than a table may have
 abbrev pub AreAll : {I : Type 0} → (I → Option (List ℕ)) → (after : Device I) → (read : List ℕ) → Type 0
 AreAll remaining after read = IsAtEnd (remaining (inner_of after)) ⊎ (longest_table < length read)
 
@@ -30,14 +30,14 @@ pub record RefusesRead {I : Type 0} (remaining : I → Option (List ℕ)) (befor
   pub same : failures_of after ≡ failures_of before
   pub refuses : (fault.kind ≡ kinds.OutOfMemory) ⊎ (AreAll remaining after read × RefusesTable read fault)
 
--- the bytes of a reader up to its end are a table
+-- these are all the bytes of a reader, and they are a table of these codes
 pub record HoldsTable {I : Type 0} (remaining : I → Option (List ℕ)) (before after : Device I) (read : List ℕ)
     (codes : List Code) : Type 0 where
   pub end : IsAtEnd (remaining (inner_of after))
   pub same : failures_of after ≡ failures_of before
   pub table : IsTable read codes
 
--- how the reading of a table ended
+-- how the reading of a table ended: with its codes, or with a fault
 abbrev pub EndsTable : {I : Type 0} → (I → Option (List ℕ)) → (before after : Device I) → (read : List ℕ)
     → Result (List Code) TableFault → Type 0
 EndsTable remaining before after read (Ok codes) = HoldsTable remaining before after read codes
@@ -61,17 +61,17 @@ abbrev pub kind_of : ToolFault → TableFaultKind
 kind_of faults.OutOfMemory = kinds.OutOfMemory
 kind_of fault = kinds.Read
 
--- all bytes that were read are kept, and they are not too many
+-- all bytes that were read are kept, and they are not more than a table may have
 pub record IsWhole (read : List ℕ) (here : Whole) : Type 0 where
   pub bytes : here.bytes.items ≡ read
   pub few : length read ≤ longest_table
 
--- they are too many, or memory ran out
+-- the bytes that were read are more than a table may have, or memory ran out
 abbrev pub IsCutOff : List ℕ → Whole → Result (Unit {0}) ToolFault → Type 0
 IsCutOff read here (Ok done) = (here.bytes.items ≡ read) × (longest_table < length read)
 IsCutOff read here (Err fault) = fault ≡ faults.OutOfMemory
 
--- the reader has no more
+-- the reader has no more bytes, and all that were read are kept
 abbrev pub EndsBytes : List ℕ → Whole → Result (Unit {0}) ToolFault → Type 0
 EndsBytes read here (Ok done) = here.bytes.items ≡ read
 EndsBytes read here (Err fault) = ⊥

@@ -1,4 +1,4 @@
--- The column that has a name in the heading of a reader's rows.
+-- Which column of a reader's rows has a given name in the heading.
 use Rattle.std.specs.Prelude.{◌≡◌, ◌≤◌, ◌⊎◌, ℕ, List, Option, Result, Ok, Err, codes, string_bytes}
 use Rattle.std.specs.Io.KnownBytes.{Consumes}
 use Rattle.lt_jar.specs.Devices.{inner_of}
@@ -13,13 +13,13 @@ use Rattle.lt_heading.specs.declared.finding.ColumnFault.{ColumnFault}
 use Rattle.lt_heading.specs.declared.finding.ColumnFault.TheVariants as refusals
 use Rattle.lt_heading.specs.declared.finding.FoundColumn.{FoundColumn}
 
--- no column has the name, or more than one, and this line says which
+-- no column has the name, or more than one has it, and this is the line that says so
 abbrev pub IsNameFault : (name : List ℕ) → List (List ℕ) → (line : List ℕ) → Type 0
 IsNameFault name names line =
     (Lacks name names × (line ≡ name_line (codes "no column") name names))
     ⊎ (IsRepeated name names × (line ≡ name_line (codes "more than one column") name names))
 
--- the names of the columns were read, and this holds of them
+-- the names of the columns were read, and `Holds` is true of them
 pub record ReadsNames {I : Type 0} (S : Separator) (remaining : I → Option (List ℕ)) (after : Device I) (read : List ℕ)
     (Holds : List (List ℕ) → Type 0) : Type 0 where
   pub heading : Option (List ℕ)
@@ -28,8 +28,8 @@ pub record ReadsNames {I : Type 0} (S : Separator) (remaining : I → Option (Li
   pub are_names : AreNamesIn S heading names
   pub holds : Holds names
 
--- how the search for a column ended: it is the only one of its name, and all bytes that were read are kept; or the line that
--- is said; or why the heading was not read
+-- How the search for a column ended: it is the only one with the name, and all bytes that were read are kept. Or the
+-- line says why there is no such column. Or the heading was not read.
 abbrev pub EndsFinding : {I : Type 0} → Separator → (name : List ℕ) → (I → Option (List ℕ)) → (before after : Device I)
     → (reads : ℕ) → (read : List ℕ) → Result FoundColumn ColumnFault → Type 0
 EndsFinding S name remaining before after reads read (Ok found) = (found.front.items ≡ read)
@@ -39,7 +39,7 @@ EndsFinding S name remaining before after reads read (Err (refusals.Name said)) 
 EndsFinding S name remaining before after reads read (Err (refusals.Heading f)) =
     StopsHeading S remaining before after reads read f
 
--- the column that has a name was looked for
+-- the column with a name was looked for in the heading of a reader's rows
 pub record FindsColumn {I : Type 0} (S : Separator) (name : List ℕ) (remaining : I → Option (List ℕ))
     (before after : Device I) (result : Result FoundColumn ColumnFault) : Type 0 where
   pub read : List ℕ
@@ -51,7 +51,7 @@ pub record FindsColumn {I : Type 0} (S : Separator) (name : List ℕ) (remaining
 
 -- ---- the steps
 
--- the column was picked of these names
+-- the column with the name was picked from these names
 abbrev pub PicksColumn : (name : List ℕ) → List (List ℕ) → Result ℕ ColumnFault → Type 0
 PicksColumn name names (Ok number) = IsOnly name names number
 PicksColumn name names (Err (refusals.Name said)) = IsNameFault name names (string_bytes said)

@@ -1,4 +1,4 @@
--- The heading of a text of rows: its first row or record, after a byte order mark.
+-- The heading of a text of rows: its first row (TSV) or record (CSV), after a byte order mark.
 use Rattle.std.specs.Prelude.{◌≡◌, ◌<◌, ◌≤◌, ◌⊎◌, ℕ, Bool, true, false, List, [], ◌∷◌, ◌++◌, Option, Some, None, Result, Ok, Err, length, take}
 use Rattle.std.specs.Io.KnownBytes.{Consumes, IsAtEnd}
 use Rattle.lt_jar.specs.Devices.{HasFailed, inner_of}
@@ -16,37 +16,37 @@ use Rattle.lt_stream.specs.declared.faults.ToolFault.{ToolFault}
 use Rattle.lt_stream.specs.declared.faults.ToolFault.TheVariants as faults
 use Rattle.lt_heading.specs.declared.first_rows.FirstRow.{FirstRow}
 
--- the rows of a text: its lines, or its records where a delimiter parts fields
+-- the rows of a text: its lines (TSV), or its records (CSV)
 abbrev pub rows_of : Separator → List ℕ → List (List ℕ)
 rows_of separators.Tab text = lines_of text
 rows_of (separators.Delimiter delimiter) text = records_from delimiter places.Fresh text
 
--- no line feed (10) in the text ends a row
+-- no line feed (10) in the text ends a row: there is none, or in CSV none outside of quotes
 abbrev pub IsOneRow : Separator → List ℕ → Type 0
 IsOneRow separators.Tab text = IsOneLine text
 IsOneRow (separators.Delimiter delimiter) text = IsFreeOutside delimiter 10 places.Fresh text
 
--- the place after more bytes of a row, by that before them
+-- the place (within quotes or outside) after a row's next bytes, by the place before them
 abbrev pub place_then : Separator → Place → List ℕ → Place
 place_then separators.Tab place part = places.Fresh
 place_then (separators.Delimiter delimiter) place part = place_at delimiter place part
 
--- whether a text ends within the quotes of a row
+-- whether a row ends within quotes
 abbrev pub is_open : Separator → List ℕ → Bool
 is_open S text = is_quoted (place_then S places.Fresh text)
 
--- a row that does not end within quotes and is not too long
+-- a row that ends outside of quotes and is not too long
 pub record IsWholeRow (S : Separator) (row : List ℕ) : Type 0 where
   pub one : IsOneRow S row
   pub closed : is_open S row ≡ false
   pub short : length row ≤ longest_row
 
--- the first of these rows, if there is one
+-- the first of these rows, None if there is none
 abbrev pub IsFirstOf : Separator → List (List ℕ) → Option (List ℕ) → Type 0
 IsFirstOf S rows None = rows ≡ []
 IsFirstOf S rows (Some row) = (others : List (List ℕ)) × (rows ≡ row ∷ others) × IsWholeRow S row
 
--- the first row of these bytes, after a byte order mark, if they have one; they are not in UTF-16
+-- the heading of these bytes, after a byte order mark, if they have one; they are not in UTF-16
 pub record HasHeading (S : Separator) (bytes : List ℕ) (heading : Option (List ℕ)) : Type 0 where
   pub mark : List ℕ
   pub text : List ℕ
@@ -70,7 +70,7 @@ pub record BeginsLong (S : Separator) (text : List ℕ) : Type 0 where
   pub one : IsOneRow S begun
   pub long : longest_row < length begun
 
--- the first row of the bytes is too long
+-- the first row of the bytes, after a byte order mark, is too long
 pub record HasLongHeading (S : Separator) (bytes : List ℕ) : Type 0 where
   pub mark : List ℕ
   pub text : List ℕ
@@ -82,7 +82,7 @@ abbrev pub long_fault : Separator → ToolFault
 long_fault separators.Tab = faults.BadTsv 1
 long_fault (separators.Delimiter delimiter) = faults.BadCsv 1
 
--- why a heading was not read
+-- why a heading was not read; OutOfMemory may be answered of any
 abbrev pub StopsHeading : {I : Type 0} → Separator → (I → Option (List ℕ)) → (before after : Device I)
     → (reads : ℕ) → (read : List ℕ) → ToolFault → Type 0
 StopsHeading S remaining before after reads read faults.Read = HasFailed before after
@@ -96,7 +96,7 @@ StopsHeading S remaining before after reads read faults.Utf16 = IsWide read
 StopsHeading S remaining before after reads read faults.Write = ⊥
 StopsHeading S remaining before after reads read faults.OutOfMemory = Unit {0}
 
--- the heading of all bytes, of which these were read: whatever follows them, or at their end
+-- the heading of all bytes of a reader, of which these were read: whatever follows them, or as they are all
 abbrev pub KnowsHeading : {I : Type 0} → Separator → (I → Option (List ℕ)) → (after : Device I)
     → (read : List ℕ) → (heading : Option (List ℕ)) → Type 0
 KnowsHeading S remaining after read heading =
@@ -104,13 +104,13 @@ KnowsHeading S remaining after read heading =
 
 -- ---- the steps
 
--- a text is one row so far, and not too long, and this is the place after it
+-- the text is one row so far, which is not too long, and `place` is the place after it
 pub record IsRowSoFar (S : Separator) (text : List ℕ) (place : Place) : Type 0 where
   pub one : IsOneRow S text
   pub place_is : place ≡ place_then S places.Fresh text
   pub short : length text ≤ longest_row
 
--- the first row of a text has this length, and a line feed ends it
+-- the first row of the text has this length, and a line feed (10) ends it
 pub record EndsRow (S : Separator) (text : List ℕ) (end : ℕ) : Type 0 where
   pub row : List ℕ
   pub rest : List ℕ
@@ -118,81 +118,81 @@ pub record EndsRow (S : Separator) (text : List ℕ) (end : ℕ) : Type 0 where
   pub end_is : end ≡ length row
   pub whole : IsWholeRow S row
 
--- the part of a text before this place, if there is a text
+-- the text before this place, None if there is no text
 abbrev pub heading_in : (text : List ℕ) → (end : ℕ) → Option (List ℕ)
 heading_in [] end = None
 heading_in (byte ∷ text) end = Some (take end (byte ∷ text))
 
--- more bytes were appended to a row
+-- further bytes were appended to a row; or it got too long, or memory ran out
 abbrev pub AppendsPart : Separator → Place → (part old new : List ℕ) → Result Place ToolFault → Type 0
 AppendsPart S place part old new (Ok next) =
     (new ≡ old ++ part) × (next ≡ place_then S place part) × (length new ≤ longest_row)
 AppendsPart S place part old new (Err f) =
     (f ≡ faults.OutOfMemory) ⊎ ((f ≡ long_fault S) × (longest_row < length (old ++ part)))
 
--- a text is one row so far, or its first row has this length
+-- the text is one row so far, or its first row has this length
 abbrev pub IsRowIn : Separator → (text : List ℕ) → Place → (end : Option ℕ) → Type 0
 IsRowIn S text place None = IsRowSoFar S text place
 IsRowIn S text place (Some end) = EndsRow S text end
 
--- a piece was appended to a text that was one row so far
+-- a piece was appended to a text that was one row so far; or the row got too long, or memory ran out
 abbrev pub TakesText : Separator → (piece old new : List ℕ) → Place → Result (Option ℕ) ToolFault → Type 0
 TakesText S piece old new place (Ok end) = (new ≡ old ++ piece) × IsRowIn S new place end
 TakesText S piece old new place (Err f) =
     (f ≡ faults.OutOfMemory) ⊎ ((f ≡ long_fault S) × BeginsLong S (old ++ piece))
 
--- all bytes that were taken
+-- all bytes that were taken: the byte order mark, and the text after it
 abbrev pub taken_by : FirstRow → List ℕ
 taken_by state = state.mark.items ++ state.text.items
 
--- the mark is known, whatever bytes follow, and is none of UTF-16
+-- whatever bytes follow, the byte order mark is the one that is known, and is none of UTF-16
 pub record IsMarked (state : FirstRow) : Type 0 where
   pub split : (more : List ℕ) → SplitsMark (taken_by state ++ more) state.mark.items (state.text.items ++ more)
   pub narrow : (more : List ℕ) → IsWide (taken_by state ++ more) → ⊥
 
--- the mark is known, and the text after it is one row so far
+-- the byte order mark is known, and the text after it is one row so far
 pub record IsBegun (S : Separator) (state : FirstRow) : Type 0 where
   pub begun : state.is_begun ≡ true
   pub marked : IsMarked state
   pub so_far : IsRowSoFar S state.text.items state.place
 
--- the bytes may be a part of a mark
+-- the bytes so far may be a part of a byte order mark
 pub record IsUndecided (state : FirstRow) : Type 0 where
   pub begun : state.is_begun ≡ false
   pub may_be : MayBeMark state.mark.items
   pub none : state.text.items ≡ []
   pub fresh : state.place ≡ places.Fresh
 
--- bytes were taken that do not end the first row
+-- the bytes that were taken don't end the first row
 abbrev pub IsGoing : Separator → FirstRow → Type 0
 IsGoing S state = IsBegun S state ⊎ IsUndecided state
 
--- why the bytes have no heading that is not too long
+-- why the first row can't be taken: it is too long, the bytes are UTF-16, or memory ran out
 abbrev pub StopsText : Separator → (bytes : List ℕ) → ToolFault → Type 0
 StopsText S bytes f = (f ≡ faults.OutOfMemory) ⊎ (((f ≡ faults.Utf16) × IsWide bytes)
     ⊎ ((f ≡ long_fault S) × HasLongHeading S bytes))
 
--- a piece was taken
+-- a piece was taken: the first row goes on, or has this length, or can't be taken
 abbrev pub TakesPiece : Separator → (piece : List ℕ) → (old new : FirstRow) → Result (Option ℕ) ToolFault → Type 0
 TakesPiece S piece old new (Ok None) = (taken_by new ≡ taken_by old ++ piece) × IsGoing S new
 TakesPiece S piece old new (Ok (Some end)) =
     (taken_by new ≡ taken_by old ++ piece) × IsMarked new × EndsRow S new.text.items end
 TakesPiece S piece old new (Err f) = StopsText S (taken_by old ++ piece) f
 
--- the mark in the bytes that are kept was split off, and the text after it taken
+-- the byte order mark in the kept bytes was split off, and the text after it taken
 abbrev pub BeginsText : Separator → (old new : FirstRow) → Result (Option ℕ) ToolFault → Type 0
 BeginsText S old new (Ok end) = (new.is_begun ≡ true)
     × SplitsMark old.mark.items new.mark.items new.text.items × IsRowIn S new.text.items new.place end
 BeginsText S old new (Err f) = (f ≡ faults.OutOfMemory) ⊎ ((f ≡ long_fault S) × HasLongHeading S old.mark.items)
 
--- a text that was one row so far ended, and this is its length, or it ends within quotes
+-- a text that was one row so far ended: this is its length, or it ends within quotes
 abbrev pub EndsText : Separator → FirstRow → Result ℕ ToolFault → Type 0
 EndsText S state (Ok end) = (end ≡ length state.text.items)
     × (IsRowSoFar S state.text.items state.place → IsWholeRow S state.text.items)
 EndsText S state (Err f) = (f ≡ faults.BadCsv 1)
     × (IsRowSoFar S state.text.items state.place → is_open S state.text.items ≡ true)
 
--- the bytes ended: this is the length of their first row, or they end within its quotes
+-- the bytes ended: this is the length of their first row, or why that can't be taken
 abbrev pub FinishesText : Separator → (old new : FirstRow) → Result ℕ ToolFault → Type 0
 FinishesText S old new (Ok end) = (taken_by new ≡ taken_by old)
     × SplitsMark (taken_by old) new.mark.items new.text.items × (IsWide (taken_by old) → ⊥)
@@ -200,14 +200,14 @@ FinishesText S old new (Ok end) = (taken_by new ≡ taken_by old)
 FinishesText S old new (Err f) = ((f ≡ faults.BadCsv 1) × HasOpenHeading S (taken_by old))
     ⊎ StopsText S (taken_by old) f
 
--- how the reading of the first row of a reader ended
+-- how the reading of the heading of a reader ended
 abbrev pub EndsReading : {I : Type 0} → Separator → (I → Option (List ℕ)) → (before after : Device I)
     → FirstRow → (reads : ℕ) → (read : List ℕ) → Result ℕ ToolFault → Type 0
 EndsReading S remaining before after state reads read (Ok end) = (taken_by state ≡ read)
     × (end ≤ length state.text.items) × KnowsHeading S remaining after read (heading_in state.text.items end)
 EndsReading S remaining before after state reads read (Err f) = StopsHeading S remaining before after reads read f
 
--- the first row of a reader was read
+-- the heading of a reader was read
 pub record ReadsHeading {I : Type 0} (S : Separator) (remaining : I → Option (List ℕ)) (before after : Device I)
     (state : FirstRow) (result : Result ℕ ToolFault) : Type 0 where
   pub read : List ℕ

@@ -1,4 +1,4 @@
--- The names that a heading gives to columns, and where a name stands among them.
+-- The names that a heading gives to columns, and which columns have a given name.
 use Rattle.std.specs.Prelude.{◌≡◌, ◌≢◌, ◌≤◌, ◌+◌, ◌==◌, ◌&&◌, ℕ, Bool, false, true, List, [], ◌∷◌, ◌++◌, Option, Some, None, codes, if◌then◌else◌, length, string_bytes}
 use Rattle.std.specs.List.{AllByRecursion, flat_map}
 use Rattle.lt_jar.specs.Lines.{content_of}
@@ -9,13 +9,14 @@ use Rattle.lt_heading.specs.declared.names.Found.{Found}
 use Rattle.lt_heading.specs.declared.names.Found.TheVariants as founds
 use Rattle.lt_heading.specs.declared.names.Looked.{Looked}
 
--- a text in quotes as it is meant: a quote (34) that follows another one that stays is left out (RFC 4180, 2)
+-- a text in quotes as it is meant, with one quote (34) for each two; `after_quote` says whether one that stays was
+-- before it (RFC 4180, 2)
 abbrev pub undoubled : (after_quote : Bool) → List ℕ → List ℕ
 undoubled after_quote [] = []
 undoubled after_quote (byte ∷ text) =
     if after_quote && (byte == 34) then undoubled false text else byte ∷ undoubled (byte == 34) text
 
--- the name that the text of a field gives, by what is at both ends of that
+-- the name that the text of a field gives: undoubled if there are quotes at its ends
 abbrev pub name_in : (quotes text : List ℕ) → List ℕ
 name_in [] text = text
 name_in (quote ∷ quotes) text = undoubled false text
@@ -27,7 +28,7 @@ pub record IsNameOf (S : Separator) (field name : List ℕ) : Type 0 where
   pub is_text : IsTextIn S field quotes text
   pub name_is : name ≡ name_in quotes text
 
--- the names of all columns, in order
+-- the names of all columns of a heading, in order
 abbrev pub AreNames : Separator → (row : List ℕ) → List (List ℕ) → Type 0
 AreNames S row [] = ⊥
 AreNames S row (name ∷ []) = IsRowField S row × IsNameOf S row name
@@ -35,16 +36,16 @@ AreNames S row (name ∷ next ∷ names) =
     (field : List ℕ) × (more : List ℕ) × IsEnded S field × (row ≡ field ++ separator S ∷ more)
     × IsNameOf S field name × AreNames S more (next ∷ names)
 
--- the names in a heading, which may end with a carriage return; none where there is no heading
+-- the names in a heading, which a carriage return may end; none without a heading
 abbrev pub AreNamesIn : Separator → (heading : Option (List ℕ)) → List (List ℕ) → Type 0
 AreNamesIn S None names = names ≡ []
 AreNamesIn S (Some heading) names = AreNames S (content_of heading) names
 
--- a name is none of these
+-- the name is none of these
 abbrev pub Lacks : (name : List ℕ) → List (List ℕ) → Type 0
 Lacks name names = AllByRecursion (λ other. other ≢ name) names
 
--- it is the one of this number, counted from 1, and no other
+-- the name is the one with this number, counted from 1, and no other
 pub record IsOnly (name : List ℕ) (names : List (List ℕ)) (number : ℕ) : Type 0 where
   pub first : List (List ℕ)
   pub others : List (List ℕ)
@@ -53,14 +54,14 @@ pub record IsOnly (name : List ℕ) (names : List (List ℕ)) (number : ℕ) : T
   pub none_before : Lacks name first
   pub none_after : Lacks name others
 
--- it is more than one of them
+-- the name is more than one of these
 pub record IsRepeated (name : List ℕ) (names : List (List ℕ)) : Type 0 where
   pub first : List (List ℕ)
   pub between : List (List ℕ)
   pub last : List (List ℕ)
   pub cut : names ≡ first ++ name ∷ (between ++ name ∷ last)
 
--- where a name stands
+-- how often the name is among these, and which it is
 abbrev pub IsFound : (name : List ℕ) → List (List ℕ) → Found → Type 0
 IsFound name names founds.Missing = Lacks name names
 IsFound name names (founds.Only number) = IsOnly name names number
@@ -68,14 +69,15 @@ IsFound name names founds.Repeated = IsRepeated name names
 
 -- ---- what is said of names
 
--- a name, after a space (32), between quotes
+-- a name as it is shown: after a space (32), between quotes (34)
 abbrev pub shown_name : List ℕ → List ℕ
 shown_name name = 32 ∷ 34 ∷ escaped name ++ 34 ∷ []
 
+-- names as they are shown, one after another
 abbrev pub shown_names : List (List ℕ) → List ℕ
 shown_names names = flat_map shown_name names
 
--- a line that says whose name this is, and all names, which are shown already
+-- the line that says how many columns have a name, and lists all names, which are shown already
 abbrev pub shown_line : (whose shown listed : List ℕ) → List ℕ
 shown_line whose shown listed = codes "error: " ++ whose ++ codes " has the name" ++ shown ++ codes "; names:" ++ listed ++ 10 ∷ []
 
@@ -85,20 +87,20 @@ name_line whose name names = shown_line whose (shown_name name) (shown_names nam
 
 -- ---- the steps
 
--- where a name stands, with one more that has this number
+-- how often a name is found, after a further column with this number, which has the name or not
 abbrev pub found_then : Found → (number : ℕ) → (is_name : Bool) → Found
 found_then found number false = found
 found_then founds.Missing number true = founds.Only number
 found_then found number true = founds.Repeated
 
--- a name was looked up in a heading
+-- the name was looked up in a heading, and all names are listed
 pub record LooksUp (S : Separator) (heading : Option (List ℕ)) (name : List ℕ) (looked : Looked) : Type 0 where
   pub names : List (List ℕ)
   pub are_names : AreNamesIn S heading names
   pub is_found : IsFound name names looked.found
   pub listed : string_bytes looked.listed ≡ shown_names names
 
--- the names before the rest of a row were looked up, and this many of them
+-- the name was looked up among the first `count` names of a row, before its rest
 pub record LooksSo (S : Separator) (row rest name : List ℕ) (found : Found) (listed : List ℕ) (count : ℕ) : Type 0 where
   pub names : List (List ℕ)
   pub are_names : (more : List (List ℕ)) → AreNames S rest more → AreNames S row (names ++ more)

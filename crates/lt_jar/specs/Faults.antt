@@ -1,4 +1,4 @@
--- What is wrong with a text, and at which line.
+-- What is wrong with a text in the record-jar format (RFC 5646, 3.1.1), and in which line.
 use Rattle.std.specs.Prelude.{◌≡◌, ◌≤◌, ◌<◌, ◌+◌, ℕ, Bool, true, false, List, [], ◌∷◌, ◌++◌, length}
 use Rattle.std.specs.Str.{IsUtf8}
 use Rattle.lt_jar.specs.Lines.{lines_of}
@@ -6,7 +6,7 @@ use Rattle.lt_jar.specs.LineKinds.{Line, Separator, Continuation, Start, Bad, li
 use Rattle.lt_jar.specs.Limits.{longest_line, most_records}
 use Rattle.lt_jar.specs.Records.{nonblank}
 
--- what can be wrong with a line, in the order in which it is answered
+-- what can be wrong with a line
 pub data Fault : Type 0 where
   LineTooLong : Fault
   NotUtf8 : Fault
@@ -14,7 +14,7 @@ pub data Fault : Type 0 where
   BadLine : Fault
   TooManyRecords : Fault
 
--- which fault of a line comes first
+-- the order in which the faults of one line are answered, the least first
 abbrev pub rank : Fault → ℕ
 rank LineTooLong = 0
 rank NotUtf8 = 1
@@ -22,14 +22,14 @@ rank LeadingContinuation = 2
 rank BadLine = 3
 rank TooManyRecords = 4
 
--- whether a record with a field goes on after the lines, where it is said whether one does before them
+-- whether a record with a field goes on after these lines; `inside` says whether one does before them
 abbrev pub is_inside : Bool → List Line → Bool
 is_inside inside [] = inside
 is_inside inside (Start name body ∷ lines) = is_inside true lines
 is_inside inside (Separator ∷ lines) = is_inside false lines
 is_inside inside (line ∷ lines) = is_inside inside lines
 
--- how many records begin with the lines
+-- how many records begin in these lines; the first argument says whether a record goes on before them
 abbrev pub begun : Bool → List Line → ℕ
 begun inside [] = 0
 begun true (Start name body ∷ lines) = begun true lines
@@ -37,12 +37,12 @@ begun false (Start name body ∷ lines) = 1 + begun true lines
 begun inside (Separator ∷ lines) = begun false lines
 begun inside (line ∷ lines) = begun inside lines
 
--- the line continues a field
+-- whether the line continues a field
 abbrev pub is_continuation : Line → Bool
 is_continuation (Continuation text) = true
 is_continuation line = false
 
--- this is wrong with a line that is after the lines before it, and those after this many records
+-- `fault` is a fault of the line after the lines `before`, in a text that comes after `earlier` records
 abbrev pub IsWrong : ℕ → Fault → List (List ℕ) → List ℕ → Type 0
 IsWrong earlier LineTooLong before line = longest_line < length line
 IsWrong earlier NotUtf8 before line = ¬ IsUtf8 line
@@ -51,7 +51,7 @@ IsWrong earlier LeadingContinuation before line =
 IsWrong earlier BadLine before line = line_of line ≡ Bad
 IsWrong earlier TooManyRecords before line = most_records < earlier + begun false (nonblank (before ++ line ∷ []))
 
--- this is wrong with the line of this number, counted from 1
+-- `fault` is a fault of the line with this number, counted from 1
 pub record IsWrongAt (earlier : ℕ) (text : List ℕ) (fault : Fault) (number : ℕ) : Type 0 where
   pub before : List (List ℕ)
   pub line : List ℕ
@@ -60,13 +60,13 @@ pub record IsWrongAt (earlier : ℕ) (text : List ℕ) (fault : Fault) (number :
   pub counted : number ≡ length before + 1
   pub wrong : IsWrong earlier fault before line
 
--- the lowest line at which anything is wrong, and the first of what is wrong there
+-- the fault of a text: the first line with a fault, and of its faults the one with the least rank
 pub record IsTheFault (earlier : ℕ) (text : List ℕ) (fault : Fault) (number : ℕ) : Type 0 where
   pub wrong : IsWrongAt earlier text fault number
   pub lowest : (other : Fault) (at : ℕ) → IsWrongAt earlier text other at → number ≤ at
   pub first : (other : Fault) → IsWrongAt earlier text other number → rank fault ≤ rank other
 
--- a line of the text before which nothing is wrong
+-- a line of the text without a fault in the lines before it
 pub record IsLineReached (earlier : ℕ) (text : List ℕ) (number : ℕ) : Type 0 where
   pub from : 1 ≤ number
   pub to : number ≤ length (lines_of text)

@@ -1,4 +1,4 @@
--- The records of a text one by one.
+-- How a text of records is cut into one record after another.
 use Rattle.std.specs.Prelude.{◌≡◌, ◌≢◌, ◌≤◌, ◌+◌, ℕ, List, [], ◌∷◌, ◌++◌, length, map}
 use Rattle.std.specs.List.{AllByRecursion, filter, flat_map}
 use Rattle.lt_jar.specs.Lines.{IsOneLine, whole_lines}
@@ -7,7 +7,7 @@ use Rattle.lt_jar.specs.Limits.{longest_line}
 use Rattle.lt_jar.specs.Records.{Field, Written, has_field, lines_of_ended, lines_of_group, record_of, nonblank}
 use Rattle.lt_jar.specs.Faults.{Fault, IsWrongAt}
 
--- but for blank lines, the lines are separators, and then a group that has these fields
+-- apart from blank lines, the lines are separators and then the lines of these fields
 pub record Gathers (lines : List (List ℕ)) (fields : List Field) : Type 0 where
   pub skipped : List Line
   pub separators : AllByRecursion (λ line. line ≡ Separator) skipped
@@ -24,11 +24,11 @@ pub record EndsRecord (lines : List (List ℕ)) (fields : List Field) : Type 0 w
   pub gathers : Gathers before fields
   pub some : fields ≢ []
 
--- nothing is wrong with the lines of the text, which are after this many records
+-- a text that comes after `earlier` records has no fault
 abbrev pub IsSound : ℕ → List ℕ → Type 0
 IsSound earlier text = (fault : Fault) (number : ℕ) → ¬ IsWrongAt earlier text fault number
 
--- whole lines up to the end of a record, and what follows them
+-- the text is whole lines without a fault up to the end of a record with these fields, and then `rest`
 pub record CutsRecord (earlier : ℕ) (text : List ℕ) (fields : List Field)
     (lines : List (List ℕ)) (rest : List ℕ) : Type 0 where
   pub each : AllByRecursion IsOneLine lines
@@ -36,7 +36,7 @@ pub record CutsRecord (earlier : ℕ) (text : List ℕ) (fields : List Field)
   pub ends : EndsRecord lines fields
   pub sound : IsSound earlier (whole_lines lines)
 
--- the lines above the one of this number end no record
+-- the lines before the one with this number end no record
 pub record EndsNoneAbove (text : List ℕ) (number : ℕ) : Type 0 where
   pub lines : List (List ℕ)
   pub each : AllByRecursion IsOneLine lines
@@ -46,8 +46,8 @@ pub record EndsNoneAbove (text : List ℕ) (number : ℕ) : Type 0 where
   pub gathers : Gathers lines fields
   pub counted : number ≡ length lines + 1
 
--- whole lines, which end no record and with which nothing is wrong, and the line that is being read, which is not
--- too long so far and has this number among them
+-- The text is whole lines without a fault, which end no record, and the front of a line with this number, which is not
+-- too long so far.
 pub record IsCutShort (earlier : ℕ) (text : List ℕ) (number : ℕ) : Type 0 where
   pub lines : List (List ℕ)
   pub each : AllByRecursion IsOneLine lines
@@ -60,15 +60,13 @@ pub record IsCutShort (earlier : ℕ) (text : List ℕ) (number : ℕ) : Type 0 
   pub sound : IsSound earlier (whole_lines lines)
   pub counted : number ≡ length lines + 1
 
--- but for blank lines, the lines are groups that separators end, and these are the records of the groups that have
--- a field
+-- apart from blank lines, the lines are groups that separators end; those that have a field are these records
 pub record AreEnded (lines : List (List ℕ)) (records : List (List Field)) : Type 0 where
   pub groups : List (List Written)
   pub lines_are : nonblank lines ≡ flat_map lines_of_ended groups
   pub records_are : records ≡ map record_of (filter has_field groups)
 
--- whole lines, with which nothing is wrong, and the line that is being read, which is not too long so far and has
--- this number among them
+-- The text is whole lines without a fault and the front of a line with this number, which is not too long so far.
 pub record BreaksOff (earlier : ℕ) (text : List ℕ) (number : ℕ) : Type 0 where
   pub ended : List (List ℕ)
   pub records : List (List Field)

@@ -1,4 +1,4 @@
--- What `JarReader` is over its device, and what its `next` leaves once the record is no longer borrowed.
+-- What a call of `next` on a `JarReader` does to it, once the record that it lent is no longer borrowed.
 use Rattle.std.specs.Prelude.{◌≡◌, ℕ, List, [], Option, Result, Ok, Err, Bool, IfOk, IfSome, is_some}
 use Rattle.std.specs.Borrow.{Fml, RattleType, MutBor}
 use Rattle.std.specs.Io.BufRead.{Rests}
@@ -11,19 +11,19 @@ use Rattle.lt_jar.specs.contracts.readers.JarReader.{the_row}
 use Rattle.lt_jar.specs.contracts.sources.JarSource.{the_row as source_row}
 use Rattle.lt_jar.specs.Sources.{Advances, record_in}
 
--- whether a record came
+-- the answer of a call, with a Boolean, whether a record came, in place of the record
 abbrev pub came : Result (Option RecordRef) JarFault → Result Bool JarFault
 came (Ok lent) = Ok (is_some lent)
 came (Err fault) = Err fault
 
--- the call moved from old to new, and lent this
+-- the call moved the reader from `old` to `new`, and lent the record that `new` holds
 pub record Moves {R : Type 0} (remaining : R → Option (List ℕ)) (old : JarReader R JarSource)
     (result : Result (Option RecordRef) JarFault) (new : JarReader R JarSource) : Type 0 where
   pub same_reference : new.device.ghost_name ≡ old.device.ghost_name
   pub advances : Advances remaining old.source new.source old.device.now new.device.now (came result)
   pub fields : IfOk result (λ lent. IfSome lent (λ r. r.fields.now ≡ record_in new.source))
 
--- once the record is no longer borrowed, the reader is what the call moved it to
+-- once the record is no longer borrowed, the reader is what the call made of it
 abbrev pub LendsAs : (R : RattleType) → (R.Denot → Option (List ℕ))
     → MutBor (JarReader R.Denot JarSource) → Result (Option RecordRef) JarFault → Fml
 LendsAs R remaining reader result =

@@ -1,4 +1,4 @@
--- What a reader of records has lent since its start.
+-- What a reader of records has lent since it began to read.
 use Rattle.std.specs.Prelude.{◌≡◌, ◌+◌, ℕ, List, ◌++◌, length}
 use Rattle.std.specs.List.{AllByRecursion}
 use Rattle.lt_jar.specs.Lines.{IsOneLine, whole_lines}
@@ -7,8 +7,8 @@ use Rattle.lt_jar.specs.Lending.{AreEnded, IsSound}
 use Rattle.lt_jar.specs.Sources.{kept_in, lent_by, line_of_kept}
 use Rattle.lt_jar.specs.declared.sources.JarSource.{JarSource}
 
--- these records were lent of the bytes that were read: whole lines that are them, with which nothing is wrong, and
--- the bytes that are kept
+-- these bytes were read: whole lines without a fault, which are these records, all of them lent, and the bytes that are
+-- kept
 pub record HasLent (bytes : List ℕ) (records : List (List Field)) (s : JarSource) : Type 0 where
   pub lines : List (List ℕ)
   pub each : AllByRecursion IsOneLine lines

@@ -1,7 +1,7 @@
 -- How long a line may be, and how many records a text may have.
 use Rattle.std.specs.Prelude.{ℕ}
 
--- the most bytes of a line, with the carriage return and without the line feed
+-- the most bytes of a line, counted with a carriage return (13) at its end and without the line feed (10)
 abbrev pub longest_line : ℕ
 longest_line = 65536
 

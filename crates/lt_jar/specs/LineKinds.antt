@@ -1,14 +1,14 @@
--- What a line of a record-jar text is.
+-- What a line of a text in the record-jar format can be (RFC 5646, 3.1.1).
 use Rattle.std.specs.Prelude.{◌≡◌, ℕ, Bool, true, false, List, [], ◌∷◌, ◌==◌, ◌&&◌, ◌||◌, length, drop, reverse, if◌then◌else◌}
 use Rattle.std.specs.List.{list_all}
 use Rattle.std.specs.Char.{is_ascii_alphanumeric}
 use Rattle.lt_jar.specs.Lines.{content_of}
 
--- a space or a tab
+-- whether a byte is a space (32) or a tab (9)
 abbrev pub is_blank : ℕ → Bool
 is_blank byte = (byte == 32) || (byte == 9)
 
--- an ASCII letter, an ASCII digit or a hyphen
+-- whether a byte may be in the name of a field: an ASCII letter or digit, or a hyphen (45)
 abbrev pub is_name_byte : ℕ → Bool
 is_name_byte byte = is_ascii_alphanumeric byte || (byte == 45)
 
@@ -25,7 +25,7 @@ trim_end text = reverse (trim_start (reverse text))
 abbrev pub trim : List ℕ → List ℕ
 trim text = trim_end (trim_start text)
 
--- the longest front that is made of the bytes of names
+-- the longest front of the text whose bytes may be in the name of a field
 abbrev pub name_at_front : List ℕ → List ℕ
 name_at_front [] = []
 name_at_front (byte ∷ rest) = if is_name_byte byte then byte ∷ name_at_front rest else []
@@ -43,41 +43,41 @@ pub data Line : Type 0 where
   -- none of these
   Bad : Line
 
--- a field's line, by its name and what follows the name
+-- what a line is that begins with this name and goes on with `rest`: the beginning of a field if a colon (58) is next
 abbrev pub start_by : List ℕ → List ℕ → Line
 start_by [] rest = Bad
 start_by (byte ∷ name) [] = Bad
 start_by (byte ∷ name) (colon ∷ body) = if colon == 58 then Start (byte ∷ name) (trim body) else Bad
 
--- a name, any spaces and tabs, a colon, and a body
+-- what a line is that is to begin a field: a name, any spaces and tabs, a colon, and a body
 abbrev pub start_of : List ℕ → Line
 start_of text = let name = name_at_front text in start_by name (trim_start (drop (length name) text))
 
--- two percent signs, with nothing but spaces and tabs after them
+-- whether a line is `%%` (37 twice), with nothing but spaces and tabs after it
 abbrev pub separates : List ℕ → Bool
 separates [] = false
 separates (a ∷ []) = false
 separates (a ∷ b ∷ rest) = (a == 37) && ((b == 37) && list_all is_blank rest)
 
--- a space or a tab comes first
+-- whether a space or a tab begins a line
 abbrev pub begins_blank : List ℕ → Bool
 begins_blank [] = false
 begins_blank (byte ∷ rest) = is_blank byte
 
--- what a line is that holds more than spaces and tabs
+-- what a line is that has more than spaces and tabs
 abbrev pub kind_of_content : List ℕ → Line
 kind_of_content text =
     if begins_blank text then Continuation (trim text) else (if separates text then Separator else start_of text)
 
--- what a line is
+-- what a line is, without the carriage return that may end it
 abbrev pub line_of : List ℕ → Line
 line_of line = let text = content_of line in if list_all is_blank text then Blank else kind_of_content text
 
--- made of the bytes of names
+-- all bytes of the name may be in the name of a field
 abbrev pub IsNamed : List ℕ → Type 0
 IsNamed name = list_all is_name_byte name ≡ true
 
--- the name of a line that begins a field is made of them
+-- if the line begins a field, all bytes of its name may be in such a name
 abbrev pub HasName : Line → Type 0
 HasName Blank = Unit {0}
 HasName Separator = Unit {0}

@@ -1,15 +1,15 @@
--- The lines of a text.
+-- The lines of a text, which line feeds (10) end.
 use Rattle.std.specs.Prelude.{◌≢◌, ℕ, List, [], ◌∷◌, ◌++◌, ◌==◌, ◌⊎◌, if◌then◌else◌}
 use Rattle.std.specs.List.{All, flat_map}
 use Rattle.std.specs.Io.BufRead.{strip_last}
 
--- the byte is in front of the first line
+-- the lines with the byte in front of the first
 abbrev pub begin_first : ℕ → List (List ℕ) → List (List ℕ)
 begin_first byte [] = (byte ∷ []) ∷ []
 begin_first byte (line ∷ lines) = (byte ∷ line) ∷ lines
 
--- the lines of a text, without the line feeds (10) that end them; what follows the last line feed is a line if it
--- is anything
+-- the lines of a text, without the line feeds (10) that end them; what follows the last line feed is a line, unless it
+-- is empty
 abbrev pub lines_of : List ℕ → List (List ℕ)
 lines_of [] = []
 lines_of (byte ∷ text) = if byte == 10 then [] ∷ lines_of text else begin_first byte (lines_of text)
@@ -18,15 +18,15 @@ lines_of (byte ∷ text) = if byte == 10 then [] ∷ lines_of text else begin_fi
 abbrev pub content_of : List ℕ → List ℕ
 content_of line = strip_last 13 line
 
--- no line feed
+-- the text has no line feed (10)
 abbrev pub IsOneLine : List ℕ → Type 0
 IsOneLine text = All (λ byte. byte ≢ 10) text
 
--- it holds of the whole text, of which these bytes are read: whatever bytes follow them, or of these where the text
--- has ended
+-- `P` is true of a whole text of which these bytes were read: whatever follows them, or where the text has `ended`, of
+-- them
 abbrev pub HoldsOfWhole : (List ℕ → Type 0) → Type 0 → List ℕ → Type 0
 HoldsOfWhole P ended bytes = ((more : List ℕ) → P (bytes ++ more)) ⊎ (ended × P bytes)
 
--- the lines, each with the line feed that ends it
+-- the lines, each with a line feed (10) after it
 abbrev pub whole_lines : List (List ℕ) → List ℕ
 whole_lines lines = flat_map (λ (line : List ℕ). line ++ 10 ∷ []) lines

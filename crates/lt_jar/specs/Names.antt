@@ -1,9 +1,9 @@
--- The names of the faults, as they are printed.
+-- The names of the faults of the record-jar format and of its reader, as they are printed.
 use Rattle.std.specs.Prelude.{ℕ, List, codes}
 use Rattle.lt_jar.specs.declared.faults.JarFaultKind.{JarFaultKind}
 use Rattle.lt_jar.specs.declared.faults.JarFaultKind.TheVariants as kinds
 
--- the name of a kind of fault
+-- the name of a kind of fault, as it is printed
 abbrev pub name_of : JarFaultKind → List ℕ
 name_of kinds.LineTooLong = codes "LineTooLong"
 name_of kinds.NotUtf8 = codes "NotUtf8"

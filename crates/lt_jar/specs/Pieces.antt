@@ -1,4 +1,4 @@
--- What is done with a piece of a text.
+-- What the engine that reads records does with a piece of a text, and with the text's end.
 use Rattle.std.specs.Prelude.{◌≡◌, ◌≢◌, ◌≤◌, ◌<◌, ◌+◌, ◌⊎◌, ℕ, Bool, true, false, List, [], ◌∷◌, ◌++◌, length, get_or, take, Option, Some, None, Result, Ok, Err, MatchOption}
 use Rattle.std.specs.Borrow.{Bor}
 use Rattle.std.specs.List.{AllByRecursion}
@@ -12,19 +12,19 @@ use Rattle.lt_jar.specs.declared.faults.JarFaultKind.TheVariants as kinds
 use Rattle.lt_jar.specs.declared.drafts.Progress.{Progress}
 use Rattle.lt_jar.specs.declared.engine.Engine.{Engine}
 
--- the first line feed is at this place
+-- the first line feed (10) is at this place
 abbrev pub EndsAt : List ℕ → ℕ → Type 0
 EndsAt text i = (i < length text) × (get_or text i 0 ≡ 10) × IsOneLine (take i text)
 
--- what is before the first line feed and after it
+-- what is before the first line feed (10), and what is after it; None where there is none
 abbrev pub SplitsLine : List ℕ → Option (Bor (List ℕ) × Bor (List ℕ)) → Type 0
 SplitsLine text parts = MatchOption parts (IsOneLine text) (λ p. IsOneLine p.0.now × (text ≡ p.0.now ++ 10 ∷ p.1.now))
 
--- the fields of the record that is being read
+-- the fields, so far, of the record that the engine is reading
 abbrev pub fields_in : Engine → List Field
 fields_in engine = take engine.draft.count engine.draft.fields.items
 
--- the engine went over whole lines, which ended no record
+-- the engine took in these whole lines, which ended no record
 pub record GoesOver (old new : Engine) (lines : List (List ℕ)) : Type 0 where
   pub each : AllByRecursion IsOneLine lines
   pub ran : steps old.ended (going_on (fields_in old)) lines ≡ going_on (fields_in new)
@@ -32,19 +32,19 @@ pub record GoesOver (old new : Engine) (lines : List (List ℕ)) : Type 0 where
   pub ended : new.ended ≡ old.ended
   pub begun : IsOneLine new.partial.items
 
--- a line in which all bytes are used
+-- how a whole line ends: it was taken in, or has a fault
 abbrev pub EndsLine : Engine → Engine → Result Progress JarFaultKind → Type 0
 EndsLine old new (Ok progress) = (new.line ≡ old.line + 1) × (new.partial.items ≡ [])
 EndsLine old new (Err kind) = (new.line ≡ old.line) × IsOneLine new.partial.items
 
--- all bytes are used, and what follows the last line feed is kept
+-- all bytes of the piece were taken in, and what follows the last line feed is kept
 pub record TakesAll (old new : Engine) (piece : List ℕ) : Type 0 where
   pub lines : List (List ℕ)
   pub over : GoesOver old new lines
   pub bytes : old.partial.items ++ piece ≡ whole_lines lines ++ new.partial.items
   pub room : new.line ≤ old.line + length piece
 
--- the last of the lines ends the record, and the rest is not used
+-- the last of the lines that were taken in ends a record, and the rest of the piece is left
 pub record TakesRecord (old new : Engine) (piece rest : List ℕ) : Type 0 where
   pub lines : List (List ℕ)
   pub last : List ℕ
@@ -59,14 +59,14 @@ pub record TakesRecord (old new : Engine) (piece rest : List ℕ) : Type 0 where
   pub split : piece ≡ front ++ rest
   pub room : new.line + length rest ≤ old.line + length piece
 
--- the first line of the text is wrong, or memory ran out at it
+-- the first line of the text has this fault, or memory ran out at it
 pub record RefusesFirst (ended : ℕ) (fields : List Field) (text : List ℕ) (kind : JarFaultKind) : Type 0 where
   pub line : List ℕ
   pub after : List (List ℕ)
   pub cut : lines_of text ≡ line ∷ after
   pub said : IsSaid kind (take_line ended fields line)
 
--- the line after these lines is wrong whatever bytes follow, or memory ran out at it
+-- the line after these lines has this fault, whatever bytes follow, or memory ran out at it
 pub record StopsAt (old new : Engine) (piece : List ℕ) (kind : JarFaultKind) : Type 0 where
   pub lines : List (List ℕ)
   pub each : AllByRecursion IsOneLine lines
@@ -80,26 +80,25 @@ pub record StopsAt (old new : Engine) (piece : List ℕ) (kind : JarFaultKind) :
   pub ended : new.ended ≡ old.ended
   pub begun : IsOneLine new.partial.items
 
--- what the engine did with a piece
+-- what the engine did with a piece: it took all, it came to the end of a record, or to a fault
 abbrev pub TakesPiece : Engine → Engine → List ℕ → Result (Option (Bor (List ℕ))) JarFaultKind → Type 0
 TakesPiece old new piece (Ok None) = TakesAll old new piece
 TakesPiece old new piece (Ok (Some rest)) = TakesRecord old new piece rest.now
 TakesPiece old new piece (Err kind) = StopsAt old new piece kind
 
--- bytes without a line feed went after those of the line that goes on. Of a line whose end is not read it is
--- reported alone that it is too long, or that memory ran out.
+-- Bytes without a line feed were added to the kept front of a line, unless that gets too long or memory runs out.
 abbrev pub KeepsBytes : Engine → Engine → List ℕ → Result (Unit {0}) JarFaultKind → Type 0
 KeepsBytes old new rest (Ok x) = new.partial.items ≡ old.partial.items ++ rest
 KeepsBytes old new rest (Err kind) =
     ((kind ≡ kinds.OutOfMemory) ⊎ ((kind ≡ kinds.LineTooLong) × (longest_line < length (old.partial.items ++ rest))))
     × (old.partial.items ++ rest ≢ []) × (new.partial.items ≡ old.partial.items)
 
--- the text ends: what is kept was the last line, if it is anything
+-- the last line of a text that ends after the kept bytes: they, unless they are empty
 abbrev pub last_line : List ℕ → List (List ℕ)
 last_line [] = []
 last_line (byte ∷ line) = (byte ∷ line) ∷ []
 
--- the engine took the end of the text, and a record ends there, or none
+-- the engine took in the end of the text, where a record ends, or, if false, none
 pub record Finishes (old new : Engine) (some : Bool) : Type 0 where
   pub going : Going
   pub ran : steps old.ended (going_on (fields_in old)) (last_line old.partial.items) ≡ Ok going
@@ -110,7 +109,7 @@ pub record Finishes (old new : Engine) (some : Bool) : Type 0 where
   pub ended : new.ended ≡ old.ended
   pub empty : new.partial.items ≡ []
 
--- the last line is wrong, or memory ran out at it
+-- the last line has this fault, or memory ran out at it
 pub record StopsAtLast (old new : Engine) (kind : JarFaultKind) : Type 0 where
   pub some : old.partial.items ≢ []
   pub said : IsSaid kind (take_line old.ended (fields_in old) old.partial.items)
@@ -118,7 +117,7 @@ pub record StopsAtLast (old new : Engine) (kind : JarFaultKind) : Type 0 where
   pub ended : new.ended ≡ old.ended
   pub begun : IsOneLine new.partial.items
 
--- what the engine did with the end of the text
+-- what the engine did with the end of the text: it took it in, or came to a fault
 abbrev pub FinishesOr : Engine → Engine → Result Bool JarFaultKind → Type 0
 FinishesOr old new (Ok some) = Finishes old new some
 FinishesOr old new (Err kind) = StopsAtLast old new kind

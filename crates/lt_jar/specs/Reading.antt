@@ -1,4 +1,4 @@
--- What a line does to the records that are read so far, computed.
+-- How records are read line by line, as a function, which contracts compare the code with.
 use Rattle.std.specs.Prelude.{◌≡◌, ◌<◌, ◌+◌, ◌∷◌, ◌++◌, ℕ, List, [], length, get_or, Result, Ok, Err, nat_lt, if◌then◌else◌}
 use Rattle.std.specs.List.{All, filter}
 use Rattle.std.specs.Str.{is_utf8}
@@ -7,39 +7,39 @@ use Rattle.lt_jar.specs.Limits.{longest_line, most_records}
 use Rattle.lt_jar.specs.Records.{Field, is_something, joined}
 use Rattle.lt_jar.specs.Faults.{Fault, LineTooLong, NotUtf8, LeadingContinuation, BadLine, TooManyRecords}
 
--- what a line makes of the fields of the record that goes on
+-- what a line makes of the fields of the record that is being read
 pub data Taken : Type 0 where
-  -- it goes on with these
+  -- the record goes on with these fields
   GoesOn : List Field → Taken
-  -- it ends with these
+  -- the record ends with these fields
   Ends : List Field → Taken
 
--- a body with a further text
+-- a body with a further text, after a space (32) where both have a byte
 abbrev pub lengthened : List ℕ → List ℕ → List ℕ
 lengthened body text = joined (filter is_something (body ∷ text ∷ []))
 
--- the text goes after the body of the last field
+-- the fields, with a further text in the body of the last
 abbrev pub with_text : List ℕ → List Field → List Field
 with_text text [] = []
 with_text text (field ∷ []) = (field.0, lengthened field.1 text) ∷ []
 with_text text (field ∷ next ∷ fields) = field ∷ with_text text (next ∷ fields)
 
--- a separator ends the record, if it has a field
+-- what a separator makes of these fields: it ends the record, if it has a field
 abbrev pub separated : List Field → Taken
 separated [] = GoesOn []
 separated (field ∷ fields) = Ends (field ∷ fields)
 
--- a continuation goes on with the last field, if there is one
+-- what a continuation line makes of these fields: it lengthens the last, if there is one
 abbrev pub continued : List ℕ → List Field → Result Taken Fault
 continued text [] = Err LeadingContinuation
 continued text (field ∷ fields) = Ok (GoesOn (with_text text (field ∷ fields)))
 
--- a field more; the first of a record begins it, if there is room for one more
+-- what the beginning of a field makes of these: it adds a field; the first needs room for one more record
 abbrev pub started : ℕ → Field → List Field → Result Taken Fault
 started ended new [] = if nat_lt ended most_records then Ok (GoesOn (new ∷ [])) else Err TooManyRecords
 started ended new (field ∷ fields) = Ok (GoesOn ((field ∷ fields) ++ new ∷ []))
 
--- a line of this kind, after this many records that have ended
+-- what a line of this kind makes of these fields, after `ended` records
 abbrev pub take_kind : ℕ → List Field → Line → Result Taken Fault
 take_kind ended fields Blank = Ok (GoesOn fields)
 take_kind ended fields Separator = Ok (separated fields)
@@ -47,66 +47,66 @@ take_kind ended fields (Continuation text) = continued text fields
 take_kind ended fields (Start name body) = started ended (name, body) fields
 take_kind ended fields Bad = Err BadLine
 
--- a line, after this many records that have ended
+-- what a line makes of these fields, after `ended` records, or its fault
 abbrev pub take_line : ℕ → List Field → List ℕ → Result Taken Fault
 take_line ended fields line =
     if nat_lt longest_line (length line) then Err LineTooLong
     else (if is_utf8 line then take_kind ended fields (line_of line) else Err NotUtf8)
 
--- the records that have ended, and the fields of the one that goes on
+-- a reading that goes on: the records that have ended, and the fields of the one that is being read
 pub record Going : Type 0 where
   pub records : List (List Field)
   pub fields : List Field
 
--- nothing is read
+-- the reading of no lines
 abbrev pub start : Going
 start = record { records = []; fields = [] }
 
--- a line more, by what it made of the fields
+-- the reading after a further line, by what that made of the fields
 abbrev pub with_taken : Going → Taken → Going
 with_taken going (GoesOn fields) = record { records = going.records; fields = fields }
 with_taken going (Ends fields) = record { records = going.records ++ fields ∷ []; fields = [] }
 
--- the same, or the fault of the line
+-- the reading after a further line, or the line's fault
 abbrev pub on_taken : Going → Result Taken Fault → Result Going Fault
 on_taken going (Ok taken) = Ok (with_taken going taken)
 on_taken going (Err fault) = Err fault
 
--- one line more, after this many records of an earlier text
+-- the reading after a further line, in a text that comes after `earlier` records
 abbrev pub step : ℕ → Going → List ℕ → Result Going Fault
 step earlier going line = on_taken going (take_line (earlier + length going.records) going.fields line)
 
--- a line more, where all is well so far
+-- the reading after a further line, or the fault that came before
 abbrev pub on_going : ℕ → Result Going Fault → List ℕ → Result Going Fault
 on_going earlier (Ok going) line = step earlier going line
 on_going earlier (Err fault) line = Err fault
 
--- lines more, up to the first that is wrong
+-- the reading after these lines, or the fault of the first that has one
 abbrev pub steps : ℕ → Result Going Fault → List (List ℕ) → Result Going Fault
 steps earlier said [] = said
 steps earlier said (line ∷ lines) = steps earlier (on_going earlier said line) lines
 
--- no record has ended, and one goes on with these fields
+-- the reading in which no record has ended, and one goes on with these fields
 abbrev pub going_on : List Field → Result Going Fault
 going_on fields = Ok (record { records = []; fields = fields })
 
--- the record that goes on, if it has a field
+-- the record that is being read, if it has a field
 abbrev pub rest_of : List Field → List (List Field)
 rest_of [] = []
 rest_of (field ∷ fields) = (field ∷ fields) ∷ []
 
--- the records at the end of a text
+-- the records of a text that ends after this reading
 abbrev pub finished : Going → List (List Field)
 finished going = going.records ++ rest_of going.fields
 
--- each name is made of the bytes of names
+-- all bytes of the fields' names may be in the name of a field
 abbrev pub AreNamed : List Field → Type 0
 AreNamed fields = All (λ (field : Field). IsNamed field.0) fields
 
--- no name and no body
+-- a field without name and body
 abbrev pub nothing : Field
 nothing = ([], [])
 
--- the line begins a field with this body, which has the name of the one at this place among others
+-- the line begins a field that has the name of the field at this place, and this body
 abbrev pub BeginsAgain : ℕ → List Field → List ℕ → List ℕ → Type 0
 BeginsAgain place fields line body = (place < length fields) × (line_of line ≡ Start (get_or fields place nothing).0 body)

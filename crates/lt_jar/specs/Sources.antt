@@ -1,4 +1,4 @@
--- What a reader of records keeps from one call to the next, and what a call does.
+-- What a reader of records keeps from one call to the next, and what each call does.
 use Rattle.std.specs.Prelude.{◌≡◌, ◌≢◌, ◌<◌, ◌≤◌, ◌+◌, ◌-◌, ◌*◌, ◌⊎◌, ℕ, Bool, true, false, List, [], ◌∷◌, ◌++◌, length, take, drop, Option, Some, Result, Ok, Err}
 use Rattle.std.specs.Io.KnownBytes.{Consumes, IsAtEnd}
 use Rattle.lt_jar.specs.Devices.{HasFailed, after_reads, failures_of, inner_of, last_given_of, reads_of}
@@ -16,15 +16,15 @@ use Rattle.lt_jar.specs.declared.faults.JarFaultKind.TheVariants as kinds
 use Rattle.lt_jar.specs.declared.sources.JarSource.{JarSource}
 use Rattle.lt_jar.specs.declared.sources.Status.TheVariants as state
 
--- the most reads of one reader
+-- the most reads that one reader may make
 abbrev pub most_reads : ℕ
 most_reads = 10000000
 
--- the bytes that were read and not yet handed on
+-- the bytes that were read and that the engine has not yet got
 abbrev pub unread_in : JarSource → List ℕ
 unread_in s = take (s.end - s.start) (drop s.start s.buffer)
 
--- the bytes that were read and not yet used
+-- the bytes that were read and belong to no line that was taken in yet
 abbrev pub kept_in : JarSource → List ℕ
 kept_in s = s.engine.partial.items ++ unread_in s
 
@@ -36,11 +36,11 @@ record_in s = fields_in s.engine
 abbrev pub lent_by : JarSource → ℕ
 lent_by s = s.engine.ended
 
--- the number of the line at which the kept bytes begin
+-- the number of the line in which the kept bytes begin
 abbrev pub line_of_kept : JarSource → ℕ
 line_of_kept s = s.engine.line
 
--- nothing is read
+-- the state of a reader of records that has read nothing
 pub record IsFresh (s : JarSource) : Type 0 where
   pub kept : kept_in s ≡ []
   pub line : line_of_kept s ≡ 1
@@ -48,11 +48,11 @@ pub record IsFresh (s : JarSource) : Type 0 where
   pub turns : s.turns ≡ 0
   pub status : s.status ≡ state.Open
 
--- the last read of a reader gave bytes, if it has read
+-- the last read of the device gave bytes, if it was read
 abbrev pub LastGave : {R : Type 0} → JarSource → Device R → Type 0
 LastGave s device = 0 < s.turns → 0 < last_given_of device
 
--- this many reads were made, which gave these bytes, together at most 65,536 for each read
+-- `reads` reads were made, which gave these bytes, on average at most 65,536 each
 pub record IsRead {R : Type 0} (remaining : R → Option (List ℕ)) (old new : JarSource)
     (before after : Device R) (read : List ℕ) (reads : ℕ) : Type 0 where
   pub consumes : Consumes (remaining (inner_of before)) (remaining (inner_of after)) read
@@ -61,13 +61,14 @@ pub record IsRead {R : Type 0} (remaining : R → Option (List ℕ)) (old new : 
   pub turns : new.turns ≡ old.turns + reads
   pub bounded : new.turns ≤ most_reads
 
--- the engine took what was not handed on
+-- what the engine did with the bytes that it had not yet got: it came to the end of a record, took all, or came to a
+-- fault
 abbrev pub TakesUnread : JarSource → JarSource → Result Bool JarFaultKind → Type 0
 TakesUnread old new (Ok true) = TakesRecord old.engine new.engine (unread_in old) (unread_in new)
 TakesUnread old new (Ok false) = TakesAll old.engine new.engine (unread_in old) × (new.start ≡ new.end)
 TakesUnread old new (Err kind) = StopsAt old.engine new.engine (unread_in old) kind
 
--- what it did, by its answer: bytes, the end, or why there are none
+-- what a read did, by its answer: it gave bytes, came to the end, or failed or was one too many
 abbrev pub FillsAs : {R : Type 0} → (R → Option (List ℕ)) → (old new : JarSource)
     → (before after : Device R) → List ℕ → ℕ → Result Bool JarFaultKind → Type 0
 FillsAs remaining old new before after read reads (Ok true) = (unread_in new ≡ read) × (0 < length read)
@@ -80,7 +81,7 @@ FillsAs remaining old new before after read reads (Err kind) =
     ⊎ ((kind ≡ kinds.TooManyTurns) × (failures_of after ≡ failures_of before)
     × (new.turns ≡ most_reads) × (reads ≡ 0) × (last_given_of after ≡ last_given_of before)))
 
--- what one read more did
+-- a further read of the device, unless the most reads were made already
 pub record Fills {R : Type 0} (remaining : R → Option (List ℕ)) (old new : JarSource)
     (before after : Device R) (result : Result Bool JarFaultKind) : Type 0 where
   pub read : List ℕ
@@ -88,12 +89,12 @@ pub record Fills {R : Type 0} (remaining : R → Option (List ℕ)) (old new : J
   pub is_read : IsRead remaining old new before after read reads
   pub fills : FillsAs remaining old new before after read reads result
 
--- a last record counts among those that a text may have
+-- a record that the end of the text ends is no more than the 100,000th
 abbrev pub HasRoom : JarSource → Type 0
 HasRoom s = (going : Going) → steps (lent_by s) (going_on (record_in s)) (last_line s.engine.partial.items) ≡ Ok going
     → lent_by s + length (finished going) ≤ 100000
 
--- the text ended
+-- the end of the text was taken in, where a record ends, or, if false, none
 pub record Finishes (old new : JarSource) (some : Bool) : Type 0 where
   pub going : Going
   pub ran : steps (lent_by old) (going_on (record_in old)) (last_line old.engine.partial.items) ≡ Ok going
@@ -105,13 +106,13 @@ pub record Finishes (old new : JarSource) (some : Bool) : Type 0 where
   pub turns : new.turns ≡ old.turns
   pub status : new.status ≡ state.Ended
 
--- what the end of the text did: a last record, or none, or the last line is wrong
+-- what the end of the text did: it ended a record or none, or the last line has a fault
 abbrev pub Finished : JarSource → JarSource → Result Bool JarFaultKind → Type 0
 Finished old new (Ok some) = Finishes old new some
 Finished old new (Err kind) = StopsAtLast old.engine new.engine kind × (new.turns ≡ old.turns)
 
--- A record was lent, which a separator ends: the kept bytes and those that were read are the lines up to its end,
--- and the bytes that are kept now.
+-- A record was lent that a separator ends: the bytes that were kept and those that were read are its lines and the
+-- bytes that are kept now.
 pub record LendsEnded {R : Type 0} (old new : JarSource)
     (before after : Device R) (read : List ℕ) (reads : ℕ) : Type 0 where
   pub lines : List (List ℕ)
@@ -121,7 +122,7 @@ pub record LendsEnded {R : Type 0} (old new : JarSource)
   pub last_gave : LastGave old before → LastGave new after
   pub status : new.status ≡ state.Open
 
--- the text ended, and its last lines have these records, one or none
+-- the text ended, and its last lines are these records, one or none
 pub record LendsLast {R : Type 0} (remaining : R → Option (List ℕ)) (old new : JarSource)
     (after : Device R) (read : List ℕ) (records : List (List Field)) : Type 0 where
   pub has : HasRecords (kept_in old ++ read) records
@@ -131,7 +132,7 @@ pub record LendsLast {R : Type 0} (remaining : R → Option (List ℕ)) (old new
   pub end : IsAtEnd (remaining (inner_of after))
   pub status : new.status ≡ state.Ended
 
--- why no record came, and the line that was being read
+-- why no record came: a fault and the line that was being read
 pub record Stops {R : Type 0} (remaining : R → Option (List ℕ)) (old new : JarSource)
     (before after : Device R) (read : List ℕ) (reads : ℕ) (kind : JarFaultKind) : Type 0 where
   pub format : (fault : faults.Fault) → fault_in kind ≡ Some fault
@@ -151,7 +152,7 @@ pub record Stops {R : Type 0} (remaining : R → Option (List ℕ)) (old new : J
       × (line_of_kept new + 1 ≡ line_of_kept old + number))
   pub first : kind ≢ kinds.Failed
 
--- how a call that went on reading ended: with a record, with none, or with a fault
+-- how a call on an open reader ended: with a record, with none, or with a fault
 abbrev pub EndsAs : {R : Type 0} → (R → Option (List ℕ)) → (old new : JarSource)
     → (before after : Device R) → List ℕ → ℕ → Result Bool JarFaultKind → Type 0
 EndsAs remaining old new before after read reads (Ok true) =
@@ -161,7 +162,7 @@ EndsAs remaining old new before after read reads (Ok false) =
     (lent_by new ≡ lent_by old) × LendsLast remaining old new after read []
 EndsAs remaining old new before after read reads (Err kind) = Stops remaining old new before after read reads kind
 
--- what a call did that went on reading
+-- what a call on an open reader did
 pub record ReadsRecord {R : Type 0} (remaining : R → Option (List ℕ)) (old new : JarSource)
     (before after : Device R) (result : Result Bool JarFaultKind) : Type 0 where
   pub read : List ℕ
@@ -171,12 +172,13 @@ pub record ReadsRecord {R : Type 0} (remaining : R → Option (List ℕ)) (old n
   pub rises : failures_of before < failures_of after → result ≡ Err kinds.Read
   pub works : result ≢ Err kinds.Read → failures_of after ≡ failures_of before
 
--- the answer, without the line of a fault
+-- the answer of a call, without the line of its fault
 abbrev pub without_line : Result Bool JarFault → Result Bool JarFaultKind
 without_line (Ok some) = Ok some
 without_line (Err fault) = Err fault.kind
 
--- What a call did. After the end there is nothing, after a fault it is reported that there was one, and at which line.
+-- What a call did: on an open reader, it read on; after the text's end, it gave no record; after a fault, it answered
+-- Failed, with the line of that fault.
 pub record Advances {R : Type 0} (remaining : R → Option (List ℕ)) (old new : JarSource)
     (before after : Device R) (result : Result Bool JarFault) : Type 0 where
   pub reads : old.status ≡ state.Open → ReadsRecord remaining old new before after (without_line result)

@@ -1,4 +1,4 @@
--- What the clauses see of the code's values.
+-- How the code's values stand for those of the contracts on the record-jar format.
 use Rattle.std.specs.Prelude.{◌≡◌, ◌⊎◌, ℕ, List, Option, Some, None, Result, Ok, Err}
 use Rattle.lt_jar.specs.LineKinds as lines
 use Rattle.lt_jar.specs.Records.{Field}
@@ -12,7 +12,7 @@ use Rattle.lt_jar.specs.declared.lines.LineKind.TheVariants as kinds
 use Rattle.lt_jar.specs.declared.drafts.Progress.{Progress}
 use Rattle.lt_jar.specs.declared.drafts.Progress.TheVariants as progress
 
--- what a line is, by its texts
+-- what a line is, as the contracts have it, by what the code finds
 abbrev pub line_in : LineKind → lines.Line
 line_in kinds.Blank = lines.Blank
 line_in kinds.Separator = lines.Separator
@@ -20,7 +20,7 @@ line_in (kinds.Continuation text) = lines.Continuation text.now
 line_in (kinds.Start name body) = lines.Start name.now body.now
 line_in kinds.Bad = lines.Bad
 
--- the fault of the format, if it is one
+-- the fault of the format that a kind of fault is, if it is one
 abbrev pub fault_in : JarFaultKind → Option faults.Fault
 fault_in LineTooLong = Some faults.LineTooLong
 fault_in NotUtf8 = Some faults.NotUtf8
@@ -32,13 +32,13 @@ fault_in Read = None
 fault_in TooManyTurns = None
 fault_in Failed = None
 
--- the fault of the text; or memory ran out at a line before which nothing is wrong
+-- the fault of the text; or OutOfMemory at a line with no fault in the lines before it
 abbrev pub IsFaultOf : List ℕ → JarFault → Type 0
 IsFaultOf text said =
     ((fault : faults.Fault) × (fault_in said.kind ≡ Some fault) × faults.IsTheFault 0 text fault said.line)
     ⊎ ((said.kind ≡ OutOfMemory) × faults.IsLineReached 0 text said.line)
 
--- what is said of a line was computed, or memory ran out
+-- the fault of a line is this one, or memory ran out
 abbrev pub IsSaid : {A : Type 0} → JarFaultKind → Result A faults.Fault → Type 0
 IsSaid kind said = (kind ≡ OutOfMemory) ⊎ ((fault : faults.Fault) × (fault_in kind ≡ Some fault) × (said ≡ Err fault))
 
@@ -47,7 +47,7 @@ abbrev pub taken_in : Progress → List Field → reading.Taken
 taken_in progress.GoesOn fields = reading.GoesOn fields
 taken_in progress.Ends fields = reading.Ends fields
 
--- the line was taken as computed, and left these fields
+-- the line was taken as `take_line` computes, and left these fields; or its fault was answered, or OutOfMemory
 abbrev pub IsTaken : Result Progress JarFaultKind → Result reading.Taken faults.Fault → List Field → Type 0
 IsTaken (Ok progress) said fields = said ≡ Ok (taken_in progress fields)
 IsTaken (Err kind) said fields = IsSaid kind said

@@ -1,4 +1,4 @@
--- The object that is answered to a line.
+-- The JSON object that the command `json` answers to a line.
 pub mod Parts
 pub mod Tags
 pub mod Objects

@@ -1,4 +1,4 @@
--- The object that is answered to a text.
+-- The JSON object that the command `json` answers to a text.
 use Rattle.std.specs.Prelude.{◌≡◌, ◌↔◌, ℕ, Bool, true, false, IsTrue, List, [], ◌∷◌, ◌++◌, codes, Option, Some, None, Result, Ok, Err}
 use Rattle.std.specs.Str.{IsUtf8}
 use Rattle.std.specs.Fmt.{decimal}
@@ -16,18 +16,18 @@ use Rattle.lt_json.specs.Tags.{tag_members}
 
 -- ---- the text
 
--- a text that is UTF-8, as it is, and any other as its bytes, in hexadecimal digits
+-- the members for the text: a text that is UTF-8 as it is, any other as its bytes, in hexadecimal digits
 abbrev pub input_members : (is_text : Bool) → List ℕ → List Member
 input_members true text = member (codes "input") (string text) ∷ member (codes "bytes") null ∷ []
 input_members false text = member (codes "input") null ∷ member (codes "bytes") (string (encode_lower text)) ∷ []
 
 -- ---- its canonical text, or why it has none
 
--- what is answered to a text
+-- what is answered to a text: its canonical text, or why it has none
 abbrev pub Answer : Type 0
 Answer = Result (List ℕ) TextRefusal
 
--- this is answered to it; running out of memory is no answer
+-- this is answered to the text; OutOfMemory is no answer
 abbrev pub IsAnswerTo : List EntryParts → List ℕ → Answer → Type 0
 IsAnswerTo R text (Ok canonical) = IsCanonicalTextOf R text canonical
 IsAnswerTo R text (Err (refusals.NotATag fault)) = IsTextRefusal R text (refusals.NotATag fault)
@@ -40,21 +40,21 @@ abbrev pub is_refused : Answer → Bool
 is_refused (Ok canonical) = false
 is_refused (Err refusal) = true
 
--- the place of a fault, counted from 1
+-- the place of the fault that a refusal names, counted from 1, if it names one
 abbrev pub place_of : TextRefusal → Option ℕ
 place_of (refusals.NotATag fault) = Some fault.place
 place_of (refusals.Invalid fault) = Some fault.place
 place_of (refusals.ReplacementRepeats variant) = None
 place_of refusals.OutOfMemory = None
 
--- the variant that steps can repeat
+-- the variant that a refusal names, if it names one
 abbrev pub variant_of : TextRefusal → Option (List ℕ)
 variant_of (refusals.NotATag fault) = None
 variant_of (refusals.Invalid fault) = None
 variant_of (refusals.ReplacementRepeats variant) = Some variant
 variant_of refusals.OutOfMemory = None
 
--- the members of an answer
+-- the members for the answer to a text
 abbrev pub answer_members : Answer → List Member
 answer_members (Ok canonical) =
     member (codes "canonical") (string canonical)
@@ -83,7 +83,7 @@ pub record IsObjectFor (R : List EntryParts) (text line : List ℕ) (refused : B
   pub line_is : line ≡ object (input_members is_text text ++ (answer_members answer ++ tag_members tag))
   pub refused_is : refused ≡ is_refused answer
 
--- such an object was appended
+-- the object that is answered to the text was appended
 pub record AppendsObject (R : List EntryParts) (text old new : List ℕ) (refused : Bool) : Type 0 where
   pub line : List ℕ
   pub grown : new ≡ old ++ line
@@ -91,26 +91,26 @@ pub record AppendsObject (R : List EntryParts) (text old new : List ℕ) (refuse
 
 -- ---- its parts, as they are appended
 
--- the beginning of the object, with the members of the text
+-- the beginning of the object: a brace (123) and the members for the text, with a comma (44) between them
 abbrev pub opening : (is_text : Bool) → List ℕ → List ℕ
 opening true text = (123 ∷ member_text (member (codes "input") (string text))) ++ (44 ∷ member_text (member (codes "bytes") null))
 opening false text =
     (123 ∷ member_text (member (codes "input") null)) ++ (44 ∷ member_text (member (codes "bytes") (string (encode_lower text))))
 
--- it was appended
+-- the beginning of the object was appended
 pub record AppendsOpening (text old new : List ℕ) : Type 0 where
   pub is_text : Bool
   pub is_utf8 : IsTrue is_text ↔ IsUtf8 text
   pub grown : new ≡ old ++ opening is_text text
 
--- the members of the answer to a text were
+-- the members for the answer to the text were appended
 pub record AppendsAnswer (R : List EntryParts) (text old new : List ℕ) (refused : Bool) : Type 0 where
   pub answer : Answer
   pub is_answer : IsAnswerTo R text answer
   pub grown : new ≡ old ++ more_members (answer_members answer)
   pub refused_is : refused ≡ is_refused answer
 
--- and those of the tag that it is read as
+-- the members for the tag that the text is read as, or for none, were appended
 pub record AppendsTag (text old new : List ℕ) : Type 0 where
   pub tag : Option TagForm
   pub is_tag : IsReadAs text tag

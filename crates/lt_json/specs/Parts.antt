@@ -1,4 +1,5 @@
--- The parts of a tag as values of JSON. Subtags are in lower case, but for a script and a region (RFC 5646, 2.1.1).
+-- The parts of a tag as values of JSON (RFC 8259). Scripts and regions are in conventional case, other subtags in lower
+-- case (RFC 5646, 2.1.1).
 use Rattle.std.specs.Prelude.{ℕ, ◌==◌, if◌then◌else◌, List, [], ◌∷◌, codes, Option, Some, None}
 use Rattle.std.specs.List.{flat_map, join_with_byte}
 use Rattle.lt_subtag.specs.Bytes.{title, upper}
@@ -9,21 +10,21 @@ use Rattle.lt_tag.specs.Splitting.{transform_of, unicode_of}
 use Rattle.lt_json_text.specs.Strings.{string}
 use Rattle.lt_json_text.specs.Values.{Member, array, member, null, object, or_null}
 
--- the array of subtags
+-- an array of subtags
 unfoldable pub subtags_value : List (List ℕ) → List ℕ
 subtags_value subtags = array string subtags
 
 -- ---- from the language to the variants
 
--- a script: its first letter is a capital
+-- a script as a string, whose first letter is a capital
 abbrev pub script_value : List ℕ → List ℕ
 script_value script = string (title script)
 
--- a region: its letters are capitals
+-- a region as a string, whose letters are capitals
 abbrev pub region_value : List ℕ → List ℕ
 region_value region = string (upper region)
 
--- the members of a core (RFC 5646, 2.1)
+-- the members for the core of a tag (RFC 5646, 2.1)
 abbrev pub core_members : CoreParts → List Member
 core_members core =
     member (codes "language") (string core.language)
@@ -32,7 +33,7 @@ core_members core =
     ∷ member (codes "region") (or_null region_value core.region)
     ∷ member (codes "variants") (subtags_value core.variants) ∷ []
 
--- and of a tag that has none
+-- the members for the core of a tag that has none
 abbrev pub no_core_members : List Member
 no_core_members =
     member (codes "language") null
@@ -41,29 +42,29 @@ no_core_members =
     ∷ member (codes "region") null
     ∷ member (codes "variants") (subtags_value []) ∷ []
 
--- those that a tag has
+-- the members for the core of a tag, if it has one
 abbrev pub core_members_of : Option CoreParts → List Member
 core_members_of (Some core) = core_members core
 core_members_of None = no_core_members
 
 -- ---- extensions
 
--- the singleton of an extension (RFC 5646, 2.2.6)
+-- the member for the singleton of an extension (RFC 5646, 2.2.6)
 abbrev pub singleton_member : ℕ → Member
 singleton_member singleton = member (codes "singleton") (string (singleton ∷ []))
 
--- a keyword of a u extension (RFC 6067, 2.1)
+-- a keyword of a `u` extension as an object (RFC 6067, 2.1)
 unfoldable pub keyword_value : KeywordParts → List ℕ
 keyword_value keyword =
     object (member (codes "key") (string keyword.key) ∷ member (codes "types") (subtags_value keyword.types) ∷ [])
 
--- a u extension of these parts
+-- a `u` extension of these parts as an object
 unfoldable pub unicode_value : UForm → List ℕ
 unicode_value parts = object (singleton_member unicode
     ∷ member (codes "attributes") (subtags_value parts.attributes)
     ∷ member (codes "keywords") (array keyword_value parts.keywords) ∷ [])
 
--- a field of a t extension (RFC 6497, 2.2)
+-- a field of a `t` extension as an object (RFC 6497, 2.2)
 unfoldable pub field_value : FieldParts → List ℕ
 field_value field =
     object (member (codes "separator") (string field.separator) ∷ member (codes "values") (subtags_value field.values) ∷ [])
@@ -76,27 +77,27 @@ after_hyphens subtags = flat_map (λ (subtag : List ℕ). 45 ∷ subtag) subtags
 unfoldable pub source_text : CoreParts → List ℕ
 source_text core = join_with_byte 45 (spell_core core)
 
--- its string
+-- the source of a `t` extension as a string
 abbrev pub source_value : CoreParts → List ℕ
 source_value core = string (source_text core)
 
--- a t extension of these parts
+-- a `t` extension of these parts as an object
 unfoldable pub transform_value : TForm → List ℕ
 transform_value parts = object (singleton_member transform
     ∷ member (codes "source") (or_null source_value parts.source)
     ∷ member (codes "fields") (array field_value parts.fields) ∷ [])
 
--- any other extension, and a t extension that has no such parts
+-- an extension as an object of its subtags: one that is neither `u` nor `t`, or that has no parts
 unfoldable pub plain_value : ExtensionParts → List ℕ
 plain_value extension =
     object (singleton_member extension.singleton ∷ member (codes "subtags") (subtags_value extension.subtags) ∷ [])
 
--- the value of its parts where it has them
+-- an extension as an object of its parts, if it has them, else of its subtags
 abbrev pub parts_or_plain : {A : Type 0} → (A → List ℕ) → ExtensionParts → Option A → List ℕ
 parts_or_plain value extension (Some parts) = value parts
 parts_or_plain value extension None = plain_value extension
 
--- an extension
+-- an extension as an object
 unfoldable pub extension_value : ExtensionParts → List ℕ
 extension_value extension =
     if extension.singleton == unicode then parts_or_plain unicode_value extension (unicode_of extension.subtags)

@@ -1,4 +1,4 @@
--- What a run that answers the lines of a reader by objects wrote, and how it ended.
+-- What a run of `json` over the lines of a reader wrote, and how it ended.
 use Rattle.std.specs.Prelude.{◌≡◌, ◌||◌, ℕ, Bool, false, List, [], ◌∷◌, ◌++◌, take, Option, Result}
 use Rattle.lt_jar.specs.Lines.{content_of}
 use Rattle.lt_jar.specs.declared.devices.Device.{Device}
@@ -7,15 +7,15 @@ use Rattle.lt_stream.specs.Lines.{RunsOverLines}
 use Rattle.lt_stream.specs.declared.faults.ToolFault.{ToolFault}
 use Rattle.lt_json.specs.Objects.{IsObjectFor}
 
--- the most bytes of a line that are answered
+-- the most bytes of a line that are looked at: 16 MiB
 abbrev pub longest_line : ℕ
 longest_line = 16777216
 
--- the text of a line: without the carriage return that may end it
+-- the text of a line: its first bytes, up to the most, without a carriage return (13) that may end them
 abbrev pub text_of : List ℕ → List ℕ
 text_of line = content_of (take longest_line line)
 
--- a line of these bytes is owed for the first of these lines, and others for those after it
+-- these bytes are the object for a line, a line feed (10), and what `Others` says of the lines after it
 pub record AreOwed (R : List EntryParts) (line : List ℕ) (Others : List ℕ → Bool → Type 0) (bytes : List ℕ) (refused : Bool)
     : Type 0 where
   pub object : List ℕ
@@ -27,18 +27,19 @@ pub record AreOwed (R : List EntryParts) (line : List ℕ) (Others : List ℕ �
   pub bytes_are : bytes ≡ object ++ 10 ∷ more
   pub refused_is : refused ≡ (is_refused || others_refused)
 
--- for each line, in order, the line of its object is owed; and whether a line is refused
+-- these bytes are the objects for the lines, in order, each ended by a line feed; `refused` is whether a line is
+-- refused
 abbrev pub AreObjects : List EntryParts → List (List ℕ) → (bytes : List ℕ) → (refused : Bool) → Type 0
 AreObjects R [] bytes refused = (bytes ≡ []) × (refused ≡ false)
 AreObjects R (line ∷ lines) bytes refused = AreOwed R line (AreObjects R lines) bytes refused
 
--- the lines of the reader are answered so
+-- a run answered the lines of a reader by their objects
 abbrev pub AnswersByObjects : {I O : Type 0} → List EntryParts → (I → Option (List ℕ)) → (O → Option (List ℕ))
     → (input input' : Device I) → (output output' : Device O) → (refused : Bool) → Result (Unit {0}) ToolFault → Type 0
 AnswersByObjects R remaining contents input input' output output' refused result =
     RunsOverLines (λ (refused : Bool) lines bytes. AreObjects R lines bytes refused) remaining contents input input' output output' refused result
 
--- the line of a text was appended
+-- the object for the text of a line was appended, and a line feed (10)
 pub record AppendsLine (R : List EntryParts) (front old new : List ℕ) (refused : Bool) : Type 0 where
   pub object : List ℕ
   pub grown : new ≡ old ++ (object ++ 10 ∷ [])

@@ -1,3 +1,3 @@
--- The texts of JSON (RFC 8259).
+-- How values of JSON are written as texts (RFC 8259).
 pub mod Strings
 pub mod Values

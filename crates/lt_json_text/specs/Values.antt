@@ -1,9 +1,9 @@
--- The other values (RFC 8259, 3 to 6), each as its text. There is no space in them.
+-- The values of JSON other than strings (RFC 8259, 3 to 6), each as its text, without spaces.
 use Rattle.std.specs.Prelude.{ℕ, List, [], ◌∷◌, ◌++◌, codes, zero, suc, Option, Some, None}
 use Rattle.std.specs.List.{flat_map}
 use Rattle.lt_json_text.specs.Strings.{string}
 
--- the value that is none
+-- the value `null`
 abbrev pub null : List ℕ
 null = codes "null"
 
@@ -14,20 +14,20 @@ or_null value (Some x) = value x
 
 -- ---- arrays
 
--- the values of some things, each after a comma (44)
+-- the values of the elements of a list, each after a comma (44)
 abbrev pub after_commas : {A : Type 0} → (A → List ℕ) → List A → List ℕ
 after_commas value xs = flat_map (λ x. 44 ∷ value x) xs
 
--- the values of some things, with commas between them
+-- the values of the elements of a list, with commas (44) between them
 abbrev pub commaed : {A : Type 0} → (A → List ℕ) → List A → List ℕ
 commaed value [] = []
 commaed value (x ∷ xs) = value x ++ after_commas value xs
 
--- the array of the values of some things (RFC 8259, 5)
+-- the array of the values of the elements of a list, between brackets (91 and 93) (RFC 8259, 5)
 abbrev pub array : {A : Type 0} → (A → List ℕ) → List A → List ℕ
 array value xs = 91 ∷ commaed value xs ++ 93 ∷ []
 
--- what is before a value of an array at this index, from 0
+-- what is before the value of an array at an index, counted from 0: a comma (44), but nothing before the first
 abbrev pub comma_at : ℕ → List ℕ
 comma_at zero = []
 comma_at (suc index) = 44 ∷ []
@@ -43,7 +43,7 @@ pub record Member : Type 0 where
 abbrev pub member : (name value : List ℕ) → Member
 member name value = record { name = name; value = value }
 
--- a name, with the colon (58) after it
+-- the name of a member as a string, with a colon (58) after it
 unfoldable pub named : List ℕ → List ℕ
 named name = string name ++ 58 ∷ []
 
@@ -51,10 +51,10 @@ named name = string name ++ 58 ∷ []
 abbrev pub member_text : Member → List ℕ
 member_text m = named m.name ++ m.value
 
--- those of members that are not the first
+-- the text of members that are not the first of their object, each after a comma (44)
 abbrev pub more_members : List Member → List ℕ
 more_members members = after_commas member_text members
 
--- the object of these members (RFC 8259, 4)
+-- the object of these members, between braces (123 and 125) (RFC 8259, 4)
 abbrev pub object : List Member → List ℕ
 object members = 123 ∷ commaed member_text members ++ 125 ∷ []

@@ -1,4 +1,4 @@
--- How lines that come in pieces are answered. No public contract cites this.
+-- How the state of a run changes while lines come in pieces and are answered. No public contract cites this.
 use Rattle.std.specs.Prelude.{◌≡◌, ◌<◌, ◌≤◌, ◌+◌, ◌-◌, ◌^◌, ◌⊎◌, ℕ, Bool, true, false, List, [], ◌∷◌, ◌++◌, length, take, Option, Some, None, Result, IfErr, IfOk}
 use Rattle.std.specs.List.{All, AllByRecursion}
 use Rattle.std.specs.Io.KnownBytes.{Appends}
@@ -29,65 +29,70 @@ use Rattle.lt_lines.specs.declared.runs.Counts.{Counts}
 use Rattle.lt_stream.specs.declared.faults.ToolFault.{ToolFault}
 use Rattle.lt_stream.specs.declared.faults.ToolFault.TheVariants as faults
 
--- a longer tag is too long, whatever follows: 1,026 bytes, or one less with the registered code, and a carriage return
+-- of a line that is a tag no more bytes are kept, since a longer tag is too long, whatever follows: 1,026 bytes, or one
+-- less with the registered code, and a carriage return (13)
 abbrev pub longest_kept : ℕ
 longest_kept = 1027
 
--- Lines are written once this many bytes of them are owed, if no read comes before.
+-- answers are written once this many bytes of them wait, and at the latest before the next read
 abbrev pub full : ℕ
 full = 65536
 
--- one where the test holds, else none
+-- 1 if the test is true, else 0
 abbrev pub one_if : Bool → ℕ
 one_if true = 1
 one_if false = 0
 
--- the front of a line that is kept while it goes on: all of a row, and no more of a tag than says that it is too long
+-- what is kept of an unfinished line: all of a row, and of a tag the bytes by which a longer one is known to be too
+-- long
 abbrev pub kept_of : LineForm → List ℕ → List ℕ
 kept_of forms.Tag line = take longest_kept line
 kept_of (forms.Row row) line = line
 kept_of (forms.Csv row delimiter) line = line
 
--- the part of more bytes of a line that is kept after this many
+-- the part of a line's next bytes that is kept, where `count` bytes of the line are kept already
 abbrev pub part_kept : LineForm → ℕ → List ℕ → List ℕ
 part_kept forms.Tag count part = take (longest_kept - count) part
 part_kept (forms.Row row) count part = part
 part_kept (forms.Csv row delimiter) count part = part
 
--- what is kept of a line once it is whole: nothing where nothing was kept of it before its last bytes
+-- what is kept of a line once its last bytes are there: nothing where nothing was kept before them, else all that is to
+-- be kept of it
 abbrev pub KeepsPart : LineForm → (old part new : List ℕ) → Type 0
 KeepsPart form [] part new = new ≡ []
 KeepsPart form (byte ∷ old) part new = new ≡ (byte ∷ old) ++ part_kept form (length (byte ∷ old)) part
 
--- the place after more bytes of a line, by that before them
+-- the place (within quotes or outside) after a line's next bytes, by the place before them; in CSV alone it changes
 abbrev pub place_then : LineForm → Place → List ℕ → Place
 place_then forms.Tag place part = places.Fresh
 place_then (forms.Row row) place part = places.Fresh
 place_then (forms.Csv row delimiter) place part = place_at delimiter place part
 
--- with this many bytes more, what is kept of a row or a record is too long
+-- a row or record of which `kept` bytes are kept becomes too long with `count` further bytes; a line that is a tag
+-- never does
 abbrev pub IsLongBy : LineForm → (kept count : ℕ) → Type 0
 IsLongBy forms.Tag kept count = ⊥
 IsLongBy (forms.Row row) kept count = longest_row < kept + count
 IsLongBy (forms.Csv row delimiter) kept count = longest_row < kept + count
 
--- the line, counted from 1, in which what is kept begins
+-- the number, counted from 1, of the line of the text in which the kept bytes begin
 abbrev pub line_of : Answering → ℕ
 line_of state = (state.feeds - feeds_in state.kept.items) + 1
 
--- the last bytes of a line before the line feed that ends it
+-- these are a line's last bytes, after those that are kept: they end outside of quotes, and the line is short enough
 pub record IsWholeAfter (form : LineForm) (kept : List ℕ) (place : Place) (part : List ℕ) : Type 0 where
   pub one : IsOneLine part
   pub closed : is_quoted (place_then form place part) ≡ false
   pub short : IsShort form (kept ++ part)
 
--- one answer more is among those that are owed: that to a text
+-- the answer to a text was appended to the answers that wait to be written
 pub record AppendsTextReply (R : List EntryParts) (text old new : List ℕ) (refused : Bool) : Type 0 where
   pub bytes : List ℕ
   pub grown : new ≡ old ++ bytes
   pub owed : IsTextReply R text (reply bytes refused)
 
--- a row was appended as it is, with the canonical text of a text, or with why that is refused
+-- the row was appended unchanged, with two further fields, one of them empty: the canonical text of its field, and why
+-- that is refused
 pub record AppendsKept (S : Separator) (G : Ground) (text line old new : List ℕ) (refused : Bool) : Type 0 where
   pub canonical : List ℕ
   pub told : List ℕ
@@ -96,33 +101,33 @@ pub record AppendsKept (S : Separator) (G : Ground) (text line old new : List �
       ⊎ ((refusal : TextRefusal) × IsTextRefusal G.entries (replaced G.codes text) refusal × IsTold refusal told
       × (canonical ≡ []) × (refused ≡ true))
 
--- that to a row
+-- the answer to a row was appended
 pub record AppendsRowReply (S : Separator) (G : Ground) (row : RowForm) (line old new : List ℕ)
     (refused : Bool) : Type 0 where
   pub bytes : List ℕ
   pub grown : new ≡ old ++ bytes
   pub owed : IsRowReply S G row line (reply bytes refused)
 
--- that to a heading
+-- the answer to a heading was appended
 pub record AppendsHeadingReply (kept : Bool) (S : Separator) (line old new : List ℕ) (refused : Bool) : Type 0 where
   pub bytes : List ℕ
   pub grown : new ≡ old ++ bytes
   pub owed : IsHeadingReply kept S line (reply bytes refused)
 
--- that to a heading or a row
+-- the answer to a line of a table, which is its heading or a row, was appended
 pub record AppendsReplyAmong (S : Separator) (G : Ground) (row : RowForm) (heading : Bool) (line old new : List ℕ)
     (refused : Bool) : Type 0 where
   pub bytes : List ℕ
   pub grown : new ≡ old ++ bytes
   pub owed : IsReplyAmong S G row heading line (reply bytes refused)
 
--- that to a line
+-- the answer to a line was appended
 pub record AppendsReply (T : Terms) (first : Bool) (line old new : List ℕ) (refused : Bool) : Type 0 where
   pub bytes : List ℕ
   pub grown : new ≡ old ++ bytes
   pub owed : IsReplyTo T first line (reply bytes refused)
 
--- that to a line of which this is kept, and which goes on so
+-- the answer to a line was appended, of whose front `kept` was kept, and whose last bytes are `part`
 pub record AppendsLine (T : Terms) (first : Bool) (kept part old new : List ℕ) (refused : Bool) : Type 0 where
   pub bytes : List ℕ
   pub grown : new ≡ old ++ bytes
@@ -133,29 +138,30 @@ abbrev pub FieldReply : List EntryParts → List ℕ → (old new : List ℕ) �
 FieldReply R field old new None = AppendsCanonicalText R field old new
 FieldReply R field old new (Some refusal) = IsTextRefusal R field refusal × (new ≡ old)
 
--- a row was appended from the text of a field that is refused on, with what is reported of it
+-- a row was appended with a last field that says why its field is refused
 pub record EndsRefused (S : Separator) (refusal : TextRefusal) (text line old new : List ℕ) : Type 0 where
   pub told : List ℕ
   pub is_told : IsTold refusal told
   pub grown : new ≡ old ++ row_line S text told line
 
--- what a place has for a text is right: the answer to a tag, and the canonical text of a field
+-- what a cache has for a text is right: the answer to a line that is a tag, the canonical text of a row's field
 abbrev pub IsRight : List EntryParts → LineForm → Kept → Type 0
 IsRight R forms.Tag kept = IsTextReply R kept.line (reply kept.answer kept.refused)
 IsRight R (forms.Row row) kept = IsCanonicalTextOf R kept.line kept.answer
 IsRight R (forms.Csv row delimiter) kept = IsCanonicalTextOf R kept.line kept.answer
 
--- what a place has, if it has something, is right
+-- an entry of a cache is empty or right
 abbrev pub IsRecent : List EntryParts → LineForm → Option Kept → Type 0
 IsRecent R form None = Unit {0}
 IsRecent R form (Some kept) = IsRight R form kept
 
--- each answer that was given lately is right, and so is each end
+-- all that the cache of recent answers has is right: its answers to whole texts, and its endings of texts
 pub record AreRecent (R : List EntryParts) (form : LineForm) (recent : RecentAnswers) : Type 0 where
   pub whole : All (IsRecent R form) recent.whole
   pub ends : AreEnds R recent.ends
 
--- These bytes were taken: their lines are answered, and the answers written or still kept.
+-- These bytes were read. Their whole lines are answered, each answer is written or waits to be, and what is needed of
+-- the rest is kept.
 pub record IsTaken (T : Terms) (bytes written : List ℕ) (state : Answering) : Type 0 where
   pub lines : List (List ℕ)
   pub last : List ℕ
@@ -174,7 +180,7 @@ pub record IsTaken (T : Terms) (bytes written : List ℕ) (state : Answering) : 
   pub tallied : AreTalliesOf T.form lines owed state.tallies
   pub recent : AreRecent T.ground.entries T.form state.recent
 
--- what is owed for these bytes is written or still kept
+-- these bytes were read to their end: each of their lines is answered, and each answer is written or waits to be
 pub record IsAnswered (T : Terms) (bytes written : List ℕ) (state : Answering) : Type 0 where
   pub closed : is_open T.form bytes ≡ false
   pub short : AllByRecursion (IsShort T.form) (units_of T.form bytes)
@@ -185,19 +191,19 @@ pub record IsAnswered (T : Terms) (bytes written : List ℕ) (state : Answering)
   pub refused : state.counts.refused ≡ refused_in owed
   pub tallied : AreTalliesOf T.form (units_of T.form bytes) owed state.tallies
 
--- the counts have room for this many lines more
+-- the counts of a run have room for this many further lines: each stays below 2 to the 64
 pub record HasRoom (state : Answering) (lines : ℕ) : Type 0 where
   pub room : state.counts.lines + lines < 2 ^ 64
   pub feeds : state.feeds + lines < 2 ^ 64
   pub refused : state.counts.refused ≤ state.counts.lines
 
--- one line feed more was taken, and at most one line answered
+-- one line feed was counted, and at most one line as answered
 pub record CountsFeed (old new : Answering) : Type 0 where
   pub lines : new.counts.lines ≤ old.counts.lines + 1
   pub refused : new.counts.refused ≤ new.counts.lines
   pub feeds : new.feeds ≡ old.feeds + 1
 
--- these bytes and a line feed are kept, which is within quotes
+-- a line that goes on after a line feed (10), which is within quotes: its next bytes and the line feed are kept
 pub record GoesOn (form : LineForm) (part : List ℕ) (old new : Answering) : Type 0 where
   pub kept : new.kept.items ≡ (old.kept.items ++ part_kept form (length old.kept.items) part)
       ++ part_kept form (length (old.kept.items ++ part_kept form (length old.kept.items) part)) (10 ∷ [])
@@ -208,7 +214,7 @@ pub record GoesOn (form : LineForm) (part : List ℕ) (old new : Answering) : Ty
   pub tallies : new.tallies ≡ old.tallies
   pub recent : new.recent ≡ old.recent
 
--- nothing was taken so far
+-- the state of a run that has read nothing
 pub record IsFresh (state : Answering) : Type 0 where
   pub items : (state.kept.items ≡ []) × (state.owed.items ≡ [])
   pub place : (state.place ≡ places.Fresh) × (state.feeds ≡ 0)
@@ -216,7 +222,7 @@ pub record IsFresh (state : Answering) : Type 0 where
   pub tallies : state.tallies ≡ []
   pub recent : (R : List EntryParts) (form : LineForm) → AreRecent R form state.recent
 
--- all but what is owed is the same
+-- the state is as before, apart from the answers that wait to be written
 pub record KeepsLine (old new : Answering) : Type 0 where
   pub kept : new.kept.items ≡ old.kept.items
   pub goes_on : new.place ≡ old.place
@@ -225,7 +231,7 @@ pub record KeepsLine (old new : Answering) : Type 0 where
   pub tallies : new.tallies ≡ old.tallies
   pub recent : new.recent ≡ old.recent
 
--- some of the lines that are owed were written
+-- some of the answers that wait were written; or a write failed
 pub record WritesOwed {W : Type 0} (contents : W → Option (List ℕ)) (old new : Answering) (before after : Device W)
     (result : Result (Unit {0}) ToolFault) : Type 0 where
   pub written : List ℕ
@@ -234,12 +240,12 @@ pub record WritesOwed {W : Type 0} (contents : W → Option (List ℕ)) (old new
   pub done : IfOk result (λ _. (old.owed.items ≡ written ++ new.owed.items) × (failures_of after ≡ failures_of before))
   pub stopped : IfErr result (λ f. (f ≡ faults.Write) × HasFailed before after × IsFrontOf written old.owed.items)
 
--- why a run that answers lines ends early
+-- why a run that answers lines ends early: a write failed, or memory ran out
 abbrev pub IsStop : {W : Type 0} → Device W → Device W → ToolFault → Type 0
 IsStop before after f = ((f ≡ faults.Write) × HasFailed before after)
     ⊎ ((f ≡ faults.OutOfMemory) × (failures_of after ≡ failures_of before))
 
--- what is owed was written, and the row or record that is kept is too long; or a write failed
+-- all answers that wait were written, and the kept row or record is too long; or a write failed
 pub record StopsLong {W : Type 0} (form : LineForm) (contents : W → Option (List ℕ)) (old new : Answering)
     (before after : Device W) (f : ToolFault) : Type 0 where
   pub written : List ℕ
@@ -248,7 +254,7 @@ pub record StopsLong {W : Type 0} (form : LineForm) (contents : W → Option (Li
   pub ends : ((f ≡ faults.Write) × HasFailed before after × IsFrontOf written old.owed.items)
       ⊎ ((f ≡ long_fault form (line_of old)) × (failures_of after ≡ failures_of before) × (written ≡ old.owed.items))
 
--- a row or a record of the piece is too long, and all that is owed for those before it was written
+-- a row or record that goes on in this piece is too long, and the answers to those before it were written
 pub record StopsTooLong {W : Type 0} (T : Terms) (piece : List ℕ) (old new : Answering) (before after : Device W)
     (written : List ℕ) (f : ToolFault) : Type 0 where
   pub line : ℕ
@@ -257,12 +263,12 @@ pub record StopsTooLong {W : Type 0} (T : Terms) (piece : List ℕ) (old new : A
   pub ends : (bytes out : List ℕ) → IsTaken T bytes out old
       → TalliesTooLong T line new.tallies (bytes ++ piece) (out ++ written)
 
--- what ends a run in a piece of the reader's bytes: that, or a write or memory failed
+-- why a piece of the reader's bytes ends a run: a row or record is too long, a write failed, or memory ran out
 abbrev pub IsPieceStop : {W : Type 0} → Terms → List ℕ → (old new : Answering) → Device W → Device W → List ℕ → ToolFault → Type 0
 IsPieceStop T piece old new before after written f = StopsTooLong T piece old new before after written f
     ⊎ (IsStop before after f × ((bytes out : List ℕ) → IsTaken T bytes out old → IsBegun T (bytes ++ piece) (out ++ written)))
 
--- a piece of the reader's bytes was taken, and what is owed so far was written
+-- a piece of the reader's bytes was taken in, and all answers that are due were written; or a fault ended the run
 pub record TakesPiece {W : Type 0} (T : Terms) (contents : W → Option (List ℕ)) (piece : List ℕ)
     (old new : Answering) (before after : Device W) (result : Result (Unit {0}) ToolFault) : Type 0 where
   pub written : List ℕ
@@ -272,7 +278,7 @@ pub record TakesPiece {W : Type 0} (T : Terms) (contents : W → Option (List �
   pub room : IfOk result (λ _. (count : ℕ) → HasRoom old (length piece + count) → HasRoom new count)
   pub stopped : IfErr result (IsPieceStop T piece old new before after written)
 
--- a quote is open at the end, nothing more was written, and the record begins in the line that the fault tells
+-- the text ends within quotes, and the fault names the line in which the unfinished record begins
 pub record StopsInQuotes {W : Type 0} (T : Terms) (old new : Answering) (before after : Device W) (written : List ℕ)
     (f : ToolFault) : Type 0 where
   pub line : ℕ
@@ -281,12 +287,12 @@ pub record StopsInQuotes {W : Type 0} (T : Terms) (old new : Answering) (before 
   pub ends : (bytes out : List ℕ) → IsTaken T bytes out old → old.owed.items ≡ []
       → TalliesInQuotes T line new.tallies bytes (out ++ written)
 
--- what ends a run early after its reader: that, or a write or memory failed
+-- why a run ends early after the reader's last byte: the text ends within quotes, a write failed, or memory ran out
 abbrev pub IsLastStop : {W : Type 0} → Terms → (old new : Answering) → Device W → Device W → List ℕ → ToolFault → Type 0
 IsLastStop T old new before after written f = StopsInQuotes T old new before after written f
     ⊎ (IsStop before after f × ((bytes out : List ℕ) → IsTaken T bytes out old → IsBegun T bytes (out ++ written)))
 
--- a last line that no line feed ends was answered too, and what is owed was written
+-- a last line without a line feed was answered too, and all answers were written; or a fault ended the run
 pub record FinishesLines {W : Type 0} (T : Terms) (contents : W → Option (List ℕ)) (old new : Answering)
     (before after : Device W) (result : Result Counts ToolFault) : Type 0 where
   pub written : List ℕ

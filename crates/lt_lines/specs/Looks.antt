@@ -1,4 +1,5 @@
--- Lines of rows that are looked at before they are answered. No public contract cites this.
+-- What is found out of the line of a row before it is answered: whether it is whole, and where its field is. No public
+-- contract cites this.
 use Rattle.std.specs.Prelude.{◌≡◌, ℕ, IsTrue, List, [], Option, None, MatchOption}
 use Rattle.lt_jar.specs.Lines.{content_of}
 use Rattle.lt_rows.specs.Looks.{IsLookAt}
@@ -10,22 +11,22 @@ use Rattle.lt_rows.specs.declared.rows.Separator.TheVariants as separators
 use Rattle.lt_lines.specs.declared.forms.LineForm.{LineForm}
 use Rattle.lt_lines.specs.declared.forms.LineForm.TheVariants as forms
 
--- the line of a row was looked at, if it was
+-- what a look at a row found, if there was a look, is true of the line without its line end
 abbrev pub IsRowLook : Separator → ℕ → List ℕ → Option Look → Type 0
 IsRowLook S before line look = MatchOption look (Unit {0}) (λ l. IsLookAt S before (content_of line) l)
 
--- the same of a line of this form
+-- what a look at a line found is true of it; at a line that is a tag there is no look
 abbrev pub IsLook : LineForm → List ℕ → Option Look → Type 0
 IsLook forms.Tag line look = look ≡ None
 IsLook (forms.Row row) line look = IsRowLook separators.Tab row.before line look
 IsLook (forms.Csv row delimiter) line look = IsRowLook (separators.Delimiter delimiter) row.before line look
 
--- nothing is kept of the line, where it was
+-- a look was made at a line only where nothing of it is kept, and what it found is true
 pub record IsAhead (form : LineForm) (kept line : List ℕ) (look : Option Look) : Type 0 where
   pub is_look : IsLook form line look
   pub whole : MatchOption look (Unit {0}) (λ _. kept ≡ [])
 
--- what is known of a text holds: carriage returns (13) are not in it, or quotes (34)
+-- what is known of a text is true: that it has no carriage return (13), or no quote (34)
 pub record IsKnownToLack (text : List ℕ) (lacks : Lacks) : Type 0 where
   pub returns : IsTrue lacks.returns → IsFreeOf 13 text
   pub quotes : IsTrue lacks.quotes → IsFreeOf 34 text

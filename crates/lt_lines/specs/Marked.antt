@@ -1,4 +1,4 @@
--- How a text that may begin with a byte order mark is answered. No public contract cites this.
+-- How the state of a run changes where a text may begin with a byte order mark. No public contract cites this.
 use Rattle.std.specs.Prelude.{◌≡◌, ◌+◌, ◌⊎◌, ℕ, true, false, List, [], ◌++◌, length, Option, Result, IfErr, IfOk}
 use Rattle.std.specs.Io.KnownBytes.{Appends}
 use Rattle.lt_jar.specs.Devices.{failures_of, inner_of}
@@ -13,7 +13,8 @@ use Rattle.lt_lines.specs.declared.runs.Counts.{Counts}
 use Rattle.lt_stream.specs.declared.faults.ToolFault.{ToolFault}
 use Rattle.lt_stream.specs.declared.faults.ToolFault.TheVariants as faults
 
--- These bytes were taken, and the mark that they begin with was written: what follows goes to the answers.
+-- of these bytes the mark, if they have one, was written, and the text after it was taken in by the state that answers
+-- lines
 pub record IsTakenAfter (T : Terms) (bytes written : List ℕ) (state : Marked) : Type 0 where
   pub begun : state.is_begun ≡ true
   pub emptied : state.front.items ≡ []
@@ -25,7 +26,7 @@ pub record IsTakenAfter (T : Terms) (bytes written : List ℕ) (state : Marked) 
   pub written_is : written ≡ mark ++ out
   pub taken : IsTaken T text out state.answering
 
--- These bytes are kept, since they may be a part of a mark.
+-- these first bytes are kept, since they may be part of a mark, and nothing is written or answered yet
 pub record IsKeptFront (T : Terms) (bytes written : List ℕ) (state : Marked) : Type 0 where
   pub begun : state.is_begun ≡ false
   pub kept : state.front.items ≡ bytes
@@ -34,27 +35,27 @@ pub record IsKeptFront (T : Terms) (bytes written : List ℕ) (state : Marked) :
   pub none_refused : state.answering.tallies ≡ []
   pub taken : IsTaken T [] [] state.answering
 
--- these bytes were taken
+-- these bytes of a text were read: their mark is passed, or they are kept as perhaps a part of one
 abbrev pub IsTakenText : Terms → List ℕ → List ℕ → Marked → Type 0
 IsTakenText T bytes written state = IsTakenAfter T bytes written state ⊎ IsKeptFront T bytes written state
 
--- nothing was taken
+-- the state of a run over a text that has read nothing
 pub record IsNew (T : Terms) (state : Marked) : Type 0 where
   pub kept : IsKeptFront T [] [] state
   pub emptied : state.answering.owed.items ≡ []
 
--- there is room for the lines of this many bytes more
+-- the counts have room for the lines of the bytes that are kept and of this many further ones
 abbrev pub HasRoomFor : Marked → ℕ → Type 0
 HasRoomFor state count = HasRoom state.answering (length state.front.items + count)
 
--- what ends a run over a text early
+-- why a run over a text ends early: a write or memory failed, the text is UTF-16, or a row or record is too long
 abbrev pub EndsText : {W : Type 0} → Terms → Device W → Device W → (bytes written : List ℕ) → List Tally → ToolFault → Type 0
 EndsText T before after bytes written tallies f = (IsStop before after f × IsBegunText T bytes written)
     ⊎ (((f ≡ faults.Utf16) × (failures_of after ≡ failures_of before) × IsWide bytes × (written ≡ []) × (tallies ≡ []))
     ⊎ ((line : ℕ) × (f ≡ long_fault T.form line) × (failures_of after ≡ failures_of before)
     × AfterMark T (TalliesTooLong T line tallies) bytes written))
 
--- what follows the mark in the bytes that are kept was taken, and the mark was written
+-- the kept first bytes were split: their mark was written, and what follows it was taken in
 pub record BeginsText {W : Type 0} (T : Terms) (contents : W → Option (List ℕ)) (old new : Marked) (before after : Device W)
     (result : Result (Unit {0}) ToolFault) : Type 0 where
   pub written : List ℕ
@@ -67,7 +68,7 @@ pub record BeginsText {W : Type 0} (T : Terms) (contents : W → Option (List �
   pub room : IfOk result (λ _. (count : ℕ) → HasRoomFor old count → HasRoom new.answering count)
   pub stopped : IfErr result (λ f. (IsWide old.front.items → ⊥) → IsTaken T [] [] old.answering → EndsText T before after old.front.items written new.answering.tallies f)
 
--- a piece of the reader's bytes was taken, and what is owed so far was written
+-- a piece of the reader's bytes was taken in, and all answers that are due were written; or a fault ended the run
 pub record TakesText {W : Type 0} (T : Terms) (contents : W → Option (List ℕ)) (piece : List ℕ) (old new : Marked)
     (before after : Device W) (result : Result (Unit {0}) ToolFault) : Type 0 where
   pub written : List ℕ
@@ -77,7 +78,7 @@ pub record TakesText {W : Type 0} (T : Terms) (contents : W → Option (List ℕ
       → IsTakenText T (bytes ++ piece) (out ++ written) new × (new.answering.owed.items ≡ [])))
   pub stopped : IfErr result (λ f. (bytes out : List ℕ) → IsTakenText T bytes out old → EndsText T before after (bytes ++ piece) (out ++ written) new.answering.tallies f)
 
--- the bytes end within quotes
+-- the text ends within quotes, and the fault names the line in which the unfinished record begins
 pub record EndsTextInQuotes {W : Type 0} (T : Terms) (before after : Device W) (bytes written : List ℕ)
     (tallies : List Tally) (f : ToolFault) : Type 0 where
   pub line : ℕ
@@ -85,7 +86,7 @@ pub record EndsTextInQuotes {W : Type 0} (T : Terms) (before after : Device W) (
   pub same : failures_of after ≡ failures_of before
   pub ends : AfterMark T (TalliesInQuotes T line tallies) bytes written
 
--- a last line that no line feed ends was answered too, and what is owed was written
+-- a last line without a line feed was answered too, and all answers were written; or a fault ended the run
 pub record FinishesText {W : Type 0} (T : Terms) (contents : W → Option (List ℕ)) (old new : Marked)
     (before after : Device W) (result : Result Counts ToolFault) : Type 0 where
   pub written : List ℕ

@@ -1,4 +1,5 @@
--- What is owed for the bytes of a reader: an answer to each of its lines.
+-- What is owed for a text: which answer to each of its lines a run has to write, be they tags, rows of TSV or records
+-- of CSV.
 use Rattle.std.specs.Prelude.{◌≡◌, ◌≤◌, ◌⊎◌, ◌+◌, ◌==◌, ◌&&◌, ℕ, Bool, true, false, List, [], ◌∷◌, ◌++◌, if◌then◌else◌, length, codes, Option, Some, None}
 use Rattle.std.specs.Borrow.{Bor}
 use Rattle.std.specs.List.{AllByRecursion, count_by}
@@ -26,7 +27,8 @@ use Rattle.lt_stream.specs.declared.faults.ToolFault.{ToolFault}
 use Rattle.lt_stream.specs.declared.faults.ToolFault.TheVariants as faults
 use Rattle.lt_lines.specs.declared.runs.Counts.{Counts}
 
--- by what texts are answered: the entries of a registry, and codes for whose first subtag what is registered is read
+-- by what texts are answered: the entries of a registry, and a table of codes, whose registered subtag replaces a code
+-- that a text begins with
 pub record Ground : Type 0 where
   pub entries : List EntryParts
   pub codes : List Code
@@ -36,73 +38,75 @@ abbrev pub codes_in : Option (Bor (List Code)) → List Code
 codes_in None = []
 codes_in (Some table) = table.now
 
--- what is held, by the entries that a registry lists
+-- the entries of a registry and the codes of a table that a `Basis` holds
 abbrev pub ground_of : {T : Type 0} → (T → List EntryParts) → Basis T → Ground
 ground_of listed basis = record { entries = listed basis.checked.now; codes = codes_in basis.codes }
 
--- by what lines are answered: by what their texts are, and what a line is
+-- by what lines are answered: the entries and codes, and the form of lines (tags, TSV or CSV)
 pub record Terms : Type 0 where
   pub ground : Ground
   pub form : LineForm
 
--- those of this ground and this form
+-- the `Terms` of these parts
 abbrev pub terms : Ground → LineForm → Terms
 terms ground form = record { ground = ground; form = form }
 
--- an answer: its bytes, and whether it refuses what it answers
+-- an answer: its bytes, and whether it is a refusal
 pub record Reply : Type 0 where
   pub bytes : List ℕ
   pub refused : Bool
 
--- the answer of these bytes
+-- the `Reply` of these parts
 abbrev pub reply : List ℕ → Bool → Reply
 reply bytes refused = record { bytes = bytes; refused = refused }
 
 -- ---- a line that is a tag
 
--- the text has this canonical text, and this is its line
+-- the text has a canonical text, and `line` is that, ended by a line feed (10)
 pub record AnswersText (R : List EntryParts) (text line : List ℕ) : Type 0 where
   pub canonical : List ℕ
   pub is_canonical : IsCanonicalTextOf R text canonical
   pub line_is : line ≡ canonical ++ 10 ∷ []
 
--- the text is refused, and this is the line that says so
+-- the text is refused, and `line` says why
 pub record RefusesText (R : List EntryParts) (text line : List ℕ) : Type 0 where
   pub refusal : TextRefusal
   pub is_refusal : IsTextRefusal R text refusal
   pub line_is : IsRefusalLine refusal line
 
--- a line that says why a text is refused
+-- whether a line says why a text is refused: it begins with `!` (33) and a space (32)
 abbrev pub is_refusal : List ℕ → Bool
 is_refusal [] = false
 is_refusal (a ∷ []) = false
 is_refusal (a ∷ b ∷ rest) = (a == 33) && (b == 32)
 
--- the answer that is owed for a text, and that its first bytes say whether it is a refusal; running out of memory aside
+-- the answer that is owed for a text, canonical text or refusal, and its first bytes say which; OutOfMemory is never
+-- owed
 pub record IsTextReply (R : List EntryParts) (text : List ℕ) (r : Reply) : Type 0 where
   pub owed : (AnswersText R text r.bytes × (r.refused ≡ false)) ⊎ (RefusesText R text r.bytes × (r.refused ≡ true))
   pub marked : r.refused ≡ is_refusal r.bytes
 
 -- ---- a line that is a row, or a record of CSV
 
--- what ends a line: its carriage return, if it has one, and a line feed
+-- what ends a line: a carriage return (13), if the line has one, and a line feed (10)
 abbrev pub end_of : List ℕ → List ℕ
 end_of line = if ends_with_byte 13 line then 13 ∷ 10 ∷ [] else 10 ∷ []
 
--- a row with one field more, ended as the line is
+-- the row with a further field `last`, ended as `line` is
 abbrev pub row_line : Separator → List ℕ → List ℕ → List ℕ → List ℕ
 row_line S row last line = row ++ separator S ∷ last ++ end_of line
 
--- where rows are kept, a row with one field more: the canonical text of its tag
+-- the row, where rows are kept with a further field: the canonical text of its tag
 abbrev pub with_canonical : Bool → Separator → (row canonical : List ℕ) → List ℕ
 with_canonical false S row canonical = row
 with_canonical true S row canonical = row ++ separator S ∷ canonical
 
--- the row as it is, with a last field that says why it is refused; where rows are kept, it has no canonical text
+-- the row unchanged, with a last field that says why it is refused; where rows are kept, the field before it is empty
 abbrev pub refused_line : Bool → Separator → (line told : List ℕ) → List ℕ
 refused_line kept S line told = row_line S (with_canonical kept S (content_of line) []) told line
 
--- the field has a canonical text, which is in the place of its text, and the last field is empty
+-- the answer to a row whose field has a canonical text: that replaces the field's text, and an empty last field is
+-- added
 pub record AnswersRow (S : Separator) (G : Ground) (before : ℕ) (line bytes : List ℕ) : Type 0 where
   pub front : List ℕ
   pub field : List ℕ
@@ -115,7 +119,7 @@ pub record AnswersRow (S : Separator) (G : Ground) (before : ℕ) (line bytes : 
   pub is_canonical : IsCanonicalTextOf G.entries (replaced G.codes text) canonical
   pub line_is : bytes ≡ row_line S ((front ++ quotes) ++ canonical ++ (quotes ++ after)) [] line
 
--- the field has a canonical text: the row stays as it is, and that is added to it, and a last field, which is empty
+-- the answer to a row that is kept, whose field has a canonical text: two fields are added, that text and an empty one
 pub record KeepsRow (S : Separator) (G : Ground) (before : ℕ) (line bytes : List ℕ) : Type 0 where
   pub front : List ℕ
   pub field : List ℕ
@@ -128,12 +132,12 @@ pub record KeepsRow (S : Separator) (G : Ground) (before : ℕ) (line bytes : Li
   pub is_canonical : IsCanonicalTextOf G.entries (replaced G.codes text) canonical
   pub line_is : bytes ≡ row_line S (with_canonical true S (content_of line) canonical) [] line
 
--- the first, or where rows are kept the second
+-- the answer to a row whose field has a canonical text: the text is replaced, or, where rows are kept, added
 abbrev pub AnswersOrKeeps : Bool → Separator → Ground → ℕ → (line bytes : List ℕ) → Type 0
 AnswersOrKeeps false S G before line bytes = AnswersRow S G before line bytes
 AnswersOrKeeps true S G before line bytes = KeepsRow S G before line bytes
 
--- the text of the field is refused, and the last field says why
+-- the answer to a row whose field is refused: the last field says why
 pub record RefusesRow (kept : Bool) (S : Separator) (G : Ground) (before : ℕ) (line bytes : List ℕ) : Type 0 where
   pub front : List ℕ
   pub field : List ℕ
@@ -148,126 +152,127 @@ pub record RefusesRow (kept : Bool) (S : Separator) (G : Ground) (before : ℕ) 
   pub is_told : IsTold refusal told
   pub line_is : bytes ≡ refused_line kept S line told
 
--- there is no such field, and the last field says so
+-- the answer to a row without a field of that number: the last field says `NoColumn`
 pub record LacksField (kept : Bool) (S : Separator) (before : ℕ) (line bytes : List ℕ) : Type 0 where
   pub fewer : HasFewer S before (content_of line)
   pub line_is : bytes ≡ refused_line kept S line (codes "NoColumn")
 
--- the line that is owed for a row by its field; running out of memory aside
+-- the answer that is owed for a row by its field; running out of memory aside
 abbrev pub IsFieldReply : Separator → Ground → RowForm → List ℕ → Reply → Type 0
 IsFieldReply S G row line r =
     (AnswersOrKeeps row.is_kept S G row.before line r.bytes × (r.refused ≡ false))
     ⊎ ((RefusesRow row.is_kept S G row.before line r.bytes ⊎ LacksField row.is_kept S row.before line r.bytes)
     × (r.refused ≡ true))
 
--- a carriage return is in a record, outside of quotes, and the last field says so
+-- the answer to a line with a carriage return outside of quotes: the last field says `BadReturn`
 pub record RefusesReturn (kept : Bool) (S : Separator) (line : List ℕ) (r : Reply) : Type 0 where
   pub returns : HasReturn S (content_of line)
   pub line_is : r.bytes ≡ refused_line kept S line (codes "BadReturn")
   pub refused : r.refused ≡ true
 
--- none is
+-- the line has no carriage return outside of quotes, and `P` is true
 pub record HasNoReturn (S : Separator) (line : List ℕ) (P : Type 0) : Type 0 where
   pub none : HasReturn S (content_of line) → ⊥
   pub owed : P
 
--- the line that is owed for a row
+-- the answer that is owed for a row
 abbrev pub IsRowReply : Separator → Ground → RowForm → List ℕ → Reply → Type 0
 IsRowReply S G row line r =
     RefusesReturn row.is_kept S line r ⊎ HasNoReturn S line (IsFieldReply S G row line r)
 
--- the heading as it is, with the names of the fields that are added
+-- the answer to a heading: the line, and the names of the fields that are added to rows
 abbrev pub heading_line : Bool → Separator → List ℕ → List ℕ
 heading_line kept S line =
     row_line S (with_canonical kept S (content_of line) (codes "langtag")) (codes "langtag_fault") line
 
--- the line that is owed for a heading
+-- the answer that is owed for a heading
 abbrev pub IsHeadingReply : Bool → Separator → List ℕ → Reply → Type 0
 IsHeadingReply kept S line r = RefusesReturn kept S line r
     ⊎ HasNoReturn S line ((r.bytes ≡ heading_line kept S line) × (r.refused ≡ false))
 
--- the line that is owed for a heading or a row
+-- the answer that is owed for a line of a table, which is its heading or a row
 abbrev pub IsReplyAmong : Separator → Ground → RowForm → (heading : Bool) → List ℕ → Reply → Type 0
 IsReplyAmong S G row true line r = IsHeadingReply row.is_kept S line r
 IsReplyAmong S G row false line r = IsRowReply S G row line r
 
 -- ---- lines
 
--- what is owed for a line, which may be the first, and so a heading; a carriage return that ends a tag is no part of it
+-- the answer that is owed for a line; the first may be a heading, and a carriage return that ends a tag is no part of
+-- it
 abbrev pub IsReplyIn : Ground → LineForm → Bool → List ℕ → Reply → Type 0
 IsReplyIn G forms.Tag first line r = IsTextReply G.entries (replaced G.codes (content_of line)) r
 IsReplyIn G (forms.Row row) first line r = IsReplyAmong separators.Tab G row (row.has_heading && first) line r
 IsReplyIn G (forms.Csv row delimiter) first line r =
     IsReplyAmong (separators.Delimiter delimiter) G row (row.has_heading && first) line r
 
--- the same by what lines are answered by
+-- the answer that is owed for a line, by these terms
 abbrev pub IsReplyTo : Terms → Bool → List ℕ → Reply → Type 0
 IsReplyTo T first line r = IsReplyIn T.ground T.form first line r
 
--- an answer is owed for each line, in order, of which the first may be the first of all
+-- the answers that are owed for lines, in order; `first` is whether the first of them is the first of the text
 abbrev pub AreRepliesFrom : Terms → Bool → List (List ℕ) → List Reply → Type 0
 AreRepliesFrom T first [] [] = Unit {0}
 AreRepliesFrom T first [] (r ∷ more) = ⊥
 AreRepliesFrom T first (line ∷ lines) [] = ⊥
 AreRepliesFrom T first (line ∷ lines) (r ∷ more) = IsReplyTo T first line r × AreRepliesFrom T false lines more
 
--- an answer is owed for each line, in order
+-- the answers that are owed for the lines of a text, in order
 abbrev pub AreReplies : Terms → List (List ℕ) → List Reply → Type 0
 AreReplies T lines replies = AreRepliesFrom T true lines replies
 
--- the bytes of answers
+-- the bytes of answers, one after another
 abbrev pub bytes_in : List Reply → List ℕ
 bytes_in [] = []
 bytes_in (r ∷ replies) = r.bytes ++ bytes_in replies
 
--- how many of them refuse what they answer
+-- how many of the answers are refusals
 abbrev pub refused_in : List Reply → ℕ
 refused_in replies = count_by (λ r. r.refused) replies
 
--- the lines of a text, as their form says; those of CSV are its records
+-- the lines of a text by their form; for CSV they are its records, in which line feeds may be quoted
 abbrev pub units_of : LineForm → List ℕ → List (List ℕ)
 units_of forms.Tag text = lines_of text
 units_of (forms.Row row) text = lines_of text
 units_of (forms.Csv row delimiter) text = records_from delimiter places.Fresh text
 
--- no line feed that ends a line of this form: none, or in CSV none outside of quotes
+-- the text has no line feed (10) that ends a line of this form: none at all, or in CSV none outside of quotes
 abbrev pub IsUnit : LineForm → List ℕ → Type 0
 IsUnit forms.Tag text = IsOneLine text
 IsUnit (forms.Row row) text = IsOneLine text
 IsUnit (forms.Csv row delimiter) text = IsFreeOutside delimiter 10 places.Fresh text
 
--- the place after a text of this form, which is of no account but in CSV
+-- whether the end of a text is within quotes, and where in a field; in CSV alone it matters
 abbrev pub place_of : LineForm → List ℕ → Place
 place_of forms.Tag text = places.Fresh
 place_of (forms.Row row) text = places.Fresh
 place_of (forms.Csv row delimiter) text = place_at delimiter places.Fresh text
 
--- whether a line goes on after a line feed: a record does where it ends within quotes
+-- whether a line of this form goes on after a line feed: a record of CSV does if it is within quotes
 abbrev pub is_open : LineForm → List ℕ → Bool
 is_open form text = is_quoted (place_of form text)
 
--- it is not too long to be kept whole; of a tag no more is kept than says that it is too long
+-- a row or record is not too long to be kept whole; a line that is a tag always is short, as only a part of it is kept
 abbrev pub IsShort : LineForm → List ℕ → Type 0
 IsShort forms.Tag text = Unit {0}
 IsShort (forms.Row row) text = length text ≤ longest_row
 IsShort (forms.Csv row delimiter) text = length text ≤ longest_row
 
--- a line that a line feed ends
+-- a line without the line feed that ends it
 pub record IsWhole (form : LineForm) (text : List ℕ) : Type 0 where
   pub unit : IsUnit form text
   pub closed : is_open form text ≡ false
   pub short : IsShort form text
 
--- lines, each ended by a line feed
+-- the lines, each ended by a line feed (10)
 abbrev pub ended : List (List ℕ) → List ℕ
 ended [] = []
 ended (line ∷ lines) = line ++ 10 ∷ ended lines
 
--- how many line feeds there are
+-- how many line feeds (10) there are
 abbrev pub feeds_in : List ℕ → ℕ
 feeds_in text = count_by (λ byte. byte == 10) text
 
--- all that is owed for the bytes was written, and counted; no quote is open at their end
+-- all that is owed for the bytes was written and counted, and the bytes end outside of quotes
 pub record IsOwed (T : Terms) (bytes written : List ℕ) (counts : Counts) : Type 0 where
   pub closed : is_open T.form bytes ≡ false
   pub short : AllByRecursion (IsShort T.form) (units_of T.form bytes)
@@ -288,7 +293,8 @@ pub record IsOwedToLastFeed (T : Terms) (bytes written : List ℕ) : Type 0 wher
   pub each : AreReplies T lines owed
   pub all : written ≡ bytes_in owed
 
--- the bytes end within the quotes of a record that begins in this line, counted from 1
+-- the bytes end within the quotes of a record that begins in this line, counted from 1; the answers before it were
+-- written
 pub record EndsInQuotes (T : Terms) (bytes written : List ℕ) (line : ℕ) : Type 0 where
   pub owed : IsOwedToLastFeed T bytes written
   pub inside : is_open T.form owed.last ≡ true
@@ -300,7 +306,7 @@ long_fault forms.Tag line = faults.BadTsv line
 long_fault (forms.Row row) line = faults.BadTsv line
 long_fault (forms.Csv row delimiter) line = faults.BadCsv line
 
--- a row or a record begins in this line, counted from 1, that is too long
+-- the row or record that begins in this line, counted from 1, is too long; the answers before it were written
 pub record EndsTooLong (T : Terms) (bytes written : List ℕ) (line : ℕ) : Type 0 where
   pub lines : List (List ℕ)
   pub begun : List ℕ
@@ -326,13 +332,14 @@ pub record IsBegun (T : Terms) (bytes written : List ℕ) : Type 0 where
 
 -- ---- a byte order mark
 
--- the mark at the beginning of the bytes, and the text after it; before lines that are tags none is looked for
+-- the byte order mark at the beginning of the bytes, if there is one, and the text after it; before tags none is looked
+-- for
 abbrev pub SplitsText : LineForm → (bytes mark text : List ℕ) → Type 0
 SplitsText forms.Tag bytes mark text = (mark ≡ []) × (text ≡ bytes)
 SplitsText (forms.Row row) bytes mark text = SplitsMark bytes mark text
 SplitsText (forms.Csv row delimiter) bytes mark text = SplitsMark bytes mark text
 
--- the mark was written, and of the text and what was written after it this holds
+-- the byte order mark, if there is one, was written, and `P` is true of the text after it and of what else was written
 pub record AfterMark (T : Terms) (P : (text written : List ℕ) → Type 0) (bytes written : List ℕ) : Type 0 where
   pub mark : List ℕ
   pub text : List ℕ
@@ -342,7 +349,7 @@ pub record AfterMark (T : Terms) (P : (text written : List ℕ) → Type 0) (byt
   pub written_is : written ≡ mark ++ more
   pub holds : P text more
 
--- what was written is a front of the mark, or the mark and a front of what is owed for the text after it
+-- what was written is a front of the byte order mark, or the mark and a front of what is owed for the text after it
 pub record IsBegunText (T : Terms) (bytes written : List ℕ) : Type 0 where
   pub mark : List ℕ
   pub text : List ℕ

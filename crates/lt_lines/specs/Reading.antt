@@ -1,4 +1,4 @@
--- What holds of a text while it is read, and how that ends. No public contract cites this.
+-- What is true of a run while it reads a text, and when that ends. No public contract cites this.
 use Rattle.std.specs.Prelude.{◌≡◌, ◌⊎◌, ℕ, List, [], Option, Result, Ok, Err}
 use Rattle.std.specs.Io.KnownBytes.{Appends}
 use Rattle.lt_jar.specs.Devices.{failures_of, inner_of}
@@ -11,7 +11,7 @@ use Rattle.lt_lines.specs.declared.marked.Marked.{Marked}
 use Rattle.lt_lines.specs.declared.runs.Counts.{Counts}
 use Rattle.lt_stream.specs.declared.tallies.Tally.{Tally}
 
--- these bytes were taken, and what is owed for them was written
+-- these bytes were read, and all answers that are due for them were written
 pub record IsReading {W : Type 0} (T : Terms) (contents : W → Option (List ℕ)) (start now : Device W)
     (read : List ℕ) (state : Marked) : Type 0 where
   pub written : List ℕ
@@ -20,21 +20,21 @@ pub record IsReading {W : Type 0} (T : Terms) (contents : W → Option (List ℕ
   pub taken : IsTakenText T read written state
   pub emptied : state.answering.owed.items ≡ []
 
--- this was written, and of the bytes and it this holds
+-- since `start` some bytes were written, of which `P` is true
 pub record HasWritten {W : Type 0} (contents : W → Option (List ℕ)) (start now : Device W)
     (P : (written : List ℕ) → Type 0) : Type 0 where
   pub written : List ℕ
   pub appends : Appends (contents (inner_of start)) (contents (inner_of now)) written
   pub holds : P written
 
--- a piece ends the reading by a fault alone
+-- a piece of the text ended the run, which it does by a fault alone
 abbrev pub StopsReading : {W : Type 0} → Terms → (W → Option (List ℕ)) → (start now : Device W) → List ℕ → List Tally
     → Result Counts ToolFault → Type 0
 StopsReading T contents start now read tallies (Ok counts) = ⊥
 StopsReading T contents start now read tallies (Err f) =
     HasWritten contents start now (λ written. EndsText T start now read written tallies f)
 
--- the end of the bytes ends it
+-- the end of the text ended the run: with its counts, or with a fault
 abbrev pub EndsReading : {W : Type 0} → Terms → (W → Option (List ℕ)) → (start now : Device W) → List ℕ → List Tally
     → Result Counts ToolFault → Type 0
 EndsReading T contents start now read tallies (Ok counts) =

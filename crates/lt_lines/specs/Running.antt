@@ -13,19 +13,20 @@ use Rattle.lt_stream.specs.declared.faults.ToolFault.TheVariants as faults
 use Rattle.lt_lines.specs.declared.runs.Counts.{Counts}
 use Rattle.lt_stream.specs.declared.tallies.Tally.{Tally}
 
--- the reader was read to its end, all that is owed was written, and what was refused is in the tallies
+-- the reader was read to its end, all that is owed was written, and the tallies count the refused lines
 pub record IsDone {I : Type 0} (T : Terms) (remaining : I → Option (List ℕ)) (input' : Device I)
     (read written : List ℕ) (tallies : List Tally) (counts : Counts) : Type 0 where
   pub end : IsAtEnd (remaining (inner_of input'))
   pub owed : AfterMark T (λ text more. OwesAll T text more counts tallies) read written
 
--- the reader failed, and what is owed up to the last line feed was written
+-- the reader failed; what is owed up to the last line feed was written, and the tallies count its refused lines
 pub record IsStoppedByRead {I : Type 0} (T : Terms) (input input' : Device I) (read written : List ℕ)
     (tallies : List Tally) : Type 0 where
   pub failed : HasFailed input input'
   pub owed : AfterMark T (TalliesToLastFeed T tallies) read written
 
--- the most reads were made, the last of them gave bytes, and what is owed up to the last line feed was written
+-- the most reads that a run may make were made, and the last still gave bytes; what is owed up to the last line feed
+-- was written
 pub record IsStoppedByTurns {I : Type 0} (T : Terms)
     (input' : Device I) (reads : ℕ) (read written : List ℕ) (tallies : List Tally) : Type 0 where
   pub all_made : reads ≡ most_reads
@@ -33,24 +34,24 @@ pub record IsStoppedByTurns {I : Type 0} (T : Terms)
   pub last_gave : 0 < last_given_of input'
   pub owed : AfterMark T (TalliesToLastFeed T tallies) read written
 
--- the reader was read to its end, which is within quotes, and what is owed for the records before was written
+-- the reader's bytes end within quotes; what is owed for the records before the unfinished one was written
 pub record IsStoppedByQuotes {I : Type 0} (T : Terms) (remaining : I → Option (List ℕ)) (input' : Device I)
     (read written : List ℕ) (tallies : List Tally) (line : ℕ) : Type 0 where
   pub end : IsAtEnd (remaining (inner_of input'))
   pub ends : AfterMark T (TalliesInQuotes T line tallies) read written
 
--- a row or a record is too long, and what is owed for those before was written
+-- a row or record is too long; what is owed for those before it was written
 pub record IsStoppedByLength (T : Terms) (read written : List ℕ) (tallies : List Tally) (f : ToolFault) (line : ℕ) : Type 0 where
   pub named : f ≡ long_fault T.form line
   pub ends : AfterMark T (TalliesTooLong T line tallies) read written
 
--- the bytes begin with a mark of UTF-16, and nothing was written
+-- the bytes begin with a byte order mark of UTF-16, and nothing was written
 pub record IsStoppedByMark (read written : List ℕ) (tallies : List Tally) : Type 0 where
   pub wide : IsWide read
   pub nothing : written ≡ []
   pub none : tallies ≡ []
 
--- how the run ended
+-- how the run ended: with its counts, or with a fault; an end by OutOfMemory says nothing more
 abbrev pub EndsAs : {I O : Type 0} → Terms → (I → Option (List ℕ))
     → (input input' : Device I) → (output output' : Device O)
     → ℕ → (read written : List ℕ) → List Tally → Result Counts ToolFault → Type 0

@@ -1,4 +1,4 @@
--- Which lines are refused, by which fault, and what is counted of them.
+-- Which lines of a text are refused, by which fault, and how they are counted.
 use Rattle.std.specs.Prelude.{◌≡◌, ◌⊎◌, ◌+◌, ◌<◌, ◌^◌, ℕ, Bool, true, false, List, [], ◌∷◌, ◌++◌, drop, if◌then◌else◌, length, nat_le, take}
 use Rattle.std.specs.List.{before_first}
 use Rattle.lt_jar.specs.Lines.{content_of}
@@ -13,21 +13,21 @@ use Rattle.lt_lines.specs.declared.forms.LineForm.TheVariants as forms
 use Rattle.lt_rows.specs.declared.rows.Separator.{Separator}
 use Rattle.lt_rows.specs.declared.rows.Separator.TheVariants as separators
 
--- how many separators are between a row as it was and what the answer tells that refuses it
+-- how many separators stand between a row as it was and what the answer tells of its refusal
 abbrev pub separators_in : RowForm → ℕ
 separators_in row = if row.is_kept then 2 else 1
 
--- what the answer tells that refuses a line: it follows `! `, or the row as it was and these separators
+-- what the answer tells of a line's refusal: it follows `! `, or the row as it was and its separators
 abbrev pub told_in : LineForm → (line bytes : List ℕ) → List ℕ
 told_in forms.Tag line bytes = drop 2 bytes
 told_in (forms.Row row) line bytes = drop (length (content_of line) + separators_in row) bytes
 told_in (forms.Csv row delimiter) line bytes = drop (length (content_of line) + separators_in row) bytes
 
--- the name of the fault: what is before the first space (32) or end of line
+-- the name of the fault that the answer to a refused line tells: what is before the first space (32) or end of line
 abbrev pub fault_in : LineForm → (line bytes : List ℕ) → List ℕ
 fault_in form line bytes = before_first (λ byte. nat_le byte 32) (told_in form line bytes)
 
--- the text of the field of a row
+-- the text of the field after `before` others in a row, without quotes around it
 pub record IsFieldText (S : Separator) (before : ℕ) (row text : List ℕ) : Type 0 where
   pub front : List ℕ
   pub field : List ℕ
@@ -36,7 +36,7 @@ pub record IsFieldText (S : Separator) (before : ℕ) (row text : List ℕ) : Ty
   pub quotes : List ℕ
   pub is_text : IsTextIn S field quotes text
 
--- the same, or nothing where there is no such field
+-- the text of a row's field, or nothing if the row has fewer fields
 abbrev pub IsFieldOrNone : Separator → ℕ → (row text : List ℕ) → Type 0
 IsFieldOrNone S before row text = IsFieldText S before row text ⊎ (HasFewer S before row × (text ≡ []))
 
@@ -51,7 +51,7 @@ IsTagIn (forms.Csv row delimiter) line text =
 abbrev pub most_shown : ℕ
 most_shown = 64
 
--- a line of this number was refused by this answer: its fault, and the front of its text
+-- the line with this number was refused by this answer: the fault's name, and the front of the line's text
 pub record IsRefusedAs (form : LineForm) (number : ℕ) (line bytes : List ℕ) (f : Refused) : Type 0 where
   pub number_is : f.number ≡ number
   pub fault : f.fault ≡ fault_in form line bytes
@@ -59,7 +59,7 @@ pub record IsRefusedAs (form : LineForm) (number : ℕ) (line bytes : List ℕ) 
   pub is_text : IsTagIn form line text
   pub front : f.text ≡ take most_shown text
 
--- those of these lines that their answers refuse, in order; the first line has this number
+-- the refused ones of these lines, by their answers, in order; the first line has this number
 abbrev pub AreRefused : LineForm → ℕ → List (List ℕ) → List Reply → List Refused → Type 0
 AreRefused form number (line ∷ lines) (r ∷ replies) refusals =
     ((r.refused ≡ false) × AreRefused form (number + 1) lines replies refusals)
@@ -73,39 +73,39 @@ pub record AreTalliesOf (form : LineForm) (lines : List (List ℕ)) (replies : L
   pub are_refused : AreRefused form 1 lines replies refusals
   pub tallied : AreTallies refusals tallies
 
--- all that is owed for the bytes was written and counted, and what was refused of them is in the tallies
+-- all that is owed for the bytes was written and counted, and the tallies count the refused lines
 pub record OwesAll (T : Terms) (bytes written : List ℕ) (counts : Counts) (tallies : List Tally) : Type 0 where
   pub all : IsOwed T bytes written counts
   pub tallied : AreTalliesOf T.form (units_of T.form bytes) all.owed tallies
 
--- what is owed up to the last line feed was written, and what was refused is in the tallies
+-- what is owed up to the last line feed was written, and the tallies count the refused lines of it
 abbrev pub TalliesToLastFeed : Terms → List Tally → (bytes written : List ℕ) → Type 0
 TalliesToLastFeed T tallies bytes written = (o : IsOwedToLastFeed T bytes written) × AreTalliesOf T.form o.lines o.owed tallies
 
--- the same, and the bytes end within the quotes of a record that begins in this line
+-- the bytes end within the quotes of a record that begins in this line; what is owed before it was written and tallied
 abbrev pub TalliesInQuotes : Terms → ℕ → List Tally → (bytes written : List ℕ) → Type 0
 TalliesInQuotes T line tallies bytes written =
     (e : EndsInQuotes T bytes written line) × AreTalliesOf T.form e.owed.lines e.owed.owed tallies
 
--- the same, and a row or a record that begins in this line is too long
+-- a row or record that begins in this line is too long; what is owed before it was written and tallied
 abbrev pub TalliesTooLong : Terms → ℕ → List Tally → (bytes written : List ℕ) → Type 0
 TalliesTooLong T line tallies bytes written = (e : EndsTooLong T bytes written line) × AreTalliesOf T.form e.lines e.owed tallies
 
 -- ---- the steps
 
--- one line more was counted
+-- a refused line was added to the tallies
 pub record CountsLine (form : LineForm) (number : ℕ) (line bytes : List ℕ) (old new : List Tally) : Type 0 where
   pub one : Refused
   pub is_refused : IsRefusedAs form number line bytes one
   pub counted : (refusals : List Refused) → length refusals + 1 < 2 ^ 64
       → AreTallies refusals old → AreTallies (refusals ++ one ∷ []) new
 
--- one line more was counted if it was refused
+-- a line was added to the tallies if it was refused
 abbrev pub CountsIf : LineForm → ℕ → (line bytes : List ℕ) → Bool → (old new : List Tally) → Type 0
 CountsIf form number line bytes false old new = new ≡ old
 CountsIf form number line bytes true old new = CountsLine form number line bytes old new
 
--- a line of which this is kept, or this part of a piece where nothing is kept
+-- a line so far: the bytes that are kept of it, or this part of a piece where none are
 abbrev pub line_at : (kept part : List ℕ) → List ℕ
 line_at [] part = part
 line_at (byte ∷ kept) part = byte ∷ kept

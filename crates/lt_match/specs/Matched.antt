@@ -1,4 +1,4 @@
--- Matching over canonical forms (RFC 5646, 4.5; RFC 4647, 3).
+-- How ranges match tags, both by their canonical forms (RFC 5646, 4.5; RFC 4647, 3).
 use Rattle.std.specs.Prelude.{ℕ, ◌≡◌, ◌⊎◌, List, Ok}
 use Rattle.lt_tag.specs.Parts.{TagForm}
 use Rattle.lt_tag.specs.WellFormed.{spell}
@@ -16,7 +16,7 @@ pub record HasCanonicalList (R : List EntryParts) (tag : TagForm) (list : List (
   pub is_form : IsCanonicalFormOf R tag form
   pub spelled : list ≡ spell form
 
--- a text is a valid tag, and this is the range of the subtags of its canonical form
+-- the text is a tag that has a canonical form, and `range` is the range of that form's subtags
 pub record IsRangeOfTag (R : List EntryParts) (text : List ℕ) (range : RangeParts) : Type 0 where
   pub tag : TagForm
   pub read : HasTag text tag
@@ -24,28 +24,28 @@ pub record IsRangeOfTag (R : List EntryParts) (text : List ℕ) (range : RangePa
   pub canonical : HasCanonicalList R tag list
   pub is_range : range ≡ range_of_tag list
 
--- a text is no valid tag
+-- the text is no valid tag
 abbrev pub IsNoValidTag : List EntryParts → List ℕ → Type 0
 IsNoValidTag R text = (tag : TagForm) → HasTag text tag → IsValid R tag → ⊥
 
--- The range by which a text matches: where the text is a valid tag, its canonical form; else the range that it is, as it
--- is written (this project's own).
+-- The range by which a text matches: of a valid tag its canonical form, of another text the range that it is as it is
+-- written (this project's own).
 abbrev pub IsCanonicalRange : List EntryParts → List ℕ → RangeParts → Type 0
 IsCanonicalRange R text range = IsRangeOfTag R text range ⊎ (IsNoValidTag R text × (range_of text ≡ Ok range))
 
--- the three schemes (RFC 4647, 3.3.1, 3.3.2 and 3.4)
+-- the three schemes of matching (RFC 4647, 3.3.1, 3.3.2 and 3.4)
 pub data MatchingScheme : Type 0 where
   BasicFiltering : MatchingScheme
   ExtendedFiltering : MatchingScheme
   Lookup : MatchingScheme
 
--- a range matches the subtags of a tag by a scheme; by lookup it is cut until it is the tag
+-- a range matches the subtags of a tag by a scheme; by lookup, if it can be cut from its end until it is the tag
 abbrev pub MatchesBy : MatchingScheme → RangeParts → List (List ℕ) → Type 0
 MatchesBy BasicFiltering range list = MatchesBasic range list
 MatchesBy ExtendedFiltering range list = MatchesExtended range list
 MatchesBy Lookup range list = FallsBackTo range list
 
--- the text of a range matches a tag, both by their canonical forms
+-- the range of a text matches a tag, both by their canonical forms
 pub record MatchesTag (R : List EntryParts) (scheme : MatchingScheme) (text : List ℕ) (tag : TagForm) : Type 0 where
   pub range : RangeParts
   pub is_range : IsCanonicalRange R text range

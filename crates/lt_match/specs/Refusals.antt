@@ -1,4 +1,4 @@
--- Why a text matches as no range, and how what is refused below is told.
+-- Why a text can't be used as a range to match by.
 use Rattle.std.specs.Prelude.{ℕ, ◌≡◌, List, codes, Err}
 use Rattle.lt_registry.specs.Parts.{EntryParts}
 use Rattle.lt_canon.specs.Answers.{IsRepeatOf}
@@ -11,29 +11,29 @@ use Rattle.lt_match.specs.Matched.{IsNoValidTag}
 use Rattle.lt_match.specs.declared.refusals.RangeRefusal.{RangeRefusal}
 use Rattle.lt_match.specs.declared.refusals.RangeRefusal.TheVariants as refusals
 
--- why a text matches as no range: it is neither a valid tag nor a range, or steps can repeat a variant of the valid tag;
--- nothing is owed where memory ran out
+-- why a text has no canonical range: it is neither a valid tag nor a range, or steps can repeat a variant of the tag;
+-- OutOfMemory may be answered of any text
 abbrev pub IsRangeRefusal : List EntryParts → List ℕ → RangeRefusal → Type 0
 IsRangeRefusal R text (refusals.NotARange fault) = IsNoValidTag R text × (range_of text ≡ Err fault)
 IsRangeRefusal R text (refusals.ReplacementRepeats v) = ReadsAs text (λ tag. IsRepeatOf R tag v)
 IsRangeRefusal R text refusals.OutOfMemory = Unit {0}
 
--- why a text is no range as it is written
+-- why a text is no range as it is written; OutOfMemory may be answered of any text
 abbrev pub IsPlainRefusal : List ℕ → RangeRefusal → Type 0
 IsPlainRefusal text (refusals.NotARange fault) = range_of text ≡ Err fault
 IsPlainRefusal text (refusals.ReplacementRepeats v) = ⊥
 IsPlainRefusal text refusals.OutOfMemory = Unit {0}
 
--- what is wrong with a text
+-- the refusal of a text with this fault
 abbrev pub of_fault : RangeFault → RangeRefusal
 of_fault faults.OutOfMemory = refusals.OutOfMemory
 of_fault fault = refusals.NotARange fault
 
--- running out of memory
+-- the refusal for lack of memory
 abbrev pub no_memory : RangeRefusal
 no_memory = refusals.OutOfMemory
 
--- the name of a refusal; that of a text that is no range is the fault's
+-- the name of a refusal; for a text that is no range it is the fault's name
 abbrev pub name_of : RangeRefusal → List ℕ
 name_of (refusals.NotARange fault) = ranges.name_of fault
 name_of (refusals.ReplacementRepeats v) = codes "ReplacementRepeats"

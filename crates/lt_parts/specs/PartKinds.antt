@@ -7,22 +7,22 @@ use Rattle.lt_tag.specs.Splitting.{unicode_of, transform_of}
 use Rattle.lt_parts.specs.declared.kinds.PartKind.{PartKind}
 use Rattle.lt_parts.specs.declared.kinds.PartKind.TheVariants as kinds
 
--- each of these subtags is of one kind
+-- the kinds of these subtags, which are all of one kind
 abbrev pub each : PartKind → List (List ℕ) → List PartKind
 each kind subtags = map (λ _. kind) subtags
 
--- language, extlangs, script, region, variants (RFC 5646, 2.1)
+-- the kinds of the parts of a core: language, extlangs, script, region, variants (RFC 5646, 2.1)
 abbrev pub core_kinds : CoreParts → List PartKind
 core_kinds core =
     kinds.Language ∷ each kinds.Extlang core.extlangs
     ++ (each kinds.Script (option_to_list core.script)
     ++ (each kinds.Region (option_to_list core.region) ++ each kinds.Variant core.variants))
 
--- a key and its types (RFC 6067, 2.1)
+-- the kinds of the parts of a keyword: a key and its types (RFC 6067, 2.1)
 abbrev pub keyword_kinds : KeywordParts → List PartKind
 keyword_kinds keyword = kinds.Key ∷ each kinds.Type keyword.types
 
--- attributes, then keywords (RFC 6067, 2.1)
+-- the kinds of the parts of a `u` extension: attributes, then keywords (RFC 6067, 2.1)
 abbrev pub u_kinds : UForm → List PartKind
 u_kinds parts = each kinds.Attribute parts.attributes ++ flat_map keyword_kinds parts.keywords
 
@@ -35,20 +35,20 @@ in_source kinds.Region = kinds.SourceRegion
 in_source kinds.Variant = kinds.SourceVariant
 in_source kind = kind
 
--- the parts of a source, if there is one (RFC 6497, 2.2)
+-- the kinds of the parts of a source, if there is one (RFC 6497, 2.2)
 abbrev pub source_kinds : Option CoreParts → List PartKind
 source_kinds source = option_map_or (λ core. map in_source (core_kinds core)) source []
 
--- a separator and its values (RFC 6497, 2.2)
+-- the kinds of the parts of a field: a separator and its values (RFC 6497, 2.2)
 abbrev pub field_kinds : FieldParts → List PartKind
 field_kinds field = kinds.Separator ∷ each kinds.Value field.values
 
--- a source, then fields (RFC 6497, 2.2)
+-- the kinds of the parts of a `t` extension: a source, then fields (RFC 6497, 2.2)
 abbrev pub t_kinds : TForm → List PartKind
 t_kinds parts = source_kinds parts.source ++ flat_map field_kinds parts.fields
 
--- The subtags after a singleton: those of a u extension (RFC 6067), of a t extension that has parts (RFC 6497), or of
--- any other (RFC 5646, 2.2.6).
+-- The kinds of the subtags after a singleton: in a `u` extension (RFC 6067) or a `t` extension (RFC 6497) that has
+-- parts, the kinds of those; else ExtensionSubtag (RFC 5646, 2.2.6).
 abbrev pub subtag_kinds : ExtensionParts → List PartKind
 subtag_kinds extension =
     if extension.singleton == unicode
@@ -57,16 +57,16 @@ subtag_kinds extension =
     then option_map_or t_kinds (transform_of extension.subtags) (each kinds.ExtensionSubtag extension.subtags)
     else each kinds.ExtensionSubtag extension.subtags)
 
--- a singleton and the subtags after it (RFC 5646, 2.2.6)
+-- the kinds of a singleton and of the subtags after it (RFC 5646, 2.2.6)
 abbrev pub extension_kinds : ExtensionParts → List PartKind
 extension_kinds extension = kinds.Singleton ∷ subtag_kinds extension
 
--- x and the subtags after it; nothing if there is no private use (RFC 5646, 2.2.7)
+-- the kinds of `x` and of the subtags after it; none if there is no private use (RFC 5646, 2.2.7)
 abbrev pub private_kinds : List (List ℕ) → List PartKind
 private_kinds [] = []
 private_kinds (s ∷ ss) = kinds.PrivateUseSingleton ∷ each kinds.PrivateUse (s ∷ ss)
 
--- the parts of a tag; a grandfathered tag is one (RFC 5646, 2.1 and 2.2.8)
+-- the kinds of the parts of a tag; a grandfathered tag is one part (RFC 5646, 2.1 and 2.2.8)
 abbrev pub part_kinds : TagForm → List PartKind
 part_kinds (LangTag core extensions private) =
     core_kinds core ++ (flat_map extension_kinds extensions ++ private_kinds private)

@@ -8,14 +8,14 @@ use Rattle.lt_parts.specs.PartKinds.{part_kinds}
 use Rattle.lt_parts.specs.declared.kinds.PartKind.{PartKind}
 use Rattle.lt_parts.specs.declared.placing.Part.{Part}
 
--- what the parts of a tag are in its text: what is between hyphens; a grandfathered tag is one part (RFC 5646, 2.1 and
+-- the texts of the parts of a tag: what is between its hyphens; a grandfathered tag is one part (RFC 5646, 2.1 and
 -- 2.2.8)
 abbrev pub part_texts : TagForm → List (List ℕ)
 part_texts (LangTag core extensions private) = pieces (text_of (LangTag core extensions private))
 part_texts (PrivateUse subtags) = pieces (text_of (PrivateUse subtags))
 part_texts (Grandfathered number) = text_of (Grandfathered number) ∷ []
 
--- texts one after another from a place on, with a hyphen between each and the next, and the kind of each
+-- parts of these kinds and texts, the first of which begins at `start`, with one byte between each and the next
 abbrev pub placed : ℕ → List PartKind → List (List ℕ) → List Part
 placed start [] texts = []
 placed start (k ∷ ks) [] = []
@@ -26,10 +26,10 @@ placed start (k ∷ ks) (t ∷ ts) =
 abbrev pub parts_of : TagForm → List Part
 parts_of tag = placed 0 (part_kinds tag) (part_texts tag)
 
--- what a part is in a text
+-- what a part is in the text of its tag
 abbrev pub cut_of : List ℕ → Part → List ℕ
 cut_of text part = take part.length (drop part.start text)
 
--- parts spell a text: it is what they are in it, joined by hyphens
+-- the texts of the parts, joined by hyphens (45), are the text
 abbrev pub Spell : List Part → List ℕ → Type 0
 Spell parts text = join_with_byte 45 (map (cut_of text) parts) ≡ text

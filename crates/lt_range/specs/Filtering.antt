@@ -6,7 +6,7 @@ use Rattle.lt_range.specs.Matching.{MatchesBasic, MatchesExtended}
 use Rattle.lt_range.specs.declared.filters.Scheme.{Scheme}
 use Rattle.lt_range.specs.declared.filters.Scheme.TheVariants as schemes
 
--- when a range matches a tag
+-- a statement on a range and the subtags of a tag, such as that the range matches the tag
 abbrev pub Matching : Type 1
 Matching = RangeParts → List (List ℕ) → Type 0
 
@@ -15,14 +15,14 @@ abbrev pub Matches : Scheme → RangeParts → List (List ℕ) → Type 0
 Matches schemes.Basic range tag = MatchesBasic range tag
 Matches schemes.Extended range tag = MatchesExtended range tag
 
--- these are the places, counted from this one on, of the tags of which something holds, in their order
+-- the places, counted from `place`, of the tags of which `P` is true, in their order
 abbrev pub ArePlaces : (List (List ℕ) → Type 0) → ℕ → List (List (List ℕ)) → List ℕ → Type 0
 ArePlaces P place [] found = found ≡ []
 ArePlaces P place (t ∷ ts) found =
     (P t × ((rest : List ℕ) × (found ≡ place ∷ rest) × ArePlaces P (place + 1) ts rest))
     ⊎ ((P t → ⊥) × ArePlaces P (place + 1) ts found)
 
--- no range matches a tag
+-- none of the ranges matches the tag
 abbrev pub NoneMatches : Matching → List RangeParts → List (List ℕ) → Type 0
 NoneMatches M ranges tag = AllByRecursion (λ range. M range tag → ⊥) ranges
 
@@ -33,7 +33,7 @@ Selects M before (r ∷ rs) tags found = (here rest : List ℕ) × (found ≡ he
     × ArePlaces (λ tag. M r tag × NoneMatches M before tag) 0 tags here
     × Selects M (before ++ r ∷ []) rs tags rest
 
--- The places of the tags that a priority list matches: those of the range of highest priority first, and each time in
--- the order of the tags (RFC 4647, 3.3).
+-- The places of the tags that a priority list selects: those of the range with the highest priority first, and for each
+-- range in the order of the tags (RFC 4647, 3.3).
 abbrev pub AreFiltered : Matching → List RangeParts → List (List (List ℕ)) → List ℕ → Type 0
 AreFiltered M ranges tags found = Selects M [] ranges tags found

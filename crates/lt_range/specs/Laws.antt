@@ -1,8 +1,8 @@
--- The law of reading language ranges.
+-- The range that a text is by the grammar, with which the laws compare what is read.
 use Rattle.std.specs.Prelude.{ℕ, ◌≡◌, List}
 use Rattle.lt_range.specs.Ranges.{RangeForm, RangeParts, HasRange, parts_of}
 
--- the parts of the range that a text is (RFC 4647, 2)
+-- `range` is the parts of the range that the text is (RFC 4647, 2)
 pub record IsRangeOf (text : List ℕ) (range : RangeParts) : Type 0 where
   pub form : RangeForm
   pub has : HasRange text form

@@ -8,12 +8,12 @@ use Rattle.lt_range.specs.Matching.{FallsBackTo}
 abbrev pub tag_at : List (List (List ℕ)) → ℕ → List (List ℕ)
 tag_at tags place = slice_index_or tags place []
 
--- a range finds none of the first so many tags, however far it is cut
+-- a range finds none of the first `count` tags, however far it is cut
 abbrev pub FindsNoneOf : ℕ → List (List (List ℕ)) → RangeParts → Type 0
 FindsNoneOf count tags range = (i : ℕ) → i < count → FallsBackTo range (tag_at tags i) → ⊥
 
--- Of the first so many tags the one at a place is what a range falls back to, cut the least: no other such tag is longer,
--- and none before it is as long (RFC 4647, 3.4).
+-- Of the first `count` tags a range finds the one at `place`: the range can be cut to that tag, and of those tags to
+-- which it can be cut this is the longest, and the first of that length (RFC 4647, 3.4).
 pub record FindsAmong (range : RangeParts) (tags : List (List (List ℕ))) (count place : ℕ) : Type 0 where
   pub within : place < count
   pub found : FallsBackTo range (tag_at tags place)
@@ -22,7 +22,7 @@ pub record FindsAmong (range : RangeParts) (tags : List (List (List ℕ))) (coun
   pub first : (i : ℕ) → i < place → FallsBackTo range (tag_at tags i)
       → length (tag_at tags i) < length (tag_at tags place)
 
--- a range finds no tag
+-- a range finds none of the tags
 abbrev pub FindsNone : List (List (List ℕ)) → RangeParts → Type 0
 FindsNone tags range = FindsNoneOf (length tags) tags range
 
@@ -30,7 +30,7 @@ FindsNone tags range = FindsNoneOf (length tags) tags range
 abbrev pub Finds : RangeParts → List (List (List ℕ)) → ℕ → Type 0
 Finds range tags place = FindsAmong range tags (length tags) place
 
--- the first range of a priority list that finds a tag finds this one
+-- the tag at this place is found by the first range of a priority list that finds any
 pub record IsFound (ranges : List RangeParts) (tags : List (List (List ℕ))) (place : ℕ) : Type 0 where
   pub before : List RangeParts
   pub range : RangeParts
@@ -39,6 +39,6 @@ pub record IsFound (ranges : List RangeParts) (tags : List (List (List ℕ))) (p
   pub none_before : AllByRecursion (FindsNone tags) before
   pub finds : Finds range tags place
 
--- no range finds a tag, so that a default is taken (RFC 4647, 3.4 and 3.4.1)
+-- no range finds a tag, so that a default is to be used (RFC 4647, 3.4 and 3.4.1)
 abbrev pub IsDefault : List RangeParts → List (List (List ℕ)) → Type 0
 IsDefault ranges tags = AllByRecursion (FindsNone tags) ranges

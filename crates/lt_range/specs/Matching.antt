@@ -5,16 +5,16 @@ use Rattle.std.specs.List.{list_all, slice_get, AllByRecursion}
 use Rattle.std.specs.Option.{option_map_or}
 use Rattle.lt_range.specs.Ranges.{RangeParts}
 
--- A list begins with another: it equals it, or what follows it begins with a hyphen in the text (RFC 4647, 3.3.1).
+-- the list begins with the subtags of `front` (RFC 4647, 3.3.1)
 abbrev pub BeginsWith : List (List ℕ) → List (List ℕ) → Type 0
 BeginsWith front list = (rest : List (List ℕ)) × (list ≡ front ++ rest)
 
--- Basic filtering: a range that begins with `*` matches each tag; another matches the tags that equal it or begin with it
--- and a hyphen (RFC 4647, 3.3.1).
+-- Basic filtering: a range that begins with `*` matches each tag, any other the tags that begin with its subtags (RFC
+-- 4647, 3.3.1).
 abbrev pub MatchesBasic : RangeParts → List (List ℕ) → Type 0
 MatchesBasic range tag = (range.wild ≡ true) ⊎ BeginsWith range.named tag
 
--- more than one letter or digit: no singleton (RFC 4647, 3.3.2)
+-- whether a subtag has more than one letter or digit (RFC 4647, 3.3.2)
 abbrev pub is_no_singleton : List ℕ → Bool
 is_no_singleton s = not (length s == 1)
 
@@ -24,14 +24,14 @@ AreInTurn [] list = Unit {0}
 AreInTurn (s ∷ ss) list = (passed rest : List (List ℕ)) × (list ≡ passed ++ s ∷ rest)
     × (list_all is_no_singleton passed ≡ true) × AreInTurn ss rest
 
--- a subtag is in a list, and no singleton is before it
+-- the subtag `s` is in a list, and no singleton is before it
 pub record IsPassedTo (list : List (List ℕ)) (s : List ℕ) : Type 0 where
   pub passed : List (List ℕ)
   pub rest : List (List ℕ)
   pub there : list ≡ passed ++ s ∷ rest
   pub long : list_all is_no_singleton passed ≡ true
 
--- what follows its first place there
+-- `rest` is what follows the first place of `s` in a list, and no singleton is before that
 pub record FollowsFirst (list : List (List ℕ)) (s : List ℕ) (rest : List (List ℕ)) : Type 0 where
   pub passed : List (List ℕ)
   pub there : list ≡ passed ++ s ∷ rest
@@ -48,23 +48,25 @@ abbrev pub NamesAfterFirst : List (List ℕ) → List (List ℕ) → Type 0
 NamesAfterFirst ss (t ∷ ts) = AreInTurn ss ts
 NamesAfterFirst _ _ = ⊥
 
--- extended filtering (RFC 4647, 3.3.2)
+-- extended filtering: the first subtag of a range is that of the tag, or is `*`, and the others follow in turn (RFC
+-- 4647, 3.3.2)
 abbrev pub MatchesExtended : RangeParts → List (List ℕ) → Type 0
 MatchesExtended range tag =
     ((range.wild ≡ true) × NamesAfterFirst range.named tag) ⊎ ((range.wild ≡ false) × NamesInTurn range.named tag)
 
--- the last subtag of a list is no singleton
+-- whether the last subtag of a list has more than one letter or digit
 abbrev pub ends_long : List (List ℕ) → Bool
 ends_long list = option_map_or is_no_singleton (slice_get list (length list - 1)) false
 
--- A list is what is left of a range where it is cut from the end: some subtag is left, and no singleton is left behind,
--- since it goes with the subtag after it (RFC 4647, 3.4).
+-- What is left of a range that is cut from its end, if at all: one subtag or more, of which after a cut the last is no
+-- singleton, since that is cut with the subtag after it (RFC 4647, 3.4).
 pub record IsLeft (range left : List (List ℕ)) : Type 0 where
   pub begins : BeginsWith left range
   pub some : 0 < length left
   pub whole : (left ≡ range) ⊎ (ends_long left ≡ true)
 
--- Lookup: the tag is the range, or what is left where it is cut from the end; `*` by itself finds none (RFC 4647, 3.4).
+-- Lookup: the tag is the range, or what is left of the range after it is cut from its end; `*` alone finds none (RFC
+-- 4647, 3.4).
 pub record FallsBackTo (range : RangeParts) (tag : List (List ℕ)) : Type 0 where
   pub named : range.wild ≡ false
   pub left : IsLeft range.named tag

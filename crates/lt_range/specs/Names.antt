@@ -1,20 +1,20 @@
--- The names of faults, and how what is refused below is told.
+-- The names of the faults of language ranges, as they are printed.
 use Rattle.std.specs.Prelude.{ℕ, List, codes}
 use Rattle.lt_subtag.specs.Reading as subtags
 use Rattle.lt_subtag.specs.declared.SubtagFault.{SubtagFault}
 use Rattle.lt_range.specs.declared.faults.RangeFault.{RangeFault}
 use Rattle.lt_range.specs.declared.faults.RangeFault.TheVariants as faults
 
--- the name of a fault; that of a piece is the name of the subtag's fault
+-- the name of a fault; for a fault of a piece it is the name of the subtag's fault
 abbrev pub name_of : RangeFault → List ℕ
 name_of (faults.BadSubtag fault) = subtags.name_of fault
 name_of faults.BadFirst = codes "BadFirst"
 name_of faults.OutOfMemory = codes "OutOfMemory"
 
--- a piece's fault
+-- the fault of a range with a piece of this fault
 abbrev pub of_subtag_fault : SubtagFault → RangeFault
 of_subtag_fault fault = faults.BadSubtag fault
 
--- running out of memory
+-- the fault of running out of memory
 abbrev pub no_memory : RangeFault
 no_memory = faults.OutOfMemory

@@ -10,7 +10,7 @@ use Rattle.lt_tag.specs.Lists.{list_of}
 abbrev pub RangeForm : Type 0
 RangeForm = List (Option (List ℕ))
 
--- 1 to 8 letters (RFC 4647, 2.1)
+-- whether a subtag is of 1 to 8 letters, as the first of a range is (RFC 4647, 2.1)
 abbrev pub is_first : List ℕ → Bool
 is_first s = is_subtag s && is_alphabetic s
 
@@ -21,36 +21,37 @@ IsLanguageRange [] = ⊥
 IsLanguageRange (s ∷ ss) =
     (option_map_or is_first s true ≡ true) × (list_all (λ o. option_map_or is_subtag o true) ss ≡ true)
 
--- how a subtag of a range is written
+-- a subtag of a range as it is written: `*` (42) for None
 abbrev pub written : Option (List ℕ) → List ℕ
 written None = 42 ∷ []
 written (Some s) = s
 
--- a text is a range, in any letter case (RFC 4647, 2)
+-- the text is a language range, letter case aside (RFC 4647, 2)
 pub record HasRange (text : List ℕ) (form : RangeForm) : Type 0 where
   pub range : IsLanguageRange form
   pub spelled : map written form ≡ list_of text
 
--- What of a range matters to a matching scheme: whether it begins with `*`, and its other subtags in their order. A `*`
--- that is not first stands for nothing that would not be there without it (RFC 4647, 3.2, 3.3.2 and 3.4).
+-- What matters of a range for matching: whether it begins with `*`, and its other subtags in their order. A `*` that is
+-- not first has no effect (RFC 4647, 3.2, 3.3.2 and 3.4).
 pub record RangeParts : Type 0 where
   pub wild : Bool
   pub named : List (List ℕ)
 
--- the subtags that are no `*`
+-- the subtags of a range other than `*`
 abbrev pub named_of : RangeForm → List (List ℕ)
 named_of [] = []
 named_of (None ∷ form) = named_of form
 named_of (Some s ∷ form) = s ∷ named_of form
 
--- whether the first is `*`
+-- whether the first subtag of a range is `*`
 abbrev pub begins_wild : RangeForm → Bool
 begins_wild (None ∷ form) = true
 begins_wild _ = false
 
+-- what matters of a range for matching
 abbrev pub parts_of : RangeForm → RangeParts
 parts_of form = record { wild = begins_wild form; named = named_of form }
 
--- the range that a tag is: its subtags, with no `*` (RFC 4647, 2.1)
+-- the range of a tag's subtags, which has no `*` (RFC 4647, 2.1)
 abbrev pub range_of_tag : List (List ℕ) → RangeParts
 range_of_tag list = record { wild = false; named = list }

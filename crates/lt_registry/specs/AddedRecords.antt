@@ -1,4 +1,4 @@
--- What a record adds to the entries of those before it. No public contract cites this.
+-- What each further record adds to the entries of those before it. No public contract cites this.
 use Rattle.std.specs.Prelude.{ℕ, ◌≡◌, ◌+◌, ◌⊎◌, Bool, true, false, List, [], ◌∷◌, ◌++◌, Option, Some, None, Result, Ok, Err}
 use Rattle.lt_jar.specs.Records.{Field}
 use Rattle.lt_jar.specs.Sources.{Advances, record_in}
@@ -12,29 +12,29 @@ use Rattle.lt_registry.specs.RecordRefusals.{IsRefused}
 use Rattle.lt_registry.specs.declared.drafts.Draft.{Draft}
 use Rattle.lt_registry.specs.declared.faults.RecordFault.{RecordFault}
 
--- the record's entry is after the others
+-- the record's entry was appended
 abbrev pub IsPut : List Field → ℕ → List EntryParts → List EntryParts → Type 0
 IsPut r number old new = (e : EntryParts) × IsEntryOf r number e × IsEntry e × (new ≡ old ++ e ∷ [])
 
--- the same, where the record is no header; a header adds nothing
+-- the record's entry was appended, or nothing if the record is the registry's header
 abbrev pub IsAdded : List Field → ℕ → List EntryParts → List EntryParts → Type 0
 IsAdded r number old new =
     ((is_header_at number r ≡ true) × (new ≡ old)) ⊎ ((is_header_at number r ≡ false) × IsPut r number old new)
 
--- the record of this number gives no entry
+-- the record with this number gives no entry
 pub record IsRefusedAt (r : List Field) (number : ℕ) (fault : RecordFault) : Type 0 where
   pub numbered : fault.number ≡ number
   pub judged : is_header_at number r ≡ false
   pub refused : IsRefused r fault.kind
 
--- a draft without a fault takes the record's entry or its fault, and one with a fault keeps that
+-- a draft without a fault takes the record's entry or its fault, one with a fault keeps that fault
 abbrev pub TakesFrom : List Field → ℕ → List EntryParts
     → List EntryParts → Option RecordFault → Option RecordFault → Type 0
 TakesFrom r number old new None None = IsAdded r number old new
 TakesFrom r number old new None (Some fault) = IsRefusedAt r number fault
 TakesFrom r number old new (Some first) fault = fault ≡ Some first
 
--- the draft took a record more
+-- the draft took a further record
 pub record Takes (r : List Field) (old new : Draft) : Type 0 where
   pub numbered : new.number ≡ old.number + 1
   pub takes : TakesFrom r new.number old.entries.items new.entries.items old.fault new.fault
@@ -47,7 +47,7 @@ pub record TakesNext {R : Type 0} (remaining : R → Option (List ℕ)) (old new
   pub takes : result ≡ Ok true → Takes (record_in new.source) draft drafted
   pub keeps : result ≡ Ok false → drafted ≡ draft
 
--- the entries, or the fault
+-- what reading records gives: the entries, or the first fault
 abbrev pub finished : {A : Type 0} → A → Option RecordFault → Result A RecordFault
 finished entries None = Ok entries
 finished entries (Some fault) = Err fault

@@ -1,5 +1,5 @@
--- The first fault of a core, looked for from left to right. No public contract cites this; it is shown to
--- agree with the relations of Faults.
+-- The first fault of a core, computed from left to right. No public contract cites this; it is shown to agree with the
+-- relations of Faults.
 use Rattle.std.specs.Prelude.{ℕ, ◌≡◌, ◌≢◌, ◌+◌, Bool, true, false, not, ◌||◌, List, [], ◌∷◌, ◌++◌, length, Option, Some, None, Result, Ok, Err, bytes_eq, ◌==◌, ◌⊎◌}
 use Rattle.std.specs.List.{list_any}
 use Rattle.lt_tag.specs.Parts.{CoreParts, ExtensionParts}
@@ -14,7 +14,7 @@ use Rattle.lt_registry.specs.declared.faults.ValidFaultKind.TheVariants as fault
 use Rattle.lt_registry.specs.declared.faults.ValidRefusal.{ValidRefusal}
 use Rattle.lt_registry.specs.declared.faults.ValidRefusal.TheVariants as refusals
 
--- nothing, or a fault
+-- what a check answers: Ok, or a fault
 abbrev pub Check : Type 0
 Check = Result (Unit {0}) ValidFault
 
@@ -28,49 +28,49 @@ abbrev pub and_then : Check → Check → Check
 and_then (Ok done) next = next
 and_then (Err fault) next = Err fault
 
--- the language of a core that begins after this many subtags
+-- the check of the language of a core that begins after `start` subtags
 abbrev pub language_check : List EntryParts → ℕ → List ℕ → Check
 language_check R start l = unless (is_registered R kinds.Language l) faults.UnknownLanguage (start + 1)
 
--- the first extlang, by its entry: the language is one of its Prefixes
+-- the check of the first extlang, by its entry: it is registered, and the language is one of its Prefixes
 abbrev pub prefix_check : ℕ → List ℕ → Option EntryParts → Check
 prefix_check start l None = Err (record { kind = faults.UnknownExtlang; place = start + 2 })
 prefix_check start l (Some e) = unless (has_prefix e.prefixes l) faults.ExtlangPrefix (start + 2)
 
--- there is no second extlang
+-- the check that there is no second extlang
 abbrev pub second_check : ℕ → List (List ℕ) → Check
 second_check start [] = Ok tt
 second_check start (x ∷ rest) = Err (record { kind = faults.TooManyExtlangs; place = start + 3 })
 
--- the extlangs of a core that begins after this many subtags
+-- the check of the extlangs of a core that begins after `start` subtags
 abbrev pub extlangs_check : List EntryParts → ℕ → List ℕ → List (List ℕ) → Check
 extlangs_check R start l [] = Ok tt
 extlangs_check R start l (x ∷ rest) =
     and_then (prefix_check start l (entry R kinds.Extlang x)) (second_check start rest)
 
--- a script or a region
+-- the check of a script or a region, if there is one
 abbrev pub part_check : List EntryParts → Kind → ValidFaultKind → ℕ → Option (List ℕ) → Check
 part_check R kind fault place None = Ok tt
 part_check R kind fault place (Some s) = unless (is_registered R kind s) fault place
 
--- a variant is in a list
+-- whether a variant is among others
 abbrev pub stands_in : List (List ℕ) → List ℕ → Bool
 stands_in before v = list_any (λ u. bytes_eq u v) before
 
--- a variant after others
+-- the check of a variant that comes after others
 abbrev pub variant_check : List EntryParts → Bool → ℕ → List (List ℕ) → List ℕ → Check
 variant_check R may_repeat place before v =
     and_then (unless (is_registered R kinds.Variant v) faults.UnknownVariant place)
     (unless (may_repeat || not (stands_in before v)) faults.DuplicateVariant place)
 
--- the variants from a place on, after others
+-- the check of the variants from a place on, which come after others
 unfoldable pub variants_check : List EntryParts → Bool → ℕ → List (List ℕ) → List (List ℕ) → Check
 variants_check R may_repeat place before [] = Ok tt
 variants_check R may_repeat place before (v ∷ after) =
     and_then (variant_check R may_repeat place before v)
     (variants_check R may_repeat (place + 1) (before ++ v ∷ []) after)
 
--- a core that begins after this many subtags
+-- the check of a core that begins after `start` subtags
 unfoldable pub core_check : List EntryParts → Bool → ℕ → CoreParts → Check
 core_check R may_repeat start c =
     and_then (language_check R start c.language)
@@ -79,38 +79,38 @@ core_check R may_repeat start c =
     (and_then (part_check R kinds.Region faults.UnknownRegion (start + before_region c + 1) c.region)
     (variants_check R may_repeat (start + before_variants c + 1) [] c.variants))))
 
--- the source of a t extension whose singleton is at a place
+-- the check of the source, if there is one, of a `t` extension whose singleton is at a place
 abbrev pub source_check : List EntryParts → Bool → ℕ → Option CoreParts → Check
 source_check R may_repeat place None = Ok tt
 source_check R may_repeat place (Some c) = core_check R may_repeat place c
 
--- one of the extensions has the singleton
+-- whether one of the extensions has the singleton
 abbrev pub has_singleton : List ExtensionParts → ℕ → Bool
 has_singleton es s = list_any (λ (e : ExtensionParts). e.singleton == s) es
 
--- the faults of an extension whose singleton is at a place, after others
+-- a fault of an extension after others, whose singleton is at the place `here`
 abbrev pub HeadFault : List EntryParts → ℕ → List ExtensionParts → ExtensionParts → ValidFaultKind → ℕ → Type 0
 HeadFault R here before e kind place =
     ((kind ≡ faults.DuplicateSingleton) × (place ≡ here) × (has_singleton before e.singleton ≡ true))
     ⊎ HasExtensionFault R here e kind place
 
--- the faults of extensions of which the first has its singleton at a place, after others
+-- a fault of extensions after others, the first of which has its singleton at the place `here`
 unfoldable pub ListFault : List EntryParts → ℕ → List ExtensionParts → List ExtensionParts → ValidFaultKind → ℕ → Type 0
 ListFault R here before [] kind place = ⊥
 ListFault R here before (e ∷ after) kind place =
     HeadFault R here before e kind place
     ⊎ ListFault R (here + (1 + length e.subtags)) (before ++ e ∷ []) after kind place
 
--- faults, those aside that a variant occurs twice where variants may repeat
+-- a fault, other than that a variant occurs twice if variants may repeat
 abbrev pub Counted : Bool → (ValidFaultKind → ℕ → Type 0) → ValidFaultKind → ℕ → Type 0
 Counted may_repeat F kind place = F kind place × (may_repeat ≡ true → kind ≢ faults.DuplicateVariant)
 
--- there is no fault, or the first one is reported
+-- a check answers Ok if there is no fault, else the first fault
 abbrev pub Tells : (ValidFaultKind → ℕ → Type 0) → Check → Type 0
 Tells F (Ok done) = (kind : ValidFaultKind) (place : ℕ) → F kind place → ⊥
 Tells F (Err fault) = IsFirstOf F fault.kind fault.place
 
--- the same, but that memory may run out where something holds
+-- a check answers Ok if there is no fault, else the first; OutOfMemory it may answer only if `M` is true
 abbrev pub TellsOrLacks : (ValidFaultKind → ℕ → Type 0) → Type 0 → Result (Unit {0}) ValidRefusal → Type 0
 TellsOrLacks F M (Ok done) = (kind : ValidFaultKind) (place : ℕ) → F kind place → ⊥
 TellsOrLacks F M (Err (refusals.Fault fault)) = IsFirstOf F fault.kind fault.place

@@ -15,7 +15,7 @@ use Rattle.lt_registry.specs.declared.entries.EntryName.TheVariants as names
 use Rattle.lt_registry.specs.declared.entries.EntryValue.{EntryValue}
 use Rattle.lt_registry.specs.declared.entries.EntryValue.TheVariants as values
 
--- the form of the subtags of a kind; whole tags have none (RFC 5646, 3.1.4)
+-- whether a subtag has the form of its kind; none has that of a kind of whole tags (RFC 5646, 3.1.4)
 abbrev pub has_form : Kind → List ℕ → Bool
 has_form kinds.Language s = is_language s
 has_form kinds.Extlang s = is_extlang s
@@ -24,24 +24,25 @@ has_form kinds.Region s = is_region s
 has_form kinds.Variant s = is_variant s
 has_form _ s = false
 
--- the types of whole records (RFC 5646, 2.2.8)
+-- whether records of a kind name whole tags (RFC 5646, 2.2.8)
 abbrev pub is_whole_kind : Kind → Bool
 is_whole_kind kinds.Grandfathered = true
 is_whole_kind kinds.Redundant = true
 is_whole_kind _ = false
 
--- the letter order of texts of one length (RFC 5646, 3.1.4)
+-- whether a text comes before another of the same length in letter order, or is equal (RFC 5646, 3.1.4)
 abbrev pub letters_le : List ℕ → List ℕ → Bool
 letters_le [] _ = true
 letters_le (x ∷ xs) [] = false
 letters_le (x ∷ xs) (y ∷ ys) = if x == y then letters_le xs ys else nat_lt x y
 
--- shorter than any variant: a language of 2 or 3 letters (RFC 5646, 2.2.1)
+-- whether a subtag is shorter than any variant: as the value of a variant it is a language of 2 or 3 letters (RFC 5646,
+-- 2.2.1)
 abbrev pub is_short : List ℕ → Bool
 is_short s = nat_le (length s) 3
 
--- The first and the last have the form of the kind, are made of letters, are equally long, and do not fall (RFC 5646,
--- 3.1.4).
+-- The first and the last subtag of a range have the form of the kind, are made of letters, are equally long, and are in
+-- letter order (RFC 5646, 3.1.4).
 pub record IsRange (kind : Kind) (first last : List ℕ) : Type 0 where
   pub first_form : has_form kind first ≡ true
   pub last_form : has_form kind last ≡ true
@@ -68,7 +69,7 @@ abbrev pub FitsValue : Kind → EntryValue → Type 0
 FitsValue kind (values.One s) = has_value_form kind s ≡ true
 FitsValue kind (values.Whole t) = (is_whole_kind kind ≡ true) × IsTagValue t
 
--- a list of one subtag or more (RFC 5646, 3.1.8)
+-- a Prefix is a list of one subtag or more (RFC 5646, 3.1.8)
 pub record IsPrefix (prefix : List (List ℕ)) : Type 0 where
   pub subtags : list_all is_subtag prefix ≡ true
   pub some : 0 < length prefix
@@ -80,7 +81,7 @@ pub record IsEntry (e : EntryParts) : Type 0 where
   pub prefixes : AllByRecursion IsPrefix e.prefixes
   pub prefixed : (e.prefixes ≡ []) ⊎ ((e.kind ≡ kinds.Extlang) ⊎ (e.kind ≡ kinds.Variant))
 
--- each number is above those before it (this project's own)
+-- each record's number is greater than those of the records before it (this project's own)
 abbrev pub NumbersRise : List EntryParts → Type 0
 NumbersRise [] = Unit {0}
 NumbersRise (e ∷ es) = AllByRecursion (λ (f : EntryParts). e.number < f.number) es × NumbersRise es
@@ -90,25 +91,25 @@ pub record IsRegistry (es : List EntryParts) : Type 0 where
   pub rising : NumbersRise es
   pub forms : All IsEntry es
 
--- the name is this one subtag (RFC 5646, 3.1.4)
+-- whether a record's name is this one subtag (RFC 5646, 3.1.4)
 abbrev pub is_named : List ℕ → EntryName → Bool
 is_named s (names.Single n) = bytes_eq n s
 is_named s _ = false
 
--- a range holds the subtags of its length, letters alone, from its first to its last in letter order (RFC 5646,
--- 3.1.4)
+-- whether a record's name is a range that holds a subtag: one of the same length, of letters alone, from its first to
+-- its last in letter order (RFC 5646, 3.1.4)
 abbrev pub holds : List ℕ → EntryName → Bool
 holds s (names.Range a b) = (length s == length a) && (is_alphabetic s && (letters_le a s && letters_le s b))
 holds s _ = false
 
--- the first record that names this subtag and no other; or, without such a record, the first whose range holds it
--- (RFC 5646, 3.1.4)
+-- the entry of a subtag: the first record that names it alone, or, without such a record, the first whose range holds
+-- it (RFC 5646, 3.1.4)
 abbrev pub entry : List EntryParts → Kind → List ℕ → Option EntryParts
 entry R k s =
     option_or (find (λ (e : EntryParts). same_kind e.kind k && is_named s e.name) R)
     (find (λ (e : EntryParts). same_kind e.kind k && holds s e.name) R)
 
--- the subtag has an entry of this kind (RFC 5646, 2.2.9)
+-- whether a subtag has an entry of this kind (RFC 5646, 2.2.9)
 abbrev pub is_registered : List EntryParts → Kind → List ℕ → Bool
 is_registered R k s = is_some (entry R k s)
 
@@ -125,33 +126,33 @@ preferred_value R k s = option_and_then (λ (e : EntryParts). one_of e.value) (e
 abbrev pub prefixes : List EntryParts → Kind → List ℕ → List (List (List ℕ))
 prefixes R k s = option_map_or (λ (e : EntryParts). e.prefixes) (entry R k s) []
 
--- the number of the record, and 0 where there is none
+-- the number of an entry's record, 0 where there is no entry
 abbrev pub number_of : Option EntryParts → ℕ
 number_of (Some e) = e.number
 number_of None = 0
 
--- the language is one of the Prefixes (RFC 5646, 3.1.8)
+-- whether the language is one of these Prefixes (RFC 5646, 3.1.8)
 abbrev pub has_prefix : List (List (List ℕ)) → List ℕ → Bool
 has_prefix ps l = list_any (λ (p : List (List ℕ)). same_list p (l ∷ [])) ps
 
--- the value of a variant where it is a variant (RFC 5646, 3.1.7)
+-- the value of a variant, if it is a variant (RFC 5646, 3.1.7)
 abbrev pub variant_value : List EntryParts → List ℕ → Option (List ℕ)
 variant_value R v = option_and_then (λ w. if is_short w then None else Some w) (preferred_value R kinds.Variant v)
 
--- the value of a variant where it is a language (this project's own)
+-- the value of a variant, if it is a language (this project's own)
 abbrev pub language_value : List EntryParts → List ℕ → Option (List ℕ)
 language_value R v = option_and_then (λ w. if is_short w then Some w else None) (preferred_value R kinds.Variant v)
 
--- the value of an extlang, or itself (RFC 5646, 4.5, rule 3)
+-- the value of an extlang, or, without a value, the extlang (RFC 5646, 4.5, rule 3)
 abbrev pub replacement : List EntryParts → List ℕ → List ℕ
 replacement R x = unwrap_or (preferred_value R kinds.Extlang x) x
 
--- the name is this whole tag (RFC 5646, 2.2.8)
+-- whether a record's name is this whole tag (RFC 5646, 2.2.8)
 abbrev pub is_whole : TagForm → EntryName → Bool
 is_whole t (names.Whole u) = same_tag u t
 is_whole t _ = false
 
--- the first whole record whose tag this is (RFC 5646, 2.2.8)
+-- the entry of a whole tag: the first record that names it (RFC 5646, 2.2.8)
 abbrev pub whole : List EntryParts → TagForm → Option EntryParts
 whole R t = find (λ (e : EntryParts). is_whole t e.name) R
 

@@ -1,4 +1,4 @@
--- The faults of a tag (RFC 5646, 2.2.9), each a kind and the place of a subtag, counted from 1.
+-- The faults of a tag that is not valid (RFC 5646, 2.2.9), each a kind and the place of a subtag, counted from 1.
 use Rattle.std.specs.Prelude.{ℕ, ◌≡◌, ◌≤◌, ◌+◌, false, List, ◌∷◌, ◌++◌, Some, length, ◌⊎◌}
 use Rattle.std.specs.Option.{option_to_list}
 use Rattle.lt_tag.specs.Parts.{CoreParts, ExtensionParts, TForm, TagForm, LangTag, PrivateUse, Grandfathered}
@@ -13,19 +13,19 @@ use Rattle.lt_registry.specs.declared.faults.ValidFaultKind.TheVariants as fault
 use Rattle.lt_registry.specs.declared.faults.ValidRefusal.{ValidRefusal}
 use Rattle.lt_registry.specs.declared.faults.ValidRefusal.TheVariants as refusals
 
--- how many subtags come before the script, the region, the variants (RFC 5646, 2.1)
+-- how many subtags of a core come before its script (RFC 5646, 2.1)
 abbrev pub before_script : CoreParts → ℕ
 before_script c = 1 + length c.extlangs
 
--- those before the region (RFC 5646, 2.1)
+-- how many subtags of a core come before its region (RFC 5646, 2.1)
 abbrev pub before_region : CoreParts → ℕ
 before_region c = before_script c + length (option_to_list c.script)
 
--- those before the variants (RFC 5646, 2.1)
+-- how many subtags of a core come before its variants (RFC 5646, 2.1)
 abbrev pub before_variants : CoreParts → ℕ
 before_variants c = before_region c + length (option_to_list c.region)
 
--- the faults of a core that begins after a number of subtags (RFC 5646, 2.2.9)
+-- a core that begins after `start` subtags has this fault (RFC 5646, 2.2.9)
 abbrev pub HasCoreFault : List EntryParts → ℕ → CoreParts → ValidFaultKind → ℕ → Type 0
 HasCoreFault R start c faults.UnknownLanguage place =
     (place ≡ start + 1) × (is_registered R kinds.Language c.language ≡ false)
@@ -53,25 +53,25 @@ HasCoreFault R start c faults.DuplicateVariant place =
 HasCoreFault R start c faults.DuplicateSingleton place = ⊥
 HasCoreFault R start c faults.BadTransform place = ⊥
 
--- no parts spell the subtags of the t extension (RFC 6497, 2.2)
+-- the extension is a `t` extension, and no source and fields spell its subtags (RFC 6497, 2.2)
 pub record HasBadForm (e : ExtensionParts) : Type 0 where
   pub transforms : e.singleton ≡ transform
   pub formless : (p : TForm) → IsTransform e.subtags p → ⊥
 
--- the source of a t extension (RFC 6497, 2.2)
+-- the extension is a `t` extension with this source (RFC 6497, 2.2)
 pub record HasSource (e : ExtensionParts) (source : CoreParts) : Type 0 where
   pub transforms : e.singleton ≡ transform
   pub parts : TForm
   pub formed : IsTransform e.subtags parts
   pub there : parts.source ≡ Some source
 
--- the faults of an extension whose singleton is at a place (RFC 5646, 2.2.9)
+-- an extension whose singleton is at the place `start` has this fault (RFC 5646, 2.2.9)
 abbrev pub HasExtensionFault : List EntryParts → ℕ → ExtensionParts → ValidFaultKind → ℕ → Type 0
 HasExtensionFault R start e kind place =
     ((kind ≡ faults.BadTransform) × (place ≡ start) × HasBadForm e)
     ⊎ ((source : CoreParts) × HasSource e source × HasCoreFault R start source kind place)
 
--- the faults of an extension of a langtag, its singleton's repetition aside (RFC 5646, 2.2.9)
+-- an extension of a langtag has this fault; that a singleton occurs twice is not among them (RFC 5646, 2.2.9)
 pub record IsFaultOfExtension (R : List EntryParts) (c : CoreParts) (es : List ExtensionParts) (kind : ValidFaultKind)
     (place : ℕ) : Type 0 where
   pub before : List ExtensionParts
@@ -80,7 +80,7 @@ pub record IsFaultOfExtension (R : List EntryParts) (c : CoreParts) (es : List E
   pub there : es ≡ before ++ extension ∷ after
   pub fault : HasExtensionFault R (length (spell_core c) + length (spell_extensions before) + 1) extension kind place
 
--- a singleton occurs a second time, at a place (RFC 5646, 2.2.6)
+-- a singleton occurs a second time, and that is at this place (RFC 5646, 2.2.6)
 pub record IsSecondSingleton (c : CoreParts) (es : List ExtensionParts) (place : ℕ) : Type 0 where
   pub before : List ExtensionParts
   pub first : ExtensionParts
@@ -103,11 +103,11 @@ HasFault R (Grandfathered n) kind place = ⊥
 abbrev pub HasNoFault : List EntryParts → TagForm → Type 0
 HasNoFault R t = (kind : ValidFaultKind) (place : ℕ) → HasFault R t kind place → ⊥
 
--- no fault but that variants repeat
+-- the tag has no fault but that variants occur twice
 abbrev pub RepeatsAtMost : List EntryParts → TagForm → Type 0
 RepeatsAtMost R t = (kind : ValidFaultKind) (place : ℕ) → HasFault R t kind place → kind ≡ faults.DuplicateVariant
 
--- of the faults at one place the one of the least rank is answered (this project's own)
+-- the order of the faults at one place, of which the one with the least rank is answered (this project's own)
 abbrev pub rank_of : ValidFaultKind → ℕ
 rank_of faults.UnknownLanguage = 0
 rank_of faults.UnknownExtlang = 1
@@ -120,7 +120,8 @@ rank_of faults.DuplicateVariant = 7
 rank_of faults.DuplicateSingleton = 8
 rank_of faults.BadTransform = 9
 
--- of some faults the one of the least place, and there of the least rank (this project's own)
+-- of the faults `F` the one with the least place, and of those at that place the one with the least rank (this
+-- project's own)
 pub record IsFirstOf (F : ValidFaultKind → ℕ → Type 0) (kind : ValidFaultKind) (place : ℕ) : Type 0 where
   pub there : F kind place
   pub leftmost : (other : ValidFaultKind) (elsewhere : ℕ) → F other elsewhere → place ≤ elsewhere
@@ -136,7 +137,7 @@ HasTransform es =
     (before : List ExtensionParts) × (e : ExtensionParts) × (after : List ExtensionParts) × (es ≡ before ++ e ∷ after)
     × (e.singleton ≡ transform)
 
--- the first fault; or memory ran out for the parts of a t extension
+-- the first fault of a tag; or OutOfMemory, but only of a tag with a `t` extension
 abbrev pub IsRefusal : List EntryParts → TagForm → ValidRefusal → Type 0
 IsRefusal R t (refusals.Fault fault) = IsFirstFault R t fault.kind fault.place
 IsRefusal R t refusals.OutOfMemory = HasTransform (extensions_of t)

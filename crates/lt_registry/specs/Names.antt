@@ -1,4 +1,4 @@
--- The names of the faults, as they are printed.
+-- The names of the faults of tags, records and registries, as they are printed.
 use Rattle.std.specs.Prelude.{ℕ, List, codes}
 use Rattle.lt_registry.specs.declared.faults.ValidFaultKind.{ValidFaultKind}
 use Rattle.lt_registry.specs.declared.faults.ValidFaultKind.TheVariants as faults
@@ -10,7 +10,7 @@ use Rattle.lt_registry.specs.declared.faults.RegistryFault.{RegistryFault}
 use Rattle.lt_registry.specs.declared.faults.RegistryFault.TheVariants as refusals
 use Rattle.lt_jar.specs.Names as jars
 
--- of why a tag is not valid
+-- the name of a fault of a tag that is not valid
 abbrev pub name_of : ValidFaultKind → List ℕ
 name_of faults.UnknownLanguage = codes "UnknownLanguage"
 name_of faults.UnknownExtlang = codes "UnknownExtlang"
@@ -23,12 +23,12 @@ name_of faults.DuplicateVariant = codes "DuplicateVariant"
 name_of faults.DuplicateSingleton = codes "DuplicateSingleton"
 name_of faults.BadTransform = codes "BadTransform"
 
--- of the fault, or that memory ran out
+-- the name of why a tag is refused: its fault, or OutOfMemory
 abbrev pub refusal_name_of : ValidRefusal → List ℕ
 refusal_name_of (valid_refusals.Fault fault) = name_of fault.kind
 refusal_name_of valid_refusals.OutOfMemory = codes "OutOfMemory"
 
--- of why a record gives no entry
+-- the name of a fault of a record
 abbrev pub record_name_of : RecordFaultKind → List ℕ
 record_name_of records.RepeatedField = codes "RepeatedField"
 record_name_of records.MissingType = codes "MissingType"
@@ -41,7 +41,7 @@ record_name_of records.BadPreferred = codes "BadPreferred"
 record_name_of records.BadPrefix = codes "BadPrefix"
 record_name_of records.OutOfMemory = codes "OutOfMemory"
 
--- that of the fault of the file or of the record
+-- the name of a fault of a registry: that of its file or of a record
 abbrev pub registry_name_of : RegistryFault → List ℕ
 registry_name_of (refusals.Jar fault) = jars.name_of fault.kind
 registry_name_of (refusals.Record fault) = record_name_of fault.kind

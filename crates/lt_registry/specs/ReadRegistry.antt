@@ -1,5 +1,4 @@
--- What reading a registry from a device answers: what the records of the bytes that were read give, or why they were
--- not read to the end.
+-- What reading a registry from a device answers: its entries, or the fault for which there are none.
 use Rattle.std.specs.Prelude.{◌≡◌, ◌≢◌, ◌≤◌, ◌<◌, ◌*◌, ℕ, List, length, Option, Some, Result, Ok, Err}
 use Rattle.std.specs.Io.KnownBytes.{Consumes, IsAtEnd}
 use Rattle.lt_jar.specs.Devices.{HasFailed, after_reads, failures_of, inner_of, last_given_of, reads_of}
@@ -18,7 +17,7 @@ use Rattle.lt_registry.specs.RecordRefusals.{IsRecordRefusal}
 use Rattle.lt_registry.specs.declared.faults.RegistryFault.{RegistryFault}
 use Rattle.lt_registry.specs.declared.faults.RegistryFault.TheVariants as faults
 
--- what a reading gave: the entries, or why there are none
+-- the answer of a reading: the entries, or the fault for which there are none
 abbrev pub Reading : Type 0
 Reading = Result (List EntryParts) RegistryFault
 
@@ -30,7 +29,7 @@ pub record IsReadWhole {R : Type 0} (remaining : R → Option (List ℕ))
   pub end : IsAtEnd (remaining (inner_of after))
   pub works : failures_of after ≡ failures_of before
 
--- why the bytes that this many reads gave have no records, or are not all
+-- why the bytes that these reads gave have no records, or were not read to the end
 pub record IsJarRefusal {R : Type 0} (remaining : R → Option (List ℕ))
     (before after : Device R) (bytes : List ℕ) (reads : ℕ) (fault : JarFault) : Type 0 where
   pub format : (kind : Fault) → fault_in fault.kind ≡ Some kind
@@ -41,7 +40,8 @@ pub record IsJarRefusal {R : Type 0} (remaining : R → Option (List ℕ))
       × (reads ≤ length bytes) × (0 < last_given_of after) × BreaksOff 0 bytes fault.line
   pub first : fault.kind ≢ jars.Failed
 
--- the entries of the records, or the fault of the lowest record at fault; a fault of the text goes first
+-- the answer is the entries of the records, or the fault of the first record with one; but a fault of the file comes
+-- first
 abbrev pub AnswersAs : {R : Type 0} → (R → Option (List ℕ)) → Reading → (before after : Device R)
     → List ℕ → ℕ → Type 0
 AnswersAs remaining (Ok registry) before after bytes reads =
@@ -51,14 +51,14 @@ AnswersAs remaining (Err (faults.Record fault)) before after bytes reads =
 AnswersAs remaining (Err (faults.Jar fault)) before after bytes reads =
     IsJarRefusal remaining before after bytes reads fault
 
--- the answer is that a read failed
+-- the answer is the fault that a read failed
 abbrev pub IsReadFailure : Reading → Type 0
 IsReadFailure (Ok registry) = ⊥
 IsReadFailure (Err (faults.Record fault)) = ⊥
 IsReadFailure (Err (faults.Jar fault)) = fault.kind ≡ jars.Read
 
--- This many reads gave these bytes, together at most 65,536 for each read, and the answer is theirs. The device fails
--- only where it is reported.
+-- Some reads gave some bytes, at most 65,536 for each read together, and `Answers` is true of them. If the device
+-- failed, `IsFailure` is true.
 pub record Reads {R : Type 0} (remaining : R → Option (List ℕ)) (before after : Device R)
     (Answers : (before after : Device R) → (bytes : List ℕ) → (reads : ℕ) → Type 0) (IsFailure : Type 0) : Type 0 where
   pub bytes : List ℕ
@@ -70,7 +70,7 @@ pub record Reads {R : Type 0} (remaining : R → Option (List ℕ)) (before afte
   pub answers : Answers before after bytes reads
   pub rises : failures_of before < failures_of after → IsFailure
 
--- the same of a registry
+-- a registry was read from a device, with this answer
 unfoldable pub ReadsRegistry : {R : Type 0} → (R → Option (List ℕ)) → (before after : Device R) → Reading → Type 0
 ReadsRegistry remaining before after result =
     Reads remaining before after (AnswersAs remaining result) (IsReadFailure result)

@@ -1,4 +1,4 @@
--- Why records give no entries: what is wrong with the first record at fault, or that memory ran out before it was found.
+-- Why records give no entries: the fault of the first record with one, or OutOfMemory before that was found.
 use Rattle.std.specs.Prelude.{◌≡◌, ◌⊎◌, List}
 use Rattle.lt_jar.specs.Records.{Field}
 use Rattle.lt_registry.specs.Records.{IsFirstOfRecord, IsFirstRecordFault, IsRecordReached}
@@ -6,12 +6,12 @@ use Rattle.lt_registry.specs.declared.faults.RecordFault.{RecordFault}
 use Rattle.lt_registry.specs.declared.faults.RecordFaultKind.{RecordFaultKind}
 use Rattle.lt_registry.specs.declared.faults.RecordFaultKind.TheVariants as faults
 
--- the first fault of a record, or memory ran out
+-- the first fault of a record, or OutOfMemory
 abbrev pub IsRefused : List Field → RecordFaultKind → Type 0
 IsRefused r kind = (kind ≡ faults.OutOfMemory) ⊎ IsFirstOfRecord r kind
 
--- the first fault of the record at fault with the least number; or memory ran out at a record, not the header, before which no
--- record has a fault
+-- The fault of the record with the least number of those that have one. Or OutOfMemory at a record, not the header,
+-- before which no record has a fault.
 abbrev pub IsRecordRefusal : List (List Field) → RecordFault → Type 0
 IsRecordRefusal records fault =
     ((fault.kind ≡ faults.OutOfMemory) × IsRecordReached records fault.number)

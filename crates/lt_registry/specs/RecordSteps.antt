@@ -1,4 +1,5 @@
--- What each step of reading a record gives. No public contract cites this.
+-- What each step of reading a record of a registry gives; OutOfMemory may be the fault of any. No public contract cites
+-- this.
 use Rattle.std.specs.Prelude.{ℕ, ◌≡◌, true, false, if◌then◌else◌, List, Option, Some, None, is_some, Result, Ok, Err}
 use Rattle.std.specs.List.{position_from}
 use Rattle.std.specs.Str.{str_eq_ignore_ascii_case}
@@ -16,7 +17,7 @@ use Rattle.lt_registry.specs.declared.fields.Found.{Found}
 use Rattle.lt_registry.specs.declared.faults.RecordFaultKind.{RecordFaultKind}
 use Rattle.lt_registry.specs.declared.faults.RecordFaultKind.TheVariants as faults
 
--- the field that has a name, letter case aside
+-- which field of a record has this name, in whatever letter case
 abbrev pub field_told : List ℕ → FieldName
 field_told s =
     if str_eq_ignore_ascii_case s type_name then told.Type
@@ -25,11 +26,11 @@ field_told s =
     else (if str_eq_ignore_ascii_case s value_name then told.PreferredValue
     else (if str_eq_ignore_ascii_case s date_name then told.FileDate else told.Other))))
 
--- where the first field of a name is, if there is one
+-- the place of the first field with this name, None if there is none
 abbrev pub IsPlace : List ℕ → List Field → Option ℕ → Type 0
 IsPlace name r place = place ≡ position_from (is_called name) 0 r
 
--- this was found among the fields
+-- what was found of the fields of a record is true
 pub record HasFound (r : List Field) (found : Found) : Type 0 where
   pub kind : IsPlace type_name r found.kind
   pub subtag : IsPlace subtag_name r found.subtag
@@ -38,21 +39,21 @@ pub record HasFound (r : List Field) (found : Found) : Type 0 where
   pub dated : found.is_dated ≡ is_some (body date_name r)
   pub repeats : found.repeats ≡ repeats_field r
 
--- the kind that a type names, if it names one
+-- the kind that a Type names, or the fault that it names none
 abbrev pub kind_or : Option Kind → Result Kind RecordFaultKind
 kind_or (Some k) = Ok k
 kind_or None = Err faults.UnknownType
 
--- the kind that a record's type, if it has one, names
+-- the kind that a record's Type names, or the fault that there is no Type or that it names none
 abbrev pub kind_by : Option (List ℕ) → Result Kind RecordFaultKind
 kind_by (Some s) = kind_or (kind_of s)
 kind_by None = Err faults.MissingType
 
--- the name that a record of a kind has
+-- the name that a record of this kind has
 abbrev pub IsNameIn : Kind → List Field → EntryName → Type 0
 IsNameIn k r name = (s : List ℕ) × (body (name_field k) r ≡ Some s) × IsName k s name
 
--- what is wrong with the name of a record of a kind
+-- a fault of the name of a record of this kind, or OutOfMemory
 abbrev pub IsNameFault : Kind → List Field → RecordFaultKind → Type 0
 IsNameFault k r faults.RepeatedField = ⊥
 IsNameFault k r faults.MissingType = ⊥
@@ -67,7 +68,7 @@ IsNameFault k r faults.BadPreferred = ⊥
 IsNameFault k r faults.BadPrefix = ⊥
 IsNameFault k r faults.OutOfMemory = Unit {0}
 
--- what is wrong with the text of a value
+-- a fault of the text of a value, in a record of this kind, or OutOfMemory
 abbrev pub IsTextFault : Kind → List ℕ → RecordFaultKind → Type 0
 IsTextFault k s faults.BadPreferred = (v : EntryValue) → IsValue k s v → ⊥
 IsTextFault k s faults.OutOfMemory = Unit {0}
@@ -80,7 +81,7 @@ IsTextFault k s faults.BadSubtag = ⊥
 IsTextFault k s faults.BadTag = ⊥
 IsTextFault k s faults.BadPrefix = ⊥
 
--- what is wrong with its value
+-- a fault of the value of a record of this kind, or OutOfMemory
 abbrev pub IsValueFault : Kind → List Field → RecordFaultKind → Type 0
 IsValueFault k r faults.BadPreferred =
     (s : List ℕ) × (body value_name r ≡ Some s) × ((v : EntryValue) → IsValue k s v → ⊥)
@@ -94,7 +95,7 @@ IsValueFault k r faults.BadSubtag = ⊥
 IsValueFault k r faults.BadTag = ⊥
 IsValueFault k r faults.BadPrefix = ⊥
 
--- what is wrong with its Prefixes
+-- a fault of the Prefixes of a record of this kind, or OutOfMemory
 abbrev pub IsPrefixFault : Kind → List Field → RecordFaultKind → Type 0
 IsPrefixFault k r faults.BadPrefix = prefixes_in k r ≡ None
 IsPrefixFault k r faults.OutOfMemory = Unit {0}
@@ -107,7 +108,7 @@ IsPrefixFault k r faults.BadSubtag = ⊥
 IsPrefixFault k r faults.BadTag = ⊥
 IsPrefixFault k r faults.BadPreferred = ⊥
 
--- a Prefix is no list of subtags
+-- a fault of the Prefixes of a record, one of which is no list of subtags, or OutOfMemory
 abbrev pub IsPrefixesFault : List Field → RecordFaultKind → Type 0
 IsPrefixesFault r faults.BadPrefix = prefixes_of (bodies prefix_name r) ≡ None
 IsPrefixesFault r faults.OutOfMemory = Unit {0}
@@ -120,7 +121,7 @@ IsPrefixesFault r faults.BadSubtag = ⊥
 IsPrefixesFault r faults.BadTag = ⊥
 IsPrefixesFault r faults.BadPreferred = ⊥
 
--- the tag of a text, or none
+-- the tag of a text, None if it has none
 abbrev pub IsTagOf : List ℕ → Option TagForm → Type 0
 IsTagOf s None = HasNoTag s
 IsTagOf s (Some t) = HasTag s t

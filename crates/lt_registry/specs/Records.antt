@@ -45,7 +45,7 @@ prefix_name = codes "Prefix"
 abbrev pub date_name : List ℕ
 date_name = codes "File-Date"
 
--- a field has the name, letter case aside
+-- whether a field has this name, letter case aside
 abbrev pub is_called : List ℕ → Field → Bool
 is_called name field = str_eq_ignore_ascii_case field.0 name
 
@@ -57,11 +57,11 @@ bodies name r = map (λ (f : Field). f.1) (filter (is_called name) r)
 abbrev pub body : List ℕ → List Field → Option (List ℕ)
 body name r = option_map (λ (f : Field). f.1) (find (is_called name) r)
 
--- a field of the name occurs twice
+-- whether a field of this name occurs twice
 abbrev pub is_repeated : List ℕ → List Field → Bool
 is_repeated name r = nat_lt 1 (count_by (is_called name) r)
 
--- one of the fields that occur once at most occurs again
+-- whether Type, Subtag, Tag or Preferred-Value occurs twice in a record
 abbrev pub repeats_field : List Field → Bool
 repeats_field r =
     is_repeated type_name r || (is_repeated subtag_name r || (is_repeated tag_name r || is_repeated value_name r))
@@ -77,7 +77,7 @@ kind_of s =
     else (if str_eq_ignore_ascii_case s (codes "grandfathered") then Some kinds.Grandfathered
     else (if str_eq_ignore_ascii_case s (codes "redundant") then Some kinds.Redundant else None))))))
 
--- the first record, if it has a date and no type, is the header
+-- whether a record has a date and no type, as the header has that comes first in a file
 abbrev pub is_header : List Field → Bool
 is_header r = is_some (body date_name r) && is_none (body type_name r)
 
@@ -85,7 +85,7 @@ is_header r = is_some (body date_name r) && is_none (body type_name r)
 abbrev pub HasKind : List Field → Kind → Type 0
 HasKind r k = (s : List ℕ) × (body type_name r ≡ Some s) × (kind_of s ≡ Some k)
 
--- the field that names what a record of a kind is about
+-- the name of the field that has what a record of this kind names: Tag or Subtag
 abbrev pub name_field : Kind → List ℕ
 name_field k = if is_whole_kind k then tag_name else subtag_name
 
@@ -94,17 +94,17 @@ abbrev pub formed : (List ℕ → Bool) → Result (List ℕ) SubtagFault → Op
 formed form (Ok s) = if form s then Some s else None
 formed form (Err fault) = None
 
--- a full stop at the front
+-- whether a full stop (46) begins a text
 abbrev pub begins_dot : List ℕ → Bool
 begins_dot [] = false
 begins_dot (b ∷ s) = b == 46
 
--- two full stops at the front
+-- whether two full stops (46) begin a text
 abbrev pub begins_dots : List ℕ → Bool
 begins_dots [] = false
 begins_dots (b ∷ s) = (b == 46) && begins_dot s
 
--- a byte before the first of two texts
+-- the byte in front of the first of two texts
 abbrev pub with_first : ℕ → Option (List ℕ × List ℕ) → Option (List ℕ × List ℕ)
 with_first b None = None
 with_first b (Some p) = Some (b ∷ p.0, p.1)
@@ -114,30 +114,30 @@ unfoldable pub ends_of : List ℕ → Option (List ℕ × List ℕ)
 ends_of [] = None
 ends_of (b ∷ s) = if begins_dots (b ∷ s) then Some ([], drop 1 s) else with_first b (ends_of s)
 
--- the two ends are those of a range
+-- whether two subtags are the ends of a range of this kind
 abbrev pub is_range : Kind → List ℕ → List ℕ → Bool
 is_range k a b =
     has_form k a && (has_form k b
     && (is_alphabetic a && (is_alphabetic b && ((length a == length b) && letters_le a b))))
 
--- the range from one end to the other, if they are those of one
+-- the range from one end to the other, or BadRange if they are no ends of one
 abbrev pub range_of : Kind → Result (List ℕ) SubtagFault
     → Result (List ℕ) SubtagFault → Result EntryName RecordFaultKind
 range_of k (Ok a) (Ok b) = if is_range k a b then Ok (names.Range a b) else Err faults.BadRange
 range_of k (Ok a) (Err fault) = Err faults.BadRange
 range_of k (Err fault) other = Err faults.BadRange
 
--- the name that is this subtag alone
+-- the name that is this subtag alone, or BadSubtag if there is none
 abbrev pub single_of : Option (List ℕ) → Result EntryName RecordFaultKind
 single_of (Some s) = Ok (names.Single s)
 single_of None = Err faults.BadSubtag
 
--- a text with two full stops is judged as a range, any other as a subtag
+-- the name that a text gives: with two full stops in it, a range, else a subtag
 abbrev pub name_by : Kind → List ℕ → Option (List ℕ × List ℕ) → Result EntryName RecordFaultKind
 name_by k s None = single_of (formed (has_form k) (subtag_of s))
 name_by k s (Some ends) = range_of k (subtag_of ends.0) (subtag_of ends.1)
 
--- the subtag or the range that the text of a field names
+-- the subtag or the range that the text of the field Subtag names, or the fault
 abbrev pub subtags_named : Kind → List ℕ → Result EntryName RecordFaultKind
 subtags_named k s = name_by k s (ends_of s)
 
@@ -145,59 +145,59 @@ subtags_named k s = name_by k s (ends_of s)
 abbrev pub HasNoTag : List ℕ → Type 0
 HasNoTag s = (t : TagForm) → HasTag s t → ⊥
 
--- the text of the field that names it gives this name
+-- the text of the field Subtag or Tag gives this name
 abbrev pub IsName : Kind → List ℕ → EntryName → Type 0
 IsName k s (names.Single n) = (is_whole_kind k ≡ false) × (subtags_named k s ≡ Ok (names.Single n))
 IsName k s (names.Range a b) = (is_whole_kind k ≡ false) × (subtags_named k s ≡ Ok (names.Range a b))
 IsName k s (names.Whole t) = (is_whole_kind k ≡ true) × HasTag s t
 
--- the text of a value gives this value
+-- the text of the field Preferred-Value gives this value
 abbrev pub IsValue : Kind → List ℕ → EntryValue → Type 0
 IsValue k s (values.One n) = (is_whole_kind k ≡ false) × (formed (has_value_form k) (subtag_of s) ≡ Some n)
 IsValue k s (values.Whole t) = (is_whole_kind k ≡ true) × HasTag s t
 
--- the value that a record has, if it has one
+-- the value of a record by the text of its Preferred-Value, if it has one
 abbrev pub IsValueOf : Kind → Option (List ℕ) → Option EntryValue → Type 0
 IsValueOf k None None = Unit {0}
 IsValueOf k None (Some v) = ⊥
 IsValueOf k (Some s) None = ⊥
 IsValueOf k (Some s) (Some v) = IsValue k s v
 
--- a subtag before others, if the piece is one
+-- the subtag in front of others; None if it is none
 abbrev pub with_subtag : Result (List ℕ) SubtagFault → Option (List (List ℕ)) → Option (List (List ℕ))
 with_subtag (Ok s) rest = option_map (λ (ss : List (List ℕ)). s ∷ ss) rest
 with_subtag (Err fault) rest = None
 
--- the subtags of the pieces of a text, if each is one
+-- the subtags that these pieces are; None if one of them is none
 unfoldable pub subtags_of : List (List ℕ) → Option (List (List ℕ))
 subtags_of [] = Some []
 subtags_of (p ∷ ps) = with_subtag (subtag_of p) (subtags_of ps)
 
--- the subtags of a Prefix
+-- the subtags of the text of a Prefix; None if a piece is none
 abbrev pub prefix_of : List ℕ → Option (List (List ℕ))
 prefix_of s = subtags_of (pieces s)
 
--- a Prefix before others, if it is a list of subtags
+-- a Prefix in front of others; None if it is no list of subtags
 abbrev pub with_prefix : Option (List (List ℕ)) → Option (List (List (List ℕ))) → Option (List (List (List ℕ)))
 with_prefix (Some p) rest = option_map (λ (ps : List (List (List ℕ))). p ∷ ps) rest
 with_prefix None rest = None
 
--- all of them, if each is a list of subtags
+-- the Prefixes that these texts are; None if one is no list of subtags
 unfoldable pub prefixes_of : List (List ℕ) → Option (List (List (List ℕ)))
 prefixes_of [] = Some []
 prefixes_of (s ∷ ss) = with_prefix (prefix_of s) (prefixes_of ss)
 
--- extlangs and variants have Prefixes
+-- whether records of a kind have Prefixes: extlangs and variants do
 abbrev pub has_prefixes : Kind → Bool
 has_prefixes kinds.Extlang = true
 has_prefixes kinds.Variant = true
 has_prefixes _ = false
 
--- the Prefixes of a record of a kind, if each is a list of subtags
+-- the Prefixes of a record of this kind; None if one is no list of subtags
 abbrev pub prefixes_in : Kind → List Field → Option (List (List (List ℕ)))
 prefixes_in k r = if has_prefixes k then prefixes_of (bodies prefix_name r) else Some []
 
--- the entry that a record of this number gives
+-- the entry that the record with this number gives
 pub record IsEntryOf (r : List Field) (number : ℕ) (e : EntryParts) : Type 0 where
   pub numbered : e.number ≡ number
   pub once : repeats_field r ≡ false
@@ -206,7 +206,7 @@ pub record IsEntryOf (r : List Field) (number : ℕ) (e : EntryParts) : Type 0 w
   pub valued : IsValueOf e.kind (body value_name r) e.value
   pub prefixed : prefixes_in e.kind r ≡ Some e.prefixes
 
--- what is wrong with a record
+-- the record has this fault
 abbrev pub HasRecordFault : List Field → RecordFaultKind → Type 0
 HasRecordFault r faults.RepeatedField = repeats_field r ≡ true
 HasRecordFault r faults.MissingType = body type_name r ≡ None
@@ -225,7 +225,7 @@ HasRecordFault r faults.BadPreferred =
 HasRecordFault r faults.BadPrefix = (k : Kind) × HasKind r k × (prefixes_in k r ≡ None)
 HasRecordFault r faults.OutOfMemory = ⊥
 
--- of the faults of one record the one of the least rank is reported
+-- the order of the faults of one record, of which the one with the least rank is answered
 abbrev pub record_rank : RecordFaultKind → ℕ
 record_rank faults.RepeatedField = 0
 record_rank faults.MissingType = 1
@@ -238,16 +238,16 @@ record_rank faults.BadPreferred = 7
 record_rank faults.BadPrefix = 8
 record_rank faults.OutOfMemory = 9
 
--- the first of what is wrong with a record
+-- the fault of a record with the least rank
 pub record IsFirstOfRecord (r : List Field) (kind : RecordFaultKind) : Type 0 where
   pub there : HasRecordFault r kind
   pub earliest : (other : RecordFaultKind) → HasRecordFault r other → record_rank kind ≤ record_rank other
 
--- the record of this number is the header
+-- whether the record with this number is the header
 abbrev pub is_header_at : ℕ → List Field → Bool
 is_header_at number r = (number == 1) && is_header r
 
--- the entries of records of which the first has this number
+-- the entries of these records, the first of which has this number
 unfoldable pub EntriesFrom : ℕ → List (List Field) → List EntryParts → Type 0
 EntriesFrom number [] es = es ≡ []
 EntriesFrom number (r ∷ rs) es =
@@ -256,11 +256,11 @@ EntriesFrom number (r ∷ rs) es =
     × ((e : EntryParts) × (rest : List EntryParts) × (es ≡ e ∷ rest)
     × IsEntryOf r number e × EntriesFrom (number + 1) rs rest))
 
--- the entries of a file's records: of each but the header one, with the record's number
+-- the entries of the records of a file: one of each but the header, with the record's number
 abbrev pub HasEntries : List (List Field) → List EntryParts → Type 0
 HasEntries records es = EntriesFrom 1 records es
 
--- the record of this number, which is not the header, has this fault
+-- the record with this number, which is not the header, has this fault
 pub record HasFaultAt (records : List (List Field)) (kind : RecordFaultKind) (number : ℕ) : Type 0 where
   pub before : List (List Field)
   pub here : List Field
@@ -270,13 +270,13 @@ pub record HasFaultAt (records : List (List Field)) (kind : RecordFaultKind) (nu
   pub judged : is_header_at number here ≡ false
   pub fault : HasRecordFault here kind
 
--- the fault of the lowest record, and there the first
+-- the least number of a record with a fault, and of its faults the one with the least rank
 pub record IsFirstRecordFault (records : List (List Field)) (kind : RecordFaultKind) (number : ℕ) : Type 0 where
   pub fault : HasFaultAt records kind number
   pub lowest : (other : RecordFaultKind) (elsewhere : ℕ) → HasFaultAt records other elsewhere → number ≤ elsewhere
   pub earliest : (other : RecordFaultKind) → HasFaultAt records other number → record_rank kind ≤ record_rank other
 
--- the record of this number is not the header, and no record below it has a fault
+-- the record with this number is not the header, and no record before it has a fault
 pub record IsRecordReached (records : List (List Field)) (number : ℕ) : Type 0 where
   pub before : List (List Field)
   pub here : List Field

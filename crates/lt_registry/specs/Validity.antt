@@ -1,4 +1,4 @@
--- Valid tags, and proper ones, in which variants may repeat (RFC 5646, 2.2.9).
+-- Valid tags (RFC 5646, 2.2.9), and proper ones, in which variants may occur twice.
 use Rattle.std.specs.Prelude.{ℕ, ◌≡◌, ◌≢◌, true, List, [], ◌∷◌, map, IfSome}
 use Rattle.std.specs.List.{AllByRecursion}
 use Rattle.lt_tag.specs.Parts.{CoreParts, ExtensionParts, TForm, TagForm, LangTag}
@@ -15,7 +15,7 @@ ExtlangsFit R l [] = Unit {0}
 ExtlangsFit R l (x ∷ []) = (is_registered R kinds.Extlang x ≡ true) × (has_prefix (prefixes R kinds.Extlang x) l ≡ true)
 ExtlangsFit R l (x ∷ y ∷ rest) = ⊥
 
--- each subtag of the core is registered (RFC 5646, 2.2.9)
+-- each subtag of the core is registered, and its extlang, if it has one, belongs to the language (RFC 5646, 2.2.9)
 pub record IsProperCore (R : List EntryParts) (c : CoreParts) : Type 0 where
   pub language : is_registered R kinds.Language c.language ≡ true
   pub extlangs : ExtlangsFit R c.language c.extlangs
@@ -23,12 +23,13 @@ pub record IsProperCore (R : List EntryParts) (c : CoreParts) : Type 0 where
   pub region : IfSome c.region (λ s. is_registered R kinds.Region s ≡ true)
   pub variants : AllByRecursion (λ v. is_registered R kinds.Variant v ≡ true) c.variants
 
--- none occurs twice (RFC 5646, 2.2.5 and 2.2.6)
+-- no element of the list occurs twice (RFC 5646, 2.2.5 and 2.2.6)
 abbrev pub Distinct : {A : Type 0} → List A → Type 0
 Distinct [] = Unit {0}
 Distinct (x ∷ xs) = AllByRecursion (λ y. y ≢ x) xs × Distinct xs
 
--- the subtags of a t extension have the form of one (RFC 6497, 2.2); that its source is judged is this project's own
+-- if the extension is a `t` extension, its subtags have the form of one (RFC 6497, 2.2), and its source is proper (this
+-- project's own)
 abbrev pub IsProperExtension : List EntryParts → ExtensionParts → Type 0
 IsProperExtension R e =
     e.singleton ≡ transform → (p : TForm) × IsTransform e.subtags p × IfSome p.source (IsProperCore R)
@@ -39,17 +40,17 @@ pub record IsProperLangTag (R : List EntryParts) (c : CoreParts) (es : List Exte
   pub extensions : AllByRecursion (IsProperExtension R) es
   pub singletons : Distinct (map (λ (e : ExtensionParts). e.singleton) es)
 
--- private use and grandfathered tags have no parts to judge (RFC 5646, 2.2.9)
+-- the parts of a langtag are proper; private use and grandfathered tags have no parts to judge (RFC 5646, 2.2.9)
 abbrev pub HasProperParts : List EntryParts → TagForm → Type 0
 HasProperParts R (LangTag c es ps) = IsProperLangTag R c es
 HasProperParts R _ = Unit {0}
 
--- valid, but that variants may repeat, in the core or in a source (RFC 5646, 2.2.9)
+-- a proper tag: valid, except that variants may occur twice, in the core or in a source (RFC 5646, 2.2.9)
 pub record IsProper (R : List EntryParts) (t : TagForm) : Type 0 where
   pub tag : IsTagValue t
   pub parts : HasProperParts R t
 
--- no variant occurs twice in a source (RFC 5646, 2.2.5)
+-- if the extension is a `t` extension with a source, no variant occurs twice in that (RFC 5646, 2.2.5)
 abbrev pub HasDistinctSource : ExtensionParts → Type 0
 HasDistinctSource e =
     e.singleton ≡ transform → (p : TForm) → IsTransform e.subtags p →

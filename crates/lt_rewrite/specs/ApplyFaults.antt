@@ -1,4 +1,4 @@
--- Why a step is not applied to a tag.
+-- Why a step can't be applied to a tag.
 use Rattle.std.specs.Prelude.{ℕ, List, codes}
 use Rattle.lt_tag.specs.Parts.{TagForm}
 use Rattle.lt_registry.specs.Parts.{EntryParts}
@@ -7,16 +7,16 @@ use Rattle.lt_rewrite.specs.declared.steps.Step.{Step}
 use Rattle.lt_rewrite.specs.declared.apply_faults.ApplyFault.{ApplyFault}
 use Rattle.lt_rewrite.specs.declared.apply_faults.ApplyFault.TheVariants as faults
 
--- the names of the faults
+-- the name of a fault, as it is printed
 abbrev pub fault_name_of : ApplyFault → List ℕ
 fault_name_of faults.NoSuchStep = codes "NoSuchStep"
 fault_name_of faults.OutOfMemory = codes "OutOfMemory"
 
--- running out of memory
+-- the fault of running out of memory
 abbrev pub no_memory : ApplyFault
 no_memory = faults.OutOfMemory
 
--- the step leads nowhere from the tag; running out of memory aside
+-- the step leads from the tag nowhere; OutOfMemory may be answered of any step
 abbrev pub IsApplyFault : List EntryParts → TagForm → Step → ApplyFault → Type 0
 IsApplyFault R t step faults.NoSuchStep = (u : TagForm) → LeadsBy R t step u → ⊥
 IsApplyFault R t step faults.OutOfMemory = Unit {0}

@@ -14,12 +14,12 @@ use Rattle.lt_registry.specs.declared.entries.Kind.TheVariants as kinds
 use Rattle.lt_registry.specs.declared.entries.EntryName.TheVariants as names
 use Rattle.lt_rewrite.specs.CoreSteps.{Ends, EndsIn}
 
--- one kind and one name, or one whole tag (RFC 5646, 3.1.4)
+-- two records have one kind and one name, or one whole tag (RFC 5646, 3.1.4)
 abbrev pub Clash : EntryParts → EntryParts → Type 0
 Clash e f = ((e.kind ≡ f.kind) × (e.name ≡ f.name))
     ⊎ ((t : TagForm) × (e.name ≡ names.Whole t) × (f.name ≡ names.Whole t))
 
--- No record of a lower number has its kind and its name, or its whole tag (C1; RFC 5646, 3.1.4).
+-- No record with a lower number has the same kind and the same name, or the same whole tag (C1; RFC 5646, 3.1.4).
 abbrev pub HasOwnName : List EntryParts → EntryParts → Type 0
 HasOwnName R e = (f : EntryParts) → Contains R f → f.number < e.number → Clash f e → ⊥
 
@@ -51,8 +51,8 @@ pub record IsFinalLanguage (R : List EntryParts) (l : List ℕ) : Type 0 where
   pub registered : is_registered R kinds.Language l ≡ true
   pub final : preferred_value R kinds.Language l ≡ None
 
--- one subtag with one Prefix of one subtag, a final language; itself and its replacement are languages whose chains
--- end alike (RFC 5646, 2.2.2)
+-- The extlang is one subtag, and its one Prefix is a final language. It and its replacement are registered as
+-- languages, and the chains of values from both end in one language (RFC 5646, 2.2.2).
 pub record IsFittingExtlang (R : List EntryParts) (e : EntryParts) : Type 0 where
   pub subtag : List ℕ
   pub single : e.name ≡ names.Single subtag
@@ -65,7 +65,7 @@ pub record IsFittingExtlang (R : List EntryParts) (e : EntryParts) : Type 0 wher
   pub ends : EndsIn (preferred_value R kinds.Language) subtag end
   pub replacement_ends : EndsIn (preferred_value R kinds.Language) (unwrap_or (one_of e.value) subtag) end
 
--- an extlang is a fitting one (C4; RFC 5646, 2.2.2)
+-- If the record is one of an extlang, it is a fitting one (C4; RFC 5646, 2.2.2).
 abbrev pub HasFittingExtlang : List EntryParts → EntryParts → Type 0
 HasFittingExtlang R e = e.kind ≡ kinds.Extlang → IsFittingExtlang R e
 
@@ -107,7 +107,7 @@ pub record HasFittingGrandfathered (R : List EntryParts) (e : EntryParts) : Type
 abbrev pub HasNoRangeValue : EntryParts → Type 0
 HasNoRangeValue e = (first last : List ℕ) → e.name ≡ names.Range first last → e.value ≡ None
 
--- each record meets the first six conditions
+-- each record meets the conditions C1 to C6
 pub record MeetsCoreConditions (R : List EntryParts) : Type 0 where
   pub names : All (HasOwnName R) R
   pub values : All (HasRegisteredValue R) R

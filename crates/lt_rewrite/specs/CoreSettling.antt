@@ -8,27 +8,28 @@ use Rattle.lt_registry.specs.Entries.{preferred_value, variant_value}
 use Rattle.lt_registry.specs.declared.entries.Kind.TheVariants as kinds
 use Rattle.lt_rewrite.specs.CoreSteps.{language_beside}
 
--- the language has no value
+-- the language of a core has no value
 abbrev pub HasFinalLanguage : List EntryParts → CoreParts → Type 0
 HasFinalLanguage R c = preferred_value R kinds.Language c.language ≡ None
 
--- the script, if there is one, has no value
+-- the script of a core, if it has one, has no value
 abbrev pub HasFinalScript : List EntryParts → CoreParts → Type 0
 HasFinalScript R c = IfSome c.script (λ s. preferred_value R kinds.Script s ≡ None)
 
--- the region, if there is one, has no value
+-- the region of a core, if it has one, has no value
 abbrev pub HasFinalRegion : List EntryParts → CoreParts → Type 0
 HasFinalRegion R c = IfSome c.region (λ s. preferred_value R kinds.Region s ≡ None)
 
--- no variant has a variant as its value
+-- no variant of a core has a variant as its value
 abbrev pub HasFinalVariants : List EntryParts → CoreParts → Type 0
 HasFinalVariants R c = All (λ v. variant_value R v ≡ None) c.variants
 
--- no variant has a VariantLanguage step beside the language
+-- no variant of a core has a VariantLanguage step beside the core's language
 abbrev pub HasNoVariantLanguage : List EntryParts → CoreParts → Type 0
 HasNoVariantLanguage R c = All (λ v. language_beside R c.language v ≡ None) c.variants
 
--- the variant at an index is the leftmost with a VariantLanguage step beside the language, which leads to m
+-- the variant at an index is the leftmost with a VariantLanguage step beside the core's language, and the step leads to
+-- `m`
 pub record IsFirstVariantLanguage (R : List EntryParts) (c : CoreParts) (index : ℕ) (m : List ℕ) : Type 0 where
   pub within : index < length c.variants
   pub variant : List ℕ

@@ -8,8 +8,8 @@ use Rattle.lt_registry.specs.Entries.{preferred_value, variant_value, language_v
 use Rattle.lt_registry.specs.declared.entries.Kind.TheVariants as kinds
 use Rattle.lt_rewrite.specs.Rewriting.{IsNormalForm}
 
--- the language that takes the place of the language l and of a variant beside it, if l is one of the Prefixes of the
--- variant, and its value a language (this project's own)
+-- The value of the variant `v`, if that is a language, and if the language `l` is one of the variant's Prefixes. A step
+-- puts it in the place of `l` and drops the variant (this project's own).
 abbrev pub language_beside : List EntryParts → List ℕ → List ℕ → Option (List ℕ)
 language_beside R l v = if has_prefix (prefixes R kinds.Variant v) l then language_value R v else None
 
@@ -23,8 +23,8 @@ pub data Spot : Type 0 where
   -- a variant that is dropped, and whose preferred value takes the place of the language
   at_variant_language : ℕ → Spot
 
--- the subtag there (RFC 5646, 4.5, rule 3): the one extlang; the language, where there are no extlangs, and only there a
--- variant's value takes its place
+-- the subtag at a spot, if a step may be taken there (RFC 5646, 4.5, rule 3): an extlang only if it is the only one,
+-- the language and a variant that replaces it only if there is no extlang
 abbrev pub subtag_at : CoreParts → Spot → Option (List ℕ)
 subtag_at c at_extlang = if nat_eq (length c.extlangs) 1 then slice_get c.extlangs 0 else None
 subtag_at c at_language = if nat_eq (length c.extlangs) 0 then Some c.language else None
@@ -33,8 +33,8 @@ subtag_at c at_region = c.region
 subtag_at c (at_variant i) = slice_get c.variants i
 subtag_at c (at_variant_language i) = if nat_eq (length c.extlangs) 0 then slice_get c.variants i else None
 
--- its value (RFC 5646, 4.5, rule 3); a variant's value takes the place of the language only where none further left
--- could (this project's own)
+-- the value that a step puts for the subtag at a spot (RFC 5646, 4.5, rule 3); a variant replaces the language only if
+-- none further left could (this project's own)
 abbrev pub value_at : List EntryParts → CoreParts → Spot → List ℕ → Option (List ℕ)
 value_at R c at_extlang s = Some (replacement R s)
 value_at R c at_language s = preferred_value R kinds.Language s
@@ -44,8 +44,8 @@ value_at R c (at_variant i) s = variant_value R s
 value_at R c (at_variant_language i) s =
     let f = language_beside R c.language in if list_all (λ v. is_none (f v)) (take i c.variants) then f s else None
 
--- the core with the value: an extlang's and such a variant's as its language, any other in its place (RFC 5646, 4.5,
--- rule 3)
+-- the core with a value for the subtag at a spot: as the language at `at_extlang` and `at_variant_language`, which drop
+-- the subtag, else in the subtag's place (RFC 5646, 4.5, rule 3)
 abbrev pub replaced : CoreParts → Spot → List ℕ → CoreParts
 replaced c at_extlang v = record c { language = v; extlangs = [] }
 replaced c at_language v = record c { language = v }
@@ -54,7 +54,7 @@ replaced c at_region v = record c { region = Some v }
 replaced c (at_variant i) v = record c { variants = slice_set c.variants i v }
 replaced c (at_variant_language i) v = record c { language = v; variants = remove c.variants i }
 
--- one kind of replacement at one place (RFC 5646, 4.5, rule 3)
+-- a step on a core: the subtag at one spot is replaced by its value (RFC 5646, 4.5, rule 3)
 pub record CoreStep (R : List EntryParts) (c d : CoreParts) : Type 0 where
   pub spot : Spot
   pub subtag : List ℕ
@@ -63,11 +63,11 @@ pub record CoreStep (R : List EntryParts) (c d : CoreParts) : Type 0 where
   pub has : value_at R c spot subtag ≡ Some value
   pub result : d ≡ replaced c spot value
 
--- core steps reach d, and none leads from it (RFC 5646, 4.5)
+-- core steps lead from `c` to `d`, and none leads from `d` (RFC 5646, 4.5)
 abbrev pub IsCoreNormalForm : List EntryParts → CoreParts → CoreParts → Type 0
 IsCoreNormalForm R c d = IsNormalForm (CoreStep R) c d
 
--- the subtag after n values, or the last one (RFC 5646, 3.1.7)
+-- the subtag `n` values on from `s`, or the last of the chain if that is shorter (RFC 5646, 3.1.7)
 abbrev pub chase : (List ℕ → Option (List ℕ)) → ℕ → List ℕ → List ℕ
 chase f zero s = s
 chase f (suc n) s = option_map_or (λ t. chase f n t) (f s) s
@@ -76,6 +76,6 @@ chase f (suc n) s = option_map_or (λ t. chase f n t) (f s) s
 abbrev pub Ends : (List ℕ → Option (List ℕ)) → List ℕ → Type 0
 Ends f s = (n : ℕ) × (f (chase f n s) ≡ None)
 
--- it ends in d (RFC 5646, 3.1.7)
+-- the chain of values from `s` ends in `d` (RFC 5646, 3.1.7)
 abbrev pub EndsIn : (List ℕ → Option (List ℕ)) → List ℕ → List ℕ → Type 0
 EndsIn f s d = (n : ℕ) × (chase f n s ≡ d) × (f d ≡ None)

@@ -1,11 +1,12 @@
--- The lowest record whose chain of values has no end (RFC 5646, 3.1.7), and orders of the records.
+-- The record with the least number whose chain of values has no end (RFC 5646, 3.1.7), and orders in which records are
+-- looked at.
 use Rattle.std.specs.Prelude.{ℕ, ◌≡◌, ◌<◌, ◌*◌, ◌%◌, ◌^◌, List, All, Contains}
 use Rattle.lt_registry.specs.Parts.{EntryParts}
 use Rattle.lt_rewrite.specs.Conditions.{HasEndingChain}
 use Rattle.lt_rewrite.specs.declared.cycles.Order.{Order}
 use Rattle.lt_rewrite.specs.declared.cycles.Order.TheVariants as orders
 
--- The chain of a record of this number has no end, and those of all records of lower numbers end.
+-- this is the least number of a record whose chain of values has no end
 pub record IsFirstCycle (R : List EntryParts) (number : ℕ) : Type 0 where
   pub entry : EntryParts
   pub there : Contains R entry
@@ -13,15 +14,15 @@ pub record IsFirstCycle (R : List EntryParts) (number : ℕ) : Type 0 where
   pub endless : HasEndingChain R entry → ⊥
   pub lower : All (λ f. f.number < number → HasEndingChain R f) R
 
--- the place of a record's number in an order
+-- the place that an order gives to the record with a number
 unfoldable pub place : Order → ℕ → ℕ
 place orders.File number = number
 place orders.Mixed number = number * 2654435769 % 2 ^ 32
 
--- the chains of all records before a place in an order end
+-- the chains of all records before a place in an order come to an end
 abbrev pub EarlierEnd : List EntryParts → Order → ℕ → Type 0
 EarlierEnd R order before = All (λ f. place order f.number < before → HasEndingChain R f) R
 
--- a record's chain ends if those of all records before it in an order do
+-- if the chains of all records before this one in an order end, this one's does
 abbrev pub EndsAfterEarlier : List EntryParts → Order → EntryParts → Type 0
 EndsAfterEarlier R order e = EarlierEnd R order (place order e.number) → HasEndingChain R e

@@ -1,4 +1,4 @@
--- An extension among others, and the steps in it, each the first (RFC 5646, 4.5).
+-- The steps in one extension among others, each the first that leads on (RFC 5646, 4.5).
 use Rattle.std.specs.Prelude.{ℕ, ◌≡◌, ◌≢◌, ◌+◌, List, Option, Some, None, length, take}
 use Rattle.std.specs.List.{AllByRecursion}
 use Rattle.lt_tag.specs.Parts.{ExtensionParts}
@@ -9,15 +9,15 @@ use Rattle.lt_rewrite.specs.Runs.{extension_rank, Adds}
 use Rattle.lt_rewrite.specs.ExtensionsSettling.{SettlesAt}
 use Rattle.lt_rewrite.specs.declared.steps.Step.{Step}
 
--- the steps from the extension at an index to its normal form f are added to others; the extensions begin after
--- this many subtags
+-- the steps from the extension at an index to its normal form `f` are added to others, where the extensions begin after
+-- `start` subtags
 pub record ExplainsAt (R : List EntryParts) (singleton start : ℕ) (es : List ExtensionParts)
     (index : ℕ) (f : ExtensionParts) (old new : List Step) : Type 0 where
   pub settles : SettlesAt R singleton es index f
   pub adds : Adds (ExtensionLeads R (start + length (spell_extensions (take index es)) + 1))
       (λ _ step. extension_rank step) settles.from f old new
 
--- those in the extension of a singleton, if there is one
+-- the steps in the extension with this singleton, if there is one, are added to others
 abbrev pub Explains : List EntryParts → ℕ → ℕ → List ExtensionParts
     → Option (ℕ × ExtensionParts) → List Step → List Step → Type 0
 Explains R singleton start es None old new = AllByRecursion (λ e. e.singleton ≢ singleton) es × (new ≡ old)

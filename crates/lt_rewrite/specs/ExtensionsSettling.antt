@@ -6,7 +6,7 @@ use Rattle.lt_registry.specs.Parts.{EntryParts}
 use Rattle.lt_rewrite.specs.Rewriting.{IsNormalForm}
 use Rattle.lt_rewrite.specs.Extensions.{ExtensionStep}
 
--- the extension at a place has the singleton, and f is its normal form
+-- the extension at an index has this singleton, and `f` is its normal form
 pub record SettlesAt (R : List EntryParts) (singleton : ℕ)
     (es : List ExtensionParts) (place : ℕ) (f : ExtensionParts) : Type 0 where
   pub within : place < length es
@@ -15,12 +15,12 @@ pub record SettlesAt (R : List EntryParts) (singleton : ℕ)
   pub of_singleton : from.singleton ≡ singleton
   pub normal : IsNormalForm (ExtensionStep R) from f
 
--- the extension of a singleton, if there is one, by its place and its normal form
+-- the index and the normal form of the extension with this singleton, or None where there is none
 abbrev pub Settles : List EntryParts → ℕ → List ExtensionParts → Option (ℕ × ExtensionParts) → Type 0
 Settles R singleton es None = AllByRecursion (λ e. e.singleton ≢ singleton) es
 Settles R singleton es (Some settled) = SettlesAt R singleton es settled.0 settled.1
 
--- the extensions with it in its place
+-- the extensions, with a normal form in the place of its extension
 abbrev pub placed : Option (ℕ × ExtensionParts) → List ExtensionParts → List ExtensionParts
 placed None es = es
 placed (Some settled) es = slice_set es settled.0 settled.1

@@ -1,4 +1,5 @@
--- A step's kind, its place, counted from 1, and the number of its record (0 where it uses none).
+-- What each step is called: its kind, its place among the tag's subtags, counted from 1, and the number of its record,
+-- 0 where it uses none.
 use Rattle.std.specs.Prelude.{ℕ, ◌≡◌, ◌+◌, Bool, List, [], ◌∷◌, length, flat_map}
 use Rattle.std.proofs.Common.{Ordering}
 use Rattle.lt_tag.specs.Parts.{CoreParts, ExtensionParts, UForm, TForm, TagForm}
@@ -18,7 +19,7 @@ use Rattle.lt_rewrite.specs.declared.steps.StepKind.{StepKind}
 use Rattle.lt_rewrite.specs.declared.steps.StepKind.TheVariants as steps
 use Rattle.lt_tag.specs.Splitting.{spell_source}
 
--- the step of a kind, at a place, by the record of a number
+-- the step of this kind, at this place, by the record with this number
 abbrev pub step_at : StepKind → ℕ → ℕ → Step
 step_at kind place number = record { kind = kind; place = place; number = number }
 
@@ -31,7 +32,7 @@ kind_at at_region = steps.Region
 kind_at (at_variant i) = steps.Variant
 kind_at (at_variant_language i) = steps.VariantLanguage
 
--- the kind of the subtag there
+-- the kind of the subtag at a spot of a core
 abbrev pub subtag_kind_at : Spot → Kind
 subtag_kind_at at_extlang = kinds.Extlang
 subtag_kind_at at_language = kinds.Language
@@ -40,7 +41,7 @@ subtag_kind_at at_region = kinds.Region
 subtag_kind_at (at_variant i) = kinds.Variant
 subtag_kind_at (at_variant_language i) = kinds.Variant
 
--- its place in the core
+-- the place of a spot among the subtags of a core, counted from 1
 abbrev pub place_at : CoreParts → Spot → ℕ
 place_at c at_extlang = 2
 place_at c at_language = 1
@@ -49,12 +50,13 @@ place_at c at_region = before_region c + 1
 place_at c (at_variant i) = before_variants c + i + 1
 place_at c (at_variant_language i) = before_variants c + i + 1
 
--- of a core that begins after this many subtags
+-- what a step on a core is called that begins after `start` subtags
 abbrev pub core_label : (R : List EntryParts) (start : ℕ) {c d : CoreParts} → CoreStep R c d → Step
 core_label R start {c} s =
     step_at (kind_at s.spot) (start + place_at c s.spot) (number_of (entry R (subtag_kind_at s.spot) s.subtag))
 
--- of a list of parts that begins after this many subtags: the kinds of a swap and of a drop, and the subtags of a part
+-- what a step on a list of parts is called that begins after `start` subtags, by the kinds of a swap and a drop and the
+-- subtags of a part
 abbrev pub list_label : {A : Type 0} {once : Bool} {cmp : A → A → Ordering} {xs ys : List A}
     → StepKind → StepKind → (A → List (List ℕ)) → ℕ → ListStep once cmp xs ys → Step
 list_label swap drop spell start (by_swap before a b after s) =
@@ -62,7 +64,7 @@ list_label swap drop spell start (by_swap before a b after s) =
 list_label swap drop spell start (by_drop before a between b after o s) =
     step_at drop (start + length (flat_map spell before) + length (spell a) + length (flat_map spell between) + 1) 0
 
--- of a u extension whose singleton is at a place
+-- what a step on the parts of a `u` extension is called whose singleton is at the place `start`
 abbrev pub unicode_label : ℕ → {p q : UForm} → UnicodeStep p q → Step
 unicode_label start (on_attributes s k) = list_label steps.SwapAttributes steps.DropAttribute (λ a. a ∷ []) start s
 unicode_label start {p} (on_keywords a s) =
@@ -70,34 +72,34 @@ unicode_label start {p} (on_keywords a s) =
 unicode_label start {p} (on_types a before k after s) =
     step_at steps.DropTrue (start + length p.attributes + length (flat_map spell_keyword before) + 2) 0
 
--- of a t extension whose singleton is at a place
+-- what a step on the parts of a `t` extension is called whose singleton is at the place `start`
 abbrev pub transform_label : (R : List EntryParts) → ℕ → {p q : TForm} → TransformStep R p q → Step
 transform_label R start (on_source c d _ _ s _) = core_label R start s
 transform_label R start {p} (on_fields a s) =
     list_label steps.SwapFields steps.SwapFields spell_field (start + length (spell_source p.source)) s
 
--- of an extension whose singleton is at a place
+-- what a step on an extension is called whose singleton is at the place `start`
 abbrev pub extension_label : (R : List EntryParts) → ℕ → {e f : ExtensionParts} → ExtensionStep R e f → Step
 extension_label R start (in_unicode p q _ _ _ _ s) = unicode_label start s
 extension_label R start (in_transform p q _ _ _ _ s) = transform_label R start s
 
--- of extensions that begin after this many subtags
+-- what a step on extensions is called that begin after `start` subtags
 abbrev pub extensions_label : (R : List EntryParts) → ℕ → {es fs : List ExtensionParts} → ExtensionsStep R es fs → Step
 extensions_label R start (inside before e f after there result s) =
     extension_label R (start + length (spell_extensions before) + 1) s
 extensions_label R start (among s) = list_label steps.SwapExtensions steps.SwapExtensions spell_extension start s
 
--- of a tag
+-- what a step on a tag is called
 abbrev pub tag_label : (R : List EntryParts) {t u : TagForm} → TagChange R t u → Step
 tag_label R (on_core c d es ps _ _ s) = core_label R 0 s
 tag_label R (on_extensions c es fs ps _ _ s) = extensions_label R (length (spell_core c)) s
 tag_label R {t} (on_whole _ _) = step_at steps.Whole 1 (number_of (whole R t))
 
--- the step leads from t to u
+-- the step of this name leads from `t` to `u`
 abbrev pub LeadsBy : List EntryParts → TagForm → Step → TagForm → Type 0
 LeadsBy R t step u = (s : TagStep R t u) × (tag_label R s.change ≡ step)
 
--- the steps lead one after another from the tag to the end
+-- the steps of these names lead one after another from `t` to `end`
 abbrev pub IsTrace : List EntryParts → TagForm → List Step → TagForm → Type 0
 IsTrace R t [] end = t ≡ end
 IsTrace R t (step ∷ steps) end = (u : TagForm) × LeadsBy R t step u × IsTrace R u steps end

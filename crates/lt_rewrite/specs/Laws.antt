@@ -1,4 +1,4 @@
--- The laws of steps, over a list of entries.
+-- The laws of steps, over the entries of a registry.
 use Rattle.std.specs.Prelude.{ℕ, ◌≡◌, List, None, length}
 use Rattle.lt_tag.specs.Parts.{CoreParts, ExtensionParts, TagForm, LangTag}
 use Rattle.lt_tag.specs.Spelling.{spell_core}
@@ -13,12 +13,12 @@ use Rattle.lt_rewrite.specs.Conditions.{next_value}
 use Rattle.lt_rewrite.specs.Labels.{LeadsBy}
 use Rattle.lt_rewrite.specs.declared.steps.Step.{Step}
 
--- a core's normal form, and the only one
+-- `d` is the core normal form of `c`, and the only one
 pub record IsOneNormalForm (R : List EntryParts) (c d : CoreParts) : Type 0 where
   pub normal : IsCoreNormalForm R c d
   pub alone : (e : CoreParts) → IsCoreNormalForm R c e → e ≡ d
 
--- each core has a core normal form and no second one
+-- each core has one core normal form
 abbrev pub HasOneNormalForm : List EntryParts → Type 0
 HasOneNormalForm R = (c : CoreParts) → (d : CoreParts) × IsOneNormalForm R c d
 
@@ -53,16 +53,16 @@ abbrev pub EndingChainsAreShort : List EntryParts → Type 0
 EndingChainsAreShort R =
     (k : Kind) (s : List ℕ) → Ends (next_value R k) s → next_value R k (chase (next_value R k) (length R) s) ≡ None
 
--- the chain from each subtag comes to an end
+-- the chain of values from each subtag of each kind comes to an end
 abbrev pub ChainsEnd : List EntryParts → Type 0
 ChainsEnd R = (k : Kind) (s : List ℕ) → Ends (next_value R k) s
 
--- two steps are one, with one result
+-- both steps have one name and one result
 pub record AreOneStep (step other : Step) (u v : TagForm) : Type 0 where
   pub same : step ≡ other
   pub result : u ≡ v
 
--- the kind and the place determine a step, with the number of its record, and what it leads to
+-- the kind and the place of a step determine the number of its record and what it leads to
 abbrev pub StepsAreDetermined : List EntryParts → Type 0
 StepsAreDetermined R =
     (t u v : TagForm) (step other : Step) → LeadsBy R t step u → LeadsBy R t other v

@@ -1,4 +1,4 @@
--- Runs of steps, of which each is the first that leads on, by the order of their kinds and by their places.
+-- Runs of steps, each of which is the first that leads on: the order is by the rank of the kind, and then by the place.
 use Rattle.std.specs.Prelude.{ℕ, ◌≡◌, ◌+◌, ◌<◌, ◌≤◌, ◌⊎◌, nat_le, if◌then◌else◌, List, [], ◌∷◌, ◌++◌, length, slice_index_or}
 use Rattle.std.proofs.Common.{Ordering, Less}
 use Rattle.lt_tag.specs.Parts.{CoreParts, ExtensionParts, KeywordParts, UForm, TForm}
@@ -8,7 +8,8 @@ use Rattle.lt_rewrite.specs.declared.steps.Step.{Step}
 use Rattle.lt_rewrite.specs.declared.steps.StepKind.{StepKind}
 use Rattle.lt_rewrite.specs.declared.steps.StepKind.TheVariants as steps
 
--- the kinds in their order; six numbers are left for the steps on a core, where it is a source
+-- the rank of each kind of step; from 14 to 19 there is room for the steps on a core, where it is the source of a `t`
+-- extension
 abbrev pub rank_of : StepKind → ℕ
 rank_of steps.Extlang = 1
 rank_of steps.Language = 2
@@ -29,109 +30,112 @@ rank_of steps.SwapFields = 20
 abbrev pub kind_rank : Step → ℕ
 kind_rank step = rank_of step.kind
 
--- among extensions, where each step on a core is one on a source, after DropTrue and before SwapFields
+-- the rank of a step on extensions, where each step on a core is one on a source, after DropTrue (13) and before
+-- SwapFields (20)
 abbrev pub extension_rank : Step → ℕ
 extension_rank step = if nat_le (kind_rank step) 6 then kind_rank step + 13 else kind_rank step
 
--- a step comes no later than another: its rank is lower, or they are of one rank and it is no further right
+-- the step `a` comes no later than `b`: its rank is less, or the ranks are equal and its place is no further right
 abbrev pub IsNoLater : (Step → ℕ) → Step → Step → Type 0
 IsNoLater rank a b = (rank a < rank b) ⊎ ((rank a ≡ rank b) × (a.place ≤ b.place))
 
--- of the steps that lead on, the first
+-- the step leads on to `to`, and no step that leads on comes before it
 pub record IsFirst {A : Type 0} (Leads : Step → A → Type 0) (rank : Step → ℕ) (step : Step) (to : A) : Type 0 where
   pub leads : Leads step to
   pub first : (other : Step) (b : A) → Leads other b → IsNoLater rank step other
 
--- steps one after another, each the first that leads on
+-- the steps lead one after another from `a` to `b`, each the first that leads on
 abbrev pub IsRun : {A : Type 0} → (A → Step → A → Type 0) → (A → Step → ℕ) → A → List Step → A → Type 0
 IsRun Leads rank a [] b = a ≡ b
 IsRun {A} Leads rank a (step ∷ steps) b = (c : A) × IsFirst (Leads a) (rank a) step c × IsRun Leads rank c steps b
 
--- no step leads on
+-- there is no step that leads on
 abbrev pub NoneLeads : {A : Type 0} → (Step → A → Type 0) → Type 0
 NoneLeads {A} Leads = (step : Step) (a : A) → Leads step a → ⊥
 
--- no step of a rank leads on
+-- there is no step of this rank that leads on
 abbrev pub NoneOfRank : {A : Type 0} → (Step → A → Type 0) → (Step → ℕ) → ℕ → Type 0
 NoneOfRank {A} Leads rank n = (step : Step) (a : A) → Leads step a → rank step ≡ n → ⊥
 
--- of the steps of a rank that lead on, the leftmost
+-- of the steps of this rank that lead on, this is the leftmost
 pub record IsLeftmost {A : Type 0} (Leads : Step → A → Type 0) (rank : Step → ℕ) (n : ℕ) (step : Step) : Type 0 where
   pub of_rank : rank step ≡ n
   pub to : A
   pub leads : Leads step to
   pub leftmost : (other : Step) (b : A) → Leads other b → rank other ≡ n → step.place ≤ other.place
 
--- a run is added to steps
+-- a run of steps from `a` to `b` is added to other steps
 pub record Adds {A : Type 0} (Leads : A → Step → A → Type 0)
     (rank : A → Step → ℕ) (a b : A) (old new : List Step) : Type 0 where
   pub run : List Step
   pub added : new ≡ old ++ run
   pub is_run : IsRun Leads rank a run b
 
--- the leftmost step of a rank on a core that begins after this many subtags
+-- of the steps of a rank that lead on from a core which begins after `start` subtags, this is the leftmost
 abbrev pub IsLeftmostOnCore : List EntryParts → ℕ → CoreParts → ℕ → Step → Type 0
 IsLeftmostOnCore R start c n step = IsLeftmost (CoreLeads R start c) kind_rank n step
 
--- no step of a rank leads on from the core
+-- there is no step of a rank that leads on from a core which begins after `start` subtags
 abbrev pub NoneOnCore : List EntryParts → ℕ → CoreParts → ℕ → Type 0
 NoneOnCore R start c n = NoneOfRank (CoreLeads R start c) kind_rank n
 
--- of the steps on the core, the first
+-- of the steps on a core which begins after `start` subtags, this is the first
 pub record IsFirstOnCore (R : List EntryParts) (start : ℕ) (c : CoreParts) (step : Step) : Type 0 where
   pub to : CoreParts
   pub is_first : IsFirst (CoreLeads R start c) kind_rank step to
 
--- the steps from one core to the other are added, each the first
+-- a run of steps from the core `c`, which begins after `start` subtags, to `d` is added to other steps
 abbrev pub AddsOnCore : List EntryParts → ℕ → CoreParts → CoreParts → List Step → List Step → Type 0
 AddsOnCore R start c d old new = Adds (CoreLeads R start) (λ _ step. kind_rank step) c d old new
 
--- two neighbours of a list that begins after this many subtags change places, by a step of a kind
+-- a step of this kind has two neighbours of a list, which begins after `start` subtags, change places
 pub record SwapsBy {A : Type 0} (cmp : A → A → Ordering) (spell : A → List (List ℕ))
     (kind : StepKind) (start : ℕ) (xs : List A) (step : Step) (ys : List A) : Type 0 where
   pub of_kind : step.kind ≡ kind
   pub unnumbered : step.number ≡ 0
   pub leads : SwapLeads cmp spell start step.place xs ys
 
--- a part of the list is dropped, by a step of a kind
+-- a step of this kind drops a part of a list, which begins after `start` subtags
 pub record DropsBy {A : Type 0} (cmp : A → A → Ordering) (spell : A → List (List ℕ))
     (kind : StepKind) (start : ℕ) (xs : List A) (step : Step) (ys : List A) : Type 0 where
   pub of_kind : step.kind ≡ kind
   pub unnumbered : step.number ≡ 0
   pub leads : DropLeads cmp spell start step.place xs ys
 
--- the part at an index and the next are in falling order
+-- the part at an index and the next one are in falling order
 abbrev pub FallsAt : {A : Type 0} → (A → A → Ordering) → List A → ℕ → Type 0
 FallsAt {A} cmp xs index =
     (default : A) → cmp (slice_index_or xs (index + 1) default) (slice_index_or xs index default) ≡ Less
 
--- the leftmost such index
+-- the leftmost index of a part that is in falling order with the next one
 pub record IsFirstFall {A : Type 0} (cmp : A → A → Ordering) (xs : List A) (index : ℕ) : Type 0 where
   pub within : index + 1 < length xs
   pub falls : FallsAt cmp xs index
   pub leftmost : (other : ℕ) → other < index → FallsAt cmp xs other → ⊥
 
--- the leftmost index of a part whose like is before it
+-- the leftmost index of a part that is equal in order to an earlier one
 pub record IsFirstRepeat {A : Type 0} (cmp : A → A → Ordering) (xs : List A) (index : ℕ) : Type 0 where
   pub within : index < length xs
   pub repeats : HasLike cmp xs index
   pub leftmost : (other : ℕ) → other < index → HasLike cmp xs other → ⊥
 
--- a keyword loses its sole type, by a step
+-- by a step DropTrue a keyword loses its only type, `true`
 pub record DropsTrueBy (start : ℕ) (ks : List KeywordParts) (step : Step) (ls : List KeywordParts) : Type 0 where
   pub of_kind : step.kind ≡ steps.DropTrue
   pub unnumbered : step.number ≡ 0
   pub leads : TrueLeads start step.place ks ls
 
--- on the parts of a u extension whose singleton is at a place
+-- a run of steps from the parts `p` of a `u` extension, whose singleton is at the place `start`, to `q` is added to
+-- other steps
 abbrev pub AddsOnUnicode : ℕ → UForm → UForm → List Step → List Step → Type 0
 AddsOnUnicode start p q old new = Adds (UnicodeLeads start) (λ _ step. kind_rank step) p q old new
 
--- on the parts of a t extension whose singleton is at a place
+-- a run of steps from the parts `p` of a `t` extension, whose singleton is at the place `start`, to `q` is added to
+-- other steps
 abbrev pub AddsOnTransform : List EntryParts → ℕ → TForm → TForm → List Step → List Step → Type 0
 AddsOnTransform R start p q old new = Adds (TransformLeads R start) (λ _ step. kind_rank step) p q old new
 
--- on extensions that begin after this many subtags
+-- a run of steps from the extensions `es`, which begin after `start` subtags, to `fs` is added to other steps
 abbrev pub AddsOnExtensions : List EntryParts → ℕ → List ExtensionParts
     → List ExtensionParts → List Step → List Step → Type 0
 AddsOnExtensions R start es fs old new = Adds (ExtensionsLeads R start) (λ _ step. extension_rank step) es fs old new

@@ -1,4 +1,5 @@
--- Shortcuts along the chains of values of a registry's records (RFC 5646, 3.1.7).
+-- Shortcuts along the chains of values of a registry's records (RFC 5646, 3.1.7), so that a chain's end is found at
+-- once.
 use Rattle.std.specs.Prelude.{ℕ, ◌≡◌, ◌≤◌, ◌<◌, List, Option, Some, length}
 use Rattle.std.specs.List.{slice_get}
 use Rattle.lt_registry.specs.Parts.{EntryParts}
@@ -7,11 +8,11 @@ use Rattle.lt_rewrite.specs.CoreSteps.{chase}
 use Rattle.lt_rewrite.specs.Conditions.{next_value}
 use Rattle.lt_rewrite.specs.ChainEnds.{following}
 
--- t is n values on from s, or more; where the chain ends sooner, t is its end
+-- `t` is `n` values or more on from `s`, or the end of a chain that is shorter
 abbrev pub IsOnward : (List ℕ → Option (List ℕ)) → ℕ → List ℕ → List ℕ → Type 0
 IsOnward f n s t = (m : ℕ) × (n ≤ m) × (chase f m s ≡ t)
 
--- A record of the kind is at the place, and the value that follows it is this many values on from v.
+-- a record of the kind is at the place in the list, and its value is onward from `v` by `n` values, as `IsOnward` says
 pub record LeadsTo (R : List EntryParts) (kind : Kind) (n : ℕ) (v : List ℕ) (place : ℕ) : Type 0 where
   pub entry : EntryParts
   pub there : slice_get R place ≡ Some entry
@@ -20,21 +21,21 @@ pub record LeadsTo (R : List EntryParts) (kind : Kind) (n : ℕ) (v : List ℕ) 
   pub follows : following entry.kind entry ≡ Some value
   pub onward : IsOnward (next_value R kind) n v value
 
--- From the value that follows the record at a place, a shortcut leads this many values on to another place.
+-- from the record at `i` a shortcut leads to the record at `j`, onward by `n` values
 abbrev pub IsShortcut : List EntryParts → ℕ → ℕ → ℕ → Type 0
 IsShortcut R n i j =
     (e : EntryParts) (v : List ℕ) → slice_get R i ≡ Some e → following e.kind e ≡ Some v → LeadsTo R e.kind n v j
 
--- each record has a shortcut to the place of one, this many values on
+-- each record has a shortcut to another, onward by `n` values
 pub record LeadOn (R : List EntryParts) (n : ℕ) (places : List ℕ) : Type 0 where
   pub one_each : length places ≡ length R
   pub within : (i j : ℕ) → slice_get places i ≡ Some j → j < length R
   pub shortcut : (i j : ℕ) → slice_get places i ≡ Some j → IsShortcut R n i j
 
--- what is kept of a table beside its records
+-- the shortcuts that are kept of a registry: for each record, the place of another
 pub record ShortcutParts : Type 0 where
   pub places : List ℕ
 
--- places as many values on as there are records: at the end of each chain that has one
+-- the shortcuts lead as many values on as there are records, and so to the end of each chain that has one
 pub record AreShortcuts (R : List EntryParts) (s : ShortcutParts) : Type 0 where
   pub chains : LeadOn R (length R) s.places

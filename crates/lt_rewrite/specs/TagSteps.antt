@@ -8,8 +8,8 @@ use Rattle.lt_rewrite.specs.Rewriting.{Star, Rests, Equivalent}
 use Rattle.lt_rewrite.specs.CoreSteps.{CoreStep}
 use Rattle.lt_rewrite.specs.Extensions.{ExtensionsStep}
 
--- a tag that is grandfathered, or a langtag and a core alone (RFC 5646, 4.5, rule 2; that no other is replaced is
--- this project's own)
+-- a tag that may be replaced as a whole: a grandfathered tag, or a langtag that is a core alone (RFC 5646, 4.5, rule 2;
+-- that no other is replaced is this project's own)
 abbrev pub CanBeReplacedWhole : TagForm → Type 0
 CanBeReplacedWhole (Grandfathered n) = Unit {0}
 CanBeReplacedWhole (LangTag c es ps) = (es ≡ []) × (ps ≡ [])
@@ -44,7 +44,7 @@ pub record IsCanonical (R : List EntryParts) (t : TagForm) : Type 0 where
   pub valid : IsValid R t
   pub at_rest : Rests (TagStep R) t
 
--- a tag in which a variant occurs twice is reached (RFC 5646, 2.2.5)
+-- steps lead from `t` to a tag in which a variant occurs twice (RFC 5646, 2.2.5)
 pub record CanRepeat (R : List EntryParts) (t : TagForm) : Type 0 where
   pub tag : TagForm
   pub reached : IsReached R t tag

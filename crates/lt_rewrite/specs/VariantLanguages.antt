@@ -1,10 +1,10 @@
--- The places of the entries of variants (RFC 5646, 3.1.8).
+-- The places of the entries of variants in a registry (RFC 5646, 3.1.8).
 use Rattle.std.specs.Prelude.{ℕ, ◌≡◌, List, map}
 use Rattle.std.specs.List.{slice_get}
 use Rattle.lt_registry.specs.Parts.{EntryParts}
 use Rattle.lt_registry.specs.Entries.{entry}
 use Rattle.lt_registry.specs.declared.entries.Kind.TheVariants as kinds
 
--- for each variant the place of its entry, or one after the last where it has none
+-- for each variant the place of its entry, or a place without an entry if it has none
 abbrev pub ArePlaces : List EntryParts → List (List ℕ) → List ℕ → Type 0
 ArePlaces R variants places = map (slice_get R) places ≡ map (entry R kinds.Variant) variants

@@ -1,8 +1,8 @@
--- Where a byte is in a row of at most 64 bytes, as the bits of a number.
+-- Where a byte occurs in a row of at most 64 bytes, as the bits of a number.
 use Rattle.std.specs.Prelude.{◌≡◌, ◌<◌, ◌≤◌, ◌↔◌, ℕ, List, length, slice_index}
 use Rattle.std.specs.Int.{bit_at}
 
--- bit k is set where the byte is at place k of the row, from this place on
+-- bit `k` of the number is set exactly where the byte stands at place `k` of the row, from the place `start` on
 pub record AreBitsFrom (byte start : ℕ) (row : List ℕ) (bits : ℕ) : Type 0 where
   pub short : length row ≤ 64
   pub each : (k : ℕ) → (bit_at bits k ≡ 1) ↔ ((start ≤ k) × (k < length row) × (slice_index row k ≡ byte))

@@ -1,4 +1,4 @@
--- What a row is answered by: whether it ends within quotes, whether it has a carriage return outside of them, and where the
+-- What one look at a row finds: whether it ends within quotes, and a carriage return outside of them or else where the
 -- text of one of its fields is.
 use Rattle.std.specs.Prelude.{◌≡◌, ◌≤◌, ◌-◌, ◌++◌, ◌↔◌, ℕ, Bool, IsTrue, false, List, drop, length, take}
 use Rattle.lt_rows.specs.Quotes.{is_quoted, place_at}
@@ -13,7 +13,7 @@ use Rattle.lt_rows.specs.declared.looks.Lacks.{Lacks}
 use Rattle.lt_rows.specs.declared.looks.Look.{Look}
 use Rattle.lt_rows.specs.declared.looks.TextAt.{TextAt}
 
--- whether a row ends within quotes, where delimiters part fields
+-- whether a row ends within quotes; one of TSV never does, as it has none
 abbrev pub ends_quoted : Separator → List ℕ → Bool
 ends_quoted separators.Tab row = false
 ends_quoted (separators.Delimiter delimiter) row = is_quoted (place_at delimiter places.Fresh row)
@@ -33,8 +33,8 @@ pub record LacksIn (row : List ℕ) (lacks : Lacks) : Type 0 where
   pub returns : IsTrue lacks.returns → IsFreeOf 13 row × IsFreeOf 10 row
   pub quotes : IsTrue lacks.quotes → IsFreeOf 34 row
 
--- the text of the field after this many others, by its first byte and the byte after its last; what is at both of its ends
--- and the rest of the row are around it
+-- Where the text of the field after `before` others is: from the byte `start` up to `end`. Around it are what is at
+-- both of its ends, a quote or nothing, and the rest of the row.
 pub record HasTextAt (S : Separator) (before : ℕ) (row : List ℕ) (place : TextAt) : Type 0 where
   pub front : List ℕ
   pub field : List ℕ
@@ -49,12 +49,13 @@ pub record HasTextAt (S : Separator) (before : ℕ) (row : List ℕ) (place : Te
   pub text_is : take (place.end - place.start) (drop place.start row) ≡ text
   pub after_is : drop place.end row ≡ quotes ++ after
 
--- what is found in a row: a carriage return outside of quotes, or else fewer fields, or the text of a field
+-- what is found in a row: a carriage return outside of quotes, or else too few fields, or where the text of a field is
 abbrev pub IsFound : Separator → ℕ → List ℕ → Found → Type 0
 IsFound S before row founds.Return = HasReturn S row
 IsFound S before row founds.Fewer = (HasReturn S row → ⊥) × HasFewer S before row
 IsFound S before row (founds.Text place) = (HasReturn S row → ⊥) × HasTextAt S before row place
 
+-- what a look at a row found is true of it
 pub record IsLookAt (S : Separator) (before : ℕ) (row : List ℕ) (look : Look) : Type 0 where
   pub ends : look.is_open ≡ ends_quoted S row
   pub found : IsFound S before row look.found

@@ -7,42 +7,43 @@ use Rattle.lt_jar.specs.Lines.{begin_first}
 use Rattle.lt_rows.specs.declared.quotes.Place.{Place}
 use Rattle.lt_rows.specs.declared.quotes.Place.TheVariants as places
 
--- whether a place is within quotes
+-- whether the bytes at a place are within quotes
 abbrev pub is_quoted : Place → Bool
 is_quoted places.Fresh = false
 is_quoted places.Plain = false
 is_quoted places.Quoted = true
 
--- outside of quotes a field begins after a delimiter and after a line feed (10)
+-- the place after a byte that is outside of quotes and begins none: a field begins after a delimiter and after a line
+-- feed (10)
 abbrev pub place_outside : ℕ → ℕ → Place
 place_outside delimiter byte = if (byte == 10) || (byte == delimiter) then places.Fresh else places.Plain
 
--- the place after a byte, by the place of the byte
+-- the place after a byte, by the place before it
 abbrev pub place_after : ℕ → Place → ℕ → Place
 place_after delimiter places.Quoted byte = if byte == 34 then places.Fresh else places.Quoted
 place_after delimiter places.Fresh byte = if byte == 34 then places.Quoted else place_outside delimiter byte
 place_after delimiter places.Plain byte = place_outside delimiter byte
 
--- the place after a text, by that of its first byte
+-- the place after a text, by the place before it
 abbrev pub place_at : ℕ → Place → List ℕ → Place
 place_at delimiter place [] = place
 place_at delimiter place (byte ∷ text) = place_at delimiter (place_after delimiter place byte) text
 
--- each such byte of a text is within quotes
+-- each byte `stop` of a text is within quotes
 abbrev pub IsFreeOutside : (delimiter stop : ℕ) → Place → List ℕ → Type 0
 IsFreeOutside delimiter stop place [] = Unit {0}
 IsFreeOutside delimiter stop place (byte ∷ text) =
     (byte ≡ stop → is_quoted place ≡ true) × IsFreeOutside delimiter stop (place_after delimiter place byte) text
 
--- the records of a text, without the line feeds that end them: those outside of quotes; what follows the last of
--- them is a record if it is anything (RFC 4180, 2)
+-- The records of a text (RFC 4180, 2), without the line feeds (10) that end them, which are those outside of quotes.
+-- What follows the last line feed is a record, unless it is empty.
 abbrev pub records_from : ℕ → Place → List ℕ → List (List ℕ)
 records_from delimiter place [] = []
 records_from delimiter place (byte ∷ text) =
     if (byte == 10) && not (is_quoted place) then [] ∷ records_from delimiter places.Fresh text
     else begin_first byte (records_from delimiter (place_after delimiter place byte) text)
 
--- what is before the first such byte outside of quotes and after it
+-- what is before the first byte `stop` outside of quotes, and what is after it; None where there is no such byte
 abbrev pub SplitsOutside : (delimiter stop : ℕ) → List ℕ → Option (Bor (List ℕ) × Bor (List ℕ)) → Type 0
 SplitsOutside delimiter stop text parts = MatchOption parts (IsFreeOutside delimiter stop places.Fresh text)
     (λ p. IsFreeOutside delimiter stop places.Fresh p.0.now × (is_quoted (place_at delimiter places.Fresh p.0.now) ≡ false)

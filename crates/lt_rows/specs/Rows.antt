@@ -1,4 +1,4 @@
--- Rows: fields with a tab (9) between them, or a delimiter outside of quotes.
+-- Rows of a table: fields with a tab (9) between them, as in TSV, or with a delimiter outside of quotes, as in CSV.
 use Rattle.std.specs.Prelude.{◌≡◌, ◌≢◌, ◌<◌, ◌≤◌, ◌+◌, ◌-◌, ◌⊎◌, ℕ, false, List, [], ◌∷◌, ◌++◌, drop, length, take, Option, MatchOption}
 use Rattle.std.specs.List.{All, AllByRecursion}
 use Rattle.lt_rows.specs.Quotes.{IsFreeOutside, is_quoted, place_at}
@@ -11,12 +11,12 @@ abbrev pub separator : Separator → ℕ
 separator separators.Tab = 9
 separator (separators.Delimiter delimiter) = delimiter
 
--- no tab, or no delimiter outside of quotes
+-- a field of a row: it has no tab (9), or in CSV no delimiter outside of quotes
 abbrev pub IsRowField : Separator → List ℕ → Type 0
 IsRowField separators.Tab text = All (λ byte. byte ≢ 9) text
 IsRowField (separators.Delimiter delimiter) text = IsFreeOutside delimiter delimiter places.Fresh text
 
--- a separator after this field would end it: in CSV, the field does not end within quotes
+-- a separator after this field would end it; in CSV that needs that the field doesn't end within quotes
 abbrev pub IsClosed : Separator → List ℕ → Type 0
 IsClosed separators.Tab text = Unit {0}
 IsClosed (separators.Delimiter delimiter) text = is_quoted (place_at delimiter places.Fresh text) ≡ false
@@ -31,18 +31,18 @@ abbrev pub separated : Separator → List (List ℕ) → List ℕ
 separated S [] = []
 separated S (field ∷ fields) = field ++ separator S ∷ separated S fields
 
--- what follows a field: nothing, or a separator and more
+-- what follows a field in a row: nothing, or a separator and any bytes
 abbrev pub IsAfterField : Separator → List ℕ → List ℕ → Type 0
 IsAfterField S field after = (after ≡ []) ⊎ ((more : List ℕ) × IsClosed S field × (after ≡ separator S ∷ more))
 
--- the rest of a row, after this many fields
+-- `rest` is what remains of a row after its first `count` fields
 pub record Skips (S : Separator) (count : ℕ) (row rest : List ℕ) : Type 0 where
   pub before : List (List ℕ)
   pub each : AllByRecursion (IsEnded S) before
   pub number : length before ≡ count
   pub row_is : row ≡ separated S before ++ rest
 
--- a row has this field, with this many fields before it
+-- the field of a row that has `count` fields before it, and what is in front of it and after it
 pub record HasField (S : Separator) (count : ℕ) (row front field after : List ℕ) : Type 0 where
   pub before : List (List ℕ)
   pub each : AllByRecursion (IsEnded S) before
@@ -52,7 +52,7 @@ pub record HasField (S : Separator) (count : ℕ) (row front field after : List 
   pub ends : IsAfterField S field after
   pub row_is : row ≡ front ++ field ++ after
 
--- a row is too short: it has no field with this many fields before it
+-- a row has no field with `count` fields before it
 pub record HasFewer (S : Separator) (count : ℕ) (row : List ℕ) : Type 0 where
   pub before : List (List ℕ)
   pub last : List ℕ
@@ -61,7 +61,7 @@ pub record HasFewer (S : Separator) (count : ℕ) (row : List ℕ) : Type 0 wher
   pub row_is : row ≡ separated S before ++ last
   pub fewer : length before < count
 
--- in CSV, a carriage return (13) is outside of quotes
+-- a record of CSV has a carriage return (13) outside of quotes; of a row of TSV this is never said
 abbrev pub HasReturn : Separator → List ℕ → Type 0
 HasReturn separators.Tab row = ⊥
 HasReturn (separators.Delimiter delimiter) row = IsFreeOutside delimiter 13 places.Fresh row → ⊥
@@ -70,22 +70,22 @@ HasReturn (separators.Delimiter delimiter) row = IsFreeOutside delimiter 13 plac
 abbrev pub IsQuoted : List ℕ → Type 0
 IsQuoted field = (text : List ℕ) × (field ≡ 34 ∷ text ++ 34 ∷ [])
 
--- what is at both ends of the text of a field: in CSV a quote if the field is quoted, else nothing
+-- what is at both ends of the text of a field: in CSV a quote (34) if the field is quoted, else nothing
 abbrev pub AreQuotes : Separator → List ℕ → List ℕ → Type 0
 AreQuotes separators.Tab field quotes = quotes ≡ []
 AreQuotes (separators.Delimiter delimiter) field quotes = (quotes ≡ 34 ∷ []) ⊎ ((quotes ≡ []) × (IsQuoted field → ⊥))
 
--- the text of a field, and what is at both of its ends
+-- the text of a field, and `quotes`, a quote or nothing, which is at both of its ends
 pub record IsTextIn (S : Separator) (field quotes text : List ℕ) : Type 0 where
   pub field_is : field ≡ quotes ++ text ++ quotes
   pub are_quotes : AreQuotes S field quotes
 
--- where the first separator is, which ends the first field of the rest of a row
+-- where the first separator of the rest of a row is, which ends a field; None where there is none
 abbrev pub EndsField : Separator → List ℕ → Option ℕ → Type 0
 EndsField S rest end = MatchOption end (IsRowField S rest)
     (λ i. (i < length rest) × IsEnded S (take i rest) × (rest ≡ take i rest ++ separator S ∷ drop (i + 1) rest))
 
--- the field of a row with this many fields before it goes from this byte up to that
+-- the field of a row that has `count` fields before it goes from the byte `start` up to `end`
 pub record IsFieldAt (S : Separator) (count : ℕ) (row : List ℕ) (start end : ℕ) : Type 0 where
   pub ordered : start ≤ end
   pub inside : end ≤ length row

@@ -1,22 +1,22 @@
--- Bytes that are split at a byte.
+-- What is before and after the first place of a byte.
 use Rattle.std.specs.Prelude.{◌≡◌, ◌≢◌, ◌≤◌, ◌<◌, ◌+◌, ℕ, List, ◌∷◌, ◌++◌, Option, MatchOption, drop, length, take}
 use Rattle.std.specs.Borrow.{Bor}
 use Rattle.std.specs.List.{All}
 
--- no such byte
+-- the byte is not among `bytes`
 abbrev pub IsFreeOf : ℕ → List ℕ → Type 0
 IsFreeOf byte bytes = All (λ other. other ≢ byte) bytes
 
--- what is before the first such byte and after it
+-- what is before the first place of the byte, and what is after it; None where there is none
 abbrev pub SplitsAt : ℕ → List ℕ → Option (Bor (List ℕ) × Bor (List ℕ)) → Type 0
 SplitsAt byte bytes parts = MatchOption parts (IsFreeOf byte bytes)
     (λ p. IsFreeOf byte p.0.now × (bytes ≡ p.0.now ++ byte ∷ p.1.now))
 
--- the first such byte is at this place
+-- the first place of the byte, counted from 0; None where there is none
 abbrev pub IsPlaceOf : ℕ → List ℕ → Option ℕ → Type 0
 IsPlaceOf byte bytes place = MatchOption place (IsFreeOf byte bytes)
     (λ i. (i < length bytes) × IsFreeOf byte (take i bytes) × (bytes ≡ take i bytes ++ byte ∷ drop (i + 1) bytes))
 
--- a front of a text with this many bytes, or more
+-- `front` is a front of the text with `count` bytes or more
 abbrev pub IsNear : ℕ → (text front : List ℕ) → Type 0
 IsNear count text front = (n : ℕ) × (count ≤ n) × (n ≤ length text) × (front ≡ take n text)

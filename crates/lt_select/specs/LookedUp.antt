@@ -1,4 +1,4 @@
--- Which line lookup by language ranges finds (RFC 4647, 3.4).
+-- The line that lookup by language ranges finds among those of a reader (RFC 4647, 3.4).
 use Rattle.std.specs.Prelude.{◌≡◌, ◌<◌, ◌≤◌, ◌⊎◌, ◌∷◌, ℕ, List, [], Option, Some, None, Result, Ok, Err, Vec}
 use Rattle.std.specs.Io.KnownBytes.{Consumes, IsAtEnd}
 use Rattle.std.specs.List.{slice_get}
@@ -16,26 +16,26 @@ use Rattle.lt_range.specs.Ranges.{RangeParts}
 use Rattle.lt_range.specs.Lookup.{IsDefault, IsFound}
 use Rattle.lt_match.specs.Matched.{HasCanonicalList}
 
--- the text is a tag, and these are the subtags of its canonical form (RFC 5646, 4.5)
+-- the text is a tag that has a canonical form, and `list` is that form's subtags (RFC 5646, 4.5)
 abbrev pub HasSubtags : List EntryParts → List ℕ → List (List ℕ) → Type 0
 HasSubtags R text list = ReadsAs text (λ tag. HasCanonicalList R tag list)
 
--- the text is no valid tag, or steps can repeat a variant of it
+-- the text is no tag that has a canonical form
 abbrev pub HasNoSubtags : List EntryParts → List ℕ → Type 0
 HasNoSubtags R text = (list : List (List ℕ)) → HasSubtags R text list → ⊥
 
--- The subtags by which a line is looked up. A carriage return that ends it is no part of the tag. A line that is no
--- valid tag, or of which steps can repeat a variant, has none, and no range finds it.
+-- The subtags by which a line is looked up: those of the canonical form of its tag. A carriage return (13) that ends
+-- the line is no part of the tag. A line without a canonical form has none, and no range finds it.
 abbrev pub LineHas : List EntryParts → List ℕ → List (List ℕ) → Type 0
 LineHas R line list = HasSubtags R (content_of line) list ⊎ (HasNoSubtags R (content_of line) × (list ≡ []))
 
--- the subtags of lines, in their order
+-- the subtags by which each of these lines is looked up, in order
 abbrev pub LinesHave : List EntryParts → List (List ℕ) → List (List (List ℕ)) → Type 0
 LinesHave R [] lists = lists ≡ []
 LinesHave R (line ∷ lines) lists = (list : List (List ℕ)) × (more : List (List (List ℕ))) × LineHas R line list
     × (lists ≡ list ∷ more) × LinesHave R lines more
 
--- lookup finds a line: the first of those that the first range finds which finds any, cut as little as it takes
+-- lookup finds this line: by the first range that finds any, the first of those that are closest to that range
 pub record FindsLine (R : List EntryParts) (ranges : List RangeParts) (lines : List (List ℕ)) (line : List ℕ) : Type 0 where
   pub lists : List (List (List ℕ))
   pub have : LinesHave R lines lists
@@ -43,19 +43,19 @@ pub record FindsLine (R : List EntryParts) (ranges : List RangeParts) (lines : L
   pub found : IsFound ranges lists place
   pub there : slice_get lines place ≡ Some line
 
--- lookup finds no line, so that a default is taken
+-- lookup finds no line, so that a default is to be used
 pub record FindsNoLine (R : List EntryParts) (ranges : List RangeParts) (lines : List (List ℕ)) : Type 0 where
   pub lists : List (List (List ℕ))
   pub have : LinesHave R lines lists
   pub none : IsDefault ranges lists
 
--- what lookup finds among lines
+-- what lookup finds among these lines
 abbrev pub LooksUp : List EntryParts → List RangeParts → (lines : List (List ℕ)) → Option (Vec ℕ Global) → Type 0
 LooksUp R ranges lines None = FindsNoLine R ranges lines
 LooksUp R ranges lines (Some line) = FindsLine R ranges lines line.items
 
--- how a run ended: it was read to its end, and this is what lookup finds among its lines; or the reader failed; or the
--- most reads were made, and the last of them gave bytes
+-- how a run ended: with what lookup finds among all lines of the reader, or with a fault; an end by OutOfMemory says
+-- nothing more
 abbrev pub EndsAs : {I : Type 0} → List EntryParts → List RangeParts → (I → Option (List ℕ)) → (input input' : Device I)
     → ℕ → List ℕ → Result (Option (Vec ℕ Global)) ToolFault → Type 0
 EndsAs R ranges remaining input input' reads read (Ok found) =
@@ -69,7 +69,7 @@ EndsAs R ranges remaining input input' reads read (Err (faults.BadTsv line)) = �
 EndsAs R ranges remaining input input' reads read (Err faults.Utf16) = ⊥
 EndsAs R ranges remaining input input' reads read (Err faults.OutOfMemory) = Unit {0}
 
--- a run that looks up a line of a reader
+-- a run that looks up one of the lines of a reader
 pub record LooksUpLine {I : Type 0} (R : List EntryParts) (ranges : List RangeParts) (remaining : I → Option (List ℕ))
     (input input' : Device I) (result : Result (Option (Vec ℕ Global)) ToolFault) : Type 0 where
   pub read : List ℕ

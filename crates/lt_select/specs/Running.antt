@@ -1,4 +1,4 @@
--- What a run that selects lines of a reader read and wrote, and how it ended.
+-- What a run that selects lines of a reader reads and writes, and how it ends.
 use Rattle.std.specs.Prelude.{◌≡◌, ◌<◌, ◌≤◌, ℕ, List, length, Option, Result, Ok, Err}
 use Rattle.std.specs.Io.KnownBytes.{Appends, Consumes, IsAtEnd}
 use Rattle.lt_jar.specs.Devices.{HasFailed, failures_of, inner_of, last_given_of}
@@ -9,18 +9,19 @@ use Rattle.lt_stream.specs.declared.faults.ToolFault.{ToolFault}
 use Rattle.lt_stream.specs.declared.faults.ToolFault.TheVariants as faults
 use Rattle.lt_select.specs.Selection.{IsBegun, IsOwed, IsOwedToLastFeed, Selection}
 
--- the reader was read to its end, and all that is owed was written
+-- the reader was read to its end, and all lines that are selected were written
 pub record IsDone {I : Type 0} (P : Selection) (remaining : I → Option (List ℕ)) (input' : Device I)
     (read written : List ℕ) (count : ℕ) : Type 0 where
   pub end : IsAtEnd (remaining (inner_of input'))
   pub owed : IsOwed P read written count
 
--- the reader failed, and what is owed up to the last line feed was written
+-- the reader failed, and the lines that are selected up to the last line feed were written
 pub record IsStoppedByRead {I : Type 0} (P : Selection) (input input' : Device I) (read written : List ℕ) : Type 0 where
   pub failed : HasFailed input input'
   pub owed : IsOwedToLastFeed P read written
 
--- the most reads were made, the last of them gave bytes, and what is owed up to the last line feed was written
+-- the most reads that a run may make were made, the last still gave bytes, and the lines that are selected up to the
+-- last line feed were written
 pub record IsStoppedByTurns {I : Type 0} (P : Selection) (input' : Device I) (reads : ℕ) (read written : List ℕ)
     : Type 0 where
   pub all_made : reads ≡ most_reads
@@ -28,7 +29,7 @@ pub record IsStoppedByTurns {I : Type 0} (P : Selection) (input' : Device I) (re
   pub last_gave : 0 < last_given_of input'
   pub owed : IsOwedToLastFeed P read written
 
--- how the run ended
+-- how the run ended: with how many lines it wrote, or with a fault; an end by OutOfMemory says nothing more
 abbrev pub EndsAs : {I O : Type 0} → Selection → (I → Option (List ℕ)) → (input input' : Device I)
     → (output output' : Device O) → ℕ → (read written : List ℕ) → Result ℕ ToolFault → Type 0
 EndsAs P remaining input input' output output' reads read written (Ok count) = IsDone P remaining input' read written count
@@ -42,8 +43,8 @@ EndsAs P remaining input input' output output' reads read written (Err (faults.B
 EndsAs P remaining input input' output output' reads read written (Err (faults.BadTsv line)) = ⊥
 EndsAs P remaining input input' output output' reads read written (Err faults.Utf16) = ⊥
 
--- A run that writes the lines of a reader that are selected. Whatever ended it, what was written is a front of what is
--- owed.
+-- A run that writes the lines of a reader that are selected. Whatever ended it, what was written is a front of those
+-- lines.
 pub record SelectsLines {I O : Type 0} (P : Selection) (remaining : I → Option (List ℕ))
     (contents : O → Option (List ℕ)) (input input' : Device I) (output output' : Device O)
     (result : Result ℕ ToolFault) : Type 0 where

@@ -1,4 +1,4 @@
--- Which lines language ranges select, and what is owed for bytes (RFC 4647, 3.3).
+-- Which lines language ranges select, and what is to be written for the bytes of a reader (RFC 4647, 3.3).
 use Rattle.std.specs.Prelude.{◌≡◌, ◌⊎◌, ◌++◌, ◌∷◌, ℕ, List, [], length}
 use Rattle.std.specs.List.{AllByRecursion}
 use Rattle.lt_jar.specs.Lines.{IsOneLine, content_of, lines_of, whole_lines}
@@ -10,18 +10,18 @@ use Rattle.lt_match.specs.Matched.{BasicFiltering, ExtendedFiltering, HasCanonic
 use Rattle.lt_select.specs.declared.schemes.Scheme.{Scheme}
 use Rattle.lt_select.specs.declared.schemes.Scheme.TheVariants as schemes
 
--- the schemes of filtering among those of matching (RFC 4647, 3.3.1 and 3.3.2)
+-- the schemes of filtering, as schemes of matching (RFC 4647, 3.3.1 and 3.3.2)
 abbrev pub scheme_of : Scheme → MatchingScheme
 scheme_of schemes.Basic = BasicFiltering
 scheme_of schemes.Extended = ExtendedFiltering
 
--- one of the ranges matches the subtags of a tag
+-- one of the ranges matches the subtags of the tag
 abbrev pub AnyMatches : MatchingScheme → List RangeParts → List (List ℕ) → Type 0
 AnyMatches scheme [] list = ⊥
 AnyMatches scheme (range ∷ ranges) list = MatchesBy scheme range list ⊎ AnyMatches scheme ranges list
 
--- The text is a tag, and one of the ranges matches the subtags of its canonical form (RFC 5646, 4.5). So none matches a
--- text that is no valid tag, or of which steps can repeat a variant.
+-- The text is a tag, and one of the ranges matches the subtags of its canonical form (RFC 5646, 4.5). No range matches
+-- a text that has no canonical form.
 pub record IsMatched (R : List EntryParts) (scheme : Scheme) (ranges : List RangeParts) (text : List ℕ) : Type 0 where
   pub tag : TagForm
   pub read : HasTag text tag
@@ -29,11 +29,11 @@ pub record IsMatched (R : List EntryParts) (scheme : Scheme) (ranges : List Rang
   pub canonical : HasCanonicalList R tag list
   pub matches : AnyMatches (scheme_of scheme) ranges list
 
--- the line is selected; a carriage return that ends it is no part of the tag
+-- the line is selected by ranges; a carriage return (13) that ends it is no part of the tag
 abbrev pub IsSelected : List EntryParts → Scheme → List RangeParts → List ℕ → Type 0
 IsSelected R scheme ranges line = IsMatched R scheme ranges (content_of line)
 
--- what holds of the lines that are selected
+-- a statement on lines, true of those that are selected
 abbrev pub Selection : Type 1
 Selection = List ℕ → Type 0
 
@@ -44,22 +44,23 @@ AreSelected P (line ∷ lines) selected =
     (P line × (rest : List (List ℕ)) × (selected ≡ line ∷ rest) × AreSelected P lines rest)
     ⊎ ((P line → ⊥) × AreSelected P lines selected)
 
--- a longer line is too long for a tag, whatever follows: 1,025 bytes and a carriage return
+-- of a line no more bytes are kept, since a longer one is too long for a tag, whatever follows: 1,025 bytes and a
+-- carriage return (13)
 abbrev pub longest_kept : ℕ
 longest_kept = 1026
 
--- these bytes are owed for the lines: those that are selected, each with a line feed; and they are so many
+-- `written` is the selected ones of these lines, each with a line feed, and `count` is how many they are
 pub record AreOwed (P : Selection) (lines : List (List ℕ)) (written : List ℕ) (count : ℕ) : Type 0 where
   pub selected : List (List ℕ)
   pub are : AreSelected P lines selected
   pub all : written ≡ whole_lines selected
   pub counted : count ≡ length selected
 
--- all that is owed for the bytes was written: their lines that are selected, each with a line feed; and they are so many
+-- `written` is the selected lines of these bytes, each with a line feed, and `count` is how many they are
 abbrev pub IsOwed : Selection → (bytes written : List ℕ) → ℕ → Type 0
 IsOwed P bytes written count = AreOwed P (lines_of bytes) written count
 
--- what was written is what is owed for the bytes up to the last line feed
+-- `written` is the selected lines of the bytes up to the last line feed
 pub record IsOwedToLastFeed (P : Selection) (bytes written : List ℕ) : Type 0 where
   pub lines : List (List ℕ)
   pub last : List ℕ
@@ -70,7 +71,7 @@ pub record IsOwedToLastFeed (P : Selection) (bytes written : List ℕ) : Type 0 
   pub are : AreSelected P lines selected
   pub all : written ≡ whole_lines selected
 
--- what was written is a front of what is owed for the first lines of the bytes
+-- what was written is a front of the selected ones of the first lines of the bytes
 pub record IsBegun (P : Selection) (bytes written : List ℕ) : Type 0 where
   pub lines : List (List ℕ)
   pub others : List (List ℕ)

@@ -1,4 +1,4 @@
--- The rows of a tag as JSON (RFC 8259).
+-- The rows of `show` for a tag as JSON (RFC 8259).
 use Rattle.std.specs.Prelude.{ℕ, List, [], ◌∷◌, ◌++◌, codes}
 use Rattle.std.specs.Fmt.{decimal}
 use Rattle.lt_tag.specs.Parts.{TagForm}
@@ -14,11 +14,11 @@ use Rattle.lt_show.specs.declared.listings.Listing.{Listing}
 use Rattle.lt_show.specs.declared.listings.Listing.TheVariants as listings
 use Rattle.lt_show.specs.declared.rows.Row.{Row}
 
--- a field
+-- a field of a record as an object
 unfoldable pub field_value : Field → List ℕ
 field_value field = object (member (codes "name") (string field.0) ∷ member (codes "body") (string field.1) ∷ [])
 
--- the name of what is listed
+-- the name of what a registry has for a part of a tag
 abbrev pub listing_name : Listing → List ℕ
 listing_name listings.Unlisted = codes "Unlisted"
 listing_name listings.Unregistered = codes "Unregistered"
@@ -29,7 +29,8 @@ abbrev pub record_value : Listing → List ℕ
 record_value (listings.Record number) = decimal number
 record_value listing = null
 
--- a row: its place, its name, its text, and what is listed, with the number of the record and its fields that are shown
+-- a row as an object: its place, what it is about, its text, what the registry has for it, and the fields that are
+-- shown
 unfoldable pub row_value : (text : List ℕ) → List (List Field) → Row → List ℕ
 row_value text records row = object (member (codes "place") (decimal row.place)
     ∷ member (codes "kind") (string (subject_name row.subject))
@@ -38,20 +39,20 @@ row_value text records row = object (member (codes "place") (decimal row.place)
     ∷ member (codes "record") (record_value row.listing)
     ∷ member (codes "fields") (array field_value (fields_listed records row.listing)) ∷ [])
 
--- the rows of a tag
+-- the rows for a tag as an array
 abbrev pub rows_value : List EntryParts → List (List Field) → TagForm → List ℕ
 rows_value R records tag = array (row_value (text_of tag) records) (rows_of R tag)
 
 -- ---- the steps
 
--- a row up to its text
+-- the beginning of a row's object: a brace (123) and its members up to the text
 unfoldable pub row_front : (text : List ℕ) → Row → List ℕ
 row_front text row =
     123 ∷ member_text (member (codes "place") (decimal row.place))
     ++ after_commas member_text (member (codes "kind") (string (subject_name row.subject))
     ∷ member (codes "text") (string (text_in text row)) ∷ [])
 
--- what follows that
+-- the end of a row's object: its members after the text, each after a comma, and a brace (125)
 unfoldable pub row_end : List (List Field) → Listing → List ℕ
 row_end records listing = after_commas member_text (member (codes "listing") (string (listing_name listing))
     ∷ member (codes "record") (record_value listing)

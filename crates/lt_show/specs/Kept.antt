@@ -1,4 +1,4 @@
--- The records that are kept of those that are read. No public contract cites this.
+-- The records of a registry that are kept while it is read. No public contract cites this.
 use Rattle.std.specs.Prelude.{◌≡◌, ℕ, Bool, true, false, List, [], ◌∷◌, ◌++◌, Option, Result, Ok, Err}
 use Rattle.lt_jar.specs.Records.{Field}
 use Rattle.lt_jar.specs.Sources.{Advances, record_in}
@@ -10,12 +10,12 @@ use Rattle.lt_jar.specs.declared.sources.JarSource.{JarSource}
 use Rattle.lt_registry.specs.ReadRegistry.{IsJarRefusal, IsReadWhole, Reads}
 use Rattle.lt_show.specs.declared.reading.Draft.{Draft}
 
--- a record more is kept, unless memory ran out for it or one before
+-- a further record is kept, and memory has not run out for one before
 pub record KeepsMore (r : List Field) (old new : Draft) : Type 0 where
   pub before : old.lacks ≡ false
   pub more : new.records.items ≡ old.records.items ++ r ∷ []
 
--- the same of a draft that lacks none
+-- a further record is kept, unless memory ran out for it or for one before
 abbrev pub Keeps : List Field → (old new : Draft) → Type 0
 Keeps r old new = new.lacks ≡ false → KeepsMore r old new
 
@@ -38,12 +38,12 @@ AnswersDraft remaining (Ok draft) before after bytes reads =
     (records : List (List Field)) × IsReadWhole remaining before after bytes records × HasKept draft records
 AnswersDraft remaining (Err fault) before after bytes reads = IsJarRefusal remaining before after bytes reads fault
 
--- the answer is that a read failed
+-- the answer is the fault that a read failed
 abbrev pub IsJarFailure : Result Draft JarFault → Type 0
 IsJarFailure (Ok draft) = ⊥
 IsJarFailure (Err fault) = fault.kind ≡ jars.Read
 
--- this many reads gave these bytes, and the answer is theirs
+-- the records of a registry were read from a device, with this answer
 unfoldable pub ReadsDraft : {R : Type 0} → (R → Option (List ℕ)) → (before after : Device R) → Result Draft JarFault → Type 0
 ReadsDraft remaining before after result =
     Reads remaining before after (AnswersDraft remaining result) (IsJarFailure result)

@@ -16,7 +16,8 @@ use Rattle.lt_show.specs.declared.listings.Listing.TheVariants as listings
 use Rattle.lt_show.specs.declared.listings.Subject.{Subject}
 use Rattle.lt_show.specs.declared.listings.Subject.TheVariants as subjects
 
--- the kind of the records that list parts of a kind; a source has the parts of a language tag (RFC 6497, 2.2)
+-- the kind of the records that list parts of this kind, if any do; a source has the parts of a language tag (RFC 6497,
+-- 2.2)
 abbrev pub kind_of : PartKind → Option Kind
 kind_of parts.Language = Some kinds.Language
 kind_of parts.Extlang = Some kinds.Extlang
@@ -30,7 +31,7 @@ kind_of parts.SourceRegion = Some kinds.Region
 kind_of parts.SourceVariant = Some kinds.Variant
 kind_of kind = None
 
--- the number of the record of an entry
+-- what a registry has for a part with this entry: its record, or nothing
 abbrev pub listing_by : Option EntryParts → Listing
 listing_by (Some e) = listings.Record e.number
 listing_by None = listings.Unregistered
@@ -39,8 +40,8 @@ listing_by None = listings.Unregistered
 abbrev pub entry_of : List EntryParts → Kind → List ℕ → Option EntryParts
 entry_of R kind text = option_and_then (λ s. entry R kind s) (result_ok (subtag_of text))
 
--- what is listed of a part of a tag, by its kind and its text: for a grandfathered tag its record (RFC 5646, 2.2.8), for a
--- subtag that of its kind
+-- what a registry has for a part of a tag: for a grandfathered tag its record (RFC 5646, 2.2.8), for a subtag the
+-- record of its kind
 abbrev pub listing : List EntryParts → TagForm → PartKind → List ℕ → Listing
 listing R tag parts.Grandfathered text = listing_by (whole R tag)
 listing R tag kind text = option_map_or (λ k. listing_by (entry_of R k text)) (kind_of kind) listings.Unlisted

@@ -1,4 +1,4 @@
--- What reading a registry with its records answers.
+-- What reading a registry together with its records answers.
 use Rattle.std.specs.Prelude.{ℕ, List, Option, Result, Ok, Err}
 use Rattle.lt_jar.specs.Records.{Field}
 use Rattle.lt_jar.specs.declared.devices.Device.{Device}
@@ -8,7 +8,7 @@ use Rattle.lt_registry.specs.ReadRegistry.{AnswersAs, IsReadFailure, IsReadWhole
 use Rattle.lt_show.specs.declared.reading.RecordsFault.{RecordsFault}
 use Rattle.lt_show.specs.declared.reading.RecordsFault.TheVariants as faults
 
--- what a reading gave: the entries and the records, or why there are none
+-- the answer of a reading: the entries and the records, or why there are none
 abbrev pub Reading : Type 0
 Reading = Result (List EntryParts × List (List Field)) RecordsFault
 
@@ -22,13 +22,13 @@ AnswersWith remaining (Err (faults.Registry fault)) before after bytes reads =
     AnswersAs remaining (Err fault) before after bytes reads
 AnswersWith remaining (Err faults.OutOfMemory) before after bytes reads = Unit {0}
 
--- the answer is that a read failed
+-- the answer is the fault that a read failed
 abbrev pub IsFailure : Reading → Type 0
 IsFailure (Ok both) = ⊥
 IsFailure (Err (faults.Registry fault)) = IsReadFailure (Err fault)
 IsFailure (Err faults.OutOfMemory) = ⊥
 
--- This many reads gave these bytes, and the answer is theirs.
+-- a registry was read with its records from a device, with this answer
 unfoldable pub ReadsRecords : {R : Type 0} → (R → Option (List ℕ)) → (before after : Device R) → Reading → Type 0
 ReadsRecords remaining before after result =
     Reads remaining before after (AnswersWith remaining result) (IsFailure result)

@@ -1,4 +1,4 @@
--- A row for each part of a tag.
+-- The rows that `show` prints for a tag: one for each of its parts.
 use Rattle.std.specs.Prelude.{ℕ, ◌+◌, List, [], ◌∷◌, ◌++◌, length, take, drop, Option, Some, None}
 use Rattle.lt_tag.specs.Parts.{TagForm, Grandfathered}
 use Rattle.lt_tag.specs.Texts.{text_of}
@@ -11,7 +11,7 @@ use Rattle.lt_show.specs.declared.listings.Listing.TheVariants as listings
 use Rattle.lt_show.specs.declared.listings.Subject.TheVariants as subjects
 use Rattle.lt_show.specs.declared.rows.Row.{Row}
 
--- the row of a part of a tag, whose text this is, at a place
+-- the row of a part of a tag with this text, at a place
 abbrev pub row_of : List EntryParts → TagForm → (text : List ℕ) → (place : ℕ) → Part → Row
 row_of R tag text place part = record {
   place = place;
@@ -21,7 +21,7 @@ row_of R tag text place part = record {
   listing = listing R tag part.kind (cut_of text part);
 }
 
--- the rows of parts, from a place on
+-- the rows of these parts of a tag, from a place on
 abbrev pub part_rows : List EntryParts → TagForm → (text : List ℕ) → (place : ℕ) → List Part → List Row
 part_rows R tag text place [] = []
 part_rows R tag text place (part ∷ parts) = row_of R tag text place part ∷ part_rows R tag text (place + 1) parts
@@ -32,15 +32,15 @@ whole_by text None = []
 whole_by text (Some e) =
     record { place = 1; subject = subjects.Whole; start = 0; length = length text; listing = listings.Record e.number } ∷ []
 
--- that of a tag that is registered as redundant; the row of a grandfathered tag is that of its one part (RFC 5646, 2.2.8)
+-- the row of a tag that is registered as a whole; a grandfathered tag has that of its one part (RFC 5646, 2.2.8)
 abbrev pub whole_rows : List EntryParts → TagForm → List Row
 whole_rows R (Grandfathered number) = []
 whole_rows R tag = whole_by (text_of tag) (whole R tag)
 
--- the rows of a tag
+-- the rows for a tag: of the whole, if that is registered, and of its parts
 abbrev pub rows_of : List EntryParts → TagForm → List Row
 rows_of R tag = whole_rows R tag ++ part_rows R tag (text_of tag) 1 (parts_of tag)
 
--- what a row is about in the text of its tag
+-- the text that a row is about, out of the tag's text
 abbrev pub text_in : (text : List ℕ) → Row → List ℕ
 text_in text row = take row.length (drop row.start text)

@@ -18,11 +18,11 @@ use Rattle.lt_show.specs.declared.tables.Widths.{Widths}
 abbrev pub padded : ℕ → List ℕ → List ℕ
 padded width cell = cell ++ (replicate (width - length cell) 32 ++ 32 ∷ 32 ∷ [])
 
--- the byte that is shown for one of a body: a space for a control character of ASCII
+-- a byte of a field's body as it is shown: as a space (32) if it is a control character of ASCII
 abbrev pub shown_byte : ℕ → ℕ
 shown_byte byte = if nat_lt byte 32 || (byte == 127) then 32 else byte
 
--- the line of a field: below the second column its name, in a column of 15, and its body
+-- the line of a field: below the second column its name, in a column of 15, then its body
 abbrev pub field_line : Field → List ℕ
 field_line field = codes "     " ++ (padded 15 field.0 ++ (map shown_byte field.1 ++ 10 ∷ []))
 
@@ -41,31 +41,31 @@ widths_of text rows = record {
   text = widest (text_in text) rows;
 }
 
--- what is said of what is listed
+-- what is printed of what a registry has for a part
 abbrev pub listing_text : Listing → List ℕ
 listing_text listings.Unlisted = []
 listing_text listings.Unregistered = codes "not registered"
 listing_text (listings.Record number) = codes "record " ++ decimal number
 
--- the text of a row, and what is listed, if that can be
+-- the end of a row's line: its text, and what the registry has for it, if it lists parts of the kind
 abbrev pub last_cells : ℕ → (cell : List ℕ) → Listing → List ℕ
 last_cells width cell listings.Unlisted = cell
 last_cells width cell listing = padded width cell ++ listing_text listing
 
--- the line of a row: its place, in a column of 3, its name, its text, and what is listed
+-- the line of a row: its place, in a column of 3, what it is about, its text, and what the registry has for it
 abbrev pub row_line : Widths → (text : List ℕ) → Row → List ℕ
 row_line widths text row =
     padded 3 (decimal row.place) ++ (padded widths.subject (subject_name row.subject)
     ++ (last_cells widths.text (text_in text row) row.listing ++ 10 ∷ []))
 
--- a row and its fields
+-- the line of a row, and those of its fields
 abbrev pub row_text : Widths → (text : List ℕ) → List (List Field) → Row → List ℕ
 row_text widths text records row = row_line widths text row ++ fields_text (fields_listed records row.listing)
 
--- rows and their fields
+-- the lines of rows, each followed by those of its fields
 abbrev pub rows_text : (text : List ℕ) → List (List Field) → List Row → List ℕ
 rows_text text records rows = flat_map (row_text (widths_of text rows) text records) rows
 
--- a tag, and the table of its rows
+-- what `show` prints of a tag: its text, and the table of its rows
 abbrev pub table_of : List EntryParts → List (List Field) → TagForm → List ℕ
 table_of R records tag = text_of tag ++ 10 ∷ rows_text (text_of tag) records (rows_of R tag)

@@ -1,4 +1,4 @@
--- What one call wrote to a device.
+-- What a call writes to a device: a text, or a front of it if the device fails.
 use Rattle.std.specs.Prelude.{◌≡◌, ◌++◌, ℕ, List, Option, Result, IfErr, IfOk}
 use Rattle.std.specs.Io.KnownBytes.{Appends}
 use Rattle.lt_jar.specs.Devices.{HasFailed, failures_of, inner_of}
@@ -6,11 +6,11 @@ use Rattle.lt_jar.specs.declared.devices.Device.{Device}
 use Rattle.lt_stream.specs.declared.faults.ToolFault.{ToolFault}
 use Rattle.lt_stream.specs.declared.faults.ToolFault.TheVariants as faults
 
--- the text begins with what was written
+-- `written` is a front of the text
 abbrev pub IsFrontOf : List ℕ → List ℕ → Type 0
 IsFrontOf written text = (rest : List ℕ) × (text ≡ written ++ rest)
 
--- the text was written, or a write failed and the front of the text is there
+-- the text was written; or a write failed, and a front of the text was written
 pub record WritesText {W : Type 0} (contents : W → Option (List ℕ)) (text : List ℕ) (before after : Device W)
     (result : Result (Unit {0}) ToolFault) : Type 0 where
   pub written : List ℕ

@@ -1,4 +1,4 @@
--- The names of the faults that end a run.
+-- The faults that end a run, and the line that is printed for each.
 use Rattle.std.specs.Prelude.{ℕ, List, [], ◌∷◌, ◌++◌, codes}
 use Rattle.std.specs.Fmt.{decimal}
 use Rattle.lt_stream.specs.declared.faults.ToolFault.{ToolFault}
@@ -14,16 +14,17 @@ tool_name_of (faults.BadCsv line) = codes "BadCsv"
 tool_name_of (faults.BadTsv line) = codes "BadTsv"
 tool_name_of faults.Utf16 = codes "Utf16"
 
--- the line of a fault
+-- the line that a fault names, as it is printed
 abbrev pub line_said : ℕ → List ℕ
 line_said line = codes " line " ++ decimal line
 
--- what is said of a fault after its name: the line in which the record at fault begins, or which the row at fault is
+-- what is printed after the name of a fault: the line in which the record of CSV begins, or the row of TSV, that is at
+-- fault
 abbrev pub place_said : ToolFault → List ℕ
 place_said (faults.BadCsv line) = line_said line
 place_said (faults.BadTsv line) = line_said line
 place_said _ = []
 
--- the line that says what ended a run
+-- the line, ended by a line feed (10), for the fault that ended a run
 abbrev pub fault_said : ToolFault → List ℕ
 fault_said fault = codes "! " ++ tool_name_of fault ++ place_said fault ++ 10 ∷ []

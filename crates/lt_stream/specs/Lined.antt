@@ -1,4 +1,4 @@
--- How lines that come in pieces are answered. No public contract cites this.
+-- The state of a run that answers lines which come in pieces. No public contract cites this.
 use Rattle.std.specs.Prelude.{◌≡◌, ◌<◌, ◌-◌, ◌⊎◌, ◌++◌, ℕ, List, [], take, vec_len, Option, Result, Ok, Err, IfErr, IfOk}
 use Rattle.std.specs.List.{AllByRecursion}
 use Rattle.std.specs.Io.KnownBytes.{Appends}
@@ -11,11 +11,12 @@ use Rattle.lt_stream.specs.declared.faults.ToolFault.{ToolFault}
 use Rattle.lt_stream.specs.declared.faults.ToolFault.TheVariants as faults
 use Rattle.lt_stream.specs.declared.lines.Lined.{Lined}
 
--- Lines are written once this many bytes of them are owed, if no read comes before.
+-- answers are written once this many bytes of them wait, and at the latest before the next read
 abbrev pub full : ℕ
 full = 65536
 
--- These bytes were read: their lines are answered, and the answers written or still owed.
+-- These bytes were read. Their whole lines are answered, each answer is written or waits to be, and a front of the rest
+-- is kept.
 pub record IsDuring {A W : Type 0} (Q : Answered A) (longest : ℕ) (contents : W → Option (List ℕ))
     (start now : Device W) (bytes : List ℕ) (state : Lined A) : Type 0 where
   pub some : 0 < longest
@@ -30,13 +31,13 @@ pub record IsDuring {A W : Type 0} (Q : Answered A) (longest : ℕ) (contents : 
   pub kept : state.kept.items ≡ take longest last
   pub answered : Q state.answers lines (written ++ state.owed.items)
 
--- the same, and all that is owed was written
+-- these bytes were read, their whole lines are answered, and all answers are written
 pub record IsTaken {A W : Type 0} (Q : Answered A) (longest : ℕ) (contents : W → Option (List ℕ))
     (start now : Device W) (bytes : List ℕ) (state : Lined A) : Type 0 where
   pub during : IsDuring Q longest contents start now bytes state
   pub emptied : state.owed.items ≡ []
 
--- all lines of these bytes are answered, and the answers written or still owed
+-- all lines of these bytes are answered, the last too, and each answer is written or waits to be
 pub record IsAnswered {A W : Type 0} (Q : Answered A) (contents : W → Option (List ℕ))
     (start now : Device W) (bytes : List ℕ) (state : Lined A) : Type 0 where
   pub written : List ℕ
@@ -44,7 +45,7 @@ pub record IsAnswered {A W : Type 0} (Q : Answered A) (contents : W → Option (
   pub same : failures_of now ≡ failures_of start
   pub answered : Q state.answers (lines_of bytes) (written ++ state.owed.items)
 
--- a write failed, or memory ran out
+-- a write failed or memory ran out, and what was written is a front of the answers
 pub record IsCutOff {A W : Type 0} (Q : Answered A) (contents : W → Option (List ℕ)) (start now : Device W)
     (bytes : List ℕ) (fault : ToolFault) : Type 0 where
   pub written : List ℕ
@@ -53,13 +54,13 @@ pub record IsCutOff {A W : Type 0} (Q : Answered A) (contents : W → Option (Li
   pub stop : ((fault ≡ faults.Write) × HasFailed start now)
       ⊎ ((fault ≡ faults.OutOfMemory) × (failures_of now ≡ failures_of start))
 
--- a piece ends a run by that alone
+-- a piece can end a run only by a failed write or by lack of memory
 abbrev pub Stops : {A W : Type 0} → Answered A → (W → Option (List ℕ)) → (start now : Device W) → List ℕ
     → Result (Unit {0}) ToolFault → Type 0
 Stops Q contents start now bytes (Ok _) = ⊥
 Stops Q contents start now bytes (Err fault) = IsCutOff Q contents start now bytes fault
 
--- the lines of all bytes are answered, and all that is owed was written
+-- all lines of these bytes are answered, and all answers are written
 pub record IsAll {A W : Type 0} (Q : Answered A) (contents : W → Option (List ℕ))
     (start now : Device W) (bytes : List ℕ) (answers : A) : Type 0 where
   pub written : List ℕ
@@ -67,7 +68,7 @@ pub record IsAll {A W : Type 0} (Q : Answered A) (contents : W → Option (List 
   pub same : failures_of now ≡ failures_of start
   pub answered : Q answers (lines_of bytes) written
 
--- so the lines end, or by a write or memory
+-- how a run ends after the reader's last byte: all answers are written, or a write failed or memory ran out
 abbrev pub Finishes : {A W : Type 0} → Answered A → (W → Option (List ℕ)) → (start now : Device W) → List ℕ
     → Lined A → Result (Unit {0}) ToolFault → Type 0
 Finishes Q contents start now bytes state (Ok _) = IsAll Q contents start now bytes state.answers
@@ -75,23 +76,23 @@ Finishes Q contents start now bytes state (Err fault) = IsCutOff Q contents star
 
 -- ---- the steps
 
--- the line goes on with this part, of which no more is kept than is needed
+-- `part` was added to the line that is kept, of which no more than `longest` bytes are kept
 pub record KeepsMore {A : Type 0} (longest : ℕ) (part : List ℕ) (old new : Lined A) : Type 0 where
   pub kept : new.kept.items ≡ old.kept.items ++ take (longest - vec_len old.kept) part
   pub owed : new.owed.items ≡ old.owed.items
   pub same : new.answers ≡ old.answers
 
--- the line of which this was kept is answered
+-- the kept line is whole, and was answered
 pub record EndsLine {A : Type 0} (Q : A → Answered A) (longest : ℕ) (old new : Lined A) : Type 0 where
   pub emptied : new.kept.items ≡ []
   pub takes : TakesLine Q longest old.kept.items old.owed.items new.owed.items old.answers new.answers
 
--- a last line is answered, if there is any
+-- the kept line, if anything is kept, was answered as the last
 abbrev pub EndsLast : {A : Type 0} → (A → Answered A) → ℕ → (old new : Lined A) → Type 0
 EndsLast Q longest old new = ((old.kept.items ≡ []) × (new ≡ old))
     ⊎ ((old.kept.items ≡ [] → ⊥) × EndsLine Q longest old new)
 
--- some of what is owed was written
+-- some of the answers that wait were written; or a write failed
 pub record WritesOwed {A W : Type 0} (contents : W → Option (List ℕ)) (old new : Lined A) (before after : Device W)
     (result : Result (Unit {0}) ToolFault) : Type 0 where
   pub part : List ℕ

@@ -1,4 +1,4 @@
--- What a run over the lines of a reader read and wrote, and how it ended.
+-- What a run over the lines of a reader reads and writes, and how it ends.
 use Rattle.std.specs.Prelude.{◌≡◌, ◌<◌, ◌≤◌, ◌+◌, ◌^◌, ◌++◌, ◌∷◌, ℕ, List, [], length, take, Option, Result, Ok, Err}
 use Rattle.std.specs.List.{AllByRecursion}
 use Rattle.std.specs.Io.KnownBytes.{Appends, Consumes, IsAtEnd}
@@ -10,11 +10,11 @@ use Rattle.lt_stream.specs.Running.{HasRead}
 use Rattle.lt_stream.specs.declared.faults.ToolFault.{ToolFault}
 use Rattle.lt_stream.specs.declared.faults.ToolFault.TheVariants as faults
 
--- what holds of what answers lines once it has answered these, by these bytes in all
+-- a statement on a state that answers lines: that it has answered these lines by these bytes
 abbrev pub Answered : Type 0 → Type 1
 Answered A = A → List (List ℕ) → List ℕ → Type 0
 
--- so few lines were answered that a count of them has room for one more
+-- fewer lines were answered than a count of 64 bits can count
 pub record HasLine {A : Type 0} (Q : A → Answered A) (answers : A) : Type 0 where
   pub first : A
   pub lines : List (List ℕ)
@@ -22,7 +22,7 @@ pub record HasLine {A : Type 0} (Q : A → Answered A) (answers : A) : Type 0 wh
   pub answered : Q first answers lines bytes
   pub few : length lines + 1 < 2 ^ 64
 
--- bytes were appended that answer each line of which this front is kept
+-- bytes were appended that answer each line whose first bytes, at most `longest`, are `front`
 pub record TakesLine {A : Type 0} (Q : A → Answered A) (longest : ℕ) (front owed owed' : List ℕ) (old new : A) : Type 0 where
   pub part : List ℕ
   pub grown : owed' ≡ owed ++ part
@@ -50,7 +50,7 @@ pub record IsBegun {A : Type 0} (Q : Answered A) (bytes written : List ℕ) : Ty
   pub rest : List ℕ
   pub front : all ≡ written ++ rest
 
--- the reader was read to its end, and what answers its lines was written
+-- the reader was read to its end, and the answers to its lines were written
 pub record IsDone {I A : Type 0} (Q : Answered A) (remaining : I → Option (List ℕ)) (input' : Device I)
     (read written : List ℕ) (answers : A) : Type 0 where
   pub end : IsAtEnd (remaining (inner_of input'))
@@ -62,7 +62,8 @@ pub record IsStoppedByRead {I A : Type 0} (Q : Answered A) (input input' : Devic
   pub failed : HasFailed input input'
   pub owed : IsAnsweredToLastFeed Q read written answers
 
--- the most reads were made, the last of them gave bytes, and the lines up to the last line feed are answered
+-- the most reads that a run may make were made, the last still gave bytes, and the lines up to the last line feed are
+-- answered
 pub record IsStoppedByTurns {I A : Type 0} (Q : Answered A) (input' : Device I) (reads : ℕ) (read written : List ℕ)
     (answers : A) : Type 0 where
   pub all_made : reads ≡ most_reads
@@ -70,7 +71,7 @@ pub record IsStoppedByTurns {I A : Type 0} (Q : Answered A) (input' : Device I) 
   pub last_gave : 0 < last_given_of input'
   pub owed : IsAnsweredToLastFeed Q read written answers
 
--- how the run ended
+-- how the run ended: done, or with a fault; an end by OutOfMemory says nothing more
 abbrev pub EndsAs : {I O A : Type 0} → Answered A → (I → Option (List ℕ)) → (input input' : Device I)
     → (output output' : Device O) → ℕ → (read written : List ℕ) → A → Result (Unit {0}) ToolFault → Type 0
 EndsAs Q remaining input input' output output' reads read written answers (Ok _) =
@@ -83,7 +84,7 @@ EndsAs Q remaining input input' output output' reads read written answers (Err f
 EndsAs Q remaining input input' output output' reads read written answers (Err faults.OutOfMemory) = Unit {0}
 EndsAs Q remaining input input' output output' reads read written answers (Err _) = ⊥
 
--- A run that answers the lines of a reader. Whatever ended it, what was written is a front of what is owed.
+-- A run that answers the lines of a reader. Whatever ended it, what was written is a front of the answers.
 pub record RunsOverLines {I O A : Type 0} (Q : Answered A) (remaining : I → Option (List ℕ))
     (contents : O → Option (List ℕ)) (input input' : Device I) (output output' : Device O) (answers : A)
     (result : Result (Unit {0}) ToolFault) : Type 0 where

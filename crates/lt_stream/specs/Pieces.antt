@@ -1,4 +1,4 @@
--- What a run over the pieces of a reader read, and how it ended.
+-- What a run over the pieces of a reader's bytes reads, and how it ends.
 use Rattle.std.specs.Prelude.{◌≡◌, ◌<◌, ◌≤◌, ◌+◌, ◌^◌, ◌⊎◌, ◌++◌, ℕ, List, length, Option, Some, None, Result, Ok, Err}
 use Rattle.std.specs.Io.KnownBytes.{Consumes, IsAtEnd}
 use Rattle.lt_jar.specs.Devices.{HasFailed, failures_of, inner_of, last_given_of}
@@ -8,15 +8,16 @@ use Rattle.lt_stream.specs.Running.{HasRead}
 use Rattle.lt_stream.specs.declared.faults.ToolFault.{ToolFault}
 use Rattle.lt_stream.specs.declared.faults.ToolFault.TheVariants as faults
 
--- a fact of the output at the beginning of a run and now, of the bytes that were read, and of what takes them
+-- a statement on the output at the beginning of a run and now, the bytes that were read, and the state of what takes
+-- them
 abbrev pub RunFact : Type 0 → Type 0 → Type 1
 RunFact O P = O → O → List ℕ → P → Type 0
 
--- the same of an answer too
+-- a statement on a run that ends: as `RunFact`, and on its result
 abbrev pub EndFact : Type 0 → Type 0 → Type 0 → Type 1
 EndFact O P A = O → O → List ℕ → P → Result A ToolFault → Type 0
 
--- of some run it holds, with room for this many bytes more
+-- `T` is true of a run so far, which may read this many further bytes and stay below 2 to the 63
 pub record HasRoom {O P : Type 0} (T : P → RunFact O P) (count : ℕ) (now : O) (state : P) : Type 0 where
   pub first : P
   pub start : O
@@ -24,7 +25,7 @@ pub record HasRoom {O P : Type 0} (T : P → RunFact O P) (count : ℕ) (now : O
   pub taken : T first start now read state
   pub few : length read + count < 2 ^ 63
 
--- where bytes were taken, a piece more was; or that ended the run
+-- if `T` is true before a piece, it is true after it too, or `S` is true of the run that the piece ends
 abbrev pub TakesPiece : {O P A : Type 0} → (P → RunFact O P) → (P → EndFact O P A) → List ℕ → (before after : O) → (old new : P)
     → Result (Option A) ToolFault → Type 0
 TakesPiece {O = O} {P = P} T S piece before after old new (Ok None) =
@@ -36,33 +37,33 @@ TakesPiece {O = O} {P = P} T S piece before after old new (Err fault) =
     (first : P) (start : O) (read : List ℕ) → T first start before read old
     → S first start after (read ++ piece) new (Err fault)
 
--- the bytes that were taken are all
+-- if `T` is true after the reader's last byte, `F` is true of the run that ends there
 abbrev pub FinishesPieces : {O P A : Type 0} → (P → RunFact O P) → (P → EndFact O P A) → (before after : O) → (old new : P)
     → Result A ToolFault → Type 0
 FinishesPieces {O = O} {P = P} T F before after old new result =
     (first : P) (start : O) (read : List ℕ) → T first start before read old → F first start after read new result
 
--- the reader was read to its end
+-- the reader was read to its end, and `F` is true
 pub record IsFinished {I A : Type 0} (F : List ℕ → Result A ToolFault → Type 0) (remaining : I → Option (List ℕ))
     (input input' : Device I) (read : List ℕ) (result : Result A ToolFault) : Type 0 where
   pub end : IsAtEnd (remaining (inner_of input'))
   pub same : failures_of input' ≡ failures_of input
   pub finished : F read result
 
--- a piece ended the run
+-- a piece ended the run, and `S` is true
 pub record IsStopped {I A : Type 0} (S : List ℕ → Result A ToolFault → Type 0) (input input' : Device I)
     (read : List ℕ) (result : Result A ToolFault) : Type 0 where
   pub same : failures_of input' ≡ failures_of input
   pub stopped : S read result
 
--- a read failed
+-- a read failed, and `T` is true of what was read before
 pub record IsStoppedByRead {I A : Type 0} (T : List ℕ → Type 0) (input input' : Device I)
     (read : List ℕ) (result : Result A ToolFault) : Type 0 where
   pub fault : result ≡ Err faults.Read
   pub failed : HasFailed input input'
   pub taken : T read
 
--- all reads were made, and the last gave bytes
+-- the most reads that a run may make were made, the last still gave bytes, and `T` is true
 pub record IsStoppedByTurns {I A : Type 0} (T : List ℕ → Type 0) (input input' : Device I) (reads : ℕ)
     (read : List ℕ) (result : Result A ToolFault) : Type 0 where
   pub fault : result ≡ Err faults.TooManyTurns
@@ -72,14 +73,14 @@ pub record IsStoppedByTurns {I A : Type 0} (T : List ℕ → Type 0) (input inpu
   pub last_gave : 0 < last_given_of input'
   pub taken : T read
 
--- there was no memory for a piece
+-- there was no memory for a piece, and `T` is true of what was read
 pub record IsWithoutMemory {I A : Type 0} (T : List ℕ → Type 0) (input input' : Device I)
     (read : List ℕ) (result : Result A ToolFault) : Type 0 where
   pub fault : result ≡ Err faults.OutOfMemory
   pub same : failures_of input' ≡ failures_of input
   pub taken : T read
 
--- a run over the pieces of a reader
+-- a run over the pieces of a reader, and the way in which it ended
 pub record RunsPieces {I O P A : Type 0} (T : RunFact O P) (S F : EndFact O P A) (remaining : I → Option (List ℕ))
     (input input' : Device I) (start now : O) (state : P) (result : Result A ToolFault) : Type 0 where
   pub read : List ℕ

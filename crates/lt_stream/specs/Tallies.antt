@@ -10,7 +10,7 @@ pub record Refused : Type 0 where
   pub fault : List ℕ
   pub text : List ℕ
 
--- that line
+-- the `Refused` of these parts
 abbrev pub refused : ℕ → (fault text : List ℕ) → Refused
 refused number fault text = record { number = number; fault = fault; text = text }
 
@@ -18,7 +18,7 @@ refused number fault text = record { number = number; fault = fault; text = text
 abbrev pub is_by : (fault : List ℕ) → Refused → Bool
 is_by fault line = bytes_eq fault line.fault
 
--- how many of these lines were refused by the fault, and the number and the text of the first of them
+-- the tally of one fault: how many of these lines it refused, and the number and text of the first of them
 pub record IsTally (lines : List Refused) (tally : Tally) : Type 0 where
   pub count : tally.lines ≡ count_by (is_by tally.fault.items) lines
   pub earliest : Refused
@@ -26,11 +26,11 @@ pub record IsTally (lines : List Refused) (tally : Tally) : Type 0 where
   pub number : tally.first ≡ earliest.number
   pub text : tally.text.items ≡ earliest.text
 
--- the names of the faults
+-- the names of the faults that are tallied
 abbrev pub faults_of : List Tally → List (List ℕ)
 faults_of tallies = map (λ tally. tally.fault.items) tallies
 
--- the tallies of these lines: one for each fault
+-- the tallies of these lines: one for each fault that refused any, and no fault twice
 pub record AreTallies (lines : List Refused) (tallies : List Tally) : Type 0 where
   pub each : AllByRecursion (IsTally lines) tallies
   pub once : IsDistinct bytes_eq (faults_of tallies)

@@ -1,11 +1,11 @@
--- A piece of a text in eight lanes.
+-- A piece of a text as eight bytes that are looked at together.
 use Rattle.std.specs.Prelude.{ℕ, ◌++◌, ◌-◌, ◌==◌, if◌then◌else◌, List, length, replicate}
 use lib.Count.{count_trailing_zeros}
 
--- the bytes, and then zeros up to eight
+-- the bytes of a piece, and then zeros up to eight
 abbrev pub padded : List ℕ → List ℕ
 padded s = s ++ replicate (8 - length s) 0
 
--- the lowest bit that is set in a mask, or this many where none is
+-- the number of the lowest bit that is set in a mask, or `lanes` if none is
 abbrev pub first_set : ℕ → ℕ → ℕ
 first_set mask lanes = if mask == 0 then lanes else count_trailing_zeros 64 mask

@@ -16,13 +16,13 @@ subtag_of piece =
     then (if nat_le (length piece) 8 then Ok (folded piece) else Err faults.TooLong)
     else Err faults.BadByte)
 
--- the letters of a subtag in a case
+-- a subtag with its letters in this case
 abbrev pub cased : Case → List ℕ → List ℕ
 cased cases.Lower s = s
 cased cases.Upper s = upper s
 cased cases.Title s = title s
 
--- the names of the faults
+-- the name of a fault of a piece, as it is printed
 abbrev pub name_of : SubtagFault → List ℕ
 name_of faults.Empty = codes "Empty"
 name_of faults.BadByte = codes "BadByte"

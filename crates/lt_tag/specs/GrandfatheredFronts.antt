@@ -1,7 +1,8 @@
--- How the texts of the 26 grandfathered tags begin, by their lengths.
+-- Whether a text may be one of the 26 grandfathered tags, by its length and first byte, so that few are searched for.
 use Rattle.std.specs.Prelude.{ℕ, ◌==◌, ◌||◌, Bool, false, if◌then◌else◌}
 
--- one of the texts has this many bytes and begins so
+-- whether one of the 26 texts has this many bytes and this first byte (105 is `i`, 110 `n`, 122 `z`, 101 `e`, 115 `s`,
+-- 97 `a`, 99 `c`)
 abbrev pub begins_listed : ℕ → ℕ → Bool
 begins_listed length first =
     if length == 5 || length == 7 then first == 105

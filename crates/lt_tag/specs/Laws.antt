@@ -1,4 +1,4 @@
--- What follows from the definitions alone.
+-- What follows from the definitions of tags and texts alone, without a registry.
 use Rattle.std.specs.Prelude.{ℕ, ◌≡◌, ◌≤◌, ◌↔◌, List, length}
 use Rattle.lt_subtag.specs.Bytes.{folded}
 use Rattle.lt_tag.specs.Parts.{CoreParts, TagForm}

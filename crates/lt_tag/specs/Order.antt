@@ -8,7 +8,7 @@ use Rattle.std.specs.declared.cmp.Ordering.{Ordering}
 use Rattle.lt_tag.specs.Parts.{CoreParts, ExtensionParts, TagForm}
 use Rattle.lt_tag.specs.Values.{core_of, extensions_of, private_of, number_of}
 
--- the order of the bytes
+-- the order of subtags: that of their bytes
 abbrev pub subtag_cmp : List ℕ → List ℕ → Ordering
 subtag_cmp = slice_cmp nat_cmp
 
@@ -37,21 +37,21 @@ tag_cmp t u =
 
 -- ---- what is fed to a hasher: the parts in that order
 
--- what is fed of a subtag
+-- what a hasher is fed of a subtag
 abbrev pub subtag_writes : List ℕ → fed.HashWrites
 subtag_writes = fed.slice fed.u8
 
--- what is fed of a core
+-- what a hasher is fed of a core
 abbrev pub core_writes : CoreParts → fed.HashWrites
 core_writes c =
     subtag_writes c.language ++ fed.slice subtag_writes c.extlangs ++ fed.option subtag_writes c.script
     ++ fed.option subtag_writes c.region ++ fed.slice subtag_writes c.variants
 
--- what is fed of an extension
+-- what a hasher is fed of an extension
 abbrev pub extension_writes : ExtensionParts → fed.HashWrites
 extension_writes e = fed.u8 e.singleton ++ fed.slice subtag_writes e.subtags
 
--- what is fed of a tag
+-- what a hasher is fed of a tag
 abbrev pub tag_writes : TagForm → fed.HashWrites
 tag_writes t =
     fed.option core_writes (core_of t) ++ fed.slice extension_writes (extensions_of t)

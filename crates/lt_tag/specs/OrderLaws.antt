@@ -36,17 +36,17 @@ tag_total =
 
 -- ---- what a comparison of two parts says of each
 
--- that false is true gives anything
+-- from false being true anything follows
 unequal : {A : Type 0} → false ≡ true → A
 unequal e = absurd (true≢false (sym e))
 
--- what is equal by two orders is so by the first
+-- what is equal by two orders, one after the other, is equal by the first
 then_first : (r s : Ordering) → ordering_then r s ≡ Equal → r ≡ Equal
 then_first Less s e = unequal (ap is_eq e)
 then_first Equal s e = refl
 then_first Greater s e = unequal (ap is_eq e)
 
--- and by the second
+-- what is equal by two orders, one after the other, is equal by the second
 then_second : (r s : Ordering) → ordering_then r s ≡ Equal → s ≡ Equal
 then_second Less s e = unequal (ap is_eq e)
 then_second Equal s e = e
@@ -63,11 +63,11 @@ options_apart same (Some x) (Some y) e = ap Some (same x y e)
 subtags_apart : IsAntisymmetric subtag_cmp
 subtags_apart = slice_cmp-IsAntisymmetric nat_cmp-IsAntisymmetric
 
--- and that of lists of subtags
+-- the order of lists of subtags tells any two apart
 lists_apart : IsAntisymmetric list_cmp
 lists_apart = slice_cmp-IsAntisymmetric subtags_apart
 
--- and that of cores
+-- the order of cores tells any two apart
 pub cores_apart : IsAntisymmetric core_cmp
 cores_apart c d e =
     let after_language = then_second _ _ e in
@@ -80,14 +80,14 @@ cores_apart c d e =
     let v = lists_apart c.variants d.variants (then_second _ _ after_script) in
     λ i. record { language = a i; extlangs = b i; script = s i; region = r i; variants = v i }
 
--- and that of extensions
+-- the order of extensions tells any two apart
 pub extensions_apart : IsAntisymmetric extension_cmp
 extensions_apart a b e =
     let s = nat_cmp-IsAntisymmetric a.singleton b.singleton (then_first _ _ e) in
     let l = lists_apart a.subtags b.subtags (then_second _ _ e) in
     λ i. record { singleton = s i; subtags = l i }
 
--- and that of tags
+-- the order of tags tells any two apart
 pub tags_apart : IsAntisymmetric tag_cmp
 tags_apart (LangTag c es ps) (LangTag d fs qs) e =
     let after_core = then_second _ _ e in
@@ -106,11 +106,11 @@ tags_apart (Grandfathered m) (PrivateUse qs) e =
     let more : Greater ≡ Equal = then_second (list_cmp [] qs) Greater e in unequal (ap is_eq more)
 tags_apart (Grandfathered m) (Grandfathered n) e = ap Grandfathered (nat_cmp-IsAntisymmetric m n e)
 
--- what is equal by such an order is the same
+-- what is equal by an order that tells any two apart is the same
 pub the_same : {A : Type 0} {R : A → A → Ordering} → IsAntisymmetric R → (x y : A) → eq_by_cmp R x y ≡ true → x ≡ y
 the_same {R = R} apart x y e = apart x y ((Equal-is (R x y)).0 e)
 
--- and nothing else is
+-- by a total order that tells any two apart, exactly what is the same is equal
 pub same_exactly : {A : Type 0} {R : A → A → Ordering} → IsTotalOrder R
     → IsAntisymmetric R → (x y : A) (b : Bool) → b ≡ eq_by_cmp R x y → IsTrue b ↔ (x ≡ y)
 same_exactly {R = R} total apart x y b e = (

@@ -1,4 +1,4 @@
--- Langtags without extensions and private use, as lists.
+-- The lists of langtags without extensions and private use, and what may follow in one.
 use Rattle.std.specs.Prelude.{ℕ, ◌≡◌, ◌-◌, ◌&&◌, if◌then◌else◌, List, length, Option, Some, None, nat_lt, nat_le}
 use Rattle.lt_subtag.specs.Shapes.{is_extlang, is_script, is_region, is_variant}
 use Rattle.lt_tag.specs.Parts.{CoreParts}
@@ -8,14 +8,14 @@ use Rattle.lt_tag.specs.WellFormed.{IsNotGrandfathered}
 use Rattle.lt_tag.specs.declared.plain_langtags.Room.{Room}
 use Rattle.lt_tag.specs.declared.plain_langtags.Room.TheVariants as rooms
 
--- the list of such a langtag
+-- the list is that of a langtag without extensions and private use
 pub record IsPlainLangTag (list : List (List ℕ)) : Type 0 where
   pub core : CoreParts
   pub shaped : IsCore core
   pub spelled : spell_core core ≡ list
   pub other : IsNotGrandfathered list
 
--- how many extlangs may still follow a core that takes a script
+-- how many extlangs may still follow a core that has no script and nothing after one
 abbrev pub extlangs_left : CoreParts → ℕ
 extlangs_left core = if nat_le (length core.language) 3 then 3 - length core.extlangs else 0
 
@@ -25,7 +25,7 @@ room_of core =
     if takes_script core then rooms.Extlangs (extlangs_left core)
     else (if takes_region core then rooms.Region else rooms.Variants)
 
--- what may follow once one more subtag is there, if it may
+-- what may follow once a further subtag is there; None if that may not follow
 abbrev pub room_after : Room → List ℕ → Option Room
 room_after (rooms.Extlangs left) s =
     if is_extlang s && nat_lt 0 left then Some (rooms.Extlangs (left - 1))

@@ -1,8 +1,8 @@
--- What a person is told of a fault: its name, what it means, and what to do.
+-- The message on each fault that a person at a terminal gets: its name, what it means, and what to do.
 use Rattle.std.specs.Prelude.{ℕ, Bool, List, [], ◌∷◌, ◌++◌, ◌&&◌, Option, codes, drop, find, length, nat_eq}
 use Rattle.std.specs.List.{starts_with}
 
--- a text that is no tag, or no valid one
+-- messages on a text that is no tag, no valid one, or has no canonical form, and on a row
 abbrev pub tag_faults : List (List ℕ)
 tag_faults =
     codes "BadByte: A byte that is no ASCII letter, digit or hyphen: write zh-Hant for zh_Hant; remove quotes, spaces, a byte order mark." ∷
@@ -27,7 +27,7 @@ tag_faults =
     codes "BadReturn: A carriage return alone is in the record (csv): end lines by line feeds, or put the field in quotes." ∷
     []
 
--- lines that explain no tag
+-- messages on lines that are no right explanation of a tag
 abbrev pub explanation_faults : List (List ℕ)
 explanation_faults =
     codes "NoSuchStep: The step of the line leads nowhere (verify): mend the line, or name the registry by which the tag was explained." ∷
@@ -35,7 +35,7 @@ explanation_faults =
     codes "BadStep: The line is that of no step, has another tag than its step leads to, is missing, or comes after the end (verify): mend it." ∷
     []
 
--- a file that is no registry
+-- messages on a file that is no registry
 abbrev pub file_faults : List (List ℕ)
 file_faults =
     codes "BadLine: Neither a field, %%, nor a continuation. This is no registry, or not its plain text: get one from https://www.iana.org/assignments/language-subtag-registry/language-subtag-registry, or remove a byte order mark." ∷
@@ -46,7 +46,7 @@ file_faults =
     codes "ok 0: There is no entry. This is no registry, or an empty file: get one from https://www.iana.org/assignments/language-subtag-registry/language-subtag-registry." ∷
     []
 
--- a record that gives no entry
+-- messages on a registry's record that gives no entry
 abbrev pub record_faults : List (List ℕ)
 record_faults =
     codes "RepeatedField: Type, Subtag, Tag or Preferred-Value stands twice: keep one." ∷
@@ -60,7 +60,7 @@ record_faults =
     codes "BadPrefix: A Prefix that is no list of subtags: mend it." ∷
     []
 
--- a file that is no table of codes
+-- messages on a file that is no table of codes
 abbrev pub table_faults : List (List ℕ)
 table_faults =
     codes "BadRow: A line of the table of codes has not five fields: see whether it is ISO-639-2_utf-8.txt." ∷
@@ -69,7 +69,7 @@ table_faults =
     codes "TableTooLong: The table of codes has more than 1,048,576 bytes: see whether it is one." ∷
     []
 
--- a condition that fails
+-- messages on a condition that fails: of the check of a registry (C), or of an upgrade (U)
 abbrev pub conditions : List (List ℕ)
 conditions =
     codes "C1: An earlier record has the same kind and name, or the same tag: remove one of the two." ∷
@@ -92,7 +92,7 @@ conditions =
     codes "U6: By the newer registry a whole tag and its older value lead to two canonical tags: lead both to one." ∷
     []
 
--- what ends a run
+-- messages on what ends a run
 abbrev pub stream_faults : List (List ℕ)
 stream_faults =
     codes "File: A file can't be opened: see whether its name is right, and whether you may read it." ∷
@@ -105,14 +105,14 @@ stream_faults =
     codes "Utf16: The input is in UTF-16: write it in UTF-8, as by iconv -f UTF-16 -t UTF-8." ∷
     []
 
--- all messages, in the order in which they are looked through
+-- all messages, in the order in which they are searched
 abbrev pub messages : List (List ℕ)
 messages = tag_faults ++ explanation_faults ++ file_faults ++ record_faults ++ table_faults ++ conditions ++ stream_faults
 
--- whether a message is that of the fault that a word names
+-- whether this is the message on the fault that a word names
 abbrev pub is_of : (message word : List ℕ) → Bool
 is_of message word = starts_with nat_eq message word && starts_with nat_eq (drop (length word) message) (codes ": ")
 
--- what a person is told of the fault that a word names; nothing of a word that names none
+-- the message on the fault that a word names, if it names one
 unfoldable pub message_of : List ℕ → Option (List ℕ)
 message_of word = find (λ message. is_of message word) messages

@@ -1,4 +1,4 @@
--- A run of the program for a person at a terminal.
+-- A run of the program for a person at a terminal, who is told after it what it came to.
 use Rattle.std.specs.Prelude.{◌≡◌, ◌⊎◌, ◌==◌, ◌++◌, ◌||◌, ℕ, Bool, true, false, if◌then◌else◌, List, [], ◌∷◌, Option, Some, None, codes, map, nat_eq, take}
 use Rattle.std.specs.List.{before_first, slice_split, starts_with}
 use Rattle.std.specs.Option.{option_or}
@@ -17,7 +17,7 @@ use Rattle.lt_tool.specs.Streams.{IsUntouched, Stream, handed, stream}
 use Rattle.lt_tool.specs.Written.{Says}
 use Rattle.lt_tool.specs.declared.answered.Answered.{Answered}
 
--- what a command answers one by one, if it does: lines, records, or tags
+-- what a command answers one by one (lines, records or tags), if it does
 abbrev pub unit_of : Command → Option (List ℕ)
 unit_of (command.Canon run) = Some (codes "line")
 unit_of (command.Codes run table) = Some (codes "line")
@@ -27,12 +27,12 @@ unit_of (command.Json file) = Some (codes "line")
 unit_of (command.Show file tags) = Some (codes "tag")
 unit_of _ = None
 
--- whether a person is told of a run of this command: at a terminal, or where the words ask for a summary
+-- whether a person is told after a run of this command: at a terminal, or where the command line asks for a summary
 abbrev pub is_told : (at_terminal : Bool) → Command → Bool
 is_told at_terminal command = at_terminal || has_summary command
 
--- what the command that the words name answers one by one, if a person is told of its run; nothing where none is, or the words
--- name no command
+-- What the command of the command line answers one by one, if a person is told after its run. The outer None is for
+-- words without a command, or for a command of which nobody is told.
 abbrev pub IsAsked : GivenWords → (at_terminal : Bool) → Option (Option (List ℕ)) → Type 0
 IsAsked words at_terminal (Some unit) =
     (command : Command) × NamesCommand words command × (is_told at_terminal command ≡ true) × (unit ≡ unit_of command)
@@ -40,16 +40,16 @@ IsAsked words at_terminal None =
     ((why : WordsFault) × IsProgramFault words why)
     ⊎ ((command : Command) × NamesCommand words command × (is_told at_terminal command ≡ false))
 
--- the message for the first word that names a fault
+-- the message on the first of these words that names a fault
 abbrev pub first_message : List (List ℕ) → Option (List ℕ)
 first_message [] = None
 first_message (word ∷ words) = option_or (message_of word) (first_message words)
 
--- the message for a line: for the whole of it, as for `ok 0`, or for the first of its words that names a fault
+-- the message on a line: on the whole of it, as for `ok 0`, or on its first word that names a fault
 abbrev pub line_message : List ℕ → Option (List ℕ)
 line_message line = option_or (message_of line) (first_message (slice_split (λ byte. byte == 32) line))
 
--- the message for the first line of what was written, if it tells a fault
+-- the message on the first line of what was written, if that names a fault, ended by a line feed (10)
 abbrev pub meaning_of : (front : List ℕ) → List ℕ
 meaning_of front = message_line (line_message (before_first (λ byte. byte == 10) front))
   where
@@ -57,40 +57,41 @@ meaning_of front = message_line (line_message (before_first (λ byte. byte == 10
     message_line None = []
     message_line (Some message) = message ++ 10 ∷ []
 
--- why a file could not be opened, if the errors mean that one could not
+-- why a file could not be opened, if the message on the errors is that one could not
 abbrev pub refusal_of : (refusal meaning : List ℕ) → List ℕ
 refusal_of refusal meaning = if starts_with nat_eq meaning (codes "File: ") then refusal else []
 
--- what is said of what was printed: of answers to lines or records how many were refused, and by which faults; of the one
--- answer of another run, and where a registry was refused, what it means
+-- What a person is told of the output. For lines, records or tags it is how many were refused, and by which faults. For
+-- the one answer of another command, and where a file was refused (status 2), it is the message on it.
 abbrev pub told_of : Option (List ℕ) → (result : ℕ) → Answered → (shown : List ℕ) → List ℕ
 told_of None result answered shown = meaning_of shown
 told_of (Some unit) result answered shown =
     if result == 2 then meaning_of shown else counts_line unit answered.counts ++ tallies_told unit answered.tallies
 
--- a line that tells where a record is, byte by byte as a text that was refused is shown
+-- a line that says where a record is, with `?` for each byte that is no printable byte of ASCII
 abbrev pub place_line : List ℕ → List ℕ
 place_line [] = []
 place_line (byte ∷ place) = map shown_byte (byte ∷ place) ++ 10 ∷ []
 
--- the same, if a registry or an upgrade was refused
+-- the line that says where a record is, if a registry or an upgrade was refused (status 2)
 abbrev pub place_told : (result : ℕ) → (place : List ℕ) → List ℕ
 place_told result place = if result == 2 then place_line place else []
 
--- what is said of the errors; a name that no column has is told there with all names, which are not searched for faults
+-- What a person is told of the errors: the message on them. It is nothing on wrong usage (status 3), where the errors
+-- may list names of columns, which are not searched for faults.
 abbrev pub errors_told : (result : ℕ) → (refusal said : List ℕ) → List ℕ
 errors_told result refusal said = if result == 3 then [] else meaning_of said ++ refusal_of refusal (meaning_of said)
 
--- the lines that a person is told by the front of the output and that of the errors
+-- all lines that a person is told, by the first bytes of the output (`shown`) and of the errors (`said`)
 abbrev pub told_lines : Option (List ℕ) → (result : ℕ) → Answered → (place refusal shown said : List ℕ) → List ℕ
 told_lines unit result answered place refusal shown said =
     told_of unit result answered shown ++ place_told result place ++ errors_told result refusal said
 
--- the front of the bytes that a writer holds, where they are known
+-- `front` is the first bytes, at most 256, of what a writer holds, where that is known
 abbrev pub IsFront : Option (List ℕ) → List ℕ → Type 0
 IsFront contents front = (bytes : List ℕ) → contents ≡ Some bytes → front ≡ take most_kept bytes
 
--- the lines that a person is told of these bytes on the output and those on the errors
+-- the lines that a person is told, by what the output and the errors hold
 pub record AreTold (unit : Option (List ℕ)) (result : ℕ) (answered : Answered) (shown said : Option (List ℕ))
     (lines : List ℕ) : Type 0 where
   pub place : List ℕ
@@ -101,26 +102,26 @@ pub record AreTold (unit : Option (List ℕ)) (result : ℕ) (answered : Answere
   pub of_errors : IsFront said errors_front
   pub lines_are : lines ≡ told_lines unit result answered place refusal output_front errors_front
 
--- a person is told these lines, unless there is no memory for them
+-- a person is told the lines that are due
 pub record SaysLines {T : Type 0} (unit : Option (List ℕ)) (result : ℕ) (answered : Answered) (shown said : Option (List ℕ))
     (people : Stream T) : Type 0 where
   pub lines : List ℕ
   pub are_told : AreTold unit result answered shown said lines
   pub says : Says people lines
 
--- what a person is told after a run that ended so, if one is told of it
+-- what a person is told after a run: nothing, if nobody is told or there is no memory for it, or the lines that are due
 abbrev pub Tells : {T : Type 0} → Option (Option (List ℕ)) → (result : ℕ) → Answered → (shown said : Option (List ℕ)) → Stream T → Type 0
 Tells None result answered shown said people = IsUntouched people
 Tells (Some unit) result answered shown said people =
     IsUntouched people ⊎ SaysLines unit result answered shown said people
 
--- a device whose writer is watched, and was not written so far
+-- a device that keeps the first bytes that are written to it for its writer `inner`, and was not written so far
 pub record IsWatched {W : Type 0} (inner : W) (device : Device (Watched W)) : Type 0 where
   pub holds : (inner_of device).inner ≡ inner
   pub none_kept : (inner_of device).front.items ≡ []
   pub new : IsNew (inner_of device) device
 
--- The program is run, on devices that pass on what it writes, and then a person is told what it came to.
+-- The program is run on devices that pass on what it writes, and then a person is told what it came to.
 pub record RunsForPeople {P F N I O E T : Type 0} (words : GivenWords)
     (opener : Opener P F) (of_none : N → Option (List ℕ)) (input : Stream I)
     (of_output : Watched O → Option (List ℕ)) (output : O) (of_errors : Watched E → Option (List ℕ)) (errors : E)

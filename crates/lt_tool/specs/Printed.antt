@@ -1,4 +1,4 @@
--- What the program prints, and how it ends.
+-- What a run of each command reads and prints, and with which exit status it ends.
 use Rattle.std.specs.Prelude.{◌≡◌, ◌⊎◌, ◌-◌, ℕ, Bool, true, false, List, [], ◌∷◌, ◌++◌, ◌==◌, if◌then◌else◌, Option, Some, Result, Ok, Err, MatchResult, is_some, string_bytes}
 use Rattle.std.specs.Borrow.{Bor, MutBor}
 use Rattle.std.specs.Io.Chain.{chain_remaining}
@@ -62,11 +62,11 @@ use Rattle.lt_tool.specs.Written.{LacksMemory, LacksRest, Prints, Says}
 use Rattle.lt_tool.specs.declared.status.Status.{Status}
 use Rattle.lt_tool.specs.declared.status.Status.TheVariants as status
 
--- the class of a tag and its text in conventional case, ended by a line feed
+-- the line of `classify`: the class of a tag, a space (32), its text in conventional case and a line feed (10)
 abbrev pub class_line : TagForm → List ℕ
 class_line form = class_word (class_of form) ++ 32 ∷ [] ++ conventional (spell form) ++ 10 ∷ []
 
--- what `classify` prints for a text, and how it ends
+-- the line that `classify` prints for a text, and its status: Done for a tag, Refused for a text that is none
 abbrev pub Classifies : List ℕ → List ℕ → Status → Type 0
 Classifies text line status.Done = (form : TagForm) × HasTag text form × (line ≡ class_line form)
 Classifies text line status.Refused =
@@ -75,7 +75,7 @@ Classifies text line status.RegistryRefused = ⊥
 Classifies text line status.Usage = ⊥
 Classifies text line status.Failed = ⊥
 
--- a run that prints a line of which this holds
+-- a run prints a line with an exit status, of both of which `IsAnswer` is true
 pub record PrintsAnswer {O E : Type 0} (IsAnswer : List ℕ → Status → Type 0)
     (output : Stream O) (errors : Stream E) (result : ℕ) : Type 0 where
   pub line : List ℕ
@@ -83,7 +83,7 @@ pub record PrintsAnswer {O E : Type 0} (IsAnswer : List ℕ → Status → Type 
   pub answers : IsAnswer line end
   pub prints : Prints output errors line end result
 
--- such a run, or one that had no memory for its answer
+-- a run prints a line of which `IsAnswer` is true, or had no memory for it
 abbrev pub PrintsOrLacks : {O E : Type 0} → (List ℕ → Status → Type 0) → Stream O → Stream E → ℕ → Type 0
 PrintsOrLacks IsAnswer output errors result =
     LacksMemory output errors result ⊎ PrintsAnswer IsAnswer output errors result
@@ -93,20 +93,21 @@ abbrev pub PrintsResult : {O E : Type 0} → Stream O → Stream E → Result An
 PrintsResult output errors (Ok answer) result = Prints output errors answer.line.items answer.status result
 PrintsResult output errors (Err none) result = LacksMemory output errors result
 
--- how a run over lines ends: what ended it early is said on the errors
+-- how a run over lines ends: without a fault its status says whether a line was refused; a fault is said on the errors
 abbrev pub EndsRun : {E : Type 0} → Stream E → Result Counts ToolFault → ℕ → Type 0
 EndsRun errors (Ok counts) result =
     IsUntouched errors × (result ≡ code_of (if counts.refused == 0 then status.Done else status.Refused))
 EndsRun errors (Err fault) result = Says errors (fault_said fault) × (result ≡ code_of status.Failed)
 
--- The tallies of a run that are handed up: where a write or memory failed, none, since it is not known which answers were
--- written.
+-- the tallies of refused lines that a run hands up: none where a write or memory failed, since it isn't known which
+-- answers were written
 abbrev pub tallies_after : Result Counts ToolFault → List Tally → List Tally
 tallies_after (Err faults.Write) tallies = []
 tallies_after (Err faults.OutOfMemory) tallies = []
 tallies_after end tallies = tallies
 
--- the lines of the input were answered by the registry of the file, and by these codes
+-- the lines of the input were answered by the registry that the file holds and by these codes, and what was refused was
+-- handed up
 pub record RunsCanon {I O E : Type 0} (form : LineForm) (codes : List Code) (reading : Reading)
     (input : Stream I) (output : Stream O) (errors : Stream E) (answered : Handed) (result : ℕ) : Type 0 where
   pub entries : List EntryParts
@@ -121,11 +122,11 @@ pub record RunsCanon {I O E : Type 0} (form : LineForm) (codes : List Code) (rea
 
 -- ---- rows
 
--- the form of rows whose words are these, and whose column has this number
+-- the form of rows by the options on the command line and by the number of the column with the tags, counted from 1
 abbrev pub row_form : Rows → ℕ → RowForm
 row_form rows number = record { before = number - 1; has_heading = rows.heading; is_kept = rows.keep }
 
--- the form of their lines
+-- the form of lines that are rows: TSV where tabs part fields, CSV where a delimiter does
 abbrev pub line_form : Separator → Rows → ℕ → LineForm
 line_form separators.Tab rows number = forms.Row (row_form rows number)
 line_form (separators.Delimiter delimiter) rows number = forms.Csv (row_form rows number) delimiter
@@ -134,11 +135,12 @@ line_form (separators.Delimiter delimiter) rows number = forms.Csv (row_form row
 abbrev pub Ahead : Type 0 → Type 0
 Ahead I = Chain (Bor (List ℕ)) (MutBor (Device I))
 
--- the bytes that it will give, where they are known
+-- the bytes that a reader `Ahead` has still to give, where those of its device are known
 abbrev pub bytes_ahead : {I : Type 0} → (I → Option (List ℕ)) → Ahead I → Option (List ℕ)
 bytes_ahead bytes ahead = chain_remaining (λ front. Some front.now) (λ rest. bytes (inner_of rest.now)) ahead
 
--- the lines of these bytes, where they are known, were answered, some of which were read ahead
+-- the lines were answered from a reader of bytes read ahead and then of the device, which together give `all`, where
+-- they are known
 pub record RunsAfter {I O E : Type 0} (form : LineForm) (codes : List Code) (reading : Reading) (bytes : I → Option (List ℕ))
     (all : Option (List ℕ)) (output : Stream O) (errors : Stream E) (answered : Handed) (result : ℕ) : Type 0 where
   pub before : Device (Ahead I)
@@ -146,14 +148,14 @@ pub record RunsAfter {I O E : Type 0} (form : LineForm) (codes : List Code) (rea
   pub same : Keeps all (bytes_ahead bytes (inner_of before))
   pub runs : RunsCanon form codes reading (stream (bytes_ahead bytes) before after) output errors answered result
 
--- a run that can't go on says why on its errors, and has printed nothing
+-- a run that can't go on has printed nothing, says why on its errors, and ends with the status Usage
 pub record SaysUsage {O E : Type 0} (output : Stream O) (errors : Stream E) (text : List ℕ) (result : ℕ) : Type 0 where
   pub usage : result ≡ code_of status.Usage
   pub unprinted : IsUntouched output
   pub said : Says errors text
 
--- how a run ended by what was found of the column: the lines of all bytes of the input were answered by its number; or no
--- more was read, and the errors say why
+-- How a run ends that looked for a column by its name. If it found the column, it answered the lines of all bytes of
+-- the input. If not, it read no more, and the errors say why.
 abbrev pub EndsNamed : {I O E : Type 0} → Separator → Rows → List Code → Reading → Stream I → (between : Device I) → Stream O
     → Stream E → Handed → ℕ → Result FoundColumn ColumnFault → Type 0
 EndsNamed S rows codes reading input between output errors answered result (Ok found) =
@@ -164,7 +166,7 @@ EndsNamed S rows codes reading input between output errors answered result (Err 
 EndsNamed S rows codes reading input between output errors answered result (Err (column_faults.Heading f)) =
     (input.after ≡ between) × HandsNone answered × IsUntouched output × EndsRun errors (Err f) result
 
--- the column of a name was looked for in the heading of the input
+-- the column was looked for by its name in the heading of the input, and the rows were answered by it, or the run ended
 pub record RunsNamed {I O E : Type 0} (S : Separator) (rows : Rows) (name : List ℕ) (codes : List Code) (reading : Reading)
     (input : Stream I) (output : Stream O) (errors : Stream E) (answered : Handed) (result : ℕ) : Type 0 where
   pub entries : List EntryParts
@@ -174,7 +176,8 @@ pub record RunsNamed {I O E : Type 0} (S : Separator) (rows : Rows) (name : List
   pub finds : FindsColumn S name input.bytes input.before between found
   pub ends : EndsNamed S rows codes reading input between output errors answered result found
 
--- the rows of the input were answered by a column, by the registry of the file and by these codes
+-- the rows of the input were answered by the registry of the file and by these codes, with a column given by number or
+-- by name
 abbrev pub RunsRows : {I O E : Type 0} → Separator → Rows → Column → List Code → Reading → Stream I → Stream O → Stream E → Handed
     → ℕ → Type 0
 RunsRows S rows (columns.Number number) codes reading input output errors answered result =
@@ -184,24 +187,26 @@ RunsRows S rows (columns.Name name) codes reading input output errors answered r
 
 -- ---- a registry, and a table of codes where one is named
 
--- what the lines are was answered by them
+-- the lines of the input were answered as what they are: tags, or rows with a column of tags
 abbrev pub RunsAs : {I O E : Type 0} → Lines → List Code → Reading → Stream I → Stream O → Stream E → Handed → ℕ → Type 0
 RunsAs lines.Tags codes reading input output errors answered result =
     RunsCanon forms.Tag codes reading input output errors answered result
 RunsAs (lines.Rows S rows) codes reading input output errors answered result =
     RunsRows S rows.now rows.now.column codes reading input output errors answered result
 
--- a file is refused: no line is read, and this line says why
+-- a file is refused: no line of the input is read, and a line of which `IsLine` is true says why
 abbrev pub RefusesRun : {I O E : Type 0} → (List ℕ → Status → Type 0) → Stream I → Stream O → Stream E → Handed → ℕ → Type 0
 RefusesRun IsLine input output errors answered result =
     IsUntouched input × HandsNone answered × PrintsOrLacks IsLine output errors result
 
--- the run by the codes of a table, if one is named, or its refusal; else by none, and the table is left as it is
+-- the run by the codes of a table, if one is named, or the refusal of the table; if none is named, the run by no codes,
+-- and no table is read
 abbrev pub RunsBy : {G : Type 0} → (named : Bool) → (List Code → Type 0) → (TableFault → Type 0) → Stream G → Type 0
 RunsBy false Runs Refuses table = IsUntouched table × Runs []
 RunsBy true Runs Refuses table = ReadsCodes table (λ reading. MatchResult reading Runs Refuses)
 
--- The registry is read and judged first. Where it is refused, the table is left as it is.
+-- A run over lines reads and judges the registry first, then a table of codes, if one is named. If the registry is
+-- refused, the table is not read.
 abbrev pub AnswersLines : {F G I O E : Type 0} → (List Code → Reading → Type 0) → (named : Bool) → Stream F → Stream G → Stream I
     → Stream O → Stream E → Handed → ℕ → Type 0
 AnswersLines Runs named first second input output errors answered result = ReadsFile first (λ reading.
@@ -211,26 +216,28 @@ AnswersLines Runs named first second input output errors answered result = Reads
 
 -- ---- commands
 
--- a run that by what the reading of a file gave prints a line of which this holds
+-- a file was read, and the run prints a line of which `IsAnswer` of that reading is true, or had no memory for it
 abbrev pub PrintsByFile : {F O E : Type 0} → (Reading → List ℕ → Status → Type 0)
     → Stream F → Stream O → Stream E → ℕ → Type 0
 PrintsByFile IsAnswer file output errors result =
     ReadsFile file (λ reading. PrintsOrLacks (IsAnswer reading) output errors result)
 
--- the explanation of a text was printed, or the line of a refusal; or there was no memory, at first or for the rest
+-- the explanation of a text, or the line of its refusal, was printed; or there was no memory, for all of it or for its
+-- rest
 abbrev pub ExplainsText : {O E : Type 0} → List EntryParts → List ℕ → Stream O → Stream E → ℕ → Type 0
 ExplainsText R text output errors result =
     PrintsOrLacks (Explains R text) output errors result
     ⊎ ((lines : List ℕ) × IsExplanationTextOf R text lines × LacksRest output errors lines result)
 
--- the same by what the reading of the file gave
+-- what `explain` prints once its registry file was read: why the registry is refused, or the explanation of the text by
+-- it
 abbrev pub ExplainsByFile : {O E : Type 0} → List ℕ → Stream O → Stream E → ℕ → Reading → Type 0
 ExplainsByFile text output errors result reading =
     PrintsOrLacks (RefusesRegistry reading) output errors result
     ⊎ ((R : List EntryParts) × HoldsRegistry reading R × ExplainsText R text output errors result)
 
--- what a run of a command read of the files and of its input, what it wrote to its output and its errors, what it
--- refused of its lines, and its exit status
+-- for each command, what its run read of its files and its input, wrote to its output and its errors, handed up of its
+-- lines, and its exit status
 abbrev pub Performs : {F G I O E : Type 0} → Command → Stream F → Stream G → Stream I → Stream O → Stream E → Handed → ℕ → Type 0
 Performs (command.Classify tag) first second input output errors answered result =
     HandsNone answered × IsUntouched first × IsUntouched second × IsUntouched input
@@ -275,7 +282,7 @@ Performs (command.Json name) first second input output errors answered result =
     HandsNone answered × IsUntouched second
     × ReadsFile first (AnswersInJson (λ IsAnswer. PrintsOrLacks IsAnswer output errors result) input output errors result)
 
--- what a run whose words ask for no command wrote, and its exit status
+-- what a run wrote whose words name no command to perform (help, version, wrong usage, no memory), and its exit status
 abbrev pub Reports : {O E : Type 0} → WordsFault → Stream O → Stream E → ℕ → Type 0
 Reports (fault.Help text) output errors result = Prints output errors (string_bytes text) status.Done result
 Reports (fault.Version text) output errors result = Prints output errors (string_bytes text) status.Done result

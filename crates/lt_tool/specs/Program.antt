@@ -1,4 +1,4 @@
--- A run of the program, from its words to its exit status.
+-- A whole run of the program, from the words of its command line to its exit status.
 use Rattle.std.specs.Prelude.{◌≡◌, ◌≢◌, ◌⊎◌, ℕ, Bool, true, false, List, [], ◌∷◌, ◌++◌, Option, Some, None, String, Vec, Result, Ok, Err, IfErr, IfOk, length, map, codes, string_bytes}
 use Rattle.std.specs.IoError.{error_kind}
 use Rattle.std.specs.Io.KnownBytes.{ReadConsumes}
@@ -21,7 +21,7 @@ use Rattle.lt_tool.specs.declared.status.Status.TheVariants as status
 abbrev pub GivenWords : Type 0
 GivenWords = Result (List (List ℕ)) WordsFault
 
--- the bytes of each word
+-- the words of the command line as bytes, or why they can't be had
 abbrev pub texts_of : Result (Vec (String Global) Global) WordsFault → GivenWords
 texts_of (Ok words) = Ok (map string_bytes words.items)
 texts_of (Err why) = Err why
@@ -36,31 +36,31 @@ abbrev pub IsProgramFault : GivenWords → WordsFault → Type 0
 IsProgramFault (Ok words) f = IsRefused words f
 IsProgramFault (Err why) f = f ≡ why
 
--- what opens files: a call on a name leads from one of its states to the next, with this answer; the bytes of a file;
--- and its state before and after the run
+-- What opens files: `calls` relates its state, a path, the answer (a file or an error) and its next state; `bytes`
+-- gives the bytes of a file, where they are known; `before` and `after` are its states around the run.
 pub record Opener (P F : Type 0) : Type 1 where
   pub calls : P → List ℕ → Result F Error → P → Type 0
   pub bytes : F → Option (List ℕ)
   pub before : P
   pub after : P
 
--- what opens files, by its calls, the bytes of a file, and its two states
+-- an `Opener` of these parts
 abbrev pub opener_of : {P F : Type 0} → (P → List ℕ → Result F Error → P → Type 0)
     → (F → Option (List ℕ)) → (before after : P) → Opener P F
 opener_of calls bytes before after = record { calls = calls; bytes = bytes; before = before; after = after }
 
--- a device that was not read or written so far
+-- a device of `inner` that was not read or written so far
 pub record IsNew {T : Type 0} (inner : T) (device : Device T) : Type 0 where
   pub holds : inner_of device ≡ inner
   pub failures : failures_of device ≡ 0
   pub reads : reads_of device ≡ 0
 
--- the line for a file that can't be opened
+-- the line on the errors for a file that can't be opened
 abbrev pub open_line : ErrorKind → List ℕ
 open_line kinds.OutOfMemory = memory_line
 open_line kind = file_line
 
--- a file can't be opened: nothing is read, and the errors say why
+-- a file can't be opened: nothing is read or printed, and the errors say why
 pub record RefusesFile {I O E : Type 0} (error : Error) (input : Stream I)
     (output : Stream O) (errors : Stream E) (answered : Handed) (result : ℕ) : Type 0 where
   pub failed : result ≡ code_of status.Failed
@@ -69,18 +69,20 @@ pub record RefusesFile {I O E : Type 0} (error : Error) (input : Stream I)
   pub kept : HandsNone answered
   pub said : Says errors (open_line (error_kind error))
 
--- by what the opening of a file answered, the run goes on with a device of the file, or ends for this reason
+-- the run goes on with a new device of the file that was opened, or ends with the error of the opening
 abbrev pub GoesOn : {F : Type 0} → Result F Error → (Device F → Type 0) → (Error → Type 0) → Type 0
 GoesOn {F} (Ok file) Goes Ends = (device : Device F) × IsNew file device × Goes device
 GoesOn {F} (Err error) Goes Ends = Ends error
 
--- the path of the file that a name means: `-` is the standard input, unless that is read otherwise
+-- the path of the file that a name on the command line means: `-` is the standard input, unless the command reads that
+-- as its lines (`taken`)
 abbrev pub IsPath : (taken : Bool) → (name path : List ℕ) → Type 0
 IsPath taken name path =
     ((taken ≡ false) × (name ≡ codes "-") × (path ≡ codes "/dev/stdin"))
     ⊎ (((taken ≡ true) ⊎ (name ≢ codes "-")) × (path ≡ name))
 
--- the file that a name means is opened, and then the run goes on so, or ends so, from this state of the opener
+-- the file that a name means is opened; then `Goes` is true of the opener's new state and the file's device, or `Ends`
+-- of that state and the error
 pub record Opens {P F : Type 0} (calls : P → List ℕ → Result F Error → P → Type 0)
     (before : P) (taken : Bool) (name : List ℕ)
     (Goes : P → Device F → Type 0) (Ends : P → Error → Type 0) : Type 0 where
@@ -102,13 +104,13 @@ pub record PerformsOn {P F G I O E : Type 0} (command : Command)
   pub performs : Performs command (stream of_first first first')
       (stream of_second second second') input output errors answered result
 
--- no file is opened after this state, and the run ends since the one before can't be
+-- a file couldn't be opened: no other is opened after it, and the run ends with its error
 pub record EndsAt {P I O E : Type 0} (state after : P) (input : Stream I)
     (output : Stream O) (errors : Stream E) (answered : Handed) (result : ℕ) (error : Error) : Type 0 where
   pub opened : after ≡ state
   pub refuses : RefusesFile error input output errors answered result
 
--- the file that the command names second, if it names one, is opened, and the command performed on both
+-- the first file is open: the second is opened, if the command names one, and the command performed on both
 abbrev pub RunsOnFirst : {P F N I O E : Type 0} → Command → Opener P F
     → (N → Option (List ℕ)) → Stream I → Stream O → Stream E → Handed → ℕ
     → Device F → Option (List ℕ) → Type 0
@@ -121,7 +123,7 @@ RunsOnFirst command opener of_none input output errors answered result first (So
     between opener.after first second input output errors answered result)
     (λ between error. EndsAt between opener.after input output errors answered result error)
 
--- The file that the command names first, if it names one, is opened, and then the second.
+-- the first file is opened, if the command names one, then the second, and the command performed on them
 abbrev pub RunsOnFiles : {P F N I O E : Type 0} → Command → Opener P F
     → (N → Option (List ℕ)) → Stream I → Stream O → Stream E → Handed → ℕ
     → Option (List ℕ) → Type 0
@@ -135,7 +137,8 @@ RunsOnFiles command opener of_none input output errors answered result (Some nam
     first (second_file_of command))
     (λ between error. EndsAt between opener.after input output errors answered result error)
 
--- the input was read once, into a buffer of no bytes, and answered this; it failed where that is an error
+-- the input was read once, into a buffer of no bytes, with this answer, and it counts a failure if the answer is an
+-- error
 pub record Asks {I : Type 0} (input : Stream I) (answer : Result ℕ Error) : Type 0 where
   pub buffer : List ℕ
   pub empty : length buffer ≡ 0
@@ -144,11 +147,11 @@ pub record Asks {I : Type 0} (input : Stream I) (answer : Result ℕ Error) : Ty
   pub failed : IfErr answer (λ _. HasFailed input.before input.after)
   pub worked : IfOk answer (λ _. failures_of input.after ≡ failures_of input.before)
 
--- the line for an input that can't be read
+-- the line on the errors for an input that can't be read
 abbrev pub input_line : List ℕ
 input_line = codes "! Read" ++ 10 ∷ []
 
--- an input that can't be read: no file is opened, and the errors say so
+-- the input can't be read: no file is opened, nothing is printed, and the errors say so
 pub record RefusesInput {P F O E : Type 0} (opener : Opener P F)
     (output : Stream O) (errors : Stream E) (answered : Handed) (result : ℕ) : Type 0 where
   pub failed : result ≡ code_of status.Failed
@@ -157,7 +160,7 @@ pub record RefusesInput {P F O E : Type 0} (opener : Opener P F)
   pub kept : HandsNone answered
   pub said : Says errors input_line
 
--- by what the input answered when it was asked for no bytes, the run goes on, or ends
+-- the input answered a read of no bytes: if with Ok, the run goes on, and if with an error, it ends
 abbrev pub GoesOnWith : {P F N I O E : Type 0} → Command → Opener P F
     → (N → Option (List ℕ)) → (between : Device I) → Stream I → Stream O → Stream E → Handed → ℕ
     → Result ℕ Error → Type 0
@@ -167,7 +170,8 @@ GoesOnWith command opener of_none between input output errors answered result (O
 GoesOnWith command opener of_none between input output errors answered result (Err error) =
     (input.after ≡ between) × RefusesInput opener output errors answered result
 
--- A command that reads the input asks it first for no bytes, which fails where it is closed.
+-- the run of a command that reads the input: before it opens a file, it reads no bytes of the input, which fails if
+-- that is closed
 pub record AsksAndRuns {P F N I O E : Type 0} (command : Command)
     (opener : Opener P F) (of_none : N → Option (List ℕ)) (input : Stream I)
     (output : Stream O) (errors : Stream E) (answered : Handed) (result : ℕ) : Type 0 where
@@ -193,7 +197,7 @@ pub record RunsWords {P F N I O E : Type 0} (words : GivenWords)
   pub names : NamesCommand words command
   pub runs : RunsCommand command opener of_none input output errors answered result (reads_input_of command)
 
--- the words name none: nothing is opened or read, and the run says why
+-- the words name no command: nothing is opened or read, and the run says why
 pub record RefusesWords {P F I O E : Type 0} (words : GivenWords)
     (opener : Opener P F) (input : Stream I) (output : Stream O) (errors : Stream E) (answered : Handed)
     (result : ℕ) : Type 0 where

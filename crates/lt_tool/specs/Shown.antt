@@ -38,13 +38,13 @@ abbrev pub EndsShown : List EntryParts → (text ending : List ℕ) → (refused
 EndsShown R text ending false = IsExplanationTextOf R text ending
 EndsShown R text ending true = RefusesText R text ending
 
--- such lines were appended
+-- the lines that end what is shown of a text were appended
 pub record AppendsEnding (R : List EntryParts) (text old new : List ℕ) (refused : Bool) : Type 0 where
   pub ending : List ℕ
   pub ends : EndsShown R text ending refused
   pub grown : new ≡ old ++ ending
 
--- the text is read as a tag: its table, the lines that end it, and an empty line
+-- what is shown of a text that is a tag: its table, its explanation or why it is refused, and an empty line
 pub record ShowsTag (R : List EntryParts) (records : List (List Field)) (text block : List ℕ) (refused : Bool) : Type 0 where
   pub tag : TagForm
   pub read : HasTag text tag
@@ -52,7 +52,7 @@ pub record ShowsTag (R : List EntryParts) (records : List (List Field)) (text bl
   pub ends : EndsShown R text ending refused
   pub block_is : block ≡ table_of R records tag ++ (ending ++ 10 ∷ [])
 
--- it is read as none: the line that says why, and an empty line
+-- what is shown of a text that is no tag: the line that says why, and an empty line
 pub record ShowsFault (text block : List ℕ) (refused : Bool) : Type 0 where
   pub fault : TagFault
   pub is_fault : HasFault text fault.kind fault.place
@@ -63,14 +63,14 @@ pub record ShowsFault (text block : List ℕ) (refused : Bool) : Type 0 where
 
 -- ---- as JSON
 
--- the last members of a tag by its explanation
+-- the last JSON members for a tag, by its explanation
 pub record ExplainsMembers (R : List EntryParts) (tag : TagForm) (ending : List ℕ) : Type 0 where
   pub steps : List Step
   pub end : TagForm
   pub is_explanation : IsExplanation R tag steps end
   pub ending_is : ending ≡ ends_of (explained_members end steps)
 
--- or by why it is refused
+-- the last JSON members for a tag, by its refusal
 pub record RefusesMembers (R : List EntryParts) (tag : TagForm) (ending : List ℕ) : Type 0 where
   pub refusal : Refusal
   pub is_refusal : IsRefusedWith R tag refusal
@@ -78,18 +78,18 @@ pub record RefusesMembers (R : List EntryParts) (tag : TagForm) (ending : List �
   pub is_told : IsTold (of_refusal refusal) told
   pub ending_is : ending ≡ ends_of (refused_members told)
 
--- those of a tag
+-- the last JSON members for a tag, by its explanation or by its refusal
 abbrev pub EndsMembers : List EntryParts → TagForm → (ending : List ℕ) → (refused : Bool) → Type 0
 EndsMembers R tag ending false = ExplainsMembers R tag ending
 EndsMembers R tag ending true = RefusesMembers R tag ending
 
--- such members were appended
+-- the last JSON members for a tag were appended
 pub record AppendsMembers (R : List EntryParts) (tag : TagForm) (old new : List ℕ) (refused : Bool) : Type 0 where
   pub ending : List ℕ
   pub ends : EndsMembers R tag ending refused
   pub grown : new ≡ old ++ ending
 
--- the text is read as a tag: its object
+-- the JSON object of a text that is a tag: its rows, then its explanation or its refusal
 pub record ShowsObject (R : List EntryParts) (records : List (List Field)) (text block : List ℕ) (refused : Bool) : Type 0 where
   pub tag : TagForm
   pub read : HasTag text tag
@@ -97,13 +97,13 @@ pub record ShowsObject (R : List EntryParts) (records : List (List Field)) (text
   pub ends : EndsMembers R tag ending refused
   pub block_is : block ≡ rows_front R records tag ++ ending
 
--- the object of a text that is no tag was appended
+-- the JSON object of a text that is no tag was appended
 pub record AppendsNoTag (refusal : TextRefusal) (old new : List ℕ) : Type 0 where
   pub told : List ℕ
   pub is_told : IsTold refusal told
   pub grown : new ≡ old ++ (no_rows ++ ends_of (refused_members told))
 
--- it is read as none: an object without rows
+-- the JSON object of a text that is no tag: it has no rows, and names the fault
 pub record ShowsNoTag (text block : List ℕ) (refused : Bool) : Type 0 where
   pub fault : TagFault
   pub is_fault : HasFault text fault.kind fault.place
@@ -114,19 +114,19 @@ pub record ShowsNoTag (text block : List ℕ) (refused : Bool) : Type 0 where
 
 -- ---- all of them
 
--- what is shown of a text, and whether it is refused
+-- what is shown of a text, for people or as JSON, and whether the text is refused
 abbrev pub ShowsAs : (json : Bool) → List EntryParts → List (List Field) → (text block : List ℕ) → (refused : Bool) → Type 0
 ShowsAs false R records text block refused = ShowsTag R records text block refused ⊎ ShowsFault text block refused
 ShowsAs true R records text block refused = ShowsObject R records text block refused ⊎ ShowsNoTag text block refused
 
--- such was appended
+-- what is shown of a text was appended
 pub record AppendsShown (json : Bool) (R : List EntryParts) (records : List (List Field))
     (text old new : List ℕ) (refused : Bool) : Type 0 where
   pub block : List ℕ
   pub shows : ShowsAs json R records text block refused
   pub grown : new ≡ old ++ block
 
--- the first of texts was shown, and the others after it; whether any is refused
+-- the first of several texts was shown, and then the others; `any` is whether one of them all is refused
 pub record ShowsFirst (Shows : (text block : List ℕ) → Bool → Type 0) (Others : List ℕ → Bool → Type 0)
     (text bytes : List ℕ) (any : Bool) : Type 0 where
   pub block : List ℕ
@@ -138,45 +138,47 @@ pub record ShowsFirst (Shows : (text block : List ℕ) → Bool → Type 0) (Oth
   pub bytes_are : bytes ≡ block ++ rest
   pub any_is : any ≡ (refused || more)
 
--- texts were shown one after another
+-- the texts were shown one after another; `any` is whether one of them is refused
 abbrev pub AreShown : ((text block : List ℕ) → Bool → Type 0) → List (List ℕ) → (bytes : List ℕ) → (any : Bool) → Type 0
 AreShown Shows [] bytes any = (bytes ≡ []) × (any ≡ false)
 AreShown Shows (text ∷ texts) bytes any = ShowsFirst Shows (AreShown Shows texts) text bytes any
 
--- how a run ends in which a tag was refused, or none
+-- the status of a run of `show`: Refused if a tag was refused, else Done
 abbrev pub status_of : Bool → Status
 status_of true = status.Refused
 status_of false = status.Done
 
--- what `show` prints of texts by a registry and its records, and how it ends
+-- what `show` prints of texts, by the entries of a registry and its records, and how it ends
 pub record ShowsTexts (json : Bool) (R : List EntryParts) (records : List (List Field)) (texts : List (List ℕ))
     (bytes : List ℕ) (end : Status) : Type 0 where
   pub any : Bool
   pub shown : AreShown (ShowsAs json R records) texts bytes any
   pub ends : end ≡ status_of any
 
--- the same of the texts that the words name
+-- what `show` prints of the texts on its command line, and how it ends
 abbrev pub ShowsAll : Tags → List EntryParts → List (List Field) → (bytes : List ℕ) → Status → Type 0
 ShowsAll tags R records bytes end = ShowsTexts tags.json R records (map string_bytes tags.texts.items) bytes end
 
--- the refusal of a registry whose records are kept, as where it is read alone; running out of memory aside
+-- the refusal of a registry that was read with its records is that of the registry alone, or OutOfMemory
 abbrev pub IsKeptRefusal : RecordsFault → RegistryRefusal → Type 0
 IsKeptRefusal (kept_faults.Registry fault) refusal = IsRegistryRefusal (Err fault) refusal
 IsKeptRefusal kept_faults.OutOfMemory refusal = refusal ≡ registry_refusals.OutOfMemory
 
--- the file holds a registry that passes, and its tags are shown; or it is refused
+-- what `show` prints once its registry file was read: its tags, by a registry that passes the check; or why that is
+-- refused
 abbrev pub ShowsBy : Tags → kept.Reading → (bytes : List ℕ) → Status → Type 0
 ShowsBy tags (Ok both) bytes end =
     (IsChecked both.0 × ShowsAll tags both.0 both.1 bytes end) ⊎ RefusesRegistry (Ok both.0) bytes end
 ShowsBy tags (Err (kept_faults.Registry fault)) bytes end = RefusesRegistry (Err fault) bytes end
 ShowsBy tags (Err kept_faults.OutOfMemory) bytes end = ⊥
 
--- a file was read with its records, and this holds of what the reading gave
+-- a file was read with its records, and `Holds` is true of what the reading gave
 pub record ReadsKept {F : Type 0} (file : Stream F) (Holds : kept.Reading → Type 0) : Type 0 where
   pub reading : kept.Reading
   pub reads : ReadsRecords file.bytes file.before file.after reading
   pub holds : Holds reading
 
--- the answer is this, unless memory ran out for it
+-- a file was read with its records, and the answer is what `show` prints by it, unless there was no memory for an
+-- answer
 abbrev pub AnswersShown : {F : Type 0} → Stream F → Tags → Result Answer OutOfMemory → Type 0
 AnswersShown file tags answer = ReadsKept file (λ reading. IfOk answer (λ a. ShowsBy tags reading a.line.items a.status))

@@ -1,4 +1,4 @@
--- What the commands on one or two tags print by a registry.
+-- What the commands on one or two tags, `extlang`, `equal` and `explain`, print by a registry.
 use Rattle.std.specs.Prelude.{◌≡◌, ◌⊎◌, ℕ, Bool, true, false, List, [], ◌∷◌, ◌++◌, codes}
 use Rattle.lt_registry.specs.Parts.{EntryParts}
 use Rattle.lt_canon.specs.ExplanationTexts.{IsExplanationTextOf}
@@ -9,7 +9,7 @@ use Rattle.lt_lines.specs.Refusals.{IsRefusalLine}
 use Rattle.lt_tool.specs.declared.status.Status.{Status}
 use Rattle.lt_tool.specs.declared.status.Status.TheVariants as status
 
--- the extlang form, ended by a line feed
+-- the line of a text's extlang form (RFC 5646, 4.5), ended by a line feed (10)
 pub record PrintsExtlang (R : List EntryParts) (text line : List ℕ) : Type 0 where
   pub extlang : List ℕ
   pub is_extlang : IsExtlangTextOf R text extlang

@@ -1,4 +1,4 @@
--- What `upgrade` prints for the files of two registries, and how it ends.
+-- What `upgrade` prints for the files of an older and a newer registry, and how it ends.
 use Rattle.std.specs.Prelude.{◌≡◌, ◌⊎◌, ℕ, List, [], ◌∷◌, ◌++◌, codes}
 use Rattle.std.specs.Fmt.{decimal}
 use Rattle.lt_registry.specs.Parts.{EntryParts}
@@ -12,7 +12,7 @@ use Rattle.lt_tool.specs.declared.registries.RegistryRefusal.{RegistryRefusal}
 use Rattle.lt_tool.specs.declared.status.Status.{Status}
 use Rattle.lt_tool.specs.declared.status.Status.TheVariants as status
 
--- the line for a refused upgrade
+-- the line for a registry that is no upgrade: the code of the condition that fails, and the record's number
 abbrev pub upgrade_line : List ℕ → ℕ → List ℕ
 upgrade_line code number = codes "upgrade " ++ code ++ codes " record " ++ decimal number ++ 10 ∷ []
 
@@ -36,19 +36,20 @@ old_mark = codes "old "
 abbrev pub new_mark : List ℕ
 new_mark = codes "new "
 
--- the newer registry upgrades the older one
+-- B upgrades the older registry A, and the line says `ok`
 pub record SaysUpgrade (A B : List EntryParts) (line : List ℕ) : Type 0 where
   pub upgrades : Upgrades A B
   pub line_is : line ≡ codes "ok" ++ 10 ∷ []
 
--- it does not, and this line names the lowest condition that fails, and there the lowest record
+-- B does not upgrade the older registry A: the line names the first condition that fails, and the record with the least
+-- number that fails it
 pub record RefusesUpgrade (A B : List EntryParts) (line : List ℕ) : Type 0 where
   pub condition : UpgradeCondition
   pub number : ℕ
   pub finding : IsUpgradeFinding A B condition number
   pub line_is : line ≡ upgrade_line (upgrade_code_of condition) number
 
--- what is printed by two registries that pass, and how the run ends
+-- what `upgrade` prints for an older registry A and a newer one B, and how it ends
 abbrev pub JudgesUpgrade : List EntryParts → List EntryParts → List ℕ → Status → Type 0
 JudgesUpgrade A B line status.Done = SaysUpgrade A B line
 JudgesUpgrade A B line status.RegistryRefused = RefusesUpgrade A B line
@@ -56,12 +57,12 @@ JudgesUpgrade A B line status.Refused = ⊥
 JudgesUpgrade A B line status.Usage = ⊥
 JudgesUpgrade A B line status.Failed = ⊥
 
--- what is printed by an older registry that passes and the reading of a newer one, and how the run ends
+-- what `upgrade` prints for an older registry A and the reading of the newer file, and how it ends
 abbrev pub JudgesNewer : List EntryParts → Reading → List ℕ → Status → Type 0
 JudgesNewer A newer line end =
     ((B : List EntryParts) × HoldsRegistry newer B × JudgesUpgrade A B line end) ⊎ RefusesMarked new_mark newer line end
 
--- The older file is read and judged first. Where it is refused, the newer one is left as it is.
+-- The older file is read and judged first. If its registry is refused, the newer file is not read.
 abbrev pub UpgradesFiles : {F G : Type 0} → Stream F → Stream G → ((List ℕ → Status → Type 0) → Type 0) → Type 0
 UpgradesFiles old new IsAnswered = ReadsFile old (λ older.
     (IsUntouched new × IsAnswered (RefusesMarked old_mark older))

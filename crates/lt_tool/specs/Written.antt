@@ -1,4 +1,4 @@
--- What is on the output and the errors of a run after a text was written to one.
+-- What is on the output and the errors of a run after a text was written to one of them.
 use Rattle.std.specs.Prelude.{◌≡◌, ◌⊎◌, ℕ, List, [], ◌∷◌, ◌++◌, Option, Result, IfErr, IfOk, codes}
 use Rattle.std.specs.Io.KnownBytes.{Appends}
 use Rattle.lt_jar.specs.Devices.{HasFailed, failures_of, inner_of}
@@ -12,7 +12,7 @@ use Rattle.lt_tool.specs.Streams.{IsUntouched, Stream}
 use Rattle.lt_tool.specs.declared.status.Status.{Status}
 use Rattle.lt_tool.specs.declared.status.Status.TheVariants as status
 
--- the text was written, or the writer failed and the front of the text is there; and nothing else was written
+-- the errors got the text and nothing else, or a front of it if a write failed
 pub record Says {E : Type 0} (errors : Stream E) (text : List ℕ) : Type 0 where
   pub written : List ℕ
   pub appends : Appends (errors.bytes (inner_of errors.before)) (errors.bytes (inner_of errors.after)) written
@@ -20,8 +20,7 @@ pub record Says {E : Type 0} (errors : Stream E) (text : List ℕ) : Type 0 wher
   pub all : ((written ≡ text) × (failures_of errors.after ≡ failures_of errors.before))
       ⊎ HasFailed errors.before errors.after
 
--- The lines of what is left of an explanation were written; or a write failed, or memory ran out, and the front of them
--- is there.
+-- the lines of the rest of an explanation were written; or a write failed or memory ran out, and a front of them was
 pub record WritesLines {W : Type 0} (contents : W → Option (List ℕ)) (left : StepsLeft) (before after : Device W)
     (result : Result (Unit {0}) ToolFault) : Type 0 where
   pub lines : List ℕ
@@ -44,8 +43,8 @@ file_line = codes "! File" ++ 10 ∷ []
 abbrev pub memory_line : List ℕ
 memory_line = codes "! OutOfMemory" ++ 10 ∷ []
 
--- A run prints a text to its output, and ends so; or the output failed, the front of the text is there, and the
--- errors name it.
+-- A run prints a text and ends with the status `end`; or its output failed, which has a front of the text, and the
+-- errors say so.
 pub record Prints {O E : Type 0} (output : Stream O) (errors : Stream E)
     (text : List ℕ) (end : Status) (result : ℕ) : Type 0 where
   pub written : List ℕ
@@ -55,7 +54,7 @@ pub record Prints {O E : Type 0} (output : Stream O) (errors : Stream E)
       × (failures_of output.after ≡ failures_of output.before) × IsUntouched errors)
       ⊎ ((result ≡ code_of status.Failed) × HasFailed output.before output.after × Says errors write_line)
 
--- A run had no memory for the rest of a text: the front of the text is there, and the errors say so.
+-- a run had no memory for the rest of a text: a front of it is on the output, and the errors say so
 pub record LacksRest {O E : Type 0} (output : Stream O) (errors : Stream E) (text : List ℕ) (result : ℕ) : Type 0 where
   pub written : List ℕ
   pub appends : Appends (output.bytes (inner_of output.before)) (output.bytes (inner_of output.after)) written

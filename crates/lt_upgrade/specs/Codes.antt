@@ -1,9 +1,9 @@
--- The codes of the conditions on an upgrade, as they are printed.
+-- The codes of the conditions on an upgrade, as `upgrade` prints them.
 use Rattle.std.specs.Prelude.{ℕ, List, codes}
 use Rattle.lt_upgrade.specs.declared.conditions.UpgradeCondition.{UpgradeCondition}
 use Rattle.lt_upgrade.specs.declared.conditions.UpgradeCondition.TheVariants as upgrades
 
--- the code of a condition
+-- the code of a condition on an upgrade
 abbrev pub upgrade_code_of : UpgradeCondition → List ℕ
 upgrade_code_of upgrades.StaysRegistered = codes "U1"
 upgrade_code_of upgrades.SameEnds = codes "U2"

@@ -1,4 +1,4 @@
--- What follows for tags from an upgrade, over two lists of entries.
+-- What an upgrade from an older registry A to a newer one B keeps of tags, over their entries.
 use Rattle.std.specs.Prelude.{ℕ, List}
 use Rattle.lt_tag.specs.Parts.{TagForm}
 use Rattle.lt_registry.specs.Parts.{EntryParts}
@@ -6,8 +6,8 @@ use Rattle.lt_registry.specs.Validity.{IsProper, IsValid}
 use Rattle.lt_rewrite.specs.TagSteps.{AreEquivalent, CanRepeat}
 use Rattle.lt_canon.specs.Answers.{IsCanonicalFormOf, IsNamedRepeat}
 
--- After an upgrade from A to B valid tags stay valid, equivalent tags equivalent, and what an old canonical form
--- comes to is what the tag comes to, a repeat and the variant that is named included.
+-- After an upgrade from A to B, valid tags are valid and equivalent tags equivalent. A tag and its old canonical form
+-- have the same new canonical form, or both can repeat a variant, and a refusal names the same one.
 pub record UpgradeKeepsTags (A B : List EntryParts) : Type 0 where
   pub valid : (t : TagForm) → IsValid A t → IsValid B t
   pub equivalent : (t u : TagForm) → IsProper A t → IsProper A u → AreEquivalent A t u → AreEquivalent B t u

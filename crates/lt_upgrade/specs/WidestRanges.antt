@@ -1,4 +1,4 @@
--- The ranges among entries, and whether one of them covers another.
+-- The widest ranges of a registry, in order, and whether one of them holds a given range.
 use Rattle.std.specs.Prelude.{ℕ, ◌≡◌, Bool, true, ◌&&◌, List, [], ◌∷◌, length, Option, Some, None}
 use Rattle.std.specs.List.{AllByRecursion, list_any, filter_map}
 use Rattle.std.specs.Ordering.{nat_cmp, ordering_then, is_le}
@@ -13,39 +13,39 @@ use Rattle.lt_upgrade.specs.UpgradeChecking.{some_covers}
 use Rattle.lt_upgrade.specs.declared.widest_ranges.RangeEnd.{RangeEnd}
 use Rattle.lt_upgrade.specs.declared.widest_ranges.RangeRow.{RangeRow}
 
--- the end of a range of a kind
+-- an end of a range of subtags of this kind
 abbrev pub range_end : Kind → List ℕ → RangeEnd
 range_end kind subtag = record { kind = kind_number kind; length = length subtag; subtag = subtag }
 
--- the order of ends: by the kind, then the length, then the letters
+-- the order of ends of ranges: by the kind, then the length, then the letters
 abbrev pub end_cmp : RangeEnd → RangeEnd → Ordering
 end_cmp a b = ordering_then (nat_cmp a.kind b.kind)
     (ordering_then (nat_cmp a.length b.length) (slice_cmp nat_cmp a.subtag b.subtag))
 
--- the end is the other or is before it
+-- whether the end `a` is `b` or before it
 abbrev pub is_up_to : RangeEnd → RangeEnd → Bool
 is_up_to a b = is_le (end_cmp a b)
 
--- a range begins no later than a first end, and ends no earlier than a last
+-- whether a range holds the whole range from `first` to `last`
 abbrev pub contains : RangeEnd → RangeEnd → RangeRow → Bool
 contains first last row = is_up_to row.first first && is_up_to last row.last
 
--- the range that a name gives under a kind
+-- the range that a record of this kind names, if it names one
 abbrev pub range_row : Kind → EntryName → Option RangeRow
 range_row kind (names.Range first last) = Some (record { first = range_end kind first; last = range_end kind last })
 range_row kind _ = None
 
--- the ranges of entries in the order of the file
+-- the ranges of a registry, in the order of the file
 abbrev pub range_rows : List EntryParts → List RangeRow
 range_rows R = filter_map (λ (e : EntryParts). range_row e.kind e.name) R
 
--- neither end of a range is before that of an earlier one
+-- each range begins no earlier, and ends no earlier, than those before it in the list
 abbrev pub EndsRise : List RangeRow → Type 0
 EndsRise [] = Unit {0}
 EndsRise (v ∷ rows) = AllByRecursion
     (λ (w : RangeRow). (is_up_to v.first w.first ≡ true) × (is_up_to v.last w.last ≡ true)) rows × EndsRise rows
 
--- one of the ranges contains what a record of entries covers, and nothing else
+-- one of these ranges holds a range exactly if a record of the registry names one that does
 abbrev pub HoldRanges : List EntryParts → List RangeRow → Type 0
 HoldRanges R rows =
     (kind : Kind) (first last : List ℕ) → length first ≡ length last →

@@ -7,30 +7,30 @@ use Rattle.lt_words.specs.declared.program.Form.TheVariants as forms
 use Rattle.lt_words.specs.declared.subcommands.Subcommand.{Subcommand}
 use Rattle.lt_words.specs.declared.subcommands.Subcommand.TheVariants as sub
 
--- a required positional of this name
+-- a required argument of this name, without an option's name before it
 abbrev pub positional : Text → Rule
 positional name = record (new_rule name) { action = Some Set; required = true }
 
--- a required positional of this name, which takes each of the words that are left
+-- a required argument of this name, which takes all words that are left
 abbrev pub repeated : Text → Rule
 repeated name = record (new_rule name) { action = Some Append; required = true }
 
--- an option of this name, which takes a value
+-- an option with this name, which takes a value
 abbrev pub option : (id name : Text) → Rule
 option id name = record (new_rule id) { long = Some name; action = Some Set }
 
--- a flag of this name
+-- a flag with this name
 abbrev pub flag : (name : Text) → Rule
 flag name = record (new_rule name) { long = Some name; action = Some SetTrue }
 
--- how an argument is given
+-- the rule for an argument, by how it is given
 abbrev pub rule_for : Form → Text → Rule
 rule_for forms.Positional id = positional id
 rule_for forms.Repeated id = repeated id
 rule_for (forms.Option name) id = option id name.now
 rule_for forms.Flag id = flag id
 
--- a command with these arguments, in this order
+-- the command with these arguments, in this order
 abbrev pub with_rules : App → List Rule → App
 with_rules app [] = app
 with_rules app (rule ∷ rules) = with_rules (with_rule app rule) rules
@@ -39,7 +39,7 @@ with_rules app (rule ∷ rules) = with_rules (with_rule app rule) rules
 abbrev pub subcommand : Text → List Rule → App
 subcommand name rules = with_rules (new_app name) rules
 
--- the program: it has a version, and one of its subcommands is required
+-- the program without its subcommands: it has a version, and requires one of its subcommands
 abbrev pub program : App
 program =
     let app = new_app (codes "langtag") in
@@ -62,7 +62,7 @@ name_of sub.Upgrade = codes "upgrade"
 name_of sub.Show = codes "show"
 name_of sub.Json = codes "json"
 
--- the names of its positionals, but for one that is repeated
+-- the names of a subcommand's required arguments, without one that is repeated
 abbrev pub positionals_of : Subcommand → List Text
 positionals_of sub.Classify = codes "TAG" ∷ []
 positionals_of sub.Check = codes "REGISTRY" ∷ []
@@ -79,7 +79,7 @@ positionals_of sub.Upgrade = codes "OLD" ∷ codes "NEW" ∷ []
 positionals_of sub.Show = codes "REGISTRY" ∷ []
 positionals_of sub.Json = codes "REGISTRY" ∷ []
 
--- its options, after a positional that is repeated
+-- the options of a subcommand, after its repeated argument, if it has one
 abbrev pub options_of : Subcommand → List Rule
 options_of sub.Canon = flag (codes "summary") ∷ []
 options_of sub.Codes = flag (codes "summary") ∷ []
@@ -92,7 +92,7 @@ options_of sub.Match = repeated (codes "RANGE") ∷ flag (codes "extended") ∷ 
 options_of sub.Show = repeated (codes "TAG") ∷ flag (codes "json") ∷ []
 options_of _ = []
 
--- its arguments, each of its positionals required
+-- the arguments of a subcommand
 abbrev pub arguments_of : Subcommand → List Rule
 arguments_of s = map positional (positionals_of s) ++ options_of s
 
@@ -102,12 +102,12 @@ subcommands =
     sub.Classify ∷ sub.Check ∷ sub.Canon ∷ sub.Codes ∷ sub.Tsv ∷ sub.Csv ∷ sub.Match ∷ sub.Extlang
     ∷ sub.Equal ∷ sub.Explain ∷ sub.Verify ∷ sub.Upgrade ∷ sub.Show ∷ sub.Json ∷ []
 
--- a program with these subcommands, in this order
+-- the program with these subcommands, in this order
 abbrev pub with_subcommands : App → List Subcommand → App
 with_subcommands app [] = app
 with_subcommands app (s ∷ more) =
     with_subcommands (with_subcommand app (subcommand (name_of s) (arguments_of s)).top) more
 
--- the program with its subcommands
+-- the program with all its subcommands
 abbrev pub langtag : App
 langtag = with_subcommands program subcommands

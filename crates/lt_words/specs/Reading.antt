@@ -1,4 +1,4 @@
--- The command that the words of a command line name.
+-- The command that the words of a command line name, or why they name none.
 use Rattle.std.specs.Prelude.{◌≡◌, ◌<◌, ◌^◌, ◌==◌, ◌&&◌, not, ⊤, ℕ, Bool, true, false, List, [], ◌∷◌, Option, Some, None, if◌then◌else◌, bytes_eq, codes, map, nat_lt, option_map, string_bytes}
 use Rattle.std.specs.Option.{option_map_or}
 use Rattle.std.specs.Str.Parse.{IsNumeral, digits_value, without_leading_plus}
@@ -19,7 +19,7 @@ use Rattle.lt_words.specs.declared.commands.Command.TheVariants as command
 use Rattle.lt_words.specs.declared.faults.WordsFault.{WordsFault}
 use Rattle.lt_words.specs.declared.faults.WordsFault.TheVariants as fault
 
--- the subcommand that asks for a command
+-- the subcommand of a command
 abbrev pub subcommand_for : Command → Subcommand
 subcommand_for (command.Classify tag) = sub.Classify
 subcommand_for (command.Check file) = sub.Check
@@ -36,28 +36,28 @@ subcommand_for (command.Upgrade old new) = sub.Upgrade
 subcommand_for (command.Show file tags) = sub.Show
 subcommand_for (command.Json file) = sub.Json
 
--- the text is a decimal number, which a plus may begin
+-- the text is a decimal number, which a plus sign may begin
 abbrev pub IsDecimal : Text → Type 0
 IsDecimal text = IsNumeral 10 (without_leading_plus text)
 
--- the text is a decimal number from 1, and this is the number
+-- the text is a decimal number of at least 1, and `column` is that
 pub record IsNumber (text : Text) (column : ℕ) : Type 0 where
   pub digits : IsDecimal text
   pub number : column ≡ digits_value 10 (without_leading_plus text)
   pub some : 0 < column
   pub fits : column < 2 ^ 64
 
--- the column that a text names: by its number, or where it is no decimal number by its name
+-- the column that a text names: by its number, or by its name if it is no decimal number
 abbrev pub IsColumn : Text → Column → Type 0
 IsColumn text (columns.Number number) = IsNumber text number
 IsColumn text (columns.Name name) = (string_bytes name ≡ text) × (IsDecimal text → ⊥)
 
--- a name is looked for in a heading
+-- a column is named by its name only where there is a heading
 abbrev pub FitsHeading : (heading : Bool) → Column → Type 0
 FitsHeading heading (columns.Number number) = Unit {0}
 FitsHeading heading (columns.Name name) = heading ≡ true
 
--- the texts that give a command its values
+-- the values of a command's required arguments, in the order of the command line
 abbrev pub AreValues : Command → List Text → Type 0
 AreValues (command.Classify tag) texts = texts ≡ string_bytes tag ∷ []
 AreValues (command.Check file) texts = texts ≡ string_bytes file ∷ []
@@ -76,20 +76,20 @@ AreValues (command.Upgrade old new) texts = texts ≡ string_bytes old ∷ strin
 AreValues (command.Show file tags) texts = texts ≡ string_bytes file ∷ []
 AreValues (command.Json file) texts = texts ≡ string_bytes file ∷ []
 
--- whether a byte may stand between fields: one of ASCII that is no quote (34), line feed or carriage return
+-- whether a byte may stand between fields: it is ASCII, but no quote (34), line feed (10) or carriage return (13)
 abbrev pub is_delimiter : ℕ → Bool
 is_delimiter byte = nat_lt byte 128 && not (byte == 34) && not (byte == 10) && not (byte == 13)
 
--- such a byte alone
+-- the byte that a text is alone, if it may stand between fields
 abbrev pub delimiter_alone : Text → Option ℕ
 delimiter_alone (byte ∷ []) = if is_delimiter byte then Some byte else None
 delimiter_alone _ = None
 
--- the byte that a text names: itself, or a tab (9) by its name
+-- the delimiter that a text names: its one byte, or a tab (9) by the name `tab`
 abbrev pub delimiter_named : Text → Option ℕ
 delimiter_named text = if bytes_eq text (codes "tab") then Some 9 else delimiter_alone text
 
--- the byte that an option names, which is a comma (44) where there is none
+-- the delimiter that the option names; without the option a comma (44)
 abbrev pub delimiter_given : List Row → Option ℕ
 delimiter_given rows = option_map_or delimiter_named (first_of (codes "C") rows) (Some 44)
 
@@ -97,31 +97,31 @@ delimiter_given rows = option_map_or delimiter_named (first_of (codes "C") rows)
 abbrev pub is_flagged : (name : Text) → List Row → Bool
 is_flagged name rows = option_map_or (λ text. bytes_eq text (codes "true")) (first_of name rows) false
 
--- how ranges match, by whether it is to be extended filtering and whether it is to be lookup, which can't be both
+-- how ranges match, by whether extended filtering and whether lookup is asked for; both can't be
 abbrev pub matching_by : (extended lookup : Bool) → Option Matching
 matching_by false false = Some matchings.Basic
 matching_by true false = Some matchings.Extended
 matching_by false true = Some matchings.Lookup
 matching_by true true = None
 
--- how they match by the flags that are given
+-- how ranges match, by the flags that are given
 abbrev pub matching_given : List Row → Option Matching
 matching_given rows = matching_by (is_flagged (codes "extended") rows) (is_flagged (codes "lookup") rows)
 
--- the values of a positional that is repeated
+-- the values of a repeated argument
 abbrev pub values_given : (name : Text) → List Row → List Text
 values_given name rows = option_map_or (λ texts. texts) (all_of name rows) []
 
--- what the options of a run over lines give it
+-- the options of a run over lines are as the command line gives them
 abbrev pub AreRunOptions : Run → List Row → Type 0
 AreRunOptions run rows = run.summary ≡ is_flagged (codes "summary") rows
 
--- what the options of rows give them
+-- the options of rows are as the command line gives them
 abbrev pub AreRowOptions : Rows → List Row → Type 0
 AreRowOptions rows found =
     (rows.keep ≡ is_flagged (codes "keep") found) × (option_map string_bytes rows.codes ≡ first_of (codes "TABLE") found)
 
--- what options give a command; records of CSV have a heading
+-- the options of a command are as the command line gives them; CSV always has a heading
 abbrev pub AreOptions : Command → List Row → Type 0
 AreOptions (command.Canon run) found = AreRunOptions run found
 AreOptions (command.Codes run table) found = AreRunOptions run found
@@ -135,11 +135,11 @@ AreOptions (command.Show file tags) found =
     (map string_bytes tags.texts.items ≡ values_given (codes "TAG") found) × (tags.json ≡ is_flagged (codes "json") found)
 AreOptions _ found = ⊤
 
--- these are the values of positionals
+-- the texts are the values of these required arguments
 pub record AreGiven (rows : List Row) (positionals texts : List Text) : Type 0 where
   pub each : map (λ positional. first_of positional rows) positionals ≡ map (λ text. Some text) texts
 
--- what a parse found is the subcommand for this command, and its positionals and options give the command its values
+-- what a parse of the command line found is this command, with its values and options
 pub record IsNamed (found : Option (Text × List Row)) (command : Command) : Type 0 where
   pub rows : List Row
   pub named : found ≡ Some (name_of (subcommand_for command), rows)
@@ -148,7 +148,7 @@ pub record IsNamed (found : Option (Text × List Row)) (command : Command) : Typ
   pub values : AreValues command texts
   pub options : AreOptions command rows
 
--- the file that is read first: that of the registry, or of the older one
+-- the name of the file that a command reads first: the registry, or the older one
 abbrev pub first_file_of : Command → Option (List ℕ)
 first_file_of (command.Classify tag) = None
 first_file_of (command.Check file) = Some (string_bytes file)
@@ -165,7 +165,7 @@ first_file_of (command.Upgrade old new) = Some (string_bytes old)
 first_file_of (command.Show file tags) = Some (string_bytes file)
 first_file_of (command.Json file) = Some (string_bytes file)
 
--- and the one after it: that of the newer registry, or of the table of codes
+-- the name of the file that a command reads second: the newer registry, or the table of codes
 abbrev pub second_file_of : Command → Option (List ℕ)
 second_file_of (command.Upgrade old new) = Some (string_bytes new)
 second_file_of (command.Codes run table) = Some (string_bytes table)
@@ -184,7 +184,7 @@ reads_input_of (command.Verify file tag) = true
 reads_input_of (command.Json file) = true
 reads_input_of _ = false
 
--- whether it is to tell a summary of its lines
+-- whether a command is asked for a summary of its lines
 abbrev pub has_summary : Command → Bool
 has_summary (command.Canon run) = run.summary
 has_summary (command.Codes run table) = run.summary
@@ -192,17 +192,17 @@ has_summary (command.Tsv run rows) = run.summary
 has_summary (command.Csv run rows delimiter) = run.summary
 has_summary _ = false
 
--- the words name this command, by what `clap` defines as the matches of a command
+-- the words name this command, by the matches that `clap` defines
 abbrev pub Names : List Text → Command → Type 0
 Names words = IsNamed (subcommand_of langtag words)
 
--- nothing is wrong with the words, and they name this command
+-- the words have no fault, and name this command
 pub record Reads (words : List Text) (command : Command) : Type 0 where
   pub right : fault_of langtag words ≡ []
   pub names : Names words command
 
--- Running out of memory aside: help answers a request for help, the version one for the version, and words that are
--- that alone are answered by nothing else; words that name a command are no fault of usage.
+-- Why the words name no command. Help and version are answered only if asked for, and nothing else if they alone are;
+-- usage only to words that name no command. OutOfMemory may be answered to any words.
 abbrev pub IsRefused : List Text → WordsFault → Type 0
 IsRefused words (fault.Help text) = IsAmong kind.DisplayHelp (fault_of langtag words)
 IsRefused words (fault.Version text) = IsAmong kind.DisplayVersion (fault_of langtag words)
@@ -213,42 +213,42 @@ IsRefused words fault.OutOfMemory = ⊤
 
 -- ---- the steps
 
--- running out of memory aside, the positionals don't all have a value
+-- a required argument has no value; OutOfMemory may be answered in any case
 abbrev pub LacksValue : List Row → List Text → WordsFault → Type 0
 LacksValue rows positionals (fault.Help text) = ⊥
 LacksValue rows positionals (fault.Version text) = ⊥
 LacksValue rows positionals (fault.Usage text) = (texts : List Text) → AreGiven rows positionals texts → ⊥
 LacksValue rows positionals fault.OutOfMemory = ⊤
 
--- running out of memory aside, the text is no number of a column
+-- the text is no number of a column; OutOfMemory may be answered in any case
 abbrev pub IsNoNumber : Text → WordsFault → Type 0
 IsNoNumber text (fault.Help said) = ⊥
 IsNoNumber text (fault.Version said) = ⊥
 IsNoNumber text (fault.Usage said) = (column : ℕ) → IsNumber text column → ⊥
 IsNoNumber text fault.OutOfMemory = ⊤
 
--- running out of memory aside, the text names no column of rows with a heading or without one
+-- the text names no column of rows, with or without a heading; OutOfMemory may be answered in any case
 abbrev pub IsNoColumn : Text → (heading : Bool) → WordsFault → Type 0
 IsNoColumn text heading (fault.Help said) = ⊥
 IsNoColumn text heading (fault.Version said) = ⊥
 IsNoColumn text heading (fault.Usage said) = (column : Column) → IsColumn text column → FitsHeading heading column → ⊥
 IsNoColumn text heading fault.OutOfMemory = ⊤
 
--- running out of memory aside, the option names no byte that may stand between fields
+-- the option names no byte that may stand between fields; OutOfMemory may be answered in any case
 abbrev pub LacksDelimiter : List Row → WordsFault → Type 0
 LacksDelimiter rows (fault.Help text) = ⊥
 LacksDelimiter rows (fault.Version text) = ⊥
 LacksDelimiter rows (fault.Usage text) = delimiter_given rows ≡ None
 LacksDelimiter rows fault.OutOfMemory = ⊤
 
--- running out of memory aside, the flags ask for two ways to match
+-- the flags ask for two ways to match; OutOfMemory may be answered in any case
 abbrev pub LacksMatching : List Row → WordsFault → Type 0
 LacksMatching rows (fault.Help text) = ⊥
 LacksMatching rows (fault.Version text) = ⊥
 LacksMatching rows (fault.Usage text) = matching_given rows ≡ None
 LacksMatching rows fault.OutOfMemory = ⊤
 
--- running out of memory aside, what a parse found is no command
+-- what a parse found is no command; OutOfMemory may be answered in any case
 abbrev pub NamesNone : Option (Text × List Row) → WordsFault → Type 0
 NamesNone found (fault.Help text) = ⊥
 NamesNone found (fault.Version text) = ⊥
@@ -260,7 +260,7 @@ abbrev pub IsPrinted : Option (List ℕ) → List ℕ → Type 0
 IsPrinted None text = ⊤
 IsPrinted (Some printed) text = text ≡ printed
 
--- the fault of a parse that failed so, and prints this
+-- the fault of a parse that failed with this kind of error, and prints this; OutOfMemory may be answered in any case
 abbrev pub IsFaultOf : ErrorKind → Option (List ℕ) → WordsFault → Type 0
 IsFaultOf k printed (fault.Help text) = (k ≡ kind.DisplayHelp) × IsPrinted printed (string_bytes text)
 IsFaultOf k printed (fault.Version text) = (k ≡ kind.DisplayVersion) × IsPrinted printed (string_bytes text)
