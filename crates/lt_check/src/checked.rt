@@ -24,6 +24,7 @@ pub struct Checked<L: Lookup> {
 
 // By hand: who lets a checked table go then owes this one call, and not a drop for each of its vectors.
 impl<L: Lookup + Drop> Drop for Checked<L> {
+    /// Drops the three parts.
     fn drop(self) {
         let Checked {
             table,

@@ -55,7 +55,7 @@ impl RangeNames {
         }
     }
 
-    /// Adds a range; whether it was not there.
+    /// Adds a range, and tells whether it is new.
     pub(crate) fn add(
         &mut self,
         kind: Kind,

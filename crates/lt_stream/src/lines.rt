@@ -48,7 +48,7 @@ pub(crate) struct Lined<A> {
 }
 
 impl<A: Lines> Lined<A> {
-    /// Keeps more of the line, as far as it is needed.
+    /// Keeps a further part of the line, up to the most bytes that the answers need.
     fn keep(&mut self, part: &[u8]) -> Result<(), AllocError>
         ensures { OnOk result (spec.KeepsMore A.longest part.now self.old self.new) }
     {
@@ -67,7 +67,7 @@ impl<A: Lines> Lined<A> {
         Ok(())
     }
 
-    /// Writes what is owed.
+    /// Writes the answers that are owed, and owes none then.
     fn write<W: Write>(&mut self, output: &mut Device<W>) -> Result<(), ToolFault>
         ensures writes { spec.WritesOwed W.contents self.old self.new output.old output.new result }
         ensures emptied { OnOk result (self.new.owed.items ≡ []) }
@@ -77,7 +77,7 @@ impl<A: Lines> Lined<A> {
         Ok(())
     }
 
-    /// Writes what is owed if it is much.
+    /// Writes the answers that are owed if they are `FULL` bytes or more.
     fn write_much<W: Write>(&mut self, output: &mut Device<W>) -> Result<(), ToolFault>
         ensures writes { spec.WritesOwed W.contents self.old self.new output.old output.new result }
         ensures emptied { OnOk result (spec.full ≤ vec_len self.old.owed → self.new.owed.items ≡ []) }
@@ -121,6 +121,7 @@ impl<A: Lines, W: Write> Pieces<Device<W>> for Lined<A> {
 
     ghost finished = { λ first. spec.Finishes (A.answered first.answers) W.contents };
 
+    /// Answers the lines that the piece ends, and writes the answers; no piece ends the run early.
     fn take_piece(
         &mut self,
         alloc: Global,
@@ -139,6 +140,7 @@ impl<A: Lines, W: Write> Pieces<Device<W>> for Lined<A> {
         Ok(None)
     }
 
+    /// Answers what is left, and writes the answers.
     fn finish(&mut self, alloc: Global, output: &mut Device<W>) -> Result<(), ToolFault> {
         self.end_last(alloc)?;
         self.write(output)?;

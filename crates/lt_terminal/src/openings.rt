@@ -64,12 +64,13 @@ impl Openings {
         Traced { inner: file, bytes }
     }
 
-    /// The line that was kept, which is kept no longer.
+    /// The line of the file that can't be opened, which is kept no longer. None if there is none.
     pub(crate) fn take(&self) -> Option<String> {
         self.refusal.take()
     }
 
-    /// What the record is and where it begins that a line names which refuses a registry or an upgrade, if that is known.
+    /// What the record is that a refused registry or upgrade is at fault by, and where it begins, as a line. `line` is the
+    /// refusal, which names the record. None if it names none, or if what was read of its file is not known.
     pub(crate) fn place(&self, alloc: Global, line: &[u8]) -> Option<String> {
         let named = named_in(std::str::from_utf8(line).ok()?)?;
         let bytes = if named.is_second {
@@ -81,7 +82,7 @@ impl Openings {
     }
 }
 
-/// Appends what was read, if there is room.
+/// Appends what was read. Refused if it is more than is kept of a file, or where memory runs out.
 fn append_traced(bytes: &mut Vec<u8>, more: &[u8]) -> Result<(), AllocError> {
     if bytes.len().saturating_add(more.len()) > MOST_TRACED {
         return Err(AllocError);
@@ -92,7 +93,7 @@ fn append_traced(bytes: &mut Vec<u8>, more: &[u8]) -> Result<(), AllocError> {
 impl<'a, F: Read> Read for Traced<'a, F> {
     ghost remaining = { λ traced. F.remaining traced.inner };
 
-    /// What one call of the file's `read` answers.
+    /// Reads once from the file, and keeps what was read. If there is no room for it, nothing is kept of the file any more.
     fn read(&mut self, buf: &mut [u8]) -> io::Result<usize>
         ensures bound { ReadsAtMost result buf.new }
         ensures bytes { ReadConsumes (F.remaining self.old.inner) (F.remaining self.new.inner) result buf.new }

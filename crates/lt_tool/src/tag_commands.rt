@@ -45,7 +45,7 @@ fn equality<L: Lookup>(
     Ok(equivalent(alloc, checked, &tag, &other)?)
 }
 
-/// What `extlang` answers to a text by a registry.
+/// The answer of `extlang` for a text, by a registry: its extlang form, or the line of its refusal.
 fn answer_extlang<L: Lookup>(
     alloc: Global,
     checked: &Checked<L>,
@@ -65,7 +65,7 @@ fn answer_extlang<L: Lookup>(
     }
 }
 
-/// What `equal` answers to two texts by a registry.
+/// The answer of `equal` for two texts, by a registry: `equal`, `different`, or the line of a text's refusal.
 fn answer_equal<L: Lookup>(
     alloc: Global,
     checked: &Checked<L>,
@@ -84,7 +84,7 @@ fn answer_equal<L: Lookup>(
     Ok(Answer { line, status })
 }
 
-/// What `extlang` answers to a file and a text.
+/// The answer of `extlang` for a text, by the registry of a file, or the line of the registry's refusal.
 pub(crate) fn extlang<F: Read>(
     alloc: Global,
     file: &mut Device<F>,
@@ -98,7 +98,7 @@ pub(crate) fn extlang<F: Read>(
     }
 }
 
-/// What `equal` answers to a file and two texts.
+/// The answer of `equal` for two texts, by the registry of a file, or the line of the registry's refusal.
 pub(crate) fn equal<F: Read>(
     alloc: Global,
     file: &mut Device<F>,
