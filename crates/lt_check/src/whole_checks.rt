@@ -71,7 +71,7 @@ fn settled<L: Lookup>(
     Ok(form)
 }
 
-/// The preferred value that a whole record has for this core as a tag; None if there is no such record.
+/// The preferred value of the whole record of this core as a tag. None if there is no such record, or it has no value.
 fn value_of<L: Lookup>(alloc: Global, table: &L, core: Core) -> Option<&Tag>
     requires { IsNotGrandfathered (spell_core core) }
     ensures { option_copied result ≡ whole_value (L.listed table.now) (core_alone core) }
@@ -80,8 +80,8 @@ fn value_of<L: Lookup>(alloc: Global, table: &L, core: Core) -> Option<&Tag>
     whole_value(table, &tag)
 }
 
-/// The core of the preferred value that a whole record has for this core as a tag. None if there is no such record, or if
-/// its value is no langtag, or one with extensions or private use.
+/// The core of the preferred value of the whole record of this core as a tag. None if there is no such value, or if it is no
+/// langtag, or one with extensions or private use.
 fn plain_value_of<L: Lookup>(alloc: Global, table: &L, core: Core) -> Option<&Core>
     requires { IsNotGrandfathered (spell_core core) }
     ensures { MatchOption result

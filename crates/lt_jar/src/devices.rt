@@ -117,7 +117,7 @@ impl<W: Writes> Write for Device<W> {
     }
 }
 
-/// Counts one more, up to the greatest count.
+/// Adds one to a count, up to the greatest number.
 fn count_up(count: &mut u64)
     ensures { count.new ≡ one_more count.old }
 {

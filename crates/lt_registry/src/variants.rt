@@ -13,7 +13,7 @@ fn stands_in(variants: &[Subtag], variant: &Subtag) -> bool
     variants.contains(variant)
 }
 
-/// Whether none is found among those before it.
+/// Whether no variant is among those before it.
 #[tactic(auto, using(crate::proofs::DistinctTests::repeated_at, crate::proofs::DistinctTests::distinct_further))]
 fn none_repeats(variants: &[Subtag]) -> bool
     ensures { IsTrue result ↔ Distinct variants.now }

@@ -79,8 +79,8 @@ pub fn lacks_of(text: &[u8]) -> Lacks
     }
 }
 
-/// Whether the first `count` bytes of a text are known as a record without line feeds and carriage returns. By `lacks` they
-/// needn't be looked at.
+/// Whether the first `count` bytes of a text are a record of CSV without line feeds and carriage returns. If `lacks` says
+/// that there are no carriage returns, they are not looked at.
 #[inline(always)]
 fn is_plain_line(separator: Separator, lacks: Lacks, text: &[u8], count: usize) -> bool
     requires count { count ≤ length text.now }

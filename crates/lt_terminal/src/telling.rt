@@ -39,8 +39,8 @@ fn is_told(at_terminal: bool, command: &Command) -> bool
     at_terminal || command.has_summary()
 }
 
-/// The unit that the command answers one by one, within Some if a person is told of its run. None if no one is told, or if
-/// the words name no command.
+/// Some if a person is told of the run of the command that the words name, with the name of what it answers one by one, if
+/// it does. None if no one is told, or if the words name no command.
 pub(crate) fn asked_by(
     alloc: Global,
     words: &Result<Vec<String>, WordsFault>,
@@ -117,8 +117,8 @@ fn append_meaning(told: &mut Vec<u8>, front: &[u8]) -> Result<(), AllocError>
     Ok(())
 }
 
-/// Appends what a person is told of the output: the counts and tallies of a command that answers `unit`s one by one, or else
-/// the message for `shown`, which is the front of the output.
+/// Appends what a person is told of the output. If the command answers `unit`s one by one and no registry was refused, that
+/// is their counts and tallies; else the message for `shown`, which is the front of the output.
 fn append_output(
     told: &mut Vec<u8>,
     alloc: Global,
@@ -152,7 +152,7 @@ fn append_place(told: &mut Vec<u8>, status: u8, place: &str) -> Result<(), Alloc
 }
 
 /// Appends what a person is told of `said`, which is the front of what was written to the errors, and of a file that can't
-/// be opened the line `refusal`. Nothing where the words name no command.
+/// be opened the line `refusal`. Nothing at the status of wrong usage.
 fn append_errors(
     told: &mut Vec<u8>,
     status: u8,

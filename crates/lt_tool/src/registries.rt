@@ -91,7 +91,7 @@ pub(crate) fn read_registry<F: Read>(
     }
 }
 
-/// The line that is printed for a refused registry, as `jar NoColon line 3`. Refused where memory runs out, and for
+/// The line that is printed for a refused registry, as `jar BadLine line 3`. Refused where memory runs out, and for
 /// `RegistryRefusal::OutOfMemory`, which has no line.
 pub(crate) fn line_of_refusal(
     alloc: Global,
