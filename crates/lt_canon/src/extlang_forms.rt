@@ -43,7 +43,8 @@ pub fn extlang_form<L: Lookup>(
     Ok(Tag::from_parts(core, extensions, private))
 }
 
-/// The Prefix of a language as an extlang, if it is one and the Prefix can be before an extlang.
+/// The Prefix of a language as an extlang. None if the language is no extlang too, or if its Prefix can't be before an
+/// extlang.
 fn extlang_prefix<'a, L: Lookup>(table: &'a L, language: &Subtag) -> Option<&'a Subtag>
     ensures { option_copied result ≡ prefix_of (prefixes (L.listed table.now) kinds.Extlang language.now) }
 {

@@ -73,7 +73,7 @@ impl From<OutOfMemory> for TraceFault {
     }
 }
 
-/// The tag to which steps lead one after another.
+/// The tag to which steps lead one after another, or `NoSuchStep` with the first of them that leads nowhere.
 #[tactic(auto, using(crate::proofs::TraceLemmas::misstep_here))]
 fn follow<L: Lookup>(alloc: Global, table: &L, tag: &Tag, steps: &[Step]) -> Result<Tag, TraceFault>
     requires { IsProper (L.listed table.now) tag.now }

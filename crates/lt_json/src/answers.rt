@@ -32,7 +32,7 @@ fn append_next_place(objects: &mut Vec<u8>, place: u32) -> Result<(), AllocError
     Ok(())
 }
 
-/// Appends the member of the place of a refusal, whose value is null where it has none.
+/// Appends the member of the place of a refusal, which is null if the refusal has none.
 fn append_place(objects: &mut Vec<u8>, refusal: &TextRefusal) -> Result<(), AllocError>
     ensures { OnOk result (objects.new.items ≡ objects.old.items ++ 44 ∷ member_text (member (codes "place") (or_null decimal (place_of refusal.now)))) }
 {
@@ -44,7 +44,7 @@ fn append_place(objects: &mut Vec<u8>, refusal: &TextRefusal) -> Result<(), Allo
     }
 }
 
-/// Appends the member of the variant that steps can repeat, whose value is null where the refusal names none.
+/// Appends the member of the variant that steps can repeat, which is null if the refusal names none.
 fn append_variant(objects: &mut Vec<u8>, refusal: &TextRefusal) -> Result<(), AllocError>
     ensures { OnOk result (objects.new.items ≡ objects.old.items ++ 44 ∷ member_text (member (codes "variant") (or_null string (variant_of refusal.now)))) }
 {

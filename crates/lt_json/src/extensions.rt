@@ -10,7 +10,7 @@ use lt_json_text::{append_comma, append_first_string, append_name};
 use lt_tag::{Extension, OutOfMemory, TransformFault, split_t, split_u};
 use std::alloc::{AllocError, Global};
 
-/// Appends any extension by its subtags.
+/// Appends an extension as an object of its singleton and its subtags.
 #[tactic(auto, using(lt_json_text::proofs::ChainLemmas::two_object), unfolding(crate::specs::Parts::plain_value))]
 fn append_plain(objects: &mut Vec<u8>, extension: &Extension) -> Result<(), AllocError>
     ensures { OnOk result (objects.new.items ≡ objects.old.items ++ plain_value extension.now) }

@@ -36,7 +36,7 @@ fn append_none(objects: &mut Vec<u8>) -> Result<(), AllocError>
     Ok(())
 }
 
-/// Appends the members of the tag that a text is read as, or those of a text that is none.
+/// Appends the members of the tag that a text is read as, which are null and empty arrays if the text is no tag.
 #[tactic(auto, using(crate::proofs::ObjectLemmas::tag_read, crate::proofs::ObjectLemmas::no_tag_read))]
 pub(crate) fn append_tag(
     objects: &mut Vec<u8>,

@@ -40,14 +40,14 @@ fn is_star(piece: &[u8]) -> bool
     }
 }
 
-/// Whether a subtag is of letters alone.
+/// Whether a subtag has letters alone.
 fn is_alphabetic(subtag: &Subtag) -> bool
     ensures { result ≡ shapes.is_alphabetic subtag.now }
 {
     subtag.bytes().iter().all(|byte| byte.is_ascii_lowercase())
 }
 
-/// The subtag that a piece after the first is, or nothing where it is `*`.
+/// The subtag that a piece after the first is, or None if it is `*`.
 fn later_piece(piece: &[u8]) -> Result<Option<Subtag>, RangeFault>
     ensures { result ≡ reading.later_piece piece.now }
 {
@@ -60,7 +60,7 @@ fn later_piece(piece: &[u8]) -> Result<Option<Subtag>, RangeFault>
     }
 }
 
-/// The subtag that the first piece is, or nothing where it is `*`.
+/// The subtag that the first piece is, or None if it is `*`. Refused with `BadFirst` if it has a digit.
 fn first_piece(piece: &[u8]) -> Result<Option<Subtag>, RangeFault>
     ensures { result ≡ reading.first_piece piece.now }
 {
@@ -74,7 +74,7 @@ fn first_piece(piece: &[u8]) -> Result<Option<Subtag>, RangeFault>
     }
 }
 
-/// Adds the subtags that pieces name.
+/// Adds the subtags that further pieces are, without those that are `*`.
 fn append_pieces(named: &mut Vec<Subtag>, pieces: Option<&[u8]>) -> Result<(), RangeFault>
     ensures appended { OnOk result (AppendsRead named.old.items named.new.items (later_pieces (pieces_left pieces.entry))) }
     ensures refused { IfErr result (IsRefused (later_pieces (pieces_left pieces.entry))) }

@@ -31,10 +31,12 @@ impl<'a, L: Lookup> Lines for LookingUp<'a, L> {
     ghost answered = { λ first here lines bytes. (here.checked.now ≡ first.checked.now) × (here.ranges.now ≡ first.ranges.now)
         × (bytes ≡ []) × Holds (L.listed here.checked.now) here.ranges.now lines here.closest };
 
+    /// As many bytes as tell the tag of a line.
     fn longest(&self) -> usize {
         runs::LONGEST_KEPT
     }
 
+    /// Takes the line if it is closer than what is found so far; nothing is owed.
     fn take_line(
         &mut self,
         alloc: Global,
@@ -46,7 +48,7 @@ impl<'a, L: Lookup> Lines for LookingUp<'a, L> {
 }
 
 impl<'a, L: Lookup> LookingUp<'a, L> {
-    /// The line that was found, if there is one.
+    /// The line that was found, or None if none was.
     fn into_line(self) -> Option<Vec<u8>>
         ensures { result ≡ option_map (λ closest. closest.line) self.entry.closest }
     {

@@ -47,7 +47,7 @@ fn append_fields(objects: &mut Vec<u8>, fields: &[JarField]) -> Result<(), Alloc
     Ok(())
 }
 
-/// Appends the array of the fields of what is listed.
+/// Appends the array of the shown fields of the record that is listed, which is empty if there is none.
 fn append_listed(
     objects: &mut Vec<u8>,
     records: &[Record],
@@ -72,7 +72,7 @@ fn listing_name(listing: Listing) -> &'static str
     }
 }
 
-/// Appends the number of the record, or null.
+/// Appends the number of the record that is listed, or null if there is none.
 fn append_record(objects: &mut Vec<u8>, listing: Listing) -> Result<(), AllocError>
     ensures { OnOk result (objects.new.items ≡ objects.old.items ++ record_value listing) }
 {
@@ -89,7 +89,7 @@ fn append_decimal(objects: &mut Vec<u8>, alloc: Global, number: usize) -> Result
     objects.extend_from_slice(format!(in alloc; "{number}")?.as_bytes())
 }
 
-/// Appends the beginning of a row: its place, its name and its text.
+/// Appends the beginning of a row's object: its place, the name of its kind and its text, which is a part of `text`.
 #[tactic(auto, unfolding(crate::specs::Json::row_front))]
 fn append_front(
     objects: &mut Vec<u8>,
@@ -107,7 +107,7 @@ fn append_front(
     append_string(objects, cut(text, row.start, row.length))
 }
 
-/// Appends the end of a row: what is listed.
+/// Appends the end of a row's object: what the registry has for it, and the fields of its record.
 fn append_end(objects: &mut Vec<u8>, records: &[Record], listing: Listing) -> Result<(), AllocError>
     ensures { OnOk result (objects.new.items ≡ objects.old.items ++ row_end records.now listing) }
 {
@@ -121,7 +121,7 @@ fn append_end(objects: &mut Vec<u8>, records: &[Record], listing: Listing) -> Re
     Ok(())
 }
 
-/// Appends a row.
+/// Appends the object of a row, of which the text is a part of `text`.
 fn append_row(
     objects: &mut Vec<u8>,
     alloc: Global,
@@ -136,7 +136,7 @@ fn append_row(
     Ok(())
 }
 
-/// Appends the array of rows of a text.
+/// Appends the array of rows, of which each text is a part of `text`.
 #[tactic(auto, using(lt_json_text::proofs::ValueLemmas::commaed_more))]
 fn append_each(
     objects: &mut Vec<u8>,

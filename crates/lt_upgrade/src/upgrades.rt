@@ -72,7 +72,7 @@ const IN_ORDER: [UpgradeCondition; 6] = [
     UpgradeCondition::SameWhole,
 ];
 
-/// The records that a condition speaks of.
+/// The records of which a condition speaks: those of the newer registry for `NoNewVariantLanguage`, else those of the older.
 fn records_of<'a, A: Lookup, B: Lookup>(
     older: &'a Checked<A>,
     newer: &'a Checked<B>,
@@ -114,7 +114,7 @@ fn meets<A: Lookup, B: Lookup>(
     }
 }
 
-/// The lowest record at fault by a condition.
+/// The number of the first record that does not meet a condition, or None if each does.
 fn lowest_fault<A: Lookup, B: Lookup>(
     alloc: Global,
     older: &Checked<A>,
