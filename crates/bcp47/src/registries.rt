@@ -77,7 +77,7 @@ impl fmt::Debug for Registry {
     }
 }
 
-/// The registry of these entries, if they pass the check.
+/// The registry of these entries, or why the check rejects them.
 fn check_entries(alloc: Global, entries: Entries) -> Result<Registry, RegistryError>
     ensures { IsJudged (Ok entries) result }
 {
@@ -155,16 +155,17 @@ impl Registry {
         self.checked.table().entry(kind, subtag)
     }
 
-    /// The entry of a whole tag (RFC 5646, 2.2.8): the first grandfathered or redundant record of that tag.
+    /// The entry of a whole tag (RFC 5646, 2.2.8): the first grandfathered or redundant record of that tag, or None if it
+    /// has none.
     pub fn whole(&self, tag: &Tag) -> Option<&Entry>
         ensures { option_copied result ≡ listed.whole self.now tag.now }
     {
         self.checked.table().whole(tag)
     }
 
-    /// Whether a tag is valid (RFC 5646, 2.2.9): nothing, or the fault of the least place and, there, of the
-    /// first kind in the order of [`ValidFaultKind`](crate::ValidFaultKind). By a registry without the script
-    /// `Latn`, `he-Latn` gives `UnknownScript` at place 2.
+    /// Whether a tag is valid (RFC 5646, 2.2.9): Ok if it is, else the fault of the least place and, there, of the first
+    /// kind in the order of [`ValidFaultKind`](crate::ValidFaultKind). By a registry without the script `Latn`, `he-Latn`
+    /// gives `UnknownScript` at place 2.
     ///
     /// Memory is taken only for the parts of a `t` extension, so `OutOfMemory` comes for no other tag.
     pub fn validate(&self, alloc: Global, tag: &Tag) -> Result<(), ValidRefusal>

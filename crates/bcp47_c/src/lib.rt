@@ -371,7 +371,7 @@ pub extern "C" fn bcp47_handle_match(
     outcome
 }
 
-/// Whether the registry that a handle holds upgrades an older one.
+/// Tells whether the registry that a handle holds upgrades an older one. The handle holds it again then.
 fn check_newer(alloc: Global, older: &Opened, newer: &mut Handle) -> Outcome
     ghost registry: { Kept }
     requires { newer.old.held ≡ Some registry }

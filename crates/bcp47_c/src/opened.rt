@@ -44,7 +44,7 @@ impl Model for Opened {
 }
 
 impl Opened {
-    /// What a handle holds for a registry and records.
+    /// What a handle holds for a registry and the records that are kept with it, in a box.
     fn hold(
         alloc: Global,
         registry: Arc<Registry>,
@@ -61,7 +61,7 @@ impl Opened {
         Ok(Box::new(alloc, opened)?)
     }
 
-    /// What a handle holds for a registry with which no record is kept.
+    /// What a handle holds for a registry with which no records are kept, in a box.
     fn hold_alone(alloc: Global, registry: Registry) -> Result<Box<Opened>, OutOfMemory>
         ensures { IfOk result (λ opened. opened.value ≡ (registry, [])) }
     {
@@ -70,7 +70,7 @@ impl Opened {
         Opened::hold(alloc, Arc::new(alloc, registry)?, none)
     }
 
-    /// The registry whose text the bytes are. No record is kept with it.
+    /// What a handle holds for the registry whose text the bytes are. No records are kept with it.
     pub(crate) fn read(alloc: Global, bytes: &[u8]) -> Result<Box<Opened>, RegistryError>
         ensures read { IfOk result (λ opened. ReadsBytes bytes.now (Ok opened.value.0)) }
         ensures none { IfOk result (λ opened. opened.value.1 ≡ []) }
@@ -107,7 +107,7 @@ impl Opened {
         self.registry.entries().len()
     }
 
-    /// The same registry for another handle.
+    /// What another handle holds for the same registry and records. They are not copied.
     pub(crate) fn share(&self, alloc: Global) -> Result<Box<Opened>, OutOfMemory>
         ensures { IfOk result (λ opened. opened.value ≡ self.now) }
     {
@@ -149,7 +149,7 @@ impl Opened {
         classify(alloc, text, &mut self.texts, buffer)
     }
 
-    /// Whether the tag that a text is read as is valid.
+    /// Tells whether the tag that a text is read as is valid.
     pub(crate) fn validate(&self, alloc: Global, text: &[u8]) -> Outcome
         ensures { Validates self.now.0 text.now result }
     {
@@ -159,7 +159,7 @@ impl Opened {
         }
     }
 
-    /// Whether the tags that two texts are read as are equivalent.
+    /// Tells whether the tags that two texts are read as are equivalent, or which refusal comes first.
     pub(crate) fn equal(
         &self,
         alloc: Global,
@@ -176,7 +176,7 @@ impl Opened {
         }
     }
 
-    /// Whether a language range matches a tag, by the scheme of a number.
+    /// Tells whether a language range matches a tag, by the scheme of a number, or that the number is that of no scheme.
     pub(crate) fn matches(
         &self,
         alloc: Global,
@@ -230,7 +230,7 @@ impl Opened {
         }
     }
 
-    /// Whether steps in numbers lead from the tag that a text is read as to the one that another is read as.
+    /// Tells whether steps in numbers lead from the tag of `text`, one after another, to the tag of `last`.
     pub(crate) fn verify(
         &self,
         alloc: Global,
@@ -250,7 +250,7 @@ impl Opened {
         }
     }
 
-    /// Whether a newer registry upgrades this one.
+    /// Tells whether a newer registry upgrades this one.
     pub(crate) fn upgrade_check(&self, alloc: Global, newer: &Opened) -> Outcome
         ensures { ChecksUpgrade self.now.0 newer.now.0 result }
     {
@@ -261,7 +261,7 @@ impl Opened {
     }
 }
 
-/// What threads may share and hand to one another.
+/// Checks, when it is compiled, that threads may share a type and hand its values to one another.
 fn shareable<T: Send + Sync>() {}
 
 /// Threads may share what a handle holds: the handles of a registry share it.

@@ -13,7 +13,7 @@ use crate::outcomes::{Outcome, Said, deliver, refuse};
 use bcp47::{Record, Refusal, Registry, Tag, TextRefusal, append_tag};
 use std::alloc::Global;
 
-/// Makes a text that of the extlang form of the tag that another is read as.
+/// Puts into `extlang` the text of the extlang form of the tag that a text is read as, in place of what it held.
 pub(crate) fn write_extlang(
     alloc: Global,
     registry: &Registry,
@@ -86,7 +86,7 @@ pub(crate) fn rows_text(
     Ok(rows)
 }
 
-/// Whether the tag that a text is read as is valid.
+/// Checks that the tag that a text is read as is valid. Refused with what is wrong with the text or the tag.
 pub(crate) fn validity(alloc: Global, registry: &Registry, text: &[u8]) -> Result<(), TextRefusal>
     ensures valid { OnOk result (IsValidText registry.now text.now) }
     ensures refusal { IfErr result (λ refusal. IsValidityRefusal registry.now text.now refusal) }

@@ -141,7 +141,7 @@ Status:
 /// The version, and the kits that prove and build the program, by their logic.
 const VERSION: &str = "1.1.0 (rattle-kit-13 logic dac8208d650f15bf)";
 
-/// An argument.
+/// The argument that is wanted: a positional, which is required and may be repeated, an option with a value, or a flag.
 fn new_argument<'a>(alloc: Global, wanted: &Argument) -> Arg<'a>
     ensures rule { rule_of result ≡ rule_for wanted.now.form wanted.now.name.now }
     ensures local { result.global ≡ false }
@@ -155,7 +155,7 @@ fn new_argument<'a>(alloc: Global, wanted: &Argument) -> Arg<'a>
     }
 }
 
-/// A subcommand with these arguments.
+/// A subcommand with this name, help and arguments.
 fn new_subcommand<'a>(
     alloc: Global,
     name: &'a str,
@@ -183,7 +183,7 @@ fn new_program<'a>(alloc: Global) -> Command<'a>
         .subcommand_required(true)
 }
 
-/// The program with one more subcommand.
+/// The program with a further subcommand, which has this name, help and arguments.
 fn with_new<'a>(
     alloc: Global,
     program: Command<'a>,
