@@ -116,6 +116,7 @@ pub(crate) fn answer_match(
 ) -> Outcome
     ensures { TellsMatch registry.now scheme range.now text.now buffer.old buffer.new result }
 {
+    // So that what holds of every registry is known.
     registry.promise();
     let canonical = match registry.range(alloc, range) {
         Ok(canonical) => canonical,

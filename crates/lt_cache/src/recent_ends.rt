@@ -190,6 +190,7 @@ impl RecentEnds {
         ensures ends { AreEnds (L.listed checked.now) self.old → AreEnds (L.listed checked.now) self.new }
         ensures kept { texts.new.items ≡ texts.old.items }
     {
+        // So that the table is known to pass the check.
         checked.table();
         match staying_source(checked, end, texts) {
             Some((source, fields)) => {
@@ -218,6 +219,7 @@ impl RecentEnds {
         ensures ends { AreEnds (L.listed checked.now) self.old → AreEnds (L.listed checked.now) self.new }
     {
         let start = texts.len();
+        // So that the table is known to pass the check.
         checked.table();
         append_canonical_text(alloc, checked, text, texts)?;
         self.keep(checked, end, start + count, texts);

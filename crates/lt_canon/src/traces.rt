@@ -110,6 +110,7 @@ pub fn verify<L: Lookup>(
     ensures exact { IfErr result (λ fault. fault ≢ no_trace_memory
         → IsValidTrace (L.listed checked.now) tag.now trace.now.steps.items trace.now.last → ⊥) }
 {
+    // So that the steps are known to have one end, which is equivalent to the tag.
     traces_reach_their_end();
     traces_have_one_end();
     let table = checked.table();

@@ -62,6 +62,7 @@ impl<L: Lookup> Checked<L> {
         ensures cause { IfErr result (λ rejected. IsCause (L.listed table) rejected.cause) }
         ensures first { IfErr result (λ rejected. IsFirstCause (L.listed table) rejected.cause) }
     {
+        // So that the forms of the entries are known.
         know_entries(&table);
         let Ok(shortcuts) = Shortcuts::of_table(alloc, &table) else {
             return Err(Rejected {

@@ -107,6 +107,7 @@ pub(crate) fn fits_grandfathered<L: Lookup>(
     requires listed { Contains (L.listed table.now) entry.now }
     ensures { IsTrue result ↔ Meets conditions.FittingGrandfathered (L.listed table.now) entry.now }
 {
+    // So that the forms of the entries are known.
     know_entries(table);
     has_fitting_tag(entry) && !has_number(validating, entry.number())
 }

@@ -100,6 +100,7 @@ fn rests<L: Lookup>(alloc: Global, table: &L, core: Core) -> bool
     requires spelled { IsNotGrandfathered (spell_core core) }
     ensures { IsTrue result ↔ RestsAlone (L.listed table.now) core }
 {
+    // So that the forms of the entries are known.
     know_entries(table);
     are_distinct(core.variants()) && value_of(alloc, table, core).is_none()
 }
@@ -155,6 +156,7 @@ pub(crate) fn judge_whole<L: Lookup>(
     ensures rests { IfOk result (λ judged. IsTrue judged.rests ↔ Meets conditions.RestingWhole (L.listed table.now) entry.now) }
     ensures agrees { IfOk result (λ judged. IsTrue judged.agrees ↔ Meets conditions.AgreeingWhole (L.listed table.now) entry.now) }
 {
+    // So that the forms of the entries are known.
     know_entries(table);
     let both = Judged {
         rests: true,

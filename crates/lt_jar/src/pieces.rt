@@ -72,6 +72,7 @@ impl<'a> Pieces<'a> {
 impl Read for Pieces<'_> {
     ghost remaining = { remaining_of };
 
+    /// Gives the next bytes, at most one piece; or fails, at the call that is to fail.
     fn read(&mut self, buf: &mut [u8]) -> io::Result<usize>
         ensures bound { ReadsAtMost result buf.new }
         ensures bytes { ReadConsumes (remaining_of self.old) (remaining_of self.new)
@@ -153,6 +154,7 @@ impl Takes {
 impl Write for Takes {
     ghost contents = { λ writer. Some (taken_by writer) };
 
+    /// Takes at most one piece of the bytes; at the calls that are to fail or to take none, it does so.
     fn write(&mut self, buf: &[u8]) -> io::Result<usize>
         ensures bound { WritesAtMost result buf.now }
         ensures bytes { WriteAppends (Some (taken_by self.old)) (Some (taken_by self.new))
@@ -180,6 +182,7 @@ impl Write for Takes {
         Ok(count)
     }
 
+    /// Does nothing.
     fn flush(&mut self) -> io::Result<()>
         ensures bytes { Keeps (Some (taken_by self.old)) (Some (taken_by self.new)) }
         ensures ok { IsOk result }

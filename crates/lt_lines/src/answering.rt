@@ -160,6 +160,7 @@ fn append_line<L: Lookup>(
         );
     }
     keep(form, kept, &text[..count])?;
+    // So that the form of the codes is known.
     basis.know_codes();
     append_reply(
         lines,

@@ -49,6 +49,7 @@ impl TagSubtags {
     pub fn of(alloc: Global, tag: &Tag) -> Result<TagSubtags, OutOfMemory>
         ensures { IfOk result (λ subtags. subtags ≡ spell tag.now) }
     {
+        // So that each piece of the text is known to be a subtag.
         text_of_tag_has_its_list();
         // So that their shapes are known.
         let _ = tag.private();

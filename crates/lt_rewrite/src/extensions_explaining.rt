@@ -81,6 +81,7 @@ fn explained_transform<L: Lookup>(
         Err(TransformFault::OutOfMemory) => return Err(OutOfMemory),
         Err(TransformFault::BadTransform) => unreachable!(),
     };
+    // So that the forms of the entries are known.
     recall_forms(table);
     explain_t(table, &mut parts, place, steps)?;
     Ok(Some((index, join_t(alloc, &parts)?)))

@@ -64,6 +64,7 @@ fn settled_transform<L: Lookup>(
         Err(TransformFault::OutOfMemory) => return Err(OutOfMemory),
         Err(TransformFault::BadTransform) => unreachable!(),
     };
+    // So that the forms of the entries are known.
     recall_forms(table);
     settle_transform(table, shortcuts, &mut parts);
     Ok(Some((place, join_t(alloc, &parts)?)))

@@ -26,6 +26,7 @@ pub(crate) trait Spelled: Part {
 impl Spelled for Subtag {
     ghost spell = { λ a. a ∷ [] };
 
+    /// One subtag.
     fn subtag_count(&self) -> usize {
         1
     }
@@ -37,6 +38,7 @@ impl Spelled for Subtag {
 impl Spelled for Keyword {
     ghost spell = { spell_keyword };
 
+    /// The key and its types.
     fn subtag_count(&self) -> usize {
         1 + self.types.len()
     }
@@ -48,6 +50,7 @@ impl Spelled for Keyword {
 impl Spelled for Field {
     ghost spell = { spell_field };
 
+    /// The separator and its values.
     fn subtag_count(&self) -> usize {
         1 + self.values.len()
     }

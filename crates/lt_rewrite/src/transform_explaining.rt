@@ -49,6 +49,7 @@ pub(crate) fn explain_t<L: Lookup>(
     ensures at_rest { IfOk result (λ _. NoneLeads (TransformLeads (L.listed table.now) start parts.new)) }
     ensures shaped { IfOk result (λ _. IsT parts.old → IsT parts.new) }
 {
+    // So that the forms of the entries are known.
     recall_forms(table);
     explain_source(table, parts, start, steps)?;
     let first_field = start + source_length(&parts.source);

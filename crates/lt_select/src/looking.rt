@@ -93,7 +93,7 @@ pub fn look_up_line<L: Lookup, R: Read>(
     let mut none = Device::new(Vec::new(alloc));
     match run_lines(alloc, looking, input, &mut none) {
         (looking, Ok(())) => Ok(looking.into_line()),
-        // (what is written is kept in memory)
+        // What is written is kept in memory, so a write fails only where that runs out.
         (_, Err(ToolFault::Write)) => Err(ToolFault::OutOfMemory),
         (_, Err(fault)) => Err(fault),
     }

@@ -228,6 +228,7 @@ fn told_of_run<O: Write, E: Write>(
 pub(crate) fn say<T: Write>(text: &[u8], people: &mut Device<T>)
     ensures { Says (stream T.contents people.old people.new) text.now }
 {
+    // A write that fails is counted by the device.
     let _ = write_text(text, people);
 }
 

@@ -32,6 +32,7 @@ use std::io::{Read, Write};
 pub(crate) fn say<E: Write>(text: &[u8], errors: &mut Device<E>)
     ensures { Says (stream E.contents errors.old errors.new) text.now }
 {
+    // A write that fails is counted by the device.
     let _ = write_text(text, errors);
 }
 
@@ -39,6 +40,7 @@ pub(crate) fn say<E: Write>(text: &[u8], errors: &mut Device<E>)
 pub(crate) fn say_fault<E: Write>(fault: ToolFault, errors: &mut Device<E>)
     ensures { Says (stream E.contents errors.old errors.new) (fault_said fault) }
 {
+    // A write that fails is counted by the device.
     let _ = write_fault(fault, errors);
 }
 

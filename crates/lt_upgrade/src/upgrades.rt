@@ -150,6 +150,7 @@ pub fn upgrade_check<A: Lookup, B: Lookup>(
     ensures keeps { OnOk result (UpgradeKeepsTags (A.listed older.now) (B.listed newer.now)) }
     ensures fault { IfErr result (IsUpgradeFault (A.listed older.now) (B.listed newer.now)) }
 {
+    // So that it is known what an upgrade keeps.
     upgrades_keep_tags();
     // So that the table is known to pass the check.
     let _ = older.table();

@@ -11,6 +11,7 @@ use lt_registry::Lookup;
 pub fn lines_have_one_verdict()
     ensures { (R : List EntryParts) → HaveOneVerdict R }
 {
+    // By the law of traces, which lines tell.
     traces_have_one_end();
 }
 
@@ -28,5 +29,6 @@ fn numbers_fit<L: Lookup>(table: &L)
 pub fn explanations_are_right<L: Lookup>(table: &L)
     ensures { ExplanationsAreRight (L.listed table.now) }
 {
+    // So that the number of each record is known to have 32 bits.
     numbers_fit(table);
 }
