@@ -159,7 +159,8 @@ impl Opened {
         }
     }
 
-    /// Tells whether the tags that two texts are read as are equivalent, or which refusal comes first.
+    /// Tells whether the tags that two texts are read as are equivalent, or why one of them is refused, the first or else
+    /// the second.
     pub(crate) fn equal(
         &self,
         alloc: Global,

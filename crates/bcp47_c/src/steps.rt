@@ -30,7 +30,7 @@ fn step_of(told: StepNumbers) -> Option<Step>
     })
 }
 
-/// The steps that numbers tell, up to the first of which the number of the kind is that of none.
+/// The steps that the numbers tell, up to the first numbers that tell none.
 pub(crate) fn front_steps(alloc: Global, told: &[StepNumbers]) -> Result<Vec<Step>, OutOfMemory>
     ensures { IfOk result (λ steps. IsFront told.now steps.items) }
 {

@@ -9,8 +9,8 @@ use crate::steps::{StepNumbers, front_steps};
 use bcp47::{Registry, Tag, Trace, TraceFault};
 use std::alloc::Global;
 
-/// The fault of all steps by that of the first of them, after which the numbers of the next one, which is given, tell no
-/// step.
+/// The fault of steps of which number `next`, counted from 1, is told by no numbers, by the fault of the steps before it:
+/// where they lead to another tag, there is no such step.
 fn of_front(fault: TraceFault, next: usize) -> TraceFault
     ensures { result ≡ spec.of_front fault next }
 {

@@ -108,8 +108,8 @@ impl Recent {
         }
     }
 
-    /// Puts an answer for a line, if both have at most 32 bytes, and else does nothing. Of the lines that share its two
-    /// places, the one that was put before the last is lost.
+    /// Puts an answer for a line, if both have at most 32 bytes and there is memory for the table. A line has two places,
+    /// which it shares with others: what was put there the time before last is lost.
     pub fn put(&mut self, line: &[u8], answer: &[u8], refused: bool)
         ensures { PutsIn self.old self.new line.now answer.now refused }
     {

@@ -115,8 +115,8 @@ fn put_single(words: &mut [u64], entry: &Entry)
     }
 }
 
-/// Sets the flags of the subtags of all records that are no ranges and no tags. Of several records of a subtag the first
-/// counts.
+/// Sets or clears the flag of the subtag of each record that is no range and no tag. Of several records of a subtag the
+/// first counts.
 fn put_singles(words: &mut [u64], entries: &[Entry])
     requires room { length words.old ≡ 8655 }
     requires clear { TellSingles [] words.old }

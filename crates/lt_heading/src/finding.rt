@@ -49,8 +49,7 @@ impl From<AllocError> for ColumnFault {
     }
 }
 
-/// The line for a name that isn't found: `whose`, as `no column`, has the name `shown`, and `listed` are the names that
-/// there are.
+/// The line that says why a name is not found: that `whose`, as `no column`, has the name `shown`. `listed` are all names.
 fn line_of(alloc: Global, whose: &str, shown: &str, listed: &str) -> Result<String, AllocError>
     ensures { IfOk result (λ line. string_bytes line ≡ shown_line whose.now shown.now listed.now) }
 {

@@ -230,7 +230,8 @@ fn write_over(text: &mut String, other: &str) -> Result<(), AllocError>
     text.push_str(other)
 }
 
-/// Puts a further text after a body, with a space between them.
+/// Puts a further text after a body, with a space between them. An empty one adds nothing, and to an empty one no space is
+/// added.
 fn lengthen(body: &mut String, text: &str) -> Result<(), AllocError>
     ensures { OnOk result (string_bytes body.new ≡ reading.lengthened (string_bytes body.old) text.now) }
 {

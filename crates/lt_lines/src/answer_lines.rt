@@ -21,7 +21,7 @@ fn append_number(lines: &mut Vec<u8>, number: u32) -> Result<(), AllocError>
 }
 
 /// Appends the name of a refusal, a space, and the place of the fault or the variant that steps can repeat. Refused where
-/// memory runs out, and for `TextRefusal::OutOfMemory`, of which nothing is told.
+/// memory runs out, and for `TextRefusal::OutOfMemory`; a part may then have been appended.
 pub(crate) fn append_told(lines: &mut Vec<u8>, refusal: &TextRefusal) -> Result<(), OutOfMemory>
     ensures { OnOk result (AppendsTold refusal.now lines.old.items lines.new.items) }
 {

@@ -179,7 +179,7 @@ pub(crate) fn place_of(entries: &[Entry], entry: &Entry) -> usize
     }
 }
 
-/// The place of the entry of the value that follows an entry. If that value is the last of its chain, it is the entry's own
+/// The place of the entry of the value that follows an entry, if a further value follows that one; else the entry's own
 /// place.
 #[tactic(auto, using(std::proofs::lemmas::Option::slice_get_within, crate::proofs::ChainWalks::entry_there, crate::proofs::ShortcutWalks::to_itself, crate::proofs::ShortcutWalks::to_next, crate::proofs::ChainWalks::next_by))]
 fn next_place<L: Lookup>(table: &L, entry: &Entry, place: usize) -> usize

@@ -34,7 +34,7 @@ impl<'a, L: Lookup> Lines for Selecting<'a, L> {
     ghost answered = { λ first here lines bytes. (here.checked.now ≡ first.checked.now) × (here.scheme ≡ first.scheme) × (here.ranges.now ≡ first.ranges.now)
         × AreOwed (IsSelected (L.listed here.checked.now) here.scheme here.ranges.now) lines bytes here.count };
 
-    /// As many bytes as tell the tag of a line, and may be selected.
+    /// As many bytes as tell the tag of a line; a longer line is not selected.
     fn longest(&self) -> usize {
         LONGEST_KEPT
     }

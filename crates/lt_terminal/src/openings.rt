@@ -69,8 +69,8 @@ impl Openings {
         self.refusal.take()
     }
 
-    /// What the record is that a refused registry or upgrade is at fault by, and where it begins, as a line. `line` is the
-    /// refusal, which names the record. None if it names none, or if what was read of its file is not known.
+    /// The line that says what the record is that `line` names, and where it begins. `line` refuses a registry or an
+    /// upgrade. None if it names no record, or if that can't be found in what was read of its file.
     pub(crate) fn place(&self, alloc: Global, line: &[u8]) -> Option<String> {
         let named = named_in(std::str::from_utf8(line).ok()?)?;
         let bytes = if named.is_second {

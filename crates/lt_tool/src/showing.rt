@@ -123,7 +123,7 @@ fn status_of(refused: bool) -> Status
     }
 }
 
-/// The refusal of a registry that was read with its records, as that of one that was read without.
+/// The refusal of a registry whose records were kept while it was read.
 fn refusal_of(fault: RecordsFault) -> RegistryRefusal
     ensures { IsKeptRefusal fault result }
 {
