@@ -105,7 +105,7 @@ fn told_of(number: u32, outcome: Outcome) -> Outcome
     }
 }
 
-/// Tells whether a language range matches a tag by a scheme, or which of the two is refused.
+/// Tells whether a language range matches a tag by a scheme, or why the range, or else the tag, is refused.
 pub(crate) fn answer_match(
     alloc: Global,
     registry: &Registry,

@@ -37,7 +37,7 @@ pub(crate) fn status_name(status: u8) -> &'static str
     }
 }
 
-/// The name of a fault, as the program prints it.
+/// The name of the fault of a number, as the program prints it.
 #[tactic(auto, unfolding(crate::specs::Names::fault_names))]
 pub(crate) fn fault_name(fault: u8) -> &'static str
     requires { fault ≤ 53 }

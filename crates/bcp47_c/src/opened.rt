@@ -83,7 +83,7 @@ impl Opened {
         }
     }
 
-    /// Keeps the records of bytes with the registry in place of those that were kept, and answers the status.
+    /// Keeps the records that bytes have with the registry, in place of those that were kept, and gives the status.
     pub(crate) fn keep(&mut self, alloc: Global, bytes: &[u8]) -> u8
         ensures { Keeps self.old (Some self.new) bytes.now result }
     {
@@ -115,7 +115,7 @@ impl Opened {
         Opened::hold(alloc, registry, Arc::try_clone(&self.records)?)
     }
 
-    /// Writes the canonical text of the tag that a text is read as.
+    /// Writes the canonical text of the tag that a text is read as, or answers why there is none.
     pub(crate) fn canonical(&mut self, alloc: Global, text: &[u8], buffer: &mut [u8]) -> Outcome
         ensures kept { self.new ≡ self.old }
         ensures answer { Answers (IsCanonicalTextOf self.old.0 text.now) (IsTextRefusal self.old.0 text.now) buffer.old buffer.new result }
@@ -130,7 +130,7 @@ impl Opened {
         }
     }
 
-    /// Writes the text of the extlang form of the tag that a text is read as.
+    /// Writes the text of the extlang form of the tag that a text is read as, or answers why there is none.
     pub(crate) fn extlang(&mut self, alloc: Global, text: &[u8], buffer: &mut [u8]) -> Outcome
         ensures kept { self.new ≡ self.old }
         ensures answer { Answers (IsExtlangTextOf self.old.0 text.now) (IsTextRefusal self.old.0 text.now) buffer.old buffer.new result }
@@ -141,7 +141,8 @@ impl Opened {
         deliver(ended(DONE), &self.texts, buffer)
     }
 
-    /// Writes the text, in conventional case, of the tag that a text is read as, and tells its class.
+    /// Writes the text, in conventional case, of the tag that a text is read as, and tells its class, or answers why it is
+    /// no tag.
     pub(crate) fn classify(&mut self, alloc: Global, text: &[u8], buffer: &mut [u8]) -> Outcome
         ensures kept { self.new ≡ self.old }
         ensures answer { Classifies text.now buffer.old buffer.new result }
@@ -194,7 +195,7 @@ impl Opened {
         }
     }
 
-    /// Writes the explanation of the tag that a text is read as.
+    /// Writes the explanation of the tag that a text is read as, or answers why there is none.
     pub(crate) fn explain(&self, alloc: Global, text: &[u8], buffer: &mut [u8]) -> Outcome
         ensures { Answers (IsExplanationTextOf self.now.0 text.now) (IsTextRefusal self.now.0 text.now) buffer.old buffer.new result }
     {
@@ -204,7 +205,7 @@ impl Opened {
         }
     }
 
-    /// Writes what the registry has for the parts of the tag that a text is read as.
+    /// Writes what the registry has for the parts of the tag that a text is read as, or answers why it is no tag.
     pub(crate) fn show(&self, alloc: Global, text: &[u8], buffer: &mut [u8]) -> Outcome
         ensures { Answers (AreRowsOf self.now text.now) (IsReadingRefusal text.now) buffer.old buffer.new result }
     {
@@ -214,7 +215,7 @@ impl Opened {
         }
     }
 
-    /// Tells how many steps the explanation has of the tag that a text is read as.
+    /// Tells how many steps the explanation of the tag has that a text is read as, or answers why there is none.
     pub(crate) fn count_steps(&self, alloc: Global, text: &[u8], buffer: &mut [u8]) -> Outcome
         ensures { CountsSteps self.now.0 text.now buffer.old buffer.new result }
     {

@@ -108,7 +108,7 @@ fn numbers_of(alloc: Global, parts: &[Part]) -> Result<Vec<PartNumbers>, OutOfMe
     Ok(numbers)
 }
 
-/// The text of the tag that a text is read as, and its parts.
+/// The text, in conventional case, of the tag that a text is read as, and its parts in numbers. Refused if it is no tag.
 fn read_parts(alloc: Global, text: &[u8]) -> Result<(Vec<u8>, Vec<PartNumbers>), TextRefusal>
     ensures parts { IfOk result (λ found. HasParts text.now found.0.items found.1.items) }
     ensures refusal { IfErr result (IsReadingRefusal text.now) }

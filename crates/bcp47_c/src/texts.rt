@@ -56,7 +56,7 @@ pub(crate) fn classify(
     deliver(said, shown, buffer)
 }
 
-/// How many steps the explanation of the tag has that a text is read as.
+/// How many steps the explanation of the tag has that a text is read as, or why there is none.
 pub(crate) fn step_count(
     alloc: Global,
     registry: &Registry,
@@ -71,6 +71,7 @@ pub(crate) fn step_count(
 }
 
 /// What a registry has for the parts of the tag that a text is read as, with the fields of records, as an array of JSON.
+/// Refused if it is no tag.
 pub(crate) fn rows_text(
     alloc: Global,
     registry: &Registry,
@@ -98,7 +99,7 @@ pub(crate) fn validity(alloc: Global, registry: &Registry, text: &[u8]) -> Resul
     }
 }
 
-/// Whether the tags that two texts are read as are equivalent.
+/// Whether the tags that two texts are read as are equivalent, or why one of them is refused, the first or else the second.
 pub(crate) fn equality(
     alloc: Global,
     registry: &Registry,
@@ -113,7 +114,7 @@ pub(crate) fn equality(
     Ok(registry.equivalent(alloc, &tag, &other)?)
 }
 
-/// The tags that two texts are read as.
+/// The tags that two texts are read as, or why one of them is none, the first or else the second.
 pub(crate) fn read_pair(
     alloc: Global,
     first: &[u8],

@@ -96,7 +96,7 @@ fn append_source(source: &[u8], texts: &mut Vec<u8>) -> Result<(), OutOfMemory>
 }
 
 impl RecentEnds {
-    /// Ends of which none is kept. Where there is no memory for them, it stays so.
+    /// No ends kept so far. If there is no memory for them later, none are kept.
     pub fn new(alloc: Global) -> RecentEnds
         ensures { (entries : List EntryParts) → AreEnds entries result }
     {

@@ -87,7 +87,7 @@ impl ShortText {
         self.count == other.count && differ.to_bitmask() == 0
     }
 
-    /// A number that spreads texts well: the same for the same text.
+    /// A number by which texts are spread over the places of a table. A text has always the same.
     #[inline(always)]
     pub(crate) fn hash(&self) -> usize {
         let words = u64x4::from_le_bytes(u8x32::from_array(self.bytes)).to_array();

@@ -56,7 +56,7 @@ fn split_fields(text: &[u8]) -> Option<(&[u8], &[u8])>
     None
 }
 
-/// Whether each subtag of a text has more than one character, or none.
+/// Whether no piece between hyphens has just one character.
 #[inline(always)]
 fn has_no_singleton(text: &[u8]) -> bool
     ensures { result ≡ list_all (λ (s : List ℕ). not (length s == 1)) (list_of text.now) }

@@ -38,7 +38,7 @@ fn split_end(text: &[u8]) -> Option<(&[u8], &[u8])>
     None
 }
 
-/// Appends a front in conventional case, exactly if each of its subtags stays as it is; tells whether it did.
+/// Appends a front in conventional case if each of its subtags stays as it is, and gives true; else it appends nothing.
 #[inline(always)]
 fn append_front<L: Lookup>(
     checked: &Checked<L>,
@@ -92,8 +92,8 @@ fn append_settled_text<L: Lookup>(checked: &Checked<L>, text: &[u8], texts: &mut
     true
 }
 
-/// Appends the canonical text of a text that is not told by a flag for each subtag. It is no part of its caller, so that
-/// the texts which are told so pay nothing for it.
+/// Appends the canonical text of a text whose subtags don't all stay as they are. It is no part of its caller, so that the
+/// other texts pay nothing for it.
 #[inline(never)]
 fn append_other_text<L: Lookup>(
     alloc: Global,

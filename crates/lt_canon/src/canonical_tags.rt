@@ -44,7 +44,7 @@ pub fn canonical<L: Lookup>(alloc: Global, checked: &Checked<L>, tag: &Tag) -> R
     canonical_of(alloc, checked, tag.copy(alloc)?)
 }
 
-/// The canonical form of a tag that is handed over.
+/// The canonical form of a tag, which is used up for it. It is refused as `canonical` refuses.
 pub(crate) fn canonical_of<L: Lookup>(
     alloc: Global,
     checked: &Checked<L>,
@@ -66,8 +66,8 @@ pub(crate) fn canonical_of<L: Lookup>(
     Ok(replaced_whole(alloc, table, shortcuts, settled)?)
 }
 
-/// Whether a part of a tag may not be in its normal form. Refused exactly where the tag is not valid, or memory
-/// runs out.
+/// Whether a core or an extension of a tag may not be in its normal form. Refused exactly where the tag is not valid, or
+/// memory runs out.
 #[tactic(auto, using(crate::proofs::UsualForms::usual_refused, crate::proofs::UsualForms::usual_valid, crate::proofs::UsualForms::usual_settled))]
 fn needs_settling<L: Lookup>(alloc: Global, table: &L, tag: &Tag) -> Result<bool, Refusal>
     ensures valid { IfOk result (λ needs. IsValid (L.listed table.now) tag.now) }

@@ -40,8 +40,8 @@ pub enum TraceFault {
 }
 
 impl TraceFault {
-    /// The fault's name, as it is printed: `NoSuchStep`, or for a tag that is not valid that of its fault, as
-    /// `UnknownLanguage`.
+    /// The fault's name, as it is printed: `NoSuchStep`, `WrongEnd`, `OutOfMemory`, or for a tag that is not valid that of
+    /// its fault, as `UnknownLanguage`.
     pub fn name(self) -> &'static str
         ensures { result.now ≡ trace_fault_name_of self }
     {

@@ -85,7 +85,7 @@ fn has_number(numbers: &[Option<u32>], number: u32) -> bool
     numbers.contains(&Some(number))
 }
 
-/// Whether the tag of a record, if it is a grandfathered one, is one of the 26.
+/// Whether the tag of a record is one of the 26, if the record is of the grandfathered type. True of any other type.
 fn has_fitting_tag(entry: &Entry) -> bool
     ensures { IsTrue result
         ↔ (entry.now.kind ≡ kinds.Grandfathered → (number : ℕ) × (entry.now.name ≡ names.Whole (Grandfathered number))) }
@@ -96,8 +96,8 @@ fn has_fitting_tag(entry: &Entry) -> bool
     }
 }
 
-/// Whether the tag of a record, if it is a grandfathered one, is one of the 26, and the record is none
-/// of those that make a regular one valid as a langtag ([`validating_records`]).
+/// Whether a record meets the condition on grandfathered tags: if it is of that type, its tag is one of the 26, and it is
+/// none of the records that make a regular one of these valid as a langtag ([`validating_records`]).
 pub(crate) fn fits_grandfathered<L: Lookup>(
     table: &L,
     validating: &[Option<u32>],

@@ -13,7 +13,7 @@ use lt_registry::{Entry, EntryName, Lookup};
 use lt_tag::OutOfMemory;
 use std::alloc::Global;
 
-/// Whether what a look-up found has the number of this entry.
+/// Whether a look-up found the entry itself: one with its number. False if it found none.
 fn is_entry(found: Option<&Entry>, entry: &Entry) -> bool
     ensures { IsTrue result ↔ ((other : EntryParts) × (option_copied found.entry ≡ Some other) × (other.number ≡ entry.now.number)) }
 {

@@ -22,7 +22,7 @@ static LETTERS: [u8; 256] = [
     26, 26, 26, 26, 26, 26, 26, 26, 26, 26, 26, 26,
 ];
 
-/// The place of a letter among the letters, in either case, and 26 for any other byte.
+/// The index of a letter in the alphabet, in either case, or 26 for any other byte.
 #[inline(always)]
 #[tactic(auto, using(crate::proofs::FlagLemmas::letter_reads))]
 fn letter(byte: u8) -> usize
@@ -31,7 +31,7 @@ fn letter(byte: u8) -> usize
     usize::from(LETTERS[usize::from(byte)])
 }
 
-/// The value of a digit, and 10 for any other byte.
+/// The value of a digit, or 10 for any other byte.
 #[inline(always)]
 fn digit(byte: u8) -> usize
     ensures value { result ≡ places.digit byte }

@@ -27,7 +27,7 @@ fn is_final_language<L: Lookup>(table: &L, language: &Subtag) -> bool
     }
 }
 
-/// Whether a Prefix is one subtag, a language without a value.
+/// Whether a Prefix is one subtag, which is a registered language without a preferred value.
 fn is_final_prefix<L: Lookup>(table: &L, prefix: &Prefix) -> bool
     ensures { result ≡ checks.is_final_prefix (L.listed table.now) prefix.now }
 {
@@ -117,7 +117,7 @@ pub(crate) fn stands_beside_final_languages<L: Lookup>(table: &L, entry: &Entry)
     }
 }
 
-/// Whether each Prefix is one subtag, a language without a value.
+/// Whether each Prefix is one subtag, which is a registered language without a preferred value.
 fn have_final_languages<L: Lookup>(table: &L, prefixes: &[Prefix]) -> bool
     ensures { result ≡ list_all (checks.is_final_prefix (L.listed table.now)) prefixes.now }
 {

@@ -37,7 +37,7 @@ impl Model for UsualSubtags {
 }
 
 impl UsualSubtags {
-    /// The flags of a table's subtags: a subtag has one exactly if it stays. Refused only where memory runs out.
+    /// The flags of a table's subtags: a subtag has one exactly if it stays as it is. Refused only where memory runs out.
     pub fn of_table<L: Lookup>(alloc: Global, table: &L) -> Result<UsualSubtags, AllocError>
         ensures { IfOk result (AreFlags (L.listed table.now)) }
     {

@@ -47,7 +47,7 @@ impl Pieces<()> for Whole {
     }
 }
 
-/// The fault of a table for what ended the reading of it.
+/// The fault of a table whose reading was ended by a fault: `OutOfMemory`, or else `Read`.
 fn kind_of(fault: ToolFault) -> TableFaultKind
     ensures { result ≡ spec.kind_of fault }
 {

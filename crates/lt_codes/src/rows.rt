@@ -92,7 +92,7 @@ fn code_or_none(field: &[u8], count: usize) -> Option<Option<Subtag>>
     }
 }
 
-/// Whether a field is two codes with a hyphen between them.
+/// Whether a field is a range: two codes of three letters with a hyphen between them.
 fn is_range(field: &[u8]) -> bool
     ensures { result ≡ spec.is_range field.now }
 {

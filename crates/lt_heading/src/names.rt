@@ -58,7 +58,7 @@ fn undoubled(alloc: Global, text: &[u8]) -> Result<Vec<u8>, AllocError>
     Ok(name)
 }
 
-/// The name of the column that has this field in the heading.
+/// The name of a column, by its field in the heading: the text of the field, with each doubled quote as one if it is quoted.
 fn name_of(alloc: Global, separator: Separator, field: &[u8]) -> Result<Vec<u8>, AllocError>
     ensures { IfOk result (λ name. IsNameOf separator field.now name.items) }
 {

@@ -159,7 +159,7 @@ impl Engine {
         self.draft.clear();
     }
 
-    /// The record that ended, which is counted; another begins.
+    /// Takes out the record that ended, and counts it. Another one begins.
     pub(crate) fn take_record(&mut self, alloc: Global) -> Record
         requires { self.old.ended < 100000 }
         ensures record { result ≡ fields_in self.old }

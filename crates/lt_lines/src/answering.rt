@@ -354,7 +354,7 @@ impl Answering {
         }
     }
 
-    /// The line, counted from 1, in which what is kept begins.
+    /// The number of the line, counted from 1, in which the kept part of a row or a record begins.
     fn kept_from(&self) -> u64
         requires { spec.HasRoom self.now 1 }
         ensures { result ≡ spec.line_of self.now }
@@ -407,7 +407,7 @@ impl Answering {
         self.write(output)
     }
 
-    /// Answers a last line that no line feed ended, if there is any.
+    /// Answers a last line that has no line feed, if there is one.
     fn end_last<L: Lookup>(
         &mut self,
         alloc: Global,

@@ -33,7 +33,7 @@ pub fn canonical_subtags<L: Lookup>(
     Ok(TagSubtags::of(alloc, &form)?)
 }
 
-/// The canonical form of the tag that a text is read as.
+/// The canonical form of the tag that a text is read as, or why there is none.
 #[tactic(auto, using(lt_canon::proofs::CanonicalForms::refused))]
 fn form_of_text<L: Lookup>(
     alloc: Global,

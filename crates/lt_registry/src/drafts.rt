@@ -33,7 +33,7 @@ pub(crate) fn add_record(
     }
 }
 
-/// Puts the entry of a record after the others.
+/// Puts the entry of a record after the others. Refused with the first fault of the record.
 fn add_entry(
     alloc: Global,
     entries: &mut Vec<Entry>,

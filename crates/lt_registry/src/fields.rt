@@ -125,7 +125,7 @@ impl Found {
         }
     }
 
-    /// What is found among all fields of a record.
+    /// The places of the fields that are looked for among all fields of a record.
     #[tactic(auto, using(crate::proofs::ListLemmas::take_turn))]
     fn among(fields: &[JarField]) -> Found
         ensures { steps.HasFound fields.now result }
@@ -165,7 +165,7 @@ impl<'a> RecordFields<'a> {
         }
     }
 
-    /// All fields.
+    /// All fields of the record.
     pub(crate) fn all(&self) -> &'a [JarField]
         ensures { result.now ≡ self.now.all.now }
     {
@@ -179,7 +179,7 @@ impl<'a> RecordFields<'a> {
         self.found.repeats
     }
 
-    /// Whether the record has a date and no type.
+    /// Whether the fields are those of a header: they have a File-Date and no Type.
     #[tactic(auto, using(crate::proofs::FieldLemmas::found_or_none))]
     pub(crate) fn are_header(&self) -> bool
         ensures { result ≡ record_words.is_header self.now.all.now }

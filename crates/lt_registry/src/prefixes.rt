@@ -58,7 +58,7 @@ impl Prefixes {
         }
     }
 
-    /// These Prefixes. Refused only where memory runs out.
+    /// The Prefixes of a list, in its order. Refused only where memory runs out.
     pub(crate) fn of_list(alloc: Global, prefixes: Vec<Prefix>) -> Result<Prefixes, OutOfMemory>
         ensures { IfOk result (λ made. made ≡ prefixes.items) }
     {

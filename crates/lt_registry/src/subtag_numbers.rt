@@ -66,7 +66,7 @@ fn filled(bytes: &[u8]) -> [u8; 8]
     ]
 }
 
-/// The numbers of subtags.
+/// The numbers of subtags, at most 256.
 fn numbers_of(subtags: &[Subtag]) -> ArrayVec<u64, 256>
     requires { length subtags.now ≤ 256 }
     ensures { result.items ≡ map sorted.number subtags.now }

@@ -6,7 +6,7 @@ ghost use Rattle.lt_registry.specs.Validity.{Distinct};
 use crate::subtag_numbers::many_differ;
 use lt_subtag::Subtag;
 
-/// Whether a variant is in a list.
+/// Whether a variant is among others.
 fn stands_in(variants: &[Subtag], variant: &Subtag) -> bool
     ensures { result ≡ checking.stands_in variants.now variant.now }
 {

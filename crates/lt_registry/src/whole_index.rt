@@ -22,7 +22,7 @@ pub(crate) struct WholeIndex {
 }
 
 impl WholeIndex {
-    /// The index of the whole records. It is refused only where memory runs out.
+    /// The index of the records of whole tags. It is refused only where memory runs out.
     pub(crate) fn of_entries(alloc: Global, entries: &[Entry]) -> Result<WholeIndex, AllocError>
         ensures { IfOk result (λ index. sorted.IsWholes entries.now index.rows.items) }
     {
@@ -74,7 +74,7 @@ fn whole_row(entry: &Entry, place: usize) -> Option<Row>
     }
 }
 
-/// The number of a tag's language, and 0 for a tag without a core.
+/// The number of the language of a tag, or 0 for a tag without a core.
 fn language_number(tag: &Tag) -> u64
     ensures { result ≡ sorted.language_number tag.now }
 {

@@ -13,7 +13,7 @@ use lt_registry::{Kind, Lookup};
 use lt_subtag::Subtag;
 use lt_tag::Core;
 
-/// The number of the record of a subtag, and 0 where it has none.
+/// The number of the record of a subtag, or 0 if it has none.
 pub(crate) fn record_number<L: Lookup>(table: &L, kind: Kind, subtag: &Subtag) -> u32
     ensures { result ≡ number_of (entry (L.listed table.now) kind subtag.now) }
 {

@@ -43,7 +43,7 @@ fn certain_end<L: Lookup>(
     }
 }
 
-/// Replaces the script by the end of its chain.
+/// Replaces the script, if there is one, by the end of its chain of values.
 #[tactic(auto, using(crate::specs::Rewriting::done))]
 fn settle_script<L: Lookup>(table: &L, shortcuts: Option<&Shortcuts>, core: &mut Core)
     requires chains { All (HasEndingChain (L.listed table.now)) (L.listed table.now) }
@@ -58,7 +58,7 @@ fn settle_script<L: Lookup>(table: &L, shortcuts: Option<&Shortcuts>, core: &mut
     }
 }
 
-/// Replaces the region by the end of its chain.
+/// Replaces the region, if there is one, by the end of its chain of values.
 #[tactic(auto, using(crate::specs::Rewriting::done))]
 fn settle_region<L: Lookup>(table: &L, shortcuts: Option<&Shortcuts>, core: &mut Core)
     requires chains { All (HasEndingChain (L.listed table.now)) (L.listed table.now) }
@@ -102,7 +102,7 @@ fn settle_extlang<L: Lookup>(table: &L, core: &mut Core)
     }
 }
 
-/// Replaces a language without extlangs by the end of its chain.
+/// Replaces the language of a core without extlangs by the end of its chain of values.
 fn settle_language<L: Lookup>(table: &L, shortcuts: Option<&Shortcuts>, core: &mut Core)
     requires chains { All (HasEndingChain (L.listed table.now)) (L.listed table.now) }
     requires shortcuts { IfSome shortcuts (λ s. AreShortcuts (L.listed table.now) s.now) }
@@ -150,8 +150,8 @@ pub(crate) fn first_variant_language<L: Lookup>(table: &L, core: &Core) -> Optio
     None
 }
 
-/// Replaces a language without extlangs by the end of its chain; and as long as there is a VariantLanguage
-/// step, takes it, and follows the chain of the new language.
+/// Replaces the language of a core without extlangs by the end of its chain of values. As long as there is a VariantLanguage
+/// step, it takes that, and follows the chain of the new language.
 fn settle_variant_languages<L: Lookup>(table: &L, shortcuts: Option<&Shortcuts>, core: &mut Core)
     requires chains { All (HasEndingChain (L.listed table.now)) (L.listed table.now) }
     requires shortcuts { IfSome shortcuts (λ s. AreShortcuts (L.listed table.now) s.now) }

@@ -56,7 +56,7 @@ fn ends_or_falls<L: Lookup>(table: &L, order: Order, entry: &Entry) -> bool
     next_value(table, kind, &subtag).is_none()
 }
 
-/// Whether the chain of each record ends.
+/// Whether the chain of values from each record's value ends.
 fn all_end<L: Lookup>(table: &L) -> bool
     ensures { MatchBool result (All (HasEndingChain (L.listed table.now)) (L.listed table.now)) (All (HasEndingChain (L.listed table.now)) (L.listed table.now) → ⊥) }
 {

@@ -15,7 +15,7 @@ use lt_registry::Lookup;
 use lt_tag::{Keyword, OutOfMemory, TParts, UParts};
 use std::alloc::Global;
 
-/// Drops a sole type `true`.
+/// Takes the types from a keyword if they are exactly `true`.
 fn drop_true(keyword: &mut Keyword)
     ensures { keyword.new ≡ untrue keyword.old }
 {

@@ -106,7 +106,7 @@ impl Shortcuts {
         self.further(table, kind, subtag).copy()
     }
 
-    /// Whether the chain of values from a record's value ends.
+    /// Whether the chain of values from a record's value ends. True of a record without value.
     pub fn has_end<L: Lookup>(&self, table: &L, entry: &Entry) -> bool
         requires { AreShortcuts (L.listed table.now) self.now }
         ensures { IsTrue result ↔ HasEndingChain (L.listed table.now) entry.now }
@@ -199,7 +199,7 @@ fn next_place<L: Lookup>(table: &L, entry: &Entry, place: usize) -> usize
     }
 }
 
-/// The shortcut of each entry to the next on its chain.
+/// For each entry, the place to which its shortcut of one value leads.
 fn first_places<L: Lookup>(alloc: Global, table: &L) -> Result<Vec<usize>, AllocError>
     ensures { IfOk result (λ places. LeadOn (L.listed table.now) 1 places.items) }
 {
@@ -210,7 +210,7 @@ fn first_places<L: Lookup>(alloc: Global, table: &L) -> Result<Vec<usize>, Alloc
     Ok(places)
 }
 
-/// The shortcut of each entry to as many values on as there are entries.
+/// For each entry, the place to which its shortcut leads over as many values as there are entries.
 fn last_places<L: Lookup>(alloc: Global, table: &L) -> Result<Vec<usize>, AllocError>
     ensures { IfOk result (λ places. LeadOn (L.listed table.now) (length (L.listed table.now)) places.items) }
 {

@@ -44,7 +44,7 @@ pub fn tag_and_value(entry: &Entry) -> Option<(&Tag, &Tag)>
     }
 }
 
-/// Whether a value of a variant is a language: it has at most 3 letters.
+/// Whether the preferred value of a variant is a language: it has at most 3 letters.
 pub fn is_short(subtag: &Subtag) -> bool
     ensures { result ≡ entries.is_short subtag.now }
 {
@@ -79,7 +79,7 @@ pub fn whole_value<'a, L: Lookup>(table: &'a L, tag: &Tag) -> Option<&'a Tag>
     }
 }
 
-/// Whether a tag can be replaced whole: it is grandfathered, or a langtag and a core alone.
+/// Whether a tag can be replaced as a whole: it is grandfathered, or a langtag without extensions and private use.
 pub fn can_be_replaced_whole(tag: &Tag) -> bool
     ensures { MatchBool result (CanBeReplacedWhole tag.now) (CanBeReplacedWhole tag.now → ⊥) }
 {
@@ -90,7 +90,7 @@ pub fn can_be_replaced_whole(tag: &Tag) -> bool
     }
 }
 
-/// Whether a variant has a language as its value.
+/// Whether a variant is registered with a language as its preferred value.
 pub fn has_language_value<L: Lookup>(table: &L, variant: &Subtag) -> bool
     ensures { result ≡ is_some (language_value (L.listed table.now) variant.now) }
 {

@@ -19,7 +19,7 @@ use lt_registry::{Entry, Kind, Lookup};
 use lt_subtag::Subtag;
 use lt_tag::Core;
 
-/// The place of a variant's entry, or one after the last where it has none.
+/// The index of a variant's entry, or one after the last if it has none.
 #[tactic(auto, using(crate::proofs::ChainWalks::entry_there))]
 fn variant_place<L: Lookup>(table: &L, variant: &Subtag) -> usize
     ensures { slice_get (L.listed table.now) result ≡ entry (L.listed table.now) kinds.Variant variant.now }
@@ -31,8 +31,8 @@ fn variant_place<L: Lookup>(table: &L, variant: &Subtag) -> usize
     }
 }
 
-/// The end of a variant's chain of variants, and the place of its entry, or one after the last where it has none;
-/// in a registry whose chains end.
+/// The end of a variant's chain of variants, and the index of the end's entry, or one after the last if it has none. The
+/// chains of the registry end.
 #[tactic(auto, using(crate::proofs::ChainWalks::entry_there))]
 pub(crate) fn settled_variant<L: Lookup>(
     table: &L,

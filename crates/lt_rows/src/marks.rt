@@ -41,7 +41,7 @@ pub fn may_be_mark(text: &[u8]) -> bool
     is_short_of(UTF8, text) || is_short_of(BIG, text) || is_short_of(LITTLE, text)
 }
 
-/// The byte order mark of UTF-8 at the beginning of a text, or nothing where it has none, and what follows.
+/// The byte order mark of UTF-8 at the beginning of a text, or no bytes if it has none, and what follows.
 pub fn split_mark(text: &[u8]) -> (&[u8], &[u8])
     ensures { SplitsMark text.now result.0.now result.1.now }
 {

@@ -167,7 +167,7 @@ pub fn has_return(separator: Separator, row: &[u8]) -> bool
     }
 }
 
-/// What is at both ends of the text of a field, a quote or nothing, and the text.
+/// The quote at both ends of a field, or no bytes if it has none, and the text between them. Only fields of CSV have quotes.
 pub fn text_in(separator: Separator, field: &[u8]) -> (&'static [u8], &[u8])
     ensures { IsTextIn separator field.now result.0.now result.1.now }
 {
@@ -177,7 +177,7 @@ pub fn text_in(separator: Separator, field: &[u8]) -> (&'static [u8], &[u8])
     }
 }
 
-/// Whether a quote is at both ends of a field.
+/// Whether a field begins with a quote and ends with another one.
 fn is_quoted(field: &[u8]) -> bool
     ensures { IsTrue result ↔ IsQuoted field.now }
 {

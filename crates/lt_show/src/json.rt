@@ -16,7 +16,7 @@ use lt_registry::Lookup;
 use lt_tag::{OutOfMemory, Tag, write_tag};
 use std::alloc::{AllocError, Global};
 
-/// Appends a field.
+/// Appends a field of a record as an object of its name and its body.
 #[tactic(auto, unfolding(crate::specs::Json::field_value))]
 fn append_field(objects: &mut Vec<u8>, field: &JarField) -> Result<(), AllocError>
     ensures { OnOk result (objects.new.items ≡ objects.old.items ++ field_value field.now) }
@@ -29,7 +29,7 @@ fn append_field(objects: &mut Vec<u8>, field: &JarField) -> Result<(), AllocErro
     Ok(())
 }
 
-/// Appends the array of the fields that are shown.
+/// Appends the array of those fields of a record that are shown.
 #[tactic(auto, using(lt_json_text::proofs::ValueLemmas::commaed_more))]
 fn append_fields(objects: &mut Vec<u8>, fields: &[JarField]) -> Result<(), AllocError>
     ensures { OnOk result (objects.new.items ≡ objects.old.items ++ array field_value (shown fields.now)) }
@@ -61,7 +61,7 @@ fn append_listed(
     }
 }
 
-/// The name of a listing.
+/// The name of a listing, as it is printed.
 fn listing_name(listing: Listing) -> &'static str
     ensures { result.now ≡ listing_name listing }
 {
@@ -82,7 +82,7 @@ fn append_record(objects: &mut Vec<u8>, listing: Listing) -> Result<(), AllocErr
     }
 }
 
-/// Appends a number.
+/// Appends a number in decimal.
 fn append_decimal(objects: &mut Vec<u8>, alloc: Global, number: usize) -> Result<(), AllocError>
     ensures { OnOk result (objects.new.items ≡ objects.old.items ++ decimal number) }
 {

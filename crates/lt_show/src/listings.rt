@@ -75,7 +75,7 @@ fn listing_under<L: Lookup>(table: &L, kind: Kind, text: &[u8]) -> Listing
     }
 }
 
-/// The listing of a part of a tag, by its kind and its text.
+/// What a table has for a part of a tag, by its kind and its text; for a grandfathered tag, by the whole of it.
 pub(crate) fn look_up<L: Lookup>(table: &L, tag: &Tag, kind: PartKind, text: &[u8]) -> Listing
     ensures { result ≡ spec.listing (L.listed table.now) tag.now kind text.now }
 {

@@ -100,7 +100,7 @@ impl Draft {
     }
 }
 
-/// The records that a device gives.
+/// The records that a device gives, read to its end.
 #[tactic(auto, using(crate::proofs::KeptLemmas::kept_none))]
 fn read_draft<R: Read>(alloc: Global, device: &mut Device<R>) -> Result<Draft, JarFault>
     ensures { ReadsDraft R.remaining device.old device.new result }

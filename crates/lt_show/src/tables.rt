@@ -28,7 +28,7 @@ fn append_spaces(told: &mut Vec<u8>, count: usize) -> Result<(), OutOfMemory>
     Ok(())
 }
 
-/// Appends a cell of a column of this width, and two spaces.
+/// Appends a cell with spaces up to the width of its column, and two more.
 fn append_padded(told: &mut Vec<u8>, width: usize, cell: &[u8]) -> Result<(), OutOfMemory>
     ensures { OnOk result (told.new.items ≡ told.old.items ++ padded width cell.now) }
 {
@@ -59,7 +59,7 @@ fn append_body(told: &mut Vec<u8>, body: &[u8]) -> Result<(), OutOfMemory>
     Ok(())
 }
 
-/// Appends the line of a field.
+/// Appends the line of a field of a record: its name and its body.
 fn append_field(told: &mut Vec<u8>, field: &JarField) -> Result<(), OutOfMemory>
     ensures { OnOk result (told.new.items ≡ told.old.items ++ field_line field.now) }
 {
@@ -70,7 +70,7 @@ fn append_field(told: &mut Vec<u8>, field: &JarField) -> Result<(), OutOfMemory>
     Ok(())
 }
 
-/// Appends the lines of the fields that are shown.
+/// Appends a line for each field of a record that is shown.
 fn append_fields(told: &mut Vec<u8>, fields: &[JarField]) -> Result<(), OutOfMemory>
     ensures { OnOk result (told.new.items ≡ told.old.items ++ fields_text (shown fields.now)) }
 {
@@ -89,7 +89,7 @@ struct Widths {
     text: usize,
 }
 
-/// How wide the columns of these rows of a text are.
+/// How wide the columns are for rows, whose texts are parts of `text`: as wide as their longest cells.
 fn widths_of(text: &[u8], rows: &[Row]) -> Widths
     ensures { result ≡ spec.widths_of text.now rows.now }
 {

@@ -57,7 +57,7 @@ impl<A: Lines> Lined<A> {
         Ok(())
     }
 
-    /// Answers the line that is kept.
+    /// Answers the line of which the front is kept, and keeps nothing of it.
     fn end_line(&mut self, alloc: Global) -> Result<(), OutOfMemory>
         requires { HasLine A.answered self.old.answers }
         ensures { OnOk result (spec.EndsLine A.answered A.longest self.old self.new) }
@@ -88,7 +88,7 @@ impl<A: Lines> Lined<A> {
         self.write(output)
     }
 
-    /// Answers a last line that no line feed ended, if there is any.
+    /// Answers a last line that has no line feed, if there is one.
     fn end_last(&mut self, alloc: Global) -> Result<(), OutOfMemory>
         requires { HasLine A.answered self.old.answers }
         ensures { OnOk result (spec.EndsLast A.answered A.longest self.old self.new) }
@@ -99,7 +99,7 @@ impl<A: Lines> Lined<A> {
         self.end_line(alloc)
     }
 
-    /// What answered the lines.
+    /// What has answered the lines, given back at the end.
     fn into_answers(self) -> A
         ensures { result ≡ self.answers }
     {

@@ -57,7 +57,7 @@ impl Tallies {
         }
     }
 
-    /// What was refused by each fault, in the order in which the faults came.
+    /// The tallies, one for each fault, in the order in which the faults came.
     pub fn faults(&self) -> &[Tally]
         ensures { result.now ≡ self.now }
     {

@@ -89,7 +89,7 @@ impl Model for Subtag {
 impl Default for Subtag {
     ghost is_default = { λ subtag. subtag ≡ 120 ∷ [] };
 
-    /// `x`. It is in the unused places of an `ArrayVec`.
+    /// The subtag `x`, which fills the unused places of an `ArrayVec`.
     #[tactic(auto, unfolding(crate::specs::Bytes::is_subtag))]
     fn default() -> Subtag {
         let mut letters = ArrayVec::new();
@@ -103,7 +103,7 @@ impl fmt::Display for Subtag {
 
     ghost styled_output = { λ subtag spec. Some (styled_text spec subtag) };
 
-    /// Its lower-case bytes.
+    /// Writes the lower-case bytes.
     fn fmt<W: fmt::Write>(&self, f: &mut fmt::Formatter<W>) -> fmt::Result {
         let text = str::from_utf8(self.bytes()).map_err(|_| fmt::Error)?;
         f.pad(text)

@@ -74,7 +74,7 @@ fn advice_for(fault: &[u8], text: &[u8]) -> Option<&'static str>
     }
 }
 
-/// Appends a line of advice.
+/// Appends a line of advice, after two spaces.
 fn append_line(told: &mut Vec<u8>, advice: &[u8]) -> Result<(), AllocError>
     ensures { OnOk result (told.new.items ≡ told.old.items ++ spec.said advice.now) }
 {

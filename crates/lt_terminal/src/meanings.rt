@@ -100,8 +100,8 @@ pub(crate) fn first_of(messages: &[&'static str], word: &[u8]) -> Option<&'stati
     None
 }
 
-/// What a person is told of the fault that a word names, as `BadByte` or `C2`: the word, what it means, and
-/// what to do. Nothing of a word that names none.
+/// What a person is told of the fault that a word names, as `BadByte` or `C2`: the word, what it means, and what to do. None
+/// if the word names no fault.
 #[tactic(auto, unfolding(crate::specs::Meanings::message_of))]
 pub fn message_of(word: &[u8]) -> Option<&'static str>
     ensures { option_map (λ message. message.now) result ≡ spec.message_of word.now }

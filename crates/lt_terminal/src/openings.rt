@@ -37,8 +37,8 @@ impl Openings {
         }
     }
 
-    /// Keeps why a file of this name can't be opened, if the answer says so and there is memory for it, and
-    /// hands the answer on.
+    /// Hands an answer of the opener on. If it is that the file of this name can't be opened, the reason is kept, where
+    /// there is memory for it.
     pub fn kept<F>(&self, alloc: Global, name: &str, answer: io::Result<F>) -> io::Result<F>
         ensures { result ≡ answer }
     {
@@ -49,7 +49,8 @@ impl Openings {
         answer
     }
 
-    /// A file that was opened, of which what is read is kept: the first that is given, and then the second.
+    /// The file, which was opened, with what is read of it kept: as that of the first file at the first call, and then of
+    /// the second.
     pub fn traced<'a, F>(&'a self, alloc: Global, file: F) -> Traced<'a, F>
         ensures { result.inner ≡ file }
     {

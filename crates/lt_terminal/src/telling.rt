@@ -95,7 +95,7 @@ fn line_end(front: &[u8]) -> Option<usize>
     front.iter().position(|byte| *byte == b'\n')
 }
 
-/// The first line of what was written, as far as it is kept.
+/// The first line of `front`, which is the front of what was written, without its line feed.
 #[tactic(auto, using(lt_lines::proofs::FaultLemmas::before_found, lt_lines::proofs::FaultLemmas::before_none))]
 fn first_line(front: &[u8]) -> &[u8]
     ensures { result.now ≡ before_first (λ byte. byte == 10) front.now }

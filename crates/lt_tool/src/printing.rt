@@ -109,7 +109,7 @@ pub(crate) fn drop_unknown(alloc: Global, end: Result<Counts, ToolFault>, tallie
     }
 }
 
-/// Does what a command asks for, and tells how the run ended.
+/// Does what a command asks for, by its files and the input, and gives the status with which the run ends.
 fn run<F: Read, G: Read, I: Read, O: Write, E: Write>(
     alloc: Global,
     command: &Command,

@@ -135,7 +135,7 @@ fn say_range<O: Write, E: Write>(
     }
 }
 
-/// Prints the lines of the input that one of the ranges matches.
+/// Prints the lines of the input that one of the ranges matches by the scheme, and gives the status.
 fn select_by<L: Lookup, I: Read, O: Write, E: Write>(
     alloc: Global,
     checked: &Checked<L>,

@@ -144,7 +144,7 @@ fn append_tag_rows<L: Lookup>(
     Ok(())
 }
 
-/// Appends what is shown of a text as a line of JSON, and tells whether it is refused.
+/// Appends what `show` prints of a text as a line of JSON, and tells whether the text is refused.
 pub(crate) fn append_object<L: Lookup>(
     objects: &mut Vec<u8>,
     alloc: Global,

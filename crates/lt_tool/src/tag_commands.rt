@@ -16,7 +16,7 @@ use lt_tag::{OutOfMemory, read_tag, write_tag};
 use std::alloc::Global;
 use std::io::Read;
 
-/// The text of the extlang form of the tag that a text is read as.
+/// The text of the extlang form of the tag that a text is read as, or why there is none.
 fn extlang_text<L: Lookup>(
     alloc: Global,
     checked: &Checked<L>,
@@ -30,7 +30,7 @@ fn extlang_text<L: Lookup>(
     Ok(write_tag(alloc, &form)?)
 }
 
-/// Whether the tags that two texts are read as are equivalent.
+/// Whether the tags that two texts are read as are equivalent, or why one of them is refused, the first or else the second.
 fn equality<L: Lookup>(
     alloc: Global,
     checked: &Checked<L>,

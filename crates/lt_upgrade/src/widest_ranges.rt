@@ -77,7 +77,8 @@ impl WidestRanges {
         Ok(WidestRanges::of_rows(rows))
     }
 
-    /// The ranges in order, without those that end no later than an earlier one.
+    /// The ranges in order, without those that end no later than an earlier one, so that each that is left ends later than
+    /// the one before it.
     fn of_rows(mut rows: Vec<RangeRow>) -> WidestRanges
         ensures { (a b : RangeEnd) → list_any (contains a b) result ≡ list_any (contains a b) rows.items }
     {

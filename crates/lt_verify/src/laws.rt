@@ -15,7 +15,7 @@ pub fn lines_have_one_verdict()
     traces_have_one_end();
 }
 
-/// Changes nothing: by its clause the number of each record of a table has 32 bits, as that of an entry.
+/// Changes nothing: by its clause the number of each record of a table has at most 32 bits, as entries give it.
 fn numbers_fit<L: Lookup>(table: &L)
     ensures { NumbersFit (L.listed table.now) }
 {

@@ -141,7 +141,7 @@ impl Command {
         }
     }
 
-    /// Whether the command is to tell a summary of the lines that were refused, also where no terminal is there.
+    /// Whether the words ask for a summary of the lines that were refused, which is then told without a terminal too.
     pub fn has_summary(&self) -> bool
         ensures { result ≡ has_summary self.now }
     {

@@ -37,7 +37,7 @@ fn append_escaped(said: &mut String, byte: u8) -> Result<(), AllocError>
     said.push(hex_digit(byte))
 }
 
-/// Bytes as they are said: each that is printable ASCII and no backslash as it is, and any other as `\x` and two digits to
+/// Bytes as they are shown: each that is printable ASCII and no backslash as it is, and any other as `\x` and two digits to
 /// the base 16.
 pub fn escaped(alloc: Global, bytes: &[u8]) -> Result<String, AllocError>
     ensures { IfOk result (λ text. string_bytes text ≡ spec.escaped bytes.now) }

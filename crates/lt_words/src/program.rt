@@ -172,7 +172,7 @@ fn new_subcommand<'a>(
     Ok(command)
 }
 
-/// The program without its subcommands.
+/// The program with its help and version, without its subcommands.
 fn new_program<'a>(alloc: Global) -> Command<'a>
     ensures { app_of result ≡ program }
 {
@@ -197,7 +197,7 @@ fn with_new<'a>(
     program.subcommand(new_subcommand(alloc, name, about, arguments)?)
 }
 
-/// The program with its subcommands.
+/// The program with all its subcommands, their help and their arguments.
 pub(crate) fn new_langtag<'a>(alloc: Global) -> Result<Command<'a>, AllocError>
     ensures { IfOk result (λ r. app_of r ≡ langtag) }
 {
