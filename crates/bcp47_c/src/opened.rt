@@ -160,8 +160,8 @@ impl Opened {
         }
     }
 
-    /// Tells whether the tags that two texts are read as are equivalent, or why one of them is refused, the first or else
-    /// the second.
+    /// Tells whether the tags that two texts are read as are equivalent, or answers why a text is no tag or a tag is
+    /// refused.
     pub(crate) fn equal(
         &self,
         alloc: Global,

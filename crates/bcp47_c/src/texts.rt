@@ -99,7 +99,7 @@ pub(crate) fn validity(alloc: Global, registry: &Registry, text: &[u8]) -> Resul
     }
 }
 
-/// Whether the tags that two texts are read as are equivalent, or why one of them is refused, the first or else the second.
+/// Whether the tags that two texts are read as are equivalent, or why a text is no tag or a tag is refused.
 pub(crate) fn equality(
     alloc: Global,
     registry: &Registry,

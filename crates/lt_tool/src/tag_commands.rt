@@ -30,7 +30,7 @@ fn extlang_text<L: Lookup>(
     Ok(write_tag(alloc, &form)?)
 }
 
-/// Whether the tags that two texts are read as are equivalent, or why one of them is refused, the first or else the second.
+/// Whether the tags that two texts are read as are equivalent, or why a text is no tag or a tag is refused.
 fn equality<L: Lookup>(
     alloc: Global,
     checked: &Checked<L>,
