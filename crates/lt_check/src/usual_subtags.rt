@@ -58,9 +58,9 @@ impl UsualSubtags {
         self.words[place / 64] >> (place % 64) & 1 == 1
     }
 
-    /// Appends a text in conventional case, exactly if, by the registry of these flags, it is read as a langtag of a
-    /// language of 2 or 3 letters, and a script and a region where there is one, each of which stays. Tells whether it
-    /// did. Refused only where memory runs out.
+    /// Appends a text in conventional case if, by the registry of these flags, it is read as a langtag of a language of 2 or
+    /// 3 letters, and a script and a region where there is one, and each of these stays as it is. Gives true exactly then;
+    /// else it appends nothing. Refused only where memory runs out.
     #[inline(always)]
     pub fn append_text(&self, text: &[u8], texts: &mut Vec<u8>) -> Result<bool, AllocError>
         ensures exact { IfOk result (λ told. (R : List EntryParts) → AreFlags R self.now → IsTrue told ↔ IsStaying R text.now) }

@@ -185,8 +185,8 @@ impl<'a, L: Lookup> Pieces<()> for Verifying<'a, L> {
 /// Judges the lines of a reader as an explanation of a proper tag (RFC 5646, 4.5). The lines `Language 1 4
 /// he-IL` and `= he-IL` explain `iw-IL` where record 4 has the value `he` for `iw`.
 ///
-/// They are read up to the first that settles the verdict, or to the end. Of the line that goes on no more is
-/// kept than a right one has, besides what one read gives, and nothing of what is after the end.
+/// They are read up to the first that settles the verdict, or to the end. Of a line that goes on, no more is kept than the
+/// right line has, besides what one read gives; after the end of the explanation nothing is kept.
 ///
 /// - `Read`, if a read fails.
 /// - `TooManyTurns`, if all 10,000,000 reads were made and the last gave bytes.
