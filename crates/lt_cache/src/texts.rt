@@ -68,8 +68,8 @@ fn append_lower(text: &[u8], texts: &mut Vec<u8>) -> Result<(), OutOfMemory>
 }
 
 /// Appends the canonical text of a text without reading it as a tag, if its front is a language, and a script and a region
-/// where there is one, that stay as they are, and its end is canonical but for the case of its letters. Tells whether it
-/// did; of any other text, or where memory runs out, it does nothing.
+/// where there is one, that stay as they are, and its end is keywords or private use, canonical but for the case of its
+/// letters. Tells whether it did; of any other text, or where memory runs out, it does nothing.
 fn append_settled_text<L: Lookup>(checked: &Checked<L>, text: &[u8], texts: &mut Vec<u8>) -> bool
     ensures appended { IsTrue result → AppendsCanonicalText (L.listed checked.now) text.now texts.old.items texts.new.items }
     ensures unchanged { result ≡ false → texts.new.items ≡ texts.old.items }
@@ -113,8 +113,8 @@ fn append_other_text<L: Lookup>(
 
 /// Appends the text, in conventional case, of the canonical form of the tag that a text is read as (RFC 5646, 2.1.1 and
 /// 4.5), with the refusals of [`lt_canon::append_canonical_text`]. A text is not read as a tag if its front is a language,
-/// and a script and a region where there is one, that stay as they are, and its end is canonical but for the case of its
-/// letters, as in `ar-u-nu-latn` and `en-GB-x-own`.
+/// and a script and a region where there is one, that stay as they are, and its end is keywords or private use, canonical
+/// but for the case of its letters, as in `ar-u-nu-latn` and `en-GB-x-own`.
 pub fn append_canonical_text<L: Lookup>(
     alloc: Global,
     checked: &Checked<L>,
