@@ -44,13 +44,13 @@ impl Lookup for ListTable {
         self.registry.entries()
     }
 
-    /// The record of the subtag alone, or else that of a range; each entry is looked at in turn.
+    /// The record of the subtag alone, or else that of a range, or None. Each entry is looked at in turn.
     fn entry(&self, kind: Kind, subtag: &Subtag) -> Option<&Entry> {
         let entries = self.registry.entries();
         single(entries, kind, subtag).or(range(entries, kind, subtag))
     }
 
-    /// The first record of the tag; each entry is looked at in turn.
+    /// The first record of the tag, or None. Each entry is looked at in turn.
     fn whole(&self, tag: &Tag) -> Option<&Entry> {
         self.registry
             .entries()
