@@ -206,7 +206,7 @@ pub extern "C" fn bcp47_handle_classify(
     outcome
 }
 
-/// What `bcp47_handle_classify` does, by no registry.
+/// Does what `bcp47_handle_classify` does, without a registry.
 #[unsafe(no_mangle)]
 pub extern "C" fn bcp47_classify_text(alloc: Global, text: &[u8], buffer: &mut [u8]) -> Outcome
     ensures { Classifies text.now buffer.old buffer.new result }

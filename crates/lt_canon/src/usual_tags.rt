@@ -34,7 +34,8 @@ fn is_valued(entry: Option<&Entry>, kind: ValidFaultKind, place: u32) -> Result<
     }
 }
 
-/// Whether a script or a region has a preferred value. False if there is none; refused with `fault` if it is not registered.
+/// Whether a script or a region has a preferred value. False if there is none; refused with `fault`, at this place, if it is
+/// not registered.
 fn is_part_valued<L: Lookup>(
     table: &L,
     kind: Kind,

@@ -172,7 +172,7 @@ fn append_found<L: Lookup>(
 }
 
 /// Looks at a row that is whole only now, as its front was kept from an earlier piece, so that nothing is known of its
-/// bytes.
+/// bytes. The row's line is the first `count` bytes of `text`, and `before` is how many fields come before that of the tag.
 #[inline(never)]
 fn look_at_kept(separator: Separator, before: usize, text: &[u8], count: usize) -> Look
     requires { count ≤ length text.now }

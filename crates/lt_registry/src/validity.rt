@@ -143,7 +143,8 @@ fn check_extlangs<L: Lookup>(
     )
 }
 
-/// Checks that an extlang has an entry, which is given, and that the language is one of its Prefixes.
+/// Checks that an extlang has an entry, which is given, and that the language is one of its Prefixes. The core begins after
+/// `start` subtags.
 fn check_prefix(extlang: Option<&Entry>, start: u32, language: &Subtag) -> Result<(), ValidFault>
     requires { start ≤ 1100000 }
     ensures { result ≡ checking.prefix_check start language.now (option_copied extlang.entry) }
@@ -160,7 +161,7 @@ fn check_prefix(extlang: Option<&Entry>, start: u32, language: &Subtag) -> Resul
     }
 }
 
-/// Checks that a script or a region is registered, if there is one. `fault` is the fault of one that isn't.
+/// Checks that a script or a region is registered, if there is one. `fault` is the fault of one that isn't, at this place.
 fn check_part<L: Lookup>(
     table: &L,
     kind: Kind,
@@ -212,7 +213,7 @@ fn check_each_variant<L: Lookup>(
     Ok(())
 }
 
-/// Checks a variant, which comes after those of `before`. Unless `may_repeat`, it must not be among them.
+/// Checks a variant, which has this place and comes after those of `before`. Unless `may_repeat`, it must not be among them.
 fn check_variant<L: Lookup>(
     table: &L,
     place: u32,

@@ -16,7 +16,8 @@ use crate::values::value;
 use lt_registry::{Kind, Lookup};
 use lt_tag::{Core, OutOfMemory};
 
-/// The step by which the replacement of the only extlang becomes the language. None if there is not exactly one extlang.
+/// The step by which the replacement of the only extlang becomes the language, in a core that begins after `start` subtags.
+/// None if there is not exactly one extlang.
 fn extlang_step<L: Lookup>(table: &L, core: &Core, start: usize) -> Option<Step>
     requires { start ≤ 1200000 }
     ensures { MatchOption result
@@ -33,7 +34,8 @@ fn extlang_step<L: Lookup>(table: &L, core: &Core, start: usize) -> Option<Step>
     })
 }
 
-/// The step by which the language is replaced. None if it has no value, or if there are extlangs.
+/// The step by which the language is replaced, in a core that begins after `start` subtags. None if it has no value, or if
+/// there are extlangs.
 fn language_step<L: Lookup>(table: &L, core: &Core, start: usize) -> Option<Step>
     requires { start ≤ 1200000 }
     ensures { MatchOption result
@@ -52,7 +54,8 @@ fn language_step<L: Lookup>(table: &L, core: &Core, start: usize) -> Option<Step
     })
 }
 
-/// The step by which the script is replaced. None if there is no script, or if it has no value.
+/// The step by which the script is replaced, in a core that begins after `start` subtags. None if there is no script, or if
+/// it has no value.
 fn script_step<L: Lookup>(table: &L, core: &Core, start: usize) -> Option<Step>
     requires { start ≤ 1200000 }
     ensures { MatchOption result
@@ -68,7 +71,8 @@ fn script_step<L: Lookup>(table: &L, core: &Core, start: usize) -> Option<Step>
     })
 }
 
-/// The step by which the region is replaced. None if there is no region, or if it has no value.
+/// The step by which the region is replaced, in a core that begins after `start` subtags. None if there is no region, or if
+/// it has no value.
 fn region_step<L: Lookup>(table: &L, core: &Core, start: usize) -> Option<Step>
     requires { start ≤ 1200000 }
     ensures { MatchOption result
@@ -84,7 +88,8 @@ fn region_step<L: Lookup>(table: &L, core: &Core, start: usize) -> Option<Step>
     })
 }
 
-/// The step that replaces the leftmost variant whose value is a variant. None if there is no such variant.
+/// The step that replaces the leftmost variant whose value is a variant, in a core that begins after `start` subtags. None
+/// if there is no such variant.
 fn variant_step<L: Lookup>(table: &L, core: &Core, start: usize) -> Option<Step>
     requires { start ≤ 1200000 }
     ensures { MatchOption result
@@ -104,7 +109,7 @@ fn variant_step<L: Lookup>(table: &L, core: &Core, start: usize) -> Option<Step>
 }
 
 /// The VariantLanguage step: that of the leftmost variant that has a language as its value, and the core's language as a
-/// Prefix. None if there is no such variant, or if there are extlangs.
+/// Prefix. The core begins after `start` subtags. None if there is no such variant, or if there are extlangs.
 fn variant_language_step<L: Lookup>(table: &L, core: &Core, start: usize) -> Option<Step>
     requires { start ≤ 1200000 }
     ensures { MatchOption result

@@ -28,7 +28,7 @@ pub struct Progress<W, T> {
     lines: u64,
 }
 
-/// Whether a multiple of a million is reached between two counts of lines.
+/// Whether a multiple of a million is reached from a count of lines `before` to one `after`.
 fn fills_million(before: u64, after: u64) -> bool
     ensures { result ≡ spec.fills_million before after }
 {

@@ -106,7 +106,8 @@ fn first_line(front: &[u8]) -> &[u8]
     }
 }
 
-/// Appends the message for the first line of what was written. Nothing if the line names no fault.
+/// Appends the message for the first line of `front`, which is the front of what was written. Nothing if the line names no
+/// fault.
 fn append_meaning(told: &mut Vec<u8>, front: &[u8]) -> Result<(), AllocError>
     ensures { OnOk result (told.new.items ≡ told.old.items ++ spec.meaning_of front.now) }
 {

@@ -34,7 +34,8 @@ fn row_form(rows: &Rows, number: usize) -> RowForm
     }
 }
 
-/// The form of each line: a row if a tab parts the fields, and a record of CSV if a delimiter does.
+/// The form of each line: a row if a tab parts the fields, and a record of CSV if a delimiter does. `number` is that of the
+/// column, counted from 1.
 fn line_form(separator: Separator, rows: &Rows, number: usize) -> LineForm
     ensures { result ≡ spec.line_form separator rows.now number }
 {
