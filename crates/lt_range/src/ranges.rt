@@ -94,8 +94,9 @@ impl LanguageRange {
     /// The range that a text is, in any letter case (RFC 4647, 2.2): its subtags are of 1 to 8 letters or digits or
     /// are `*`, and the first has no digit.
     ///
-    /// - `BadSubtag`, with the fault, where the leftmost piece between hyphens that can't be where it is is neither
-    ///   `*` nor a subtag.
+    /// It is refused for the leftmost piece between hyphens that can't be where it is:
+    ///
+    /// - `BadSubtag`, with the fault, where that piece is neither `*` nor a subtag.
     /// - `BadFirst` where it is the first piece and has a digit.
     /// - `OutOfMemory` where memory runs out.
     pub fn read(alloc: Global, text: &[u8]) -> Result<LanguageRange, RangeFault>
