@@ -94,7 +94,8 @@ impl Marked {
         self.begin(alloc, basis, form, output)
     }
 
-    /// Answers a last line without a line feed, writes what is owed, and gives the counts.
+    /// Answers a last line without a line feed, writes what is owed, and gives the counts. Refused with `BadCsv` if a quote
+    /// is open.
     pub(crate) fn finish<L: Lookup, W: Write>(
         &mut self,
         alloc: Global,

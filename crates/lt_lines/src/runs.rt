@@ -56,7 +56,7 @@ impl<'a, L: Lookup, W: Write> Pieces<Device<W>> for Reading<'a, L> {
 
     ghost finished = { λ first start now read here result. spec.EndsReading (terms (ground_of L.listed first.basis.now) first.form) W.contents start now read here.text.answering.tallies result };
 
-    /// Answers the lines that the piece ends; no piece ends the run early.
+    /// Answers the lines that the piece ends. Only a fault ends the run here.
     fn take_piece(
         &mut self,
         alloc: Global,

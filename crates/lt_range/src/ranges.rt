@@ -94,7 +94,7 @@ impl LanguageRange {
     /// The range that a text is, in any letter case (RFC 4647, 2.2): its subtags are of 1 to 8 letters or digits or
     /// are `*`, and the first has no digit.
     ///
-    /// It is refused for the leftmost piece between hyphens that can't be where it is:
+    /// It is refused for the leftmost piece between hyphens that can't be where it is, or for lack of memory:
     ///
     /// - `BadSubtag`, with the fault, where that piece is neither `*` nor a subtag.
     /// - `BadFirst` where it is the first piece and has a digit.

@@ -121,7 +121,7 @@ impl<A: Lines, W: Write> Pieces<Device<W>> for Lined<A> {
 
     ghost finished = { λ first. spec.Finishes (A.answered first.answers) W.contents };
 
-    /// Answers the lines that the piece ends, and writes the answers; no piece ends the run early.
+    /// Answers the lines that the piece ends, and writes the answers. Only a fault ends the run here.
     fn take_piece(
         &mut self,
         alloc: Global,
