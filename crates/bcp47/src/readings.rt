@@ -6,7 +6,7 @@ use lt_jar::read_jar;
 use lt_registry::{Registry, RegistryFault};
 use std::alloc::Global;
 
-/// The entries that bytes have, or the first of what is wrong with them.
+/// The entries of the registry whose text the bytes are, or the first of what is wrong with them.
 pub(crate) fn read_entries(alloc: Global, bytes: &[u8]) -> Result<Registry, RegistryFault>
     ensures { IsReadingOf bytes.now result }
 {

@@ -77,7 +77,7 @@ impl fmt::Debug for Registry {
     }
 }
 
-/// The registry of these entries, if they pass the check.
+/// The registry of these entries, or why the check rejects them.
 fn check_entries(alloc: Global, entries: Entries) -> Result<Registry, RegistryError>
     ensures { IsJudged (Ok entries) result }
 {
@@ -155,16 +155,17 @@ impl Registry {
         self.checked.table().entry(kind, subtag)
     }
 
-    /// The entry of a whole tag (RFC 5646, 2.2.8): the first grandfathered or redundant record of that tag.
+    /// The entry of a whole tag (RFC 5646, 2.2.8): the first grandfathered or redundant record of that tag, or None if it
+    /// has none.
     pub fn whole(&self, tag: &Tag) -> Option<&Entry>
         ensures { option_copied result ≡ listed.whole self.now tag.now }
     {
         self.checked.table().whole(tag)
     }
 
-    /// Whether a tag is valid (RFC 5646, 2.2.9): nothing, or the fault of the least place and, there, of the
-    /// first kind in the order of [`ValidFaultKind`](crate::ValidFaultKind). By a registry without the script
-    /// `Latn`, `he-Latn` gives `UnknownScript` at place 2.
+    /// Whether a tag is valid (RFC 5646, 2.2.9): Ok if it is, else the fault of the least place and, there, of the first
+    /// kind in the order of [`ValidFaultKind`](crate::ValidFaultKind). By a registry without the script `Latn`, `he-Latn`
+    /// gives `UnknownScript` at place 2.
     ///
     /// Memory is taken only for the parts of a `t` extension, so `OutOfMemory` comes for no other tag.
     pub fn validate(&self, alloc: Global, tag: &Tag) -> Result<(), ValidRefusal>
@@ -218,9 +219,9 @@ impl Registry {
         lt_cache::append_canonical_text(alloc, &self.checked, text, texts)
     }
 
-    /// The extlang form of a tag (RFC 5646, 4.5): its canonical form and, where the language of that is an
-    /// extlang too, the Prefix of that in front of it. `cmn-Hans` gives `zh-cmn-Hans`. It is refused as
-    /// `canonical` refuses.
+    /// The extlang form of a tag (RFC 5646, 4.5): its canonical form and, if the language of that is registered as an
+    /// extlang too, the Prefix of that extlang in front of it. `cmn-Hans` gives `zh-cmn-Hans`. It is refused as `canonical`
+    /// refuses.
     pub fn extlang_form(&self, alloc: Global, tag: &Tag) -> Result<Tag, Refusal>
         ensures form { IfOk result (λ form. IsExtlangFormOf self.now tag.now form) }
         ensures refusal { IfErr result (λ refusal. IsRefusedWith self.now tag.now refusal) }
@@ -228,9 +229,9 @@ impl Registry {
         lt_canon::extlang_form(alloc, &self.checked, tag)
     }
 
-    /// Whether two tags are equivalent: whether steps, forth and back, lead from one to the other, which is
-    /// whether their canonical forms are equal, as those of `zh-cmn-Hans` and `cmn-Hans` are. A refusal is that
-    /// of `canonical` for the first tag, else for the second.
+    /// Whether two tags are equivalent: whether steps, forth and back, lead from one to the other. They do exactly if their
+    /// canonical forms are equal, as those of `zh-cmn-Hans` and `cmn-Hans` are. A refusal is that of `canonical` for the
+    /// first tag, else for the second.
     pub fn equivalent(&self, alloc: Global, first: &Tag, second: &Tag) -> Result<bool, Refusal>
         ensures answer { IfOk result (λ answer. IsEquivalenceAnswer self.now first.now second.now answer) }
         ensures refusal { IfErr result (λ refusal. IsFirstRefusal self.now first.now second.now refusal) }
@@ -315,11 +316,11 @@ impl Registry {
         lt_show::rows_of(alloc, self.checked.table(), tag)
     }
 
-    /// Appends the [`rows`](Registry::rows) of a tag as an array of JSON (RFC 8259) to other texts, with the fields that
-    /// [`is_shown`](crate::is_shown) shows of their records among these, which are those of the file: of each row an object
-    /// with the members `place`, `kind`, `text`, `listing` (`Record`, `Unregistered` or `Unlisted`), `record` (its number, or
-    /// null) and `fields`, an array of objects with a `name` and a `body`. The only refusal is running out of memory, after
-    /// which a front of it may have been appended.
+    /// Appends the [`rows`](Registry::rows) of a tag to other texts, as an array of JSON (RFC 8259). Each row is an object
+    /// with the members `place`, `kind`, `text`, `listing` (`Record`, `Unregistered` or `Unlisted`), `record` (its number,
+    /// or null) and `fields`, an array of objects with a `name` and a `body`: those fields of its record that
+    /// [`is_shown`](crate::is_shown) shows. The records are those of the registry's file. The only refusal is running out of
+    /// memory, after which a front of it may have been appended.
     pub fn append_rows(
         &self,
         alloc: Global,

@@ -17,7 +17,7 @@ impl<T, A: Allocator> Model for Block<T, A> {
 }
 
 impl<T, A: Allocator> Block<T, A> {
-    /// The parts of a box.
+    /// The place and the allocator of a box, which is given up.
     pub fn of(boxed: Box<T, A>) -> Block<T, A>
     where
         T: Drop,
@@ -27,7 +27,7 @@ impl<T, A: Allocator> Block<T, A> {
         Block { place, alloc }
     }
 
-    /// The box of these parts.
+    /// The box again of its place and its allocator.
     pub fn into_box(self) -> Box<T, A>
         ensures { result.value ≡ self.value }
     {

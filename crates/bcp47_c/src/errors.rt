@@ -10,7 +10,7 @@ use crate::outcomes::{Outcome, Said, deliver, ended};
 use bcp47::{RegistryError, UpgradeFault};
 use std::alloc::Global;
 
-/// What is said of bytes that are no registry.
+/// What an outcome says of an error of a registry: the status, the number of the fault, and its line or record.
 fn error_said(error: RegistryError) -> Said
     ensures { result ≡ spec.error_said error }
 {
@@ -34,7 +34,8 @@ fn error_said(error: RegistryError) -> Said
     }
 }
 
-/// Writes the line that the program prints for an error, or that memory ran out for it.
+/// Writes the line that the program prints for an error of a registry, or `OutOfMemory` where there is no memory for the
+/// line.
 pub(crate) fn refuse_registry(alloc: Global, error: RegistryError, buffer: &mut [u8]) -> Outcome
     ensures { spec.IsRefusedRegistry error buffer.old buffer.new result }
 {
@@ -44,7 +45,7 @@ pub(crate) fn refuse_registry(alloc: Global, error: RegistryError, buffer: &mut 
     }
 }
 
-/// What is said of a registry that is no upgrade.
+/// What an outcome says of a registry that is no upgrade: the number of the condition that fails, and the record at fault.
 pub(crate) fn upgrade_said(fault: UpgradeFault) -> Said
     ensures { result ≡ spec.upgrade_said fault }
 {

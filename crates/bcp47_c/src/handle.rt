@@ -25,7 +25,7 @@ impl Model for Handle {
 }
 
 impl Handle {
-    /// A handle that holds nothing.
+    /// A handle that holds nothing, whatever its place.
     fn empty(place: *mut u8, alloc: Global) -> Handle
         ensures { result.held ≡ None }
     {
@@ -43,7 +43,7 @@ impl Handle {
         }
     }
 
-    /// The block of the registry that a handle holds.
+    /// The block of the registry that the handle holds; it holds one.
     fn into_block(self) -> Block<Opened, Global>
         ghost registry: { Kept }
         requires { self.held ≡ Some registry }
@@ -57,7 +57,7 @@ impl Handle {
     }
 }
 
-/// Takes the registry that a handle holds out of it.
+/// Takes the registry that a handle holds out of it. The handle holds nothing then.
 pub(crate) fn take(alloc: Global, handle: &mut Handle) -> Box<Opened>
     ghost registry: { Kept }
     requires { handle.old.held ≡ Some registry }

@@ -206,7 +206,7 @@ pub extern "C" fn bcp47_handle_classify(
     outcome
 }
 
-/// What `bcp47_handle_classify` does, by no registry.
+/// Does what `bcp47_handle_classify` does, without a registry.
 #[unsafe(no_mangle)]
 pub extern "C" fn bcp47_classify_text(alloc: Global, text: &[u8], buffer: &mut [u8]) -> Outcome
     ensures { Classifies text.now buffer.old buffer.new result }
@@ -371,7 +371,7 @@ pub extern "C" fn bcp47_handle_match(
     outcome
 }
 
-/// Whether the registry that a handle holds upgrades an older one.
+/// Tells whether the registry that a handle holds upgrades an older one. The handle holds it again then.
 fn check_newer(alloc: Global, older: &Opened, newer: &mut Handle) -> Outcome
     ghost registry: { Kept }
     requires { newer.old.held ≡ Some registry }

@@ -19,7 +19,7 @@ pub(crate) enum Scheme {
     Lookup,
 }
 
-/// The scheme that has a number, if one has.
+/// The scheme that has a number, or None if none has it.
 pub(crate) fn scheme_of(number: u32) -> Option<Scheme>
     ensures { IsSchemeOf number result }
 {
@@ -42,7 +42,7 @@ fn is_matched(scheme: Scheme, range: &LanguageRange, tag: &TagSubtags) -> bool
     }
 }
 
-/// The subtags by which the tag is matched that a text is read as.
+/// The subtags of the canonical form of the tag that a text is read as.
 #[tactic(auto, using(lt_canon::proofs::CanonicalForms::refused))]
 fn subtags_of_text(
     alloc: Global,
@@ -56,7 +56,7 @@ fn subtags_of_text(
     Ok(registry.subtags(alloc, &tag)?)
 }
 
-/// What is said of a range that is refused.
+/// What an outcome says of a range that is refused: the status, and the number of the fault.
 fn range_said(refusal: &RangeRefusal) -> Said
     ensures { result ≡ spec.range_said refusal.now }
 {
@@ -71,7 +71,7 @@ fn range_said(refusal: &RangeRefusal) -> Said
     }
 }
 
-/// The text that goes with it: the variant that can be repeated.
+/// The text that is written for a range that is refused: the variant that steps can repeat, or nothing.
 fn range_text(refusal: &RangeRefusal) -> &[u8]
     ensures { result.now ≡ spec.range_text refusal.now }
 {
@@ -81,14 +81,14 @@ fn range_text(refusal: &RangeRefusal) -> &[u8]
     }
 }
 
-/// Answers the refusal of a range.
+/// Answers that a range is refused, and writes the variant that steps can repeat, if that is why.
 fn refuse_range(refusal: &RangeRefusal, buffer: &mut [u8]) -> Outcome
     ensures { IsDelivered (spec.range_said refusal.now) (spec.range_text refusal.now) buffer.old buffer.new result }
 {
     deliver(range_said(refusal), range_text(refusal), buffer)
 }
 
-/// The same outcome of the first or the second of two texts: of none where memory ran out.
+/// The outcome, with the number of the text that is refused: 1 or 2. Where memory ran out, no text is named.
 fn told_of(number: u32, outcome: Outcome) -> Outcome
     ensures { result ≡ of_text number outcome }
 {
@@ -105,7 +105,7 @@ fn told_of(number: u32, outcome: Outcome) -> Outcome
     }
 }
 
-/// Tells whether a language range matches a tag by a scheme, or which of the two is refused.
+/// Tells whether a language range matches a tag by a scheme, or why the range, or else the tag, is refused.
 pub(crate) fn answer_match(
     alloc: Global,
     registry: &Registry,
@@ -116,6 +116,7 @@ pub(crate) fn answer_match(
 ) -> Outcome
     ensures { TellsMatch registry.now scheme range.now text.now buffer.old buffer.new result }
 {
+    // So that what holds of every registry is known.
     registry.promise();
     let canonical = match registry.range(alloc, range) {
         Ok(canonical) => canonical,

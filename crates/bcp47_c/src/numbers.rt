@@ -36,7 +36,7 @@ pub(crate) const WRONG_END: u8 = 12;
 /// The call is wrong: a number is that of no scheme.
 pub(crate) const BAD_CALL: u8 = 14;
 
-/// The number of a fault of a text.
+/// The number that tells a fault of a text, or 0 where memory ran out.
 pub(crate) fn tag_fault(kind: TagFaultKind) -> u8
     ensures { result ≡ numbers.tag_fault kind }
 {
@@ -52,7 +52,7 @@ pub(crate) fn tag_fault(kind: TagFaultKind) -> u8
     }
 }
 
-/// The number of a fault of a tag.
+/// The number that tells a fault of a tag that is not valid.
 pub(crate) fn valid_fault(kind: ValidFaultKind) -> u8
     ensures { result ≡ numbers.valid_fault kind }
 {
@@ -70,7 +70,7 @@ pub(crate) fn valid_fault(kind: ValidFaultKind) -> u8
     }
 }
 
-/// The number of a fault of the bytes of a registry.
+/// The number that tells a fault of the bytes of a registry, or 0 where memory ran out.
 pub(crate) fn file_fault(kind: JarFaultKind) -> u8
     ensures { result ≡ numbers.file_fault kind }
 {
@@ -87,7 +87,7 @@ pub(crate) fn file_fault(kind: JarFaultKind) -> u8
     }
 }
 
-/// The number of a fault of a record.
+/// The number that tells a fault of a record, or 0 where memory ran out.
 pub(crate) fn record_fault(kind: RecordFaultKind) -> u8
     ensures { result ≡ numbers.record_fault kind }
 {
@@ -105,7 +105,7 @@ pub(crate) fn record_fault(kind: RecordFaultKind) -> u8
     }
 }
 
-/// The number of a condition of the check.
+/// The number that tells a condition of the check.
 pub(crate) fn condition(condition: Condition) -> u8
     ensures { result ≡ numbers.condition condition }
 {
@@ -125,7 +125,7 @@ pub(crate) fn condition(condition: Condition) -> u8
     }
 }
 
-/// The number of a condition on an upgrade.
+/// The number that tells a condition on an upgrade.
 pub(crate) fn upgrade_condition(condition: UpgradeCondition) -> u8
     ensures { result ≡ numbers.upgrade_condition condition }
 {
@@ -139,7 +139,7 @@ pub(crate) fn upgrade_condition(condition: UpgradeCondition) -> u8
     }
 }
 
-/// The number of a fault of a piece of a language range.
+/// The number that tells a fault of a piece of a language range.
 fn subtag_fault(fault: SubtagFault) -> u8
     ensures { result ≡ numbers.subtag_fault fault }
 {
@@ -150,7 +150,7 @@ fn subtag_fault(fault: SubtagFault) -> u8
     }
 }
 
-/// The number of a fault of a language range.
+/// The number that tells a fault of a language range, or 0 where memory ran out.
 pub(crate) fn range_fault(fault: RangeFault) -> u8
     ensures { result ≡ numbers.range_fault fault }
 {
@@ -161,7 +161,7 @@ pub(crate) fn range_fault(fault: RangeFault) -> u8
     }
 }
 
-/// The number of a class.
+/// The number that tells the class of a tag.
 pub(crate) fn class(class: Class) -> u8
     ensures { result ≡ numbers.class class }
 {
@@ -172,7 +172,7 @@ pub(crate) fn class(class: Class) -> u8
     }
 }
 
-/// The kind of step that has a number, if one has.
+/// The kind of step that has a number, or None if none has it.
 pub(crate) fn step_kind(number: u8) -> Option<StepKind>
     ensures { numbers.IsKindOf number result }
 {

@@ -44,7 +44,7 @@ impl Model for Opened {
 }
 
 impl Opened {
-    /// What a handle holds for a registry and records.
+    /// What a handle holds for a registry and the records that are kept with it, in a box.
     fn hold(
         alloc: Global,
         registry: Arc<Registry>,
@@ -61,7 +61,7 @@ impl Opened {
         Ok(Box::new(alloc, opened)?)
     }
 
-    /// What a handle holds for a registry with which no record is kept.
+    /// What a handle holds for a registry with which no records are kept, in a box.
     fn hold_alone(alloc: Global, registry: Registry) -> Result<Box<Opened>, OutOfMemory>
         ensures { IfOk result (λ opened. opened.value ≡ (registry, [])) }
     {
@@ -70,7 +70,7 @@ impl Opened {
         Opened::hold(alloc, Arc::new(alloc, registry)?, none)
     }
 
-    /// The registry whose text the bytes are. No record is kept with it.
+    /// What a handle holds for the registry whose text the bytes are. No records are kept with it.
     pub(crate) fn read(alloc: Global, bytes: &[u8]) -> Result<Box<Opened>, RegistryError>
         ensures read { IfOk result (λ opened. ReadsBytes bytes.now (Ok opened.value.0)) }
         ensures none { IfOk result (λ opened. opened.value.1 ≡ []) }
@@ -83,7 +83,7 @@ impl Opened {
         }
     }
 
-    /// Keeps the records of bytes with the registry in place of those that were kept, and answers the status.
+    /// Keeps the records that bytes have with the registry, in place of those that were kept, and gives the status.
     pub(crate) fn keep(&mut self, alloc: Global, bytes: &[u8]) -> u8
         ensures { Keeps self.old (Some self.new) bytes.now result }
     {
@@ -107,7 +107,7 @@ impl Opened {
         self.registry.entries().len()
     }
 
-    /// The same registry for another handle.
+    /// What another handle holds for the same registry and records. They are not copied.
     pub(crate) fn share(&self, alloc: Global) -> Result<Box<Opened>, OutOfMemory>
         ensures { IfOk result (λ opened. opened.value ≡ self.now) }
     {
@@ -115,7 +115,7 @@ impl Opened {
         Opened::hold(alloc, registry, Arc::try_clone(&self.records)?)
     }
 
-    /// Writes the canonical text of the tag that a text is read as.
+    /// Writes the canonical text of the tag that a text is read as, or answers why there is none.
     pub(crate) fn canonical(&mut self, alloc: Global, text: &[u8], buffer: &mut [u8]) -> Outcome
         ensures kept { self.new ≡ self.old }
         ensures answer { Answers (IsCanonicalTextOf self.old.0 text.now) (IsTextRefusal self.old.0 text.now) buffer.old buffer.new result }
@@ -130,7 +130,7 @@ impl Opened {
         }
     }
 
-    /// Writes the text of the extlang form of the tag that a text is read as.
+    /// Writes the text of the extlang form of the tag that a text is read as, or answers why there is none.
     pub(crate) fn extlang(&mut self, alloc: Global, text: &[u8], buffer: &mut [u8]) -> Outcome
         ensures kept { self.new ≡ self.old }
         ensures answer { Answers (IsExtlangTextOf self.old.0 text.now) (IsTextRefusal self.old.0 text.now) buffer.old buffer.new result }
@@ -141,7 +141,8 @@ impl Opened {
         deliver(ended(DONE), &self.texts, buffer)
     }
 
-    /// Writes the text, in conventional case, of the tag that a text is read as, and tells its class.
+    /// Writes the text, in conventional case, of the tag that a text is read as, and tells its class, or answers why it is
+    /// no tag.
     pub(crate) fn classify(&mut self, alloc: Global, text: &[u8], buffer: &mut [u8]) -> Outcome
         ensures kept { self.new ≡ self.old }
         ensures answer { Classifies text.now buffer.old buffer.new result }
@@ -149,7 +150,7 @@ impl Opened {
         classify(alloc, text, &mut self.texts, buffer)
     }
 
-    /// Whether the tag that a text is read as is valid.
+    /// Tells whether the tag that a text is read as is valid.
     pub(crate) fn validate(&self, alloc: Global, text: &[u8]) -> Outcome
         ensures { Validates self.now.0 text.now result }
     {
@@ -159,7 +160,8 @@ impl Opened {
         }
     }
 
-    /// Whether the tags that two texts are read as are equivalent.
+    /// Tells whether the tags that two texts are read as are equivalent, or answers why a text is no tag or a tag is
+    /// refused.
     pub(crate) fn equal(
         &self,
         alloc: Global,
@@ -176,7 +178,7 @@ impl Opened {
         }
     }
 
-    /// Whether a language range matches a tag, by the scheme of a number.
+    /// Tells whether a language range matches a tag, by the scheme of a number, or that the number is that of no scheme.
     pub(crate) fn matches(
         &self,
         alloc: Global,
@@ -193,7 +195,7 @@ impl Opened {
         }
     }
 
-    /// Writes the explanation of the tag that a text is read as.
+    /// Writes the explanation of the tag that a text is read as, or answers why there is none.
     pub(crate) fn explain(&self, alloc: Global, text: &[u8], buffer: &mut [u8]) -> Outcome
         ensures { Answers (IsExplanationTextOf self.now.0 text.now) (IsTextRefusal self.now.0 text.now) buffer.old buffer.new result }
     {
@@ -203,7 +205,7 @@ impl Opened {
         }
     }
 
-    /// Writes what the registry has for the parts of the tag that a text is read as.
+    /// Writes what the registry has for the parts of the tag that a text is read as, or answers why it is no tag.
     pub(crate) fn show(&self, alloc: Global, text: &[u8], buffer: &mut [u8]) -> Outcome
         ensures { Answers (AreRowsOf self.now text.now) (IsReadingRefusal text.now) buffer.old buffer.new result }
     {
@@ -213,7 +215,7 @@ impl Opened {
         }
     }
 
-    /// Tells how many steps the explanation has of the tag that a text is read as.
+    /// Tells how many steps the explanation of the tag has that a text is read as, or answers why there is none.
     pub(crate) fn count_steps(&self, alloc: Global, text: &[u8], buffer: &mut [u8]) -> Outcome
         ensures { CountsSteps self.now.0 text.now buffer.old buffer.new result }
     {
@@ -230,7 +232,7 @@ impl Opened {
         }
     }
 
-    /// Whether steps in numbers lead from the tag that a text is read as to the one that another is read as.
+    /// Tells whether steps in numbers lead from the tag of `text`, one after another, to the tag of `last`.
     pub(crate) fn verify(
         &self,
         alloc: Global,
@@ -250,7 +252,7 @@ impl Opened {
         }
     }
 
-    /// Whether a newer registry upgrades this one.
+    /// Tells whether a newer registry upgrades this one.
     pub(crate) fn upgrade_check(&self, alloc: Global, newer: &Opened) -> Outcome
         ensures { ChecksUpgrade self.now.0 newer.now.0 result }
     {
@@ -261,7 +263,7 @@ impl Opened {
     }
 }
 
-/// What threads may share and hand to one another.
+/// Checks, when it is compiled, that threads may share a type and hand its values to one another.
 fn shareable<T: Send + Sync>() {}
 
 /// Threads may share what a handle holds: the handles of a registry share it.

@@ -38,7 +38,7 @@ pub(crate) struct Said {
     pub(crate) place: u64,
 }
 
-/// A status alone.
+/// What an outcome says that has a status alone.
 pub(crate) fn ended(status: u8) -> Said
     ensures { result ≡ spec.ended status }
 {
@@ -49,7 +49,8 @@ pub(crate) fn ended(status: u8) -> Said
     }
 }
 
-/// Writes a text to the front of a buffer, where it fits.
+/// Writes a text to the front of a buffer, and answers what is said with the text's length. Where the text doesn't fit,
+/// nothing is written, and the status is `BUFFER_TOO_SMALL`.
 pub(crate) fn deliver(said: Said, text: &[u8], buffer: &mut [u8]) -> Outcome
     ensures { IsDelivered said text.now buffer.old buffer.new result }
 {
@@ -75,7 +76,7 @@ pub(crate) fn deliver(said: Said, text: &[u8], buffer: &mut [u8]) -> Outcome
     }
 }
 
-/// What is said of a refusal.
+/// What an outcome says of a refusal: the status, the number of the fault, and its place.
 fn refusal_said(refusal: &TextRefusal) -> Said
     ensures { result ≡ spec.refusal_said refusal.now }
 {
@@ -95,7 +96,7 @@ fn refusal_said(refusal: &TextRefusal) -> Said
     }
 }
 
-/// The text that goes with a refusal: the variant that can be repeated.
+/// The text that is written for a refusal: the variant that steps can repeat, or nothing.
 fn refusal_text(refusal: &TextRefusal) -> &[u8]
     ensures { result.now ≡ spec.refusal_text refusal.now }
 {
@@ -105,7 +106,7 @@ fn refusal_text(refusal: &TextRefusal) -> &[u8]
     }
 }
 
-/// Answers a refusal.
+/// Answers a refusal, and writes the variant that steps can repeat, if that is why.
 pub(crate) fn refuse(refusal: &TextRefusal, buffer: &mut [u8]) -> Outcome
     ensures { IsRefused refusal.now buffer.old buffer.new result }
 {

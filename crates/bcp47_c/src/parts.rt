@@ -24,7 +24,7 @@ pub struct PartNumbers {
     pub length: usize,
 }
 
-/// The number of a kind of part.
+/// The number that tells a kind of part.
 fn part_kind(kind: PartKind) -> u8
     ensures { result ≡ spec.part_kind kind }
 {
@@ -52,7 +52,7 @@ fn part_kind(kind: PartKind) -> u8
     }
 }
 
-/// The kind of part that has a number, if one has.
+/// The kind of part that has a number, or None if none has it.
 fn kind_of(number: u8) -> Option<PartKind>
     ensures { IsPartKindOf number result }
 {
@@ -81,7 +81,7 @@ fn kind_of(number: u8) -> Option<PartKind>
     })
 }
 
-/// The name of the kind of part that has a number; nothing for a number of none.
+/// The name of the kind of part that has a number, or an empty text if none has it.
 #[tactic(auto, using(crate::proofs::PartKindNumbers::same_part_kind))]
 fn part_kind_name(number: u8) -> &'static str
     ensures named { (k : PartKind) → number ≡ spec.part_kind k → result.now ≡ name_of k }
@@ -93,7 +93,7 @@ fn part_kind_name(number: u8) -> &'static str
     }
 }
 
-/// Parts in numbers.
+/// The parts, each with the number of its kind.
 fn numbers_of(alloc: Global, parts: &[Part]) -> Result<Vec<PartNumbers>, OutOfMemory>
     ensures { IfOk result (λ numbers. numbers.items ≡ map in_numbers parts.now) }
 {
@@ -108,7 +108,7 @@ fn numbers_of(alloc: Global, parts: &[Part]) -> Result<Vec<PartNumbers>, OutOfMe
     Ok(numbers)
 }
 
-/// The text of the tag that a text is read as, and its parts.
+/// The text, in conventional case, of the tag that a text is read as, and its parts in numbers. Refused if it is no tag.
 fn read_parts(alloc: Global, text: &[u8]) -> Result<(Vec<u8>, Vec<PartNumbers>), TextRefusal>
     ensures parts { IfOk result (λ found. HasParts text.now found.0.items found.1.items) }
     ensures refusal { IfErr result (IsReadingRefusal text.now) }
@@ -119,7 +119,7 @@ fn read_parts(alloc: Global, text: &[u8]) -> Result<(Vec<u8>, Vec<PartNumbers>),
     Ok((shown, numbers_of(alloc, &found)?))
 }
 
-/// A status, with how many parts and bytes there are.
+/// The outcome with a status, how many parts there are as the place, and how many bytes the text has.
 fn counted(status: u8, count: usize, length: usize) -> Outcome
     ensures { result ≡ outcome (record { status = status; detail = 0; place = count }) length }
 {
@@ -133,7 +133,8 @@ fn counted(status: u8, count: usize, length: usize) -> Outcome
     }
 }
 
-/// Writes a text and its parts to the fronts of their rooms, where both fit.
+/// Writes parts to the front of `room`, and their text to the front of a buffer. Where one of them doesn't fit, neither is
+/// written, and the status is `BUFFER_TOO_SMALL`.
 fn deliver_parts(
     numbers: &[PartNumbers],
     text: &[u8],

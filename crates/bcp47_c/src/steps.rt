@@ -18,7 +18,7 @@ pub struct StepNumbers {
     pub number: u32,
 }
 
-/// The step that numbers tell, if they tell one.
+/// The step that numbers tell, or None if no kind of step has the number of its kind.
 fn step_of(told: StepNumbers) -> Option<Step>
     ensures { IsToldBy told result }
 {
@@ -30,7 +30,7 @@ fn step_of(told: StepNumbers) -> Option<Step>
     })
 }
 
-/// The steps that numbers tell, up to the first that tell none.
+/// The steps that the numbers tell, up to the first numbers that tell none.
 pub(crate) fn front_steps(alloc: Global, told: &[StepNumbers]) -> Result<Vec<Step>, OutOfMemory>
     ensures { IfOk result (λ steps. IsFront told.now steps.items) }
 {

@@ -13,7 +13,7 @@ use crate::outcomes::{Outcome, Said, deliver, refuse};
 use bcp47::{Record, Refusal, Registry, Tag, TextRefusal, append_tag};
 use std::alloc::Global;
 
-/// Makes a text that of the extlang form of the tag that another is read as.
+/// Puts into `extlang` the text of the extlang form of the tag that a text is read as, in place of what it held.
 pub(crate) fn write_extlang(
     alloc: Global,
     registry: &Registry,
@@ -56,7 +56,7 @@ pub(crate) fn classify(
     deliver(said, shown, buffer)
 }
 
-/// How many steps the explanation of the tag has that a text is read as.
+/// How many steps the explanation of the tag has that a text is read as, or why there is none.
 pub(crate) fn step_count(
     alloc: Global,
     registry: &Registry,
@@ -71,6 +71,7 @@ pub(crate) fn step_count(
 }
 
 /// What a registry has for the parts of the tag that a text is read as, with the fields of records, as an array of JSON.
+/// Refused if it is no tag.
 pub(crate) fn rows_text(
     alloc: Global,
     registry: &Registry,
@@ -86,7 +87,7 @@ pub(crate) fn rows_text(
     Ok(rows)
 }
 
-/// Whether the tag that a text is read as is valid.
+/// Checks that the tag that a text is read as is valid. Refused with what is wrong with the text or the tag.
 pub(crate) fn validity(alloc: Global, registry: &Registry, text: &[u8]) -> Result<(), TextRefusal>
     ensures valid { OnOk result (IsValidText registry.now text.now) }
     ensures refusal { IfErr result (λ refusal. IsValidityRefusal registry.now text.now refusal) }
@@ -98,7 +99,7 @@ pub(crate) fn validity(alloc: Global, registry: &Registry, text: &[u8]) -> Resul
     }
 }
 
-/// Whether the tags that two texts are read as are equivalent.
+/// Whether the tags that two texts are read as are equivalent, or why a text is no tag or a tag is refused.
 pub(crate) fn equality(
     alloc: Global,
     registry: &Registry,
@@ -113,7 +114,7 @@ pub(crate) fn equality(
     Ok(registry.equivalent(alloc, &tag, &other)?)
 }
 
-/// The tags that two texts are read as.
+/// The tags that two texts are read as, or why one of them is none, the first or else the second.
 pub(crate) fn read_pair(
     alloc: Global,
     first: &[u8],

@@ -9,7 +9,8 @@ use crate::steps::{StepNumbers, front_steps};
 use bcp47::{Registry, Tag, Trace, TraceFault};
 use std::alloc::Global;
 
-/// What a fault of the first steps says of all, where the next numbers, counted from 1, tell no step.
+/// The fault of steps of which number `next`, counted from 1, is told by no numbers, by the fault of the steps before it:
+/// where they lead to another tag, there is no such step.
 fn of_front(fault: TraceFault, next: usize) -> TraceFault
     ensures { result ≡ spec.of_front fault next }
 {
@@ -21,7 +22,7 @@ fn of_front(fault: TraceFault, next: usize) -> TraceFault
     }
 }
 
-/// Whether steps in numbers lead from a valid tag, one after another, to the last.
+/// Checks that steps in numbers lead from a valid tag, one after another, to the tag `last`. Refused with the first fault.
 pub(crate) fn judge(
     alloc: Global,
     registry: &Registry,
@@ -45,7 +46,7 @@ pub(crate) fn judge(
     }
 }
 
-/// What is said of steps that are no trace.
+/// What an outcome says of steps that are no trace: the status, and the number of the fault or of the step.
 pub(crate) fn trace_said(fault: TraceFault) -> Said
     ensures { result ≡ spec.trace_said fault }
 {

@@ -19,14 +19,14 @@ pub struct WeightedRange<'a> {
     pub weight: u16,
 }
 
-/// What is between the commas of a text.
+/// What is before, between and after the commas of a text.
 pub(crate) fn cut_at_commas(alloc: Global, text: &[u8]) -> Result<Vec<&[u8]>, AllocError>
     ensures { IfOk result (λ found. map (λ piece. piece.now) found.items ≡ pieces text.now) }
 {
     text.split(|byte| *byte == b',').collect(alloc)
 }
 
-/// The element that is between two commas, if it is not empty.
+/// The element that a piece between commas is, or None if the piece is empty.
 #[tactic(auto, unfolding(crate::specs::Elements::element_of))]
 fn read_element(alloc: Global, piece: &[u8]) -> Result<Option<WeightedRange<'_>>, AcceptFaultKind>
     ensures element { IfOk result (λ element. element_of piece.now ≡ Ok (option_map parts_of element)) }
@@ -44,7 +44,7 @@ fn read_element(alloc: Global, piece: &[u8]) -> Result<Option<WeightedRange<'_>>
     }
 }
 
-/// The same, with the number of the element beside a fault.
+/// The element that a piece between commas is, or None if the piece is empty. `place` is its number, which a fault names.
 fn read_numbered<'a>(
     alloc: Global,
     piece: &'a [u8],
@@ -59,7 +59,7 @@ fn read_numbered<'a>(
     }
 }
 
-/// The elements that are between commas, in their order.
+/// The elements that the pieces between commas are, in their order, without the empty ones.
 pub(crate) fn read_elements<'a>(
     alloc: Global,
     pieces: &[&'a [u8]],

@@ -18,7 +18,7 @@ pub struct AcceptLanguage<'a> {
     pub not_acceptable: Vec<WeightedRange<'a>>,
 }
 
-/// The elements whose weight is 0.
+/// The elements whose weight is 0, in their order.
 fn weightless<'a>(
     alloc: Global,
     elements: &[WeightedRange<'a>],
@@ -32,7 +32,7 @@ fn weightless<'a>(
         .collect(alloc)
 }
 
-/// The elements whose weight is not 0.
+/// The elements whose weight is not 0, in their order.
 fn weighty<'a>(
     alloc: Global,
     elements: &[WeightedRange<'a>],
@@ -46,7 +46,7 @@ fn weighty<'a>(
         .collect(alloc)
 }
 
-/// The elements whose weight is not 0, by priority.
+/// The elements whose weight is not 0: those of greater weight first, and of equal weight in their order.
 fn by_priority<'a>(
     alloc: Global,
     elements: &[WeightedRange<'a>],

@@ -24,11 +24,12 @@ fn has_no_star(text: &[u8]) -> bool
     text.iter().all(|byte| *byte != b'*')
 }
 
-/// Whether a text is a basic language range (RFC 4647, 2.1), and otherwise why not.
+/// Checks that a text is a basic language range (RFC 4647, 2.1). It is refused with `BadRange` or `ExtendedRange`.
 pub(crate) fn check_range(alloc: Global, text: &[u8]) -> Result<(), AcceptFaultKind>
     ensures range { OnOk result (spec.range_fault text.now ≡ None) }
     ensures fault { IfErr result (spec.IsFoundFault (spec.range_fault text.now)) }
 {
+    // Only whether it is read counts.
     let _range = LanguageRange::read(alloc, text)?;
     if !is_star(text) && !has_no_star(text) {
         return Err(AcceptFaultKind::ExtendedRange);

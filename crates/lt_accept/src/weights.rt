@@ -6,21 +6,21 @@ ghost use Rattle.lt_accept.specs.Weights as spec;
 
 use crate::words::{after_blanks, cut_word};
 
-/// Whether a text is made of digits.
+/// Whether a text has digits alone.
 fn are_digits(text: &[u8]) -> bool
     ensures { result ≡ list_all is_ascii_digit text.now }
 {
     text.iter().all(|byte| byte.is_ascii_digit())
 }
 
-/// Whether a text is made of up to three digits.
+/// Whether a text is up to three digits.
 fn are_decimals(decimals: &[u8]) -> bool
     ensures { result ≡ spec.are_decimals decimals.now }
 {
     decimals.len() <= 3 && are_digits(decimals)
 }
 
-/// The digit at a place, 0 where there is none.
+/// The digit at an index, or 0 after the last.
 fn digit(decimals: &[u8], place: usize) -> u16
     ensures value { result ≡ spec.digit decimals.now place }
     ensures small { result ≤ 207 }
@@ -31,14 +31,15 @@ fn digit(decimals: &[u8], place: usize) -> u16
     }
 }
 
-/// What decimals stand for, in thousandths.
+/// What the decimals after a point stand for, in thousandths.
 fn thousandths(decimals: &[u8]) -> u16
     ensures { result ≡ spec.thousandths decimals.now }
 {
     100 * digit(decimals, 0) + 10 * digit(decimals, 1) + digit(decimals, 2)
 }
 
-/// The number from 0 to 1 with this digit before the point and these decimals, in thousandths.
+/// The number with this digit before the point and these decimals, in thousandths. None if it isn't from 0 to 1, or has more
+/// than three decimals.
 fn number(whole: u8, decimals: &[u8]) -> Option<u16>
     ensures { result ≡ spec.number_of whole decimals.now }
 {
@@ -52,7 +53,7 @@ fn number(whole: u8, decimals: &[u8]) -> Option<u16>
     }
 }
 
-/// The value of a `q`, in thousandths (RFC 9110, 12.4.2).
+/// The value of a `q`, in thousandths (RFC 9110, 12.4.2). None if it isn't one.
 fn qvalue(text: &[u8]) -> Option<u16>
     ensures { result ≡ spec.qvalue_of text.now }
 {
@@ -63,7 +64,7 @@ fn qvalue(text: &[u8]) -> Option<u16>
     }
 }
 
-/// What `q=` begins, where only white space follows it.
+/// The value that `q=` gives, in thousandths. None if the text isn't this parameter, or if more than white space follows.
 fn parameter(text: &[u8]) -> Option<u16>
     ensures { result ≡ spec.parameter_of text.now }
 {
@@ -77,7 +78,8 @@ fn parameter(text: &[u8]) -> Option<u16>
     qvalue(word)
 }
 
-/// The weight of a range by what follows it, in thousandths (RFC 9110, 12.4.2).
+/// The weight of a range by what follows it, in thousandths (RFC 9110, 12.4.2): 1000 if nothing does. None if it is no
+/// weight.
 pub(crate) fn weight(text: &[u8]) -> Option<u16>
     ensures { result ≡ spec.weight_of text.now }
 {

@@ -9,7 +9,8 @@ use lt_subtag::Subtag;
 use lt_tag::cut_piece;
 use std::cmp::Ordering;
 
-/// Whether a key comes after another in the order of keys (RFC 6067, 2.1.1), if there is another.
+/// Whether a key comes after the last one in the order of keys (RFC 6067, 2.1.1). The first key, which has none before it,
+/// does.
 fn comes_after(last: &Option<Subtag>, key: &Subtag) -> bool
     ensures { result ≡ settled.comes_after last.now key.now }
 {
@@ -19,7 +20,7 @@ fn comes_after(last: &Option<Subtag>, key: &Subtag) -> bool
     }
 }
 
-/// The subtag of a piece, if it is one.
+/// The piece as a subtag, or None if it isn't one.
 #[tactic(auto, using(crate::proofs::PieceLemmas::piece_read, crate::proofs::PieceLemmas::piece_refused))]
 fn read_piece(piece: &[u8]) -> Option<Subtag>
     ensures { MatchOption result (is_subtag (folded piece.now) ≡ false) (λ subtag. subtag ≡ folded piece.now) }
@@ -35,7 +36,8 @@ fn is_type(subtag: &Subtag) -> bool
     3 <= subtag.bytes().len() && subtag.bytes() != b"true".as_slice()
 }
 
-/// The last key after one piece more, if that is a key after the last one or a type of it other than `true`.
+/// The last key after a further piece: the piece if it is a key after the last one, or the last key if the piece is a type
+/// of it other than `true`. None if the piece is neither.
 #[tactic(auto, using(crate::proofs::PieceLemmas::next_none))]
 fn next_key(last: Option<Subtag>, piece: &[u8]) -> Option<Subtag>
     ensures { result ≡ settled.next_key last (folded piece.now) }
@@ -54,7 +56,7 @@ fn next_key(last: Option<Subtag>, piece: &[u8]) -> Option<Subtag>
     }
 }
 
-/// Whether a text is that of keywords whose keys rise, none of which has a type `true`.
+/// Whether a text consists of keywords whose keys rise, none of which has the type `true`.
 fn keys_rise(text: &[u8]) -> bool
     ensures { result ≡ settled.keys_rise None (list_of text.now) }
 {
@@ -79,7 +81,8 @@ fn are_subtags(text: &[u8]) -> bool
         .all(|piece| read_piece(piece).is_some())
 }
 
-/// Whether an end is canonical but for the case of its letters, as `-U-CO-phonebk` and `-x-own` are.
+/// Whether an end is of one of two kinds that are canonical but for the case of their letters: keywords of a `u` extension
+/// whose keys rise, none with the type `true`, as `-U-CO-phonebk`, or private use, as `-x-own`.
 pub(crate) fn is_settled_end(end: &[u8]) -> bool
     ensures { result ≡ settled.is_settled_end end.now }
 {

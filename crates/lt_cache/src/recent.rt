@@ -48,7 +48,7 @@ impl Model for Recent {
     ghost view = { λ table. made table.places.items };
 }
 
-/// Places that hold nothing.
+/// The places of a table, all empty.
 fn blank(alloc: Global) -> Result<Vec<Option<Kept>>, AllocError>
     ensures { IfOk result (λ places. places.items ≡ blank_places) }
 {
@@ -70,7 +70,7 @@ impl Recent {
         }
     }
 
-    /// Makes the places, if there are none and there is memory for them.
+    /// Makes the places if there are none yet. Where there is no memory for them, it does nothing.
     fn make_places(&mut self)
         ensures { self.new ≡ self.old }
     {
@@ -81,7 +81,7 @@ impl Recent {
         }
     }
 
-    /// What a place has for a line.
+    /// The answer at this place, if it is that of `line`. None if the place is empty or has another line.
     #[inline(always)]
     fn at(&self, index: usize, line: &ShortText) -> Option<Found<'_>>
         ensures { IfSome result (λ found. Holds self.now line.now found.answer.now found.refused) }
@@ -95,7 +95,7 @@ impl Recent {
         }
     }
 
-    /// The answer that was put for the first `count` bytes of a text, if the table still holds it.
+    /// The answer that was put for the first `count` bytes of `text`, or None if the table doesn't hold it.
     pub fn find(&self, text: &[u8], count: usize) -> Option<Found<'_>>
         requires { count ≤ length text.now }
         ensures { IfSome result (λ found. Holds self.now (take count text.now) found.answer.now found.refused) }
@@ -108,8 +108,8 @@ impl Recent {
         }
     }
 
-    /// Puts an answer for a line where it belongs, if both have at most 32 bytes, in place of what was put
-    /// there the time before last.
+    /// Puts an answer for a line, if both have at most 32 bytes and there is memory for the table. A line has two places,
+    /// which it shares with others: what was put there the time before last is lost.
     pub fn put(&mut self, line: &[u8], answer: &[u8], refused: bool)
         ensures { PutsIn self.old self.new line.now answer.now refused }
     {

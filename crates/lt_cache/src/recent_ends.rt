@@ -31,7 +31,8 @@ impl Model for RecentEnds {
     ghost view = { λ ends. ends.texts };
 }
 
-/// Appends a front in conventional case, where each of its subtags stays as it is; tells whether it did.
+/// Appends a front in conventional case if each of its subtags stays as it is. Tells whether it did, and else appends
+/// nothing.
 #[inline(always)]
 fn append_front<L: Lookup>(
     checked: &Checked<L>,
@@ -45,7 +46,8 @@ fn append_front<L: Lookup>(
     Ok(told)
 }
 
-/// Whether a text is a core whose subtags stay as they are. The other texts are left as they were.
+/// Whether a text is a core whose subtags stay as they are. `texts` is used as room for it, and left as it was. False where
+/// memory runs out.
 #[inline(always)]
 fn is_staying<L: Lookup>(checked: &Checked<L>, text: &[u8], texts: &mut Vec<u8>) -> bool
     ensures core { IsTrue result → IsCanonicalCore (L.listed checked.now) text.now }
@@ -61,8 +63,8 @@ fn is_staying<L: Lookup>(checked: &Checked<L>, text: &[u8], texts: &mut Vec<u8>)
     }
 }
 
-/// The source of a `t` extension, where its subtags stay as they are, and its fields. The other texts are left as they
-/// were.
+/// The source of a `t` extension and its fields, if `end` is one whose source stays as it is; else None. `texts` is used as
+/// room for it, and left as it was.
 #[inline(always)]
 fn staying_source<'e, L: Lookup>(
     checked: &Checked<L>,
@@ -81,7 +83,7 @@ fn staying_source<'e, L: Lookup>(
     }
 }
 
-/// Appends a `t` extension up to its fields.
+/// Appends a `t` extension up to its fields: `-t-` and the source in lower case.
 #[inline(always)]
 fn append_source(source: &[u8], texts: &mut Vec<u8>) -> Result<(), OutOfMemory>
     ensures { OnOk result (texts.new.items ≡ texts.old.items ++ (45 ∷ 116 ∷ 45 ∷ folded source.now)) }
@@ -94,7 +96,7 @@ fn append_source(source: &[u8], texts: &mut Vec<u8>) -> Result<(), OutOfMemory>
 }
 
 impl RecentEnds {
-    /// Ends of which none is kept. Where there is no memory for them, it stays so.
+    /// No ends kept so far. If there is no memory for them later, none are kept.
     pub fn new(alloc: Global) -> RecentEnds
         ensures { (entries : List EntryParts) → AreEnds entries result }
     {
@@ -103,7 +105,8 @@ impl RecentEnds {
         }
     }
 
-    /// Appends what follows a core in a canonical text, where it is kept for an end; tells whether it did.
+    /// Appends what follows a core in a canonical text, if it is kept for `end`. Tells whether it did, and else appends
+    /// nothing.
     #[inline(always)]
     fn append_kept(&self, end: &[u8], texts: &mut Vec<u8>) -> Result<bool, OutOfMemory>
         ensures { IfOk result (AppendsKept self.now end.now texts.old.items texts.new.items) }
@@ -117,8 +120,8 @@ impl RecentEnds {
         }
     }
 
-    /// Appends a `t` extension of a source and fields, where what follows a source is kept for the fields; tells whether
-    /// it did.
+    /// Appends a `t` extension of a source and fields, if what follows a source is kept for the fields. Tells whether it
+    /// did, and else appends nothing.
     #[inline(always)]
     fn append_transformed(
         &self,
@@ -138,8 +141,8 @@ impl RecentEnds {
         }
     }
 
-    /// Appends what follows a core in a canonical text, for a `t` extension by what is kept for its fields; tells whether
-    /// it did.
+    /// Appends the canonical form of an end that is a `t` extension, if what follows its source is kept for its fields.
+    /// Tells whether it did.
     #[inline(always)]
     #[tactic(auto, using(crate::proofs::KeptEnds::transformed_appended))]
     fn append_by_fields<L: Lookup>(
@@ -156,7 +159,7 @@ impl RecentEnds {
         }
     }
 
-    /// Appends what follows a core in a canonical text, by what is kept for an end or for its fields; tells whether it did.
+    /// Appends the canonical form of an end, if it is kept for the end or for its fields. Tells whether it did.
     #[inline(always)]
     #[tactic(auto, using(crate::proofs::KeptEnds::kept_appended_after))]
     fn append_end<L: Lookup>(
@@ -174,8 +177,8 @@ impl RecentEnds {
         Ok(self.append_kept(end, texts)?)
     }
 
-    /// Keeps what texts end in, from a place on, for an end, or what follows the source for its fields. The texts are left
-    /// as they were.
+    /// Keeps the end of `texts` from the place `from` on, which is canonical for `end`. Of a `t` extension it keeps what
+    /// follows the source, for the fields. `texts` is left as it was.
     fn keep<L: Lookup>(
         &mut self,
         checked: &Checked<L>,
@@ -187,6 +190,7 @@ impl RecentEnds {
         ensures ends { AreEnds (L.listed checked.now) self.old → AreEnds (L.listed checked.now) self.new }
         ensures kept { texts.new.items ≡ texts.old.items }
     {
+        // So that the table is known to pass the check.
         checked.table();
         match staying_source(checked, end, texts) {
             Some((source, fields)) => {
@@ -197,7 +201,7 @@ impl RecentEnds {
         }
     }
 
-    /// Appends the canonical text of a text, and keeps what follows in it the first `count` bytes for an end.
+    /// Appends the canonical text of `text`, and keeps what follows its first `count` bytes, as canonical for `end`.
     #[tactic(auto, using(crate::proofs::KeptEnds::end_stands))]
     fn append_new<L: Lookup>(
         &mut self,
@@ -215,15 +219,16 @@ impl RecentEnds {
         ensures ends { AreEnds (L.listed checked.now) self.old → AreEnds (L.listed checked.now) self.new }
     {
         let start = texts.len();
+        // So that the table is known to pass the check.
         checked.table();
         append_canonical_text(alloc, checked, text, texts)?;
         self.keep(checked, end, start + count, texts);
         Ok(())
     }
 
-    /// Appends the canonical text of the tag that a text is read as, and refuses it, as `append_canonical_text`. The end
-    /// of a text after a language, and a script and a region where there is one, that stay as they are is not made
-    /// canonical again if that was done lately.
+    /// Appends the canonical text of the tag that a text is read as, with the refusals of `append_canonical_text`. The end
+    /// of a text after a language, and a script and a region where there is one, that stay as they are is not made canonical
+    /// again if that was done lately.
     pub fn append_canonical_text<L: Lookup>(
         &mut self,
         alloc: Global,

@@ -33,7 +33,7 @@ impl Model for ShortText {
     ghost invariant = { λ text. (text.count ≤ 32) × (length text.bytes ≡ 32) × (text.bytes ≡ padded (take text.count text.bytes)) };
 }
 
-/// The first bytes of a text that has 32, and then zeros.
+/// The first `count` bytes of a text that has at least 32, and zeros after them up to 32.
 #[inline(always)]
 fn front_of_32(text: &[u8], count: usize) -> [u8; MOST]
     requires room { 32 ≤ length text.now }
@@ -46,7 +46,7 @@ fn front_of_32(text: &[u8], count: usize) -> [u8; MOST]
         .to_array()
 }
 
-/// The bytes, and then zeros.
+/// The bytes, and zeros after them up to 32.
 fn pad(bytes: &[u8]) -> [u8; MOST]
     requires { length bytes.now ≤ 32 }
     ensures { result ≡ padded bytes.now }
@@ -57,7 +57,7 @@ fn pad(bytes: &[u8]) -> [u8; MOST]
 }
 
 impl ShortText {
-    /// The first `count` bytes of a text, if they are at most 32.
+    /// The first `count` bytes of a text, or None if they are more than 32.
     #[inline(always)]
     pub fn front(text: &[u8], count: usize) -> Option<ShortText>
         requires { count ≤ length text.now }
@@ -87,7 +87,7 @@ impl ShortText {
         self.count == other.count && differ.to_bitmask() == 0
     }
 
-    /// A number that spreads texts well: the same for the same text.
+    /// A number by which texts are spread over the places of a table. A text has always the same.
     #[inline(always)]
     pub(crate) fn hash(&self) -> usize {
         let words = u64x4::from_le_bytes(u8x32::from_array(self.bytes)).to_array();

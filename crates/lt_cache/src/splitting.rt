@@ -41,8 +41,8 @@ fn is_separator(letter: u8, digit: u8) -> bool
     letter.is_ascii_alphabetic() && digit.is_ascii_digit()
 }
 
-/// What is before the first separator, with the hyphen before it, and the rest: `it` and `-m0-names` of `it-m0-names`.
-/// None where there is no separator within the first bytes.
+/// What is before the first separator of a field, and the rest from the hyphen before the separator on: `it` and `-m0-names`
+/// of `it-m0-names`. None where there is no separator within the first bytes.
 #[inline(always)]
 fn split_fields(text: &[u8]) -> Option<(&[u8], &[u8])>
     ensures whole { IfSome result (λ parts. parts.0.now ++ parts.1.now ≡ text.now) }
@@ -56,7 +56,7 @@ fn split_fields(text: &[u8]) -> Option<(&[u8], &[u8])>
     None
 }
 
-/// Whether each subtag of a text has more than one character, or none.
+/// Whether no piece between hyphens has just one character.
 #[inline(always)]
 fn has_no_singleton(text: &[u8]) -> bool
     ensures { result ≡ list_all (λ (s : List ℕ). not (length s == 1)) (list_of text.now) }
@@ -65,7 +65,7 @@ fn has_no_singleton(text: &[u8]) -> bool
         .all(|subtag| subtag.len() != 1)
 }
 
-/// What follows a singleton `t` and the hyphens round it: `it-m0-names` of `-t-it-m0-names`.
+/// What follows a singleton `t` and the hyphens around it: `it-m0-names` of `-t-it-m0-names`. None of any other text.
 #[inline(always)]
 fn after_singleton(end: &[u8]) -> Option<&[u8]>
     ensures { IfSome result (λ rest. FollowsSingleton rest.now end.now) }
@@ -76,7 +76,8 @@ fn after_singleton(end: &[u8]) -> Option<&[u8]>
     None
 }
 
-/// The source of a `t` extension and its fields, which end the text: `it` and `-m0-names` of `-t-it-m0-names`.
+/// The source of a `t` extension and its fields, which end the text: `it` and `-m0-names` of `-t-it-m0-names`. None if the
+/// text is no such extension, or if a singleton follows.
 #[inline(always)]
 #[tactic(auto, using(crate::proofs::SourceLemmas::transformed))]
 pub(crate) fn split_source(end: &[u8]) -> Option<(&[u8], &[u8])>

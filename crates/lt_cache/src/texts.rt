@@ -38,7 +38,7 @@ fn split_end(text: &[u8]) -> Option<(&[u8], &[u8])>
     None
 }
 
-/// Appends a front in conventional case, exactly if each of its subtags stays as it is; tells whether it did.
+/// Appends a front in conventional case if each of its subtags stays as it is, and gives true; else it appends nothing.
 #[inline(always)]
 fn append_front<L: Lookup>(
     checked: &Checked<L>,
@@ -67,9 +67,9 @@ fn append_lower(text: &[u8], texts: &mut Vec<u8>) -> Result<(), OutOfMemory>
     Ok(())
 }
 
-/// Appends the canonical text of a text that is told without reading it: its end is canonical but for the case of its
-/// letters, and follows a language, and a script and a region where there is one, that stay as they are. Tells whether
-/// it did; of any other text, or where memory runs out, it does nothing.
+/// Appends the canonical text of a text without reading it as a tag, if its front is a language, and a script and a region
+/// where there is one, that stay as they are, and its end is keywords or private use, canonical but for the case of its
+/// letters. Tells whether it did; of any other text, or where memory runs out, it does nothing.
 fn append_settled_text<L: Lookup>(checked: &Checked<L>, text: &[u8], texts: &mut Vec<u8>) -> bool
     ensures appended { IsTrue result → AppendsCanonicalText (L.listed checked.now) text.now texts.old.items texts.new.items }
     ensures unchanged { result ≡ false → texts.new.items ≡ texts.old.items }
@@ -92,8 +92,8 @@ fn append_settled_text<L: Lookup>(checked: &Checked<L>, text: &[u8], texts: &mut
     true
 }
 
-/// Appends the canonical text of a text that is not told by a flag for each subtag. It is no part of its caller, so that
-/// the texts which are told so pay nothing for it.
+/// Appends the canonical text of a text whose subtags don't all stay as they are. It is no part of its caller, so that the
+/// other texts pay nothing for it.
 #[inline(never)]
 fn append_other_text<L: Lookup>(
     alloc: Global,
@@ -112,9 +112,9 @@ fn append_other_text<L: Lookup>(
 }
 
 /// Appends the text, in conventional case, of the canonical form of the tag that a text is read as (RFC 5646, 2.1.1 and
-/// 4.5), and refuses it, as [`lt_canon::append_canonical_text`]. A text whose end is canonical but for the case of its
-/// letters, after a language, and a script and a region where there is one, that stay as they are, is not read as a
-/// tag: neither `ar-u-nu-latn` nor `en-GB-x-own` is.
+/// 4.5), with the refusals of [`lt_canon::append_canonical_text`]. A text is not read as a tag if its front is a language,
+/// and a script and a region where there is one, that stay as they are, and its end is keywords or private use, canonical
+/// but for the case of its letters, as in `ar-u-nu-latn` and `en-GB-x-own`.
 pub fn append_canonical_text<L: Lookup>(
     alloc: Global,
     checked: &Checked<L>,

@@ -44,7 +44,7 @@ pub fn canonical<L: Lookup>(alloc: Global, checked: &Checked<L>, tag: &Tag) -> R
     canonical_of(alloc, checked, tag.copy(alloc)?)
 }
 
-/// The canonical form of a tag that is handed over.
+/// The canonical form of a tag, which is used up for it. It is refused as `canonical` refuses.
 pub(crate) fn canonical_of<L: Lookup>(
     alloc: Global,
     checked: &Checked<L>,
@@ -66,8 +66,8 @@ pub(crate) fn canonical_of<L: Lookup>(
     Ok(replaced_whole(alloc, table, shortcuts, settled)?)
 }
 
-/// Whether a part of a tag may not be in its normal form. Refused exactly where the tag is not valid, or memory
-/// runs out.
+/// Whether a core or an extension of a tag may not be in its normal form. Refused exactly where the tag is not valid, or
+/// memory runs out.
 #[tactic(auto, using(crate::proofs::UsualForms::usual_refused, crate::proofs::UsualForms::usual_valid, crate::proofs::UsualForms::usual_settled))]
 fn needs_settling<L: Lookup>(alloc: Global, table: &L, tag: &Tag) -> Result<bool, Refusal>
     ensures valid { IfOk result (λ needs. IsValid (L.listed table.now) tag.now) }
@@ -83,8 +83,8 @@ fn needs_settling<L: Lookup>(alloc: Global, table: &L, tag: &Tag) -> Result<bool
     }
 }
 
-/// The langtag of these parts of a valid one, with its core and its extensions in their normal forms, unless a
-/// variant occurs twice there.
+/// The langtag of the parts of a valid one, with its core and its extensions in their normal forms. Refused with
+/// `ReplacementRepeats` where a variant occurs twice there.
 #[tactic(auto, using(crate::proofs::CanonicalForms::transforms_have_parts, crate::proofs::CanonicalForms::core_refused, crate::proofs::CanonicalForms::form_count, crate::proofs::CanonicalForms::form_spells_none))]
 fn settled_langtag<L: Lookup>(
     alloc: Global,
@@ -108,7 +108,7 @@ fn settled_langtag<L: Lookup>(
     Ok(Tag::from_parts(core, extensions, private))
 }
 
-/// Puts a core into its core normal form, unless a variant occurs twice there.
+/// Puts a core into its core normal form. Refused with `ReplacementRepeats` where a variant occurs twice there.
 fn settle_core<L: Lookup>(table: &L, shortcuts: &Shortcuts, core: &mut Core) -> Result<(), Refusal>
     requires shortcuts { AreShortcuts (L.listed table.now) shortcuts.now }
     requires chains { All (HasEndingChain (L.listed table.now)) (L.listed table.now) }
@@ -122,7 +122,8 @@ fn settle_core<L: Lookup>(table: &L, shortcuts: &Shortcuts, core: &mut Core) -> 
     }
 }
 
-/// The value of a tag that can be replaced whole, with its core in core normal form; else the tag itself.
+/// The preferred value of a tag that can be replaced whole, with its core in core normal form. A tag without one is given
+/// back.
 #[tactic(auto, using(lt_check::proofs::CheckedRegistry::value_plain))]
 fn replaced_whole<L: Lookup>(
     alloc: Global,
@@ -143,7 +144,7 @@ fn replaced_whole<L: Lookup>(
     }
 }
 
-/// The value of a whole record with its core in core normal form.
+/// The preferred value of a record of a whole tag, with its core in core normal form.
 #[tactic(auto, using(crate::proofs::TagForm::ending_chains, crate::proofs::CanonicalForms::value_spells_none))]
 fn settled_value<L: Lookup>(
     alloc: Global,

@@ -28,7 +28,7 @@ pub fn append_canonical_text<L: Lookup>(
     append_other_text(alloc, checked, text, texts)
 }
 
-/// The same of any text, by the tag that it is read as.
+/// Appends the canonical text of a text, by the tag that it is read as.
 #[tactic(auto, using(crate::proofs::UsualForms::appended))]
 fn append_other_text<L: Lookup>(
     alloc: Global,

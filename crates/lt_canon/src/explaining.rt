@@ -31,8 +31,7 @@ pub fn explain<L: Lookup>(alloc: Global, checked: &Checked<L>, tag: &Tag) -> Res
     Ok(Trace { steps, last })
 }
 
-/// Takes the steps on a tag, each the first that leads on, until none does, and adds them to others,
-/// which it gives back.
+/// Takes the first step on a tag, and goes on so until there is none. It gives back `steps` with these at the end.
 #[tactic(auto, using(crate::proofs::TagForm::ending_chains, crate::proofs::TraceLemmas::coreless_explained, crate::proofs::TraceLemmas::transforms_of))]
 fn explain_tag<L: Lookup>(
     alloc: Global,
@@ -60,8 +59,8 @@ fn explain_tag<L: Lookup>(
     Ok(steps)
 }
 
-/// Takes the Whole step of a tag whose core is at rest, if its record has a value, and the steps on the
-/// core of the value, and adds them to others, which it gives back.
+/// Takes the Whole step of a tag whose core is at rest, if its record has a value, and then the steps on the core of the
+/// value. It gives back `steps` with these at the end.
 #[tactic(auto, using(crate::proofs::TagForm::ending_chains, crate::proofs::TraceLemmas::valueless_explained))]
 fn explain_whole<L: Lookup>(
     alloc: Global,

@@ -22,7 +22,7 @@ fn append_tag_line(lines: &mut Vec<u8>, tag: &Tag) -> Result<(), OutOfMemory>
     Ok(())
 }
 
-/// Appends the line of a step, which leads to this tag.
+/// Appends the line of a step: its kind, its place, the number of its record, and the tag `after`, to which it leads.
 fn append_step(
     lines: &mut Vec<u8>,
     alloc: Global,

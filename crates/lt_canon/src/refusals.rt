@@ -84,8 +84,8 @@ pub enum TextRefusal {
 }
 
 impl TextRefusal {
-    /// The refusal's name, as it is printed: for a text that is no tag, or a tag that is not valid, that of
-    /// its fault.
+    /// The refusal's name, as it is printed: `ReplacementRepeats`, `OutOfMemory`, or for a text that is no tag, or a tag
+    /// that is not valid, that of its fault.
     pub fn name(&self) -> &'static str
         ensures { result.now ≡ text_refusal_name_of self.now }
     {

@@ -40,8 +40,8 @@ pub enum TraceFault {
 }
 
 impl TraceFault {
-    /// The fault's name, as it is printed: `NoSuchStep`, or for a tag that is not valid that of its fault, as
-    /// `UnknownLanguage`.
+    /// The fault's name, as it is printed: `NoSuchStep`, `WrongEnd`, `OutOfMemory`, or for a tag that is not valid that of
+    /// its fault, as `UnknownLanguage`.
     pub fn name(self) -> &'static str
         ensures { result.now ≡ trace_fault_name_of self }
     {
@@ -73,7 +73,7 @@ impl From<OutOfMemory> for TraceFault {
     }
 }
 
-/// The tag to which steps lead one after another.
+/// The tag to which steps lead one after another, or `NoSuchStep` with the first of them that leads nowhere.
 #[tactic(auto, using(crate::proofs::TraceLemmas::misstep_here))]
 fn follow<L: Lookup>(alloc: Global, table: &L, tag: &Tag, steps: &[Step]) -> Result<Tag, TraceFault>
     requires { IsProper (L.listed table.now) tag.now }
@@ -110,6 +110,7 @@ pub fn verify<L: Lookup>(
     ensures exact { IfErr result (λ fault. fault ≢ no_trace_memory
         → IsValidTrace (L.listed checked.now) tag.now trace.now.steps.items trace.now.last → ⊥) }
 {
+    // So that the steps are known to have one end, which is equivalent to the tag.
     traces_reach_their_end();
     traces_have_one_end();
     let table = checked.table();

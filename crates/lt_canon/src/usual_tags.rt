@@ -10,7 +10,7 @@ use lt_rewrite::values::one_value;
 use lt_subtag::Subtag;
 use lt_tag::{Core, Tag};
 
-/// The core of a langtag without extlangs, variants, extensions and private use.
+/// The core of a langtag without extlangs, variants, extensions and private use. None of any other tag.
 pub(crate) fn usual_core(tag: &Tag) -> Option<&Core>
     ensures usual { IfSome result (λ core. IsUsual core.now) }
     ensures alone { IfSome result (λ core. tag.now ≡ core_alone core.now) }
@@ -24,7 +24,7 @@ pub(crate) fn usual_core(tag: &Tag) -> Option<&Core>
     }
 }
 
-/// Whether the entry of a subtag has a value; the fault where there is no entry.
+/// Whether the entry of a subtag has a preferred value. Refused with a fault of this kind and place if there is no entry.
 fn is_valued(entry: Option<&Entry>, kind: ValidFaultKind, place: u32) -> Result<bool, ValidFault>
     ensures { result ≡ one_valued kind place (option_copied entry.entry) }
 {
@@ -34,7 +34,8 @@ fn is_valued(entry: Option<&Entry>, kind: ValidFaultKind, place: u32) -> Result<
     }
 }
 
-/// The same of a script or a region, where there is one.
+/// Whether a script or a region has a preferred value. False if there is none; refused with `fault`, at this place, if it is
+/// not registered.
 fn is_part_valued<L: Lookup>(
     table: &L,
     kind: Kind,
@@ -50,7 +51,7 @@ fn is_part_valued<L: Lookup>(
     }
 }
 
-/// Whether the language, the script or the region of a core has a value; the first fault where one of
+/// Whether the language, the script or the region of a core has a preferred value. Refused with the first fault where one of
 /// them is not registered. Each is looked up once.
 #[tactic(auto, unfolding(crate::specs::UsualTags::core_valued))]
 pub(crate) fn is_core_valued<L: Lookup>(table: &L, core: &Core) -> Result<bool, ValidFault>

@@ -24,6 +24,7 @@ pub struct Checked<L: Lookup> {
 
 // By hand: who lets a checked table go then owes this one call, and not a drop for each of its vectors.
 impl<L: Lookup + Drop> Drop for Checked<L> {
+    /// Drops the three parts.
     fn drop(self) {
         let Checked {
             table,
@@ -61,6 +62,7 @@ impl<L: Lookup> Checked<L> {
         ensures cause { IfErr result (λ rejected. IsCause (L.listed table) rejected.cause) }
         ensures first { IfErr result (λ rejected. IsFirstCause (L.listed table) rejected.cause) }
     {
+        // So that the forms of the entries are known.
         know_entries(&table);
         let Ok(shortcuts) = Shortcuts::of_table(alloc, &table) else {
             return Err(Rejected {

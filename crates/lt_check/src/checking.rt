@@ -60,8 +60,8 @@ fn meets<L: Lookup>(
     }
 }
 
-/// The first record that does not meet a condition that is decided by a look at one record after
-/// another.
+/// The first record that does not meet a condition that is decided by a look at one record after another, or None if each
+/// does.
 fn first_failing<L: Lookup>(
     alloc: Global,
     table: &L,
@@ -81,8 +81,8 @@ fn first_failing<L: Lookup>(
     None
 }
 
-/// The first record whose tag is a grandfathered type and none of the 26, or which makes a regular one
-/// of the 26 valid as a langtag.
+/// The first record that fails the condition on grandfathered tags, or None: its tag is of grandfathered type and none of
+/// the 26, or it makes a regular one of the 26 valid as a langtag.
 fn first_misfit<L: Lookup>(table: &L) -> Option<Finding>
     ensures { IsLowestFault (L.listed table.now) Condition.FittingGrandfathered result }
 {
@@ -97,7 +97,7 @@ fn first_misfit<L: Lookup>(table: &L) -> Option<Finding>
     None
 }
 
-/// What the check finds by the tenth and the eleventh condition, where all records meet those before.
+/// What the check finds by the tenth and the eleventh condition, where all records meet those before. None if all meet both.
 fn first_whole_fault<L: Lookup>(
     alloc: Global,
     table: &L,
@@ -123,7 +123,7 @@ fn first_whole_fault<L: Lookup>(
     Ok(found)
 }
 
-/// What the check finds by a condition, where all records meet the conditions before it.
+/// What the check finds by a condition, where all records meet the conditions before it. None if all meet this one too.
 fn lowest_fault<L: Lookup>(
     alloc: Global,
     table: &L,
@@ -144,8 +144,8 @@ fn lowest_fault<L: Lookup>(
     }
 }
 
-/// What the check finds: the lowest condition that fails, and there the lowest record at fault.
-/// Nothing where each record meets each condition.
+/// What the check finds: the lowest condition that fails, and there the lowest record at fault. None if each record meets
+/// each condition.
 pub(crate) fn find_fault<L: Lookup>(
     alloc: Global,
     table: &L,

@@ -32,7 +32,7 @@ fn subtag(text: &[u8]) -> Subtag
     }
 }
 
-/// The number of the record of an extlang, if it makes language and extlang valid.
+/// The number of the record that registers the extlang, if the language with this extlang is a valid tag; else None.
 fn by_extlang<L: Lookup>(table: &L, language: &[u8], extlang: &[u8]) -> Option<u32>
     requires language { subtag_of language.now ≡ Ok language.now }
     requires extlang { subtag_of extlang.now ≡ Ok extlang.now }
@@ -47,7 +47,7 @@ fn by_extlang<L: Lookup>(table: &L, language: &[u8], extlang: &[u8]) -> Option<u
     }
 }
 
-/// The number of the record of a variant, if it makes language and variant valid.
+/// The number of the record that registers the variant, if the language with this variant is a valid tag; else None.
 fn by_variant<L: Lookup>(table: &L, language: &[u8], variant: &[u8]) -> Option<u32>
     requires language { subtag_of language.now ≡ Ok language.now }
     requires variant { subtag_of variant.now ≡ Ok variant.now }
@@ -61,8 +61,8 @@ fn by_variant<L: Lookup>(table: &L, language: &[u8], variant: &[u8]) -> Option<u
     }
 }
 
-/// Of each regular grandfathered tag of two subtags the number of the record of its second subtag,
-/// if the tag is valid as a langtag.
+/// For each regular grandfathered tag of two subtags, such as `zh-min`: the number of the record of its second subtag if the
+/// tag is valid as a langtag, and else None.
 pub(crate) fn validating_records<L: Lookup>(table: &L) -> [Option<u32>; REGULAR]
     ensures { AreValidatedBy (L.listed table.now) regular_cores result }
 {
@@ -78,14 +78,14 @@ pub(crate) fn validating_records<L: Lookup>(table: &L) -> [Option<u32>; REGULAR]
     ]
 }
 
-/// Whether a number is among those of records.
+/// Whether one of the numbers is `number`.
 fn has_number(numbers: &[Option<u32>], number: u32) -> bool
     ensures { result ≡ list_any (is_number number) numbers.now }
 {
     numbers.contains(&Some(number))
 }
 
-/// Whether the tag of a record, if it is a grandfathered one, is one of the 26.
+/// Whether the tag of a record is one of the 26, if the record is of the grandfathered type. True of any other type.
 fn has_fitting_tag(entry: &Entry) -> bool
     ensures { IsTrue result
         ↔ (entry.now.kind ≡ kinds.Grandfathered → (number : ℕ) × (entry.now.name ≡ names.Whole (Grandfathered number))) }
@@ -96,8 +96,8 @@ fn has_fitting_tag(entry: &Entry) -> bool
     }
 }
 
-/// Whether the tag of a record, if it is a grandfathered one, is one of the 26, and the record is none
-/// of those that make a regular one valid as a langtag ([`validating_records`]).
+/// Whether a record meets the condition on grandfathered tags: if it is of that type, its tag is one of the 26, and it is
+/// none of the records that make a regular one of these valid as a langtag ([`validating_records`]).
 pub(crate) fn fits_grandfathered<L: Lookup>(
     table: &L,
     validating: &[Option<u32>],
@@ -107,6 +107,7 @@ pub(crate) fn fits_grandfathered<L: Lookup>(
     requires listed { Contains (L.listed table.now) entry.now }
     ensures { IsTrue result ↔ Meets conditions.FittingGrandfathered (L.listed table.now) entry.now }
 {
+    // So that the forms of the entries are known.
     know_entries(table);
     has_fitting_tag(entry) && !has_number(validating, entry.number())
 }

@@ -13,7 +13,7 @@ use lt_registry::{Entry, EntryName, Lookup};
 use lt_tag::OutOfMemory;
 use std::alloc::Global;
 
-/// Whether what a look-up found has the number of this entry.
+/// Whether a look-up found the entry itself: one with its number. False if it found none.
 fn is_entry(found: Option<&Entry>, entry: &Entry) -> bool
     ensures { IsTrue result ↔ ((other : EntryParts) × (option_copied found.entry ≡ Some other) × (other.number ≡ entry.now.number)) }
 {
@@ -23,8 +23,8 @@ fn is_entry(found: Option<&Entry>, entry: &Entry) -> bool
     }
 }
 
-/// Whether a record's name is new: a look-up of its subtag or its tag finds the record itself, or its
-/// range was not seen before. The range is then seen.
+/// Whether a record's name is new: a look-up of its subtag or its tag finds the record itself, or its range is not among
+/// those seen before, to which it is then added.
 fn is_new<L: Lookup>(table: &L, seen: &mut RangeNames, entry: &Entry) -> Result<bool, OutOfMemory>
     requires rising { NumbersRise (L.listed table.now) }
     requires there { Contains (L.listed table.now) entry.now }
@@ -38,7 +38,7 @@ fn is_new<L: Lookup>(table: &L, seen: &mut RangeNames, entry: &Entry) -> Result<
     }
 }
 
-/// The first record whose name an earlier record of its kind has, or whose tag an earlier record has.
+/// The first record whose name an earlier record of its kind has, or whose tag an earlier record has; None if there is none.
 pub(crate) fn first_taken_name<L: Lookup>(
     alloc: Global,
     table: &L,

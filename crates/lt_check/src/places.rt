@@ -22,7 +22,7 @@ static LETTERS: [u8; 256] = [
     26, 26, 26, 26, 26, 26, 26, 26, 26, 26, 26, 26,
 ];
 
-/// The place of a letter among the letters, in either case, and 26 for any other byte.
+/// The index of a letter in the alphabet, in either case, or 26 for any other byte.
 #[inline(always)]
 #[tactic(auto, using(crate::proofs::FlagLemmas::letter_reads))]
 fn letter(byte: u8) -> usize
@@ -31,7 +31,7 @@ fn letter(byte: u8) -> usize
     usize::from(LETTERS[usize::from(byte)])
 }
 
-/// The value of a digit, and 10 for any other byte.
+/// The value of a digit, or 10 for any other byte.
 #[inline(always)]
 fn digit(byte: u8) -> usize
     ensures value { result ≡ places.digit byte }
@@ -40,7 +40,7 @@ fn digit(byte: u8) -> usize
     usize::from(byte.wrapping_sub(b'0').min(10))
 }
 
-/// The place of a language of 2 letters.
+/// The place of a language of 2 letters in the table of flags.
 #[inline(always)]
 #[tactic(auto, using(crate::proofs::FlagLemmas::letter_few))]
 pub(crate) fn language_2(a: u8, b: u8) -> usize
@@ -50,7 +50,7 @@ pub(crate) fn language_2(a: u8, b: u8) -> usize
     letter(a) * 27 + letter(b)
 }
 
-/// The place of a language of 3 letters.
+/// The place of a language of 3 letters in the table of flags.
 #[inline(always)]
 #[tactic(auto, using(crate::proofs::FlagLemmas::letter_few))]
 pub(crate) fn language_3(a: u8, b: u8, c: u8) -> usize
@@ -60,7 +60,7 @@ pub(crate) fn language_3(a: u8, b: u8, c: u8) -> usize
     729 + (letter(a) * 27 + letter(b)) * 27 + letter(c)
 }
 
-/// The place of a script.
+/// The place of a script in the table of flags.
 #[inline(always)]
 #[tactic(auto, using(crate::proofs::FlagLemmas::letter_few))]
 pub(crate) fn script_4(a: u8, b: u8, c: u8, d: u8) -> usize
@@ -70,7 +70,7 @@ pub(crate) fn script_4(a: u8, b: u8, c: u8, d: u8) -> usize
     20_412 + ((letter(a) * 27 + letter(b)) * 27 + letter(c)) * 27 + letter(d)
 }
 
-/// The place of a region of 2 letters.
+/// The place of a region of 2 letters in the table of flags.
 #[inline(always)]
 #[tactic(auto, using(crate::proofs::FlagLemmas::letter_few))]
 pub(crate) fn region_2(a: u8, b: u8) -> usize
@@ -80,7 +80,7 @@ pub(crate) fn region_2(a: u8, b: u8) -> usize
     551_853 + letter(a) * 27 + letter(b)
 }
 
-/// The place of a region of 3 digits.
+/// The place of a region of 3 digits in the table of flags.
 #[inline(always)]
 pub(crate) fn region_3(a: u8, b: u8, c: u8) -> usize
     ensures value { result ≡ places.region_3 a b c }
@@ -89,7 +89,8 @@ pub(crate) fn region_3(a: u8, b: u8, c: u8) -> usize
     552_582 + (digit(a) * 11 + digit(b)) * 11 + digit(c)
 }
 
-/// The place of a subtag of a kind, if it has one.
+/// The place of a subtag of a kind in the table of flags. None if it isn't a language of 2 or 3 letters, a script or a
+/// region.
 pub(crate) fn place(kind: Kind, bytes: &[u8]) -> Option<usize>
     ensures value { result ≡ places.place kind bytes.now }
     ensures within { IfSome result (λ place. place < 553_913) }

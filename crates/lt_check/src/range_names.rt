@@ -18,7 +18,7 @@ pub(crate) struct RangeName {
 }
 
 impl RangeName {
-    /// The range from a first to a last subtag.
+    /// The name of the range of a kind from a first to a last subtag.
     fn new(kind: Kind, first: &Subtag, last: &Subtag) -> RangeName
         ensures { result ≡ range_name kind first.now last.now }
     {
@@ -46,7 +46,7 @@ impl Model for RangeNames {
 }
 
 impl RangeNames {
-    /// No range.
+    /// No ranges so far.
     pub(crate) fn new(alloc: Global) -> RangeNames
         ensures { result ≡ [] }
     {
@@ -55,7 +55,7 @@ impl RangeNames {
         }
     }
 
-    /// Adds a range; whether it was not there.
+    /// Adds a range, and tells whether it is new.
     pub(crate) fn add(
         &mut self,
         kind: Kind,

@@ -17,7 +17,7 @@ use lt_rewrite::values::{has_language_value, is_registered, is_short, one_value}
 use lt_subtag::Subtag;
 use lt_tag::is_plain_langtag;
 
-/// Whether a language is registered and has no value.
+/// Whether a language is registered and has no preferred value.
 fn is_final_language<L: Lookup>(table: &L, language: &Subtag) -> bool
     ensures { result ≡ checks.is_final (L.listed table.now) language.now }
 {
@@ -27,7 +27,7 @@ fn is_final_language<L: Lookup>(table: &L, language: &Subtag) -> bool
     }
 }
 
-/// Whether a Prefix is one subtag, a language without a value.
+/// Whether a Prefix is one subtag, which is a registered language without a preferred value.
 fn is_final_prefix<L: Lookup>(table: &L, prefix: &Prefix) -> bool
     ensures { result ≡ checks.is_final_prefix (L.listed table.now) prefix.now }
 {
@@ -37,7 +37,7 @@ fn is_final_prefix<L: Lookup>(table: &L, prefix: &Prefix) -> bool
     }
 }
 
-/// Whether the chains of two languages come to one end.
+/// Whether the chains of values of two languages have the same end. False if one of them has none.
 fn end_alike<L: Lookup>(table: &L, shortcuts: &Shortcuts, left: &Subtag, right: &Subtag) -> bool
     requires { AreShortcuts (L.listed table.now) shortcuts.now }
     ensures { IsTrue result ↔ EndAlike (L.listed table.now) left.now right.now }
@@ -51,7 +51,8 @@ fn end_alike<L: Lookup>(table: &L, shortcuts: &Shortcuts, left: &Subtag, right: 
     }
 }
 
-/// Whether the value that a language, script or region may have is registered too, as the same kind.
+/// Whether the preferred value of a language, script or region is registered too, as the same kind. True of a record without
+/// value, and of any other kind.
 pub(crate) fn has_registered_value<L: Lookup>(table: &L, entry: &Entry) -> bool
     ensures { IsTrue result ↔ HasRegisteredValue (L.listed table.now) entry.now }
 {
@@ -64,8 +65,8 @@ pub(crate) fn has_registered_value<L: Lookup>(table: &L, entry: &Entry) -> bool
     }
 }
 
-/// Whether an extlang is one subtag with one Prefix of one subtag, a language without a value; and
-/// itself and its replacement are languages whose chains end alike.
+/// Whether an extlang is one subtag with one Prefix, which is one subtag, a language without a value; and whether it and its
+/// replacement are registered as languages too, whose chains of values have the same end. True of any other kind.
 pub(crate) fn fits_as_extlang<L: Lookup>(table: &L, shortcuts: &Shortcuts, entry: &Entry) -> bool
     requires { AreShortcuts (L.listed table.now) shortcuts.now }
     ensures { IsTrue result ↔ HasFittingExtlang (L.listed table.now) entry.now }
@@ -86,8 +87,8 @@ pub(crate) fn fits_as_extlang<L: Lookup>(table: &L, shortcuts: &Shortcuts, entry
         && end_alike(table, shortcuts, subtag, replacement)
 }
 
-/// Whether the value that a variant may have is registered: one of 2 or 3 letters as a language, a
-/// longer one as a variant, whose own value, if any, is no language.
+/// Whether the preferred value of a variant is registered: one of 2 or 3 letters as a language, a longer one as a variant,
+/// whose own value, if any, is no language. True of a record without value, and of any other kind.
 pub(crate) fn has_fitting_variant_value<L: Lookup>(table: &L, entry: &Entry) -> bool
     ensures { IsTrue result ↔ HasFittingVariantValue (L.listed table.now) entry.now }
 {
@@ -103,8 +104,8 @@ pub(crate) fn has_fitting_variant_value<L: Lookup>(table: &L, entry: &Entry) -> 
     }
 }
 
-/// Whether a variant with a language value has Prefixes, each of one subtag, a language without a
-/// value.
+/// Whether a variant whose value is a language has Prefixes, each of them one subtag, a language without a value. True of
+/// any other record.
 pub(crate) fn stands_beside_final_languages<L: Lookup>(table: &L, entry: &Entry) -> bool
     ensures { IsTrue result ↔ HasFinalPrefixes (L.listed table.now) entry.now }
 {
@@ -116,14 +117,14 @@ pub(crate) fn stands_beside_final_languages<L: Lookup>(table: &L, entry: &Entry)
     }
 }
 
-/// Whether each Prefix is one subtag, a language without a value.
+/// Whether each Prefix is one subtag, which is a registered language without a preferred value.
 fn have_final_languages<L: Lookup>(table: &L, prefixes: &[Prefix]) -> bool
     ensures { result ≡ list_all (checks.is_final_prefix (L.listed table.now)) prefixes.now }
 {
     prefixes.iter().all(|prefix| is_final_prefix(table, prefix))
 }
 
-/// Whether all that a variant names as a Prefix are langtags and cores alone.
+/// Whether each Prefix of a variant is a langtag without extensions and private use. True of any other kind.
 pub(crate) fn has_langtag_prefixes(entry: &Entry) -> bool
     ensures { (R : List EntryParts) → IsTrue result ↔ HasLangtagPrefixes R entry.now }
 {
@@ -145,7 +146,7 @@ fn are_langtags(prefixes: &[Prefix]) -> bool
     true
 }
 
-/// Whether a range has no value.
+/// Whether a record of a range has no preferred value. True of any other record.
 pub(crate) fn has_no_range_value(entry: &Entry) -> bool
     ensures { IsTrue result ↔ HasNoRangeValue entry.now }
 {

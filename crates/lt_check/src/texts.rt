@@ -19,7 +19,7 @@ pub(crate) struct Shown {
     pub(crate) bytes: [u8; 12],
 }
 
-/// What follows the language, where a test holds.
+/// What follows the language in the text that is written, its first `count` bytes, if the test holds; else None.
 #[inline(always)]
 fn after_if(holds: bool, count: usize, bytes: [u8; 9]) -> Option<AfterLanguage>
     ensures { result ≡ shown.after_if holds count bytes }
@@ -48,7 +48,8 @@ fn upper(byte: u8) -> u8
 }
 
 impl UsualSubtags {
-    /// What follows a language, exactly if it is nothing, or a script and a region, or one of them, that have flags.
+    /// What follows the language, in conventional case. None unless it is nothing, or a script, a region or both, which have
+    /// flags.
     #[inline(always)]
     fn after_language(&self, rest: &[u8]) -> Option<AfterLanguage>
         ensures value { result ≡ shown.after_language self.now rest.now }
@@ -70,7 +71,8 @@ impl UsualSubtags {
         }
     }
 
-    /// The same, if it is a script, and a region where there is one.
+    /// What follows the language, in conventional case, if it is a script, and a region where there is one, that have flags;
+    /// else None.
     #[inline(always)]
     #[tactic(auto, using(crate::proofs::TextLemmas::nine_reads))]
     fn from_script(&self, rest: &[u8]) -> Option<AfterLanguage>
@@ -109,7 +111,8 @@ impl UsualSubtags {
         }
     }
 
-    /// A text that begins with a language of 2 letters, if all its subtags have their flags.
+    /// A text in conventional case that begins with the language `a`, `b` and goes on with `rest`. None unless all its
+    /// subtags have flags.
     #[inline(always)]
     fn shown_two(&self, a: u8, b: u8, rest: &[u8]) -> Option<Shown>
         ensures value { result ≡ shown.shown_two self.now a b rest.now }
@@ -130,7 +133,8 @@ impl UsualSubtags {
         }
     }
 
-    /// A text that begins with a language of 3 letters, if all its subtags have their flags.
+    /// A text in conventional case that begins with the language `a`, `b`, `c` and goes on with `rest`. None unless all its
+    /// subtags have flags.
     #[inline(always)]
     fn shown_three(&self, a: u8, b: u8, c: u8, rest: &[u8]) -> Option<Shown>
         ensures value { result ≡ shown.shown_three self.now a b c rest.now }
@@ -151,7 +155,7 @@ impl UsualSubtags {
         }
     }
 
-    /// A text in conventional case, exactly if it is a language of 2 or 3 letters, alone or with a script, a region or
+    /// A text in conventional case. None unless it is a language of 2 or 3 letters, alone or with a script, a region or
     /// both, and each of them has its flag.
     #[inline(always)]
     pub(crate) fn shown(&self, text: &[u8]) -> Option<Shown>

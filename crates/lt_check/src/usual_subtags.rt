@@ -37,7 +37,7 @@ impl Model for UsualSubtags {
 }
 
 impl UsualSubtags {
-    /// The flags of a table's subtags: a subtag has one exactly if it stays. Refused only where memory runs out.
+    /// The flags of a table's subtags: a subtag has one exactly if it stays as it is. Refused only where memory runs out.
     pub fn of_table<L: Lookup>(alloc: Global, table: &L) -> Result<UsualSubtags, AllocError>
         ensures { IfOk result (AreFlags (L.listed table.now)) }
     {
@@ -58,9 +58,9 @@ impl UsualSubtags {
         self.words[place / 64] >> (place % 64) & 1 == 1
     }
 
-    /// Appends a text in conventional case, exactly if, by the registry of these flags, it is read as a langtag of a
-    /// language of 2 or 3 letters, and a script and a region where there is one, each of which stays. Tells whether it
-    /// did. Refused only where memory runs out.
+    /// Appends a text in conventional case if, by the registry of these flags, it is read as a langtag of a language of 2 or
+    /// 3 letters, and a script and a region where there is one, and each of these stays as it is. Gives true exactly then;
+    /// else it appends nothing. Refused only where memory runs out.
     #[inline(always)]
     pub fn append_text(&self, text: &[u8], texts: &mut Vec<u8>) -> Result<bool, AllocError>
         ensures exact { IfOk result (λ told. (R : List EntryParts) → AreFlags R self.now → IsTrue told ↔ IsStaying R text.now) }
@@ -78,7 +78,7 @@ impl UsualSubtags {
     }
 }
 
-/// Sets or clears the flag of a place.
+/// Sets the flag of a place, or clears it unless `set`.
 #[tactic(auto, using(crate::proofs::FlagLemmas::set_flag, crate::proofs::FlagLemmas::clear_flag))]
 fn put(words: &mut [u64], place: usize, set: bool)
     requires room { length words.old ≡ 8655 }
@@ -93,7 +93,7 @@ fn put(words: &mut [u64], place: usize, set: bool)
     }
 }
 
-/// Sets or clears the flag of a subtag, if it has a place.
+/// Sets the flag of a subtag, or clears it unless `set`. A subtag without a place is passed over.
 fn put_subtag(words: &mut [u64], kind: Kind, subtag: &Subtag, set: bool)
     requires room { length words.old ≡ 8655 }
     requires form { has_form kind subtag.now ≡ true }
@@ -104,7 +104,8 @@ fn put_subtag(words: &mut [u64], kind: Kind, subtag: &Subtag, set: bool)
     }
 }
 
-/// Sets the flag of the subtag that a record names alone, if it has no value, and else clears it.
+/// Sets the flag of the subtag of a record that is no range and no tag, if the record has no preferred value, and else
+/// clears it.
 fn put_single(words: &mut [u64], entry: &Entry)
     requires { length words.old ≡ 8655 }
     ensures { (es : List EntryParts) → TellSingles es words.old → TellSingles (entry.now ∷ es) words.new }
@@ -114,7 +115,8 @@ fn put_single(words: &mut [u64], entry: &Entry)
     }
 }
 
-/// Sets the flags of the subtags that records name alone, by the first record of each.
+/// Sets or clears the flag of the subtag of each record that is no range and no tag. Of several records of a subtag the
+/// first counts.
 fn put_singles(words: &mut [u64], entries: &[Entry])
     requires room { length words.old ≡ 8655 }
     requires clear { TellSingles [] words.old }
@@ -126,7 +128,8 @@ fn put_singles(words: &mut [u64], entries: &[Entry])
     }
 }
 
-/// The language of the tag of a record that has a value, where the tag has neither extlangs nor variants.
+/// The language of the tag that a record replaces as a whole, or None: if the record has no tag or no preferred value, or if
+/// the tag has extlangs or variants.
 fn replaced_language(entry: &Entry) -> Option<&Subtag>
     ensures language { MatchOption result ((s : List ℕ) → replaces_plain_of s entry.now ≡ false) (λ language. (s : List ℕ) → replaces_plain_of s entry.now ≡ bytes_eq language.now s) }
     ensures form { IfSome result (λ language. is_language language.now ≡ true) }
@@ -140,8 +143,8 @@ fn replaced_language(entry: &Entry) -> Option<&Subtag>
     }
 }
 
-/// Clears the flag of a language whose tag, with no more than a script and a region beside it, has a record with a
-/// value.
+/// Clears the flag of a language if the record replaces a tag of it as a whole, with no more than a script and a region
+/// beside it.
 fn drop_language(words: &mut [u64], entry: &Entry)
     requires { length words.old ≡ 8655 }
     ensures { (R es : List EntryParts) → Tell (stays_beside R es) words.old → Tell (stays_beside R (es ++ entry.now ∷ [])) words.new }
@@ -151,7 +154,7 @@ fn drop_language(words: &mut [u64], entry: &Entry)
     }
 }
 
-/// Clears the flags of the languages of which a tag has a record with a value, with no more than a script and a region
+/// Clears the flag of each language of which a record replaces a tag as a whole, with no more than a script and a region
 /// beside it.
 fn drop_replaced(words: &mut [u64], entries: &[Entry])
     requires room { length words.old ≡ 8655 }

@@ -30,8 +30,8 @@ fn is_valid_plain<L: Lookup>(alloc: Global, table: &L, tag: &Tag) -> bool
     }
 }
 
-/// Whether the value of a record, if it is a whole record with a value, and the tag of a redundant
-/// one are valid langtags without extensions and private use. It takes no memory.
+/// Whether the value of a record that replaces a tag as a whole is a valid langtag without extensions and private use, and
+/// so is the tag if the record is a redundant one. True of a record that replaces no whole tag. It takes no memory.
 pub(crate) fn has_valid_whole<L: Lookup>(alloc: Global, table: &L, entry: &Entry) -> bool
     ensures { IsTrue result ↔ Meets conditions.ValidWhole (L.listed table.now) entry.now }
 {
@@ -51,7 +51,7 @@ pub(crate) fn know_entries<L: Lookup>(table: &L)
     let _ = table.entries();
 }
 
-/// The core normal form of a proper core. It spells no grandfathered tag.
+/// The core normal form of a proper core, whose text is no grandfathered tag.
 fn settled<L: Lookup>(
     alloc: Global,
     table: &L,
@@ -71,7 +71,7 @@ fn settled<L: Lookup>(
     Ok(form)
 }
 
-/// The value of the whole record of a langtag without extensions and private use.
+/// The preferred value of the whole record of this core as a tag. None if there is no such record, or it has no value.
 fn value_of<L: Lookup>(alloc: Global, table: &L, core: Core) -> Option<&Tag>
     requires { IsNotGrandfathered (spell_core core) }
     ensures { option_copied result ≡ whole_value (L.listed table.now) (core_alone core) }
@@ -80,7 +80,8 @@ fn value_of<L: Lookup>(alloc: Global, table: &L, core: Core) -> Option<&Tag>
     whole_value(table, &tag)
 }
 
-/// The core of that value, if the value is a langtag without extensions and private use too.
+/// The core of the preferred value of the whole record of this core as a tag. None if there is no such value, or if it is no
+/// langtag, or one with extensions or private use.
 fn plain_value_of<L: Lookup>(alloc: Global, table: &L, core: Core) -> Option<&Core>
     requires { IsNotGrandfathered (spell_core core) }
     ensures { MatchOption result
@@ -93,18 +94,19 @@ fn plain_value_of<L: Lookup>(alloc: Global, table: &L, core: Core) -> Option<&Co
     }
 }
 
-/// Whether a core repeats no variant and has no value.
+/// Whether a core repeats no variant, and no whole record replaces it as a tag.
 fn rests<L: Lookup>(alloc: Global, table: &L, core: Core) -> bool
     requires lower { MeetsBelow 10 (L.listed table.now) }
     requires spelled { IsNotGrandfathered (spell_core core) }
     ensures { IsTrue result ↔ RestsAlone (L.listed table.now) core }
 {
+    // So that the forms of the entries are known.
     know_entries(table);
     are_distinct(core.variants()) && value_of(alloc, table, core).is_none()
 }
 
-/// Whether the core normal form of a tag, if it is another, is a given core, or has a value whose core
-/// normal form this is.
+/// Whether a tag comes to the core `end`: its core normal form is its own core or `end`, or has a value as a whole whose
+/// core normal form is `end`. True of a tag that is more than a core.
 fn comes_to<L: Lookup>(
     alloc: Global,
     table: &L,
@@ -141,7 +143,7 @@ pub(crate) struct Judged {
     pub(crate) agrees: bool,
 }
 
-/// What is found of a record by a look at the core normal forms of its value and its tag.
+/// Whether a record meets the tenth and the eleventh condition, by the core normal forms of its tag and its value.
 pub(crate) fn judge_whole<L: Lookup>(
     alloc: Global,
     table: &L,
@@ -154,6 +156,7 @@ pub(crate) fn judge_whole<L: Lookup>(
     ensures rests { IfOk result (λ judged. IsTrue judged.rests ↔ Meets conditions.RestingWhole (L.listed table.now) entry.now) }
     ensures agrees { IfOk result (λ judged. IsTrue judged.agrees ↔ Meets conditions.AgreeingWhole (L.listed table.now) entry.now) }
 {
+    // So that the forms of the entries are known.
     know_entries(table);
     let both = Judged {
         rests: true,

@@ -40,7 +40,7 @@ impl Model for CodeTable {
     ghost invariant = { λ table. AreIndexed table.codes.items table.places.items };
 }
 
-/// The number of a letter, counted from 0, whatever its case.
+/// The number of a letter, counted from 0, whatever its case. None of any other byte.
 fn letter_of(byte: u8) -> Option<usize>
     ensures number { result ≡ spec.letter_of byte }
     ensures small { IfSome result (λ number. number < 26) }
@@ -52,7 +52,7 @@ fn letter_of(byte: u8) -> Option<usize>
     }
 }
 
-/// The number of a text of three letters, whatever their case.
+/// The number of a text of three letters, whatever their case. None of any other text.
 fn number_of(text: &[u8]) -> Option<usize>
     ensures number { result ≡ spec.number_of text.now }
     ensures small { IfSome result (λ number. number < 17576) }
@@ -89,7 +89,7 @@ impl CodeTable {
         let _ = &self.codes;
     }
 
-    /// Adds a code after the others.
+    /// Adds a code after the others, with the subtag that is registered for it.
     pub(crate) fn push(&mut self, code: Subtag, registered: Subtag) -> Result<(), AllocError>
         requires { IsCode (record { code = code; registered = registered }) }
         ensures { OnOk result (self.new ≡ self.old ++ record { code = code; registered = registered } ∷ []) }
@@ -104,7 +104,7 @@ impl CodeTable {
         Ok(())
     }
 
-    /// What is registered for a text, if it is a code of the table, whatever the case of its letters.
+    /// The subtag that is registered for a code, whatever the case of its letters. None if the text is no code of the table.
     pub(crate) fn registered(&self, text: &[u8]) -> Option<&Subtag>
         ensures { option_map (λ subtag. subtag.now) result ≡ option_map (λ c. c.registered) (found_in self.now text.now) }
     {

@@ -26,6 +26,7 @@ impl Pieces<()> for Whole {
 
     ghost finished = { λ first start now read here result. EndsBytes read here result };
 
+    /// Keeps the piece, and ends the run once the bytes are too many for a table.
     fn take_piece(
         &mut self,
         _alloc: Global,
@@ -40,12 +41,13 @@ impl Pieces<()> for Whole {
         }
     }
 
+    /// Does nothing: all bytes are kept.
     fn finish(&mut self, _alloc: Global, _output: &mut ()) -> Result<(), ToolFault> {
         Ok(())
     }
 }
 
-/// The fault of a table for what ended the reading of it.
+/// The fault of a table whose reading was ended by a fault: `OutOfMemory`, or else `Read`.
 fn kind_of(fault: ToolFault) -> TableFaultKind
     ensures { result ≡ spec.kind_of fault }
 {

@@ -26,7 +26,7 @@ pub struct Row {
     pub two_letters: Option<Subtag>,
 }
 
-/// The field at the front of the rest of a line, and what follows the vertical bar after it, if there is one.
+/// The field before the next vertical bar of a line, and what follows the bar. None if there is no bar.
 #[tactic(auto, using(crate::proofs::SplitLemmas::field_next, crate::proofs::SplitLemmas::field_last))]
 fn next_field(rest: &[u8]) -> Option<(&[u8], &[u8])>
     ensures { MatchOption result (spec.fields_of rest.now ≡ rest.now ∷ []) (λ p. spec.fields_of rest.now ≡ p.0.now ∷ spec.fields_of p.1.now) }
@@ -34,8 +34,8 @@ fn next_field(rest: &[u8]) -> Option<(&[u8], &[u8])>
     split_first(b'|', rest)
 }
 
-/// The first three fields of a line, which are codes, if it has five with a vertical bar between each two. The other two
-/// are names, and are left out.
+/// The first three fields of a line, which are codes. The other two are names, and are left out. None if the line doesn't
+/// have five fields, with a vertical bar between each two.
 #[tactic(auto, using(crate::proofs::SplitLemmas::field_some))]
 pub(crate) fn fields_of(line: &[u8]) -> Option<Fields<'_>>
     ensures { MatchOption result ((b t w : List ℕ) → HasFields line.now b t w → ⊥)
@@ -62,14 +62,14 @@ fn is_alphabetic(bytes: &[u8]) -> bool
     bytes.iter().all(|byte| byte.is_ascii_lowercase())
 }
 
-/// Whether a subtag is so many letters.
+/// Whether a subtag is `count` letters.
 fn are_letters(subtag: &Subtag, count: usize) -> bool
     ensures { result ≡ (shapes.is_alphabetic subtag.now && (length subtag.now == count)) }
 {
     is_alphabetic(subtag.bytes()) && subtag.bytes().len() == count
 }
 
-/// The code of so many letters that a field is.
+/// The code that a field is, in lower case. None if it isn't `count` letters.
 fn code_of(field: &[u8], count: usize) -> Option<Subtag>
     ensures { result ≡ spec.code_of count field.now }
 {
@@ -79,7 +79,7 @@ fn code_of(field: &[u8], count: usize) -> Option<Subtag>
     }
 }
 
-/// The same of a field that may be empty.
+/// The code that a field is, within Some, or Some(None) if the field is empty. None if it is anything but `count` letters.
 fn code_or_none(field: &[u8], count: usize) -> Option<Option<Subtag>>
     ensures { result ≡ spec.code_or_none count field.now }
 {
@@ -92,7 +92,7 @@ fn code_or_none(field: &[u8], count: usize) -> Option<Option<Subtag>>
     }
 }
 
-/// Whether a field is two codes with a hyphen between them.
+/// Whether a field is a range: two codes of three letters with a hyphen between them.
 fn is_range(field: &[u8]) -> bool
     ensures { result ≡ spec.is_range field.now }
 {
@@ -110,7 +110,7 @@ impl Fields<'_> {
         is_range(self.bibliographic) && self.terminologic.is_empty() && self.two_letters.is_empty()
     }
 
-    /// The row of the fields, if each has the form of its code.
+    /// The codes of the row, or None if a field doesn't have the form of its code.
     pub(crate) fn row(&self) -> Option<Row>
         ensures { result ≡ spec.row_of self.now.bibliographic.now self.now.terminologic.now self.now.two_letters.now }
     {
@@ -126,7 +126,8 @@ impl Fields<'_> {
 }
 
 impl Row {
-    /// What is registered for the row.
+    /// The subtag that is registered for the codes of the row: the code of two letters, else the terminologic one, else the
+    /// bibliographic one.
     pub(crate) fn registered(&self) -> Subtag
         ensures { result ≡ spec.registered_in self.now }
     {

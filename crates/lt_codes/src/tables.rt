@@ -18,7 +18,7 @@ use std::alloc::Global;
 /// The most bytes of a table: 1 MiB.
 pub(crate) const LONGEST_TABLE: usize = 1_048_576;
 
-/// Whether what the table has for a code, if anything, is registered for it here too.
+/// Whether the table has no other subtag for a code than `registered`.
 fn agrees(table: &CodeTable, code: &Subtag, registered: &Subtag) -> bool
     ensures { IsTrue result ↔ Agrees table.now (record { code = code.now; registered = registered.now }) }
 {
@@ -36,7 +36,7 @@ pub(crate) fn line_reached(bytes: &[u8]) -> u64
     feeds as u64 + 1
 }
 
-/// Adds the codes of a row.
+/// Adds the codes of a row. Refused with `RepeatedCode` if the table has another subtag for one of them.
 fn add_row(table: &mut CodeTable, row: Row) -> Result<(), TableFaultKind>
     requires { All IsCode (codes_in row) }
     ensures { AddsRow table.old table.new row result }
@@ -63,7 +63,7 @@ fn add_row(table: &mut CodeTable, row: Row) -> Result<(), TableFaultKind>
     Ok(())
 }
 
-/// Adds the codes of a line.
+/// Adds the codes of a line, or nothing if it is that of a range. Refused with the first fault of the line.
 fn add_line(table: &mut CodeTable, line: &[u8]) -> Result<(), TableFaultKind>
     ensures { AddsCodes table.old table.new line.now result }
 {
@@ -82,7 +82,7 @@ fn add_line(table: &mut CodeTable, line: &[u8]) -> Result<(), TableFaultKind>
     }
 }
 
-/// The first line of a text, and what follows it, if there is any.
+/// The first line of a text, and what follows its line feed. None if the text is empty.
 #[tactic(auto, using(crate::proofs::SplitLemmas::line_next, crate::proofs::SplitLemmas::line_last))]
 fn next_line(text: &[u8]) -> Option<(&[u8], &[u8])>
     ensures { MatchOption result (lines_of text.now ≡ []) (λ p. (lines_of text.now ≡ p.0.now ∷ lines_of p.1.now) × (length p.1.now < length text.now)) }

@@ -6,7 +6,7 @@ use crate::codes::CodeTable;
 use lt_rows::split_first;
 use std::alloc::AllocError;
 
-/// Where the first subtag of a text ends.
+/// Where the first subtag of a text ends: at its first hyphen, or at its end.
 fn first_end(text: &[u8]) -> usize
     ensures { result ≡ length (first_subtag text.now) }
 {
@@ -17,9 +17,9 @@ fn first_end(text: &[u8]) -> usize
 }
 
 impl CodeTable {
-    /// Puts a text into a buffer with what is registered for its first subtag in the place of that, and tells whether the
-    /// table has it, whatever the case of its letters; where it has not, the text stays as it is, and so does the buffer:
-    /// of `eng-US` it puts `en-US`.
+    /// Puts a text into a buffer with the subtag that is registered for its first subtag in place of that: of `eng-US` it
+    /// puts `en-US`. Tells whether the table has that first subtag as a code, whatever the case of its letters. If not, the
+    /// buffer stays as it is. Refused only where memory runs out.
     pub fn replace(&self, text: &[u8], buffer: &mut Vec<u8>) -> Result<bool, AllocError>
         ensures { IfOk result (λ done. MatchBool done (buffer.new.items ≡ replaced self.now text.now) (replaced self.now text.now ≡ text.now)) }
     {

@@ -49,7 +49,7 @@ impl From<AllocError> for ColumnFault {
     }
 }
 
-/// The line that says whose name this is, and all names.
+/// The line that says why a name is not found: that `whose`, as `no column`, has the name `shown`. `listed` are all names.
 fn line_of(alloc: Global, whose: &str, shown: &str, listed: &str) -> Result<String, AllocError>
     ensures { IfOk result (λ line. string_bytes line ≡ shown_line whose.now shown.now listed.now) }
 {
@@ -61,7 +61,7 @@ fn line_of(alloc: Global, whose: &str, shown: &str, listed: &str) -> Result<Stri
     Ok(line)
 }
 
-/// The number of the only column of a name.
+/// The number of the only column of a name. If there is none, or more than one, the refusal is the line that says so.
 fn pick_column(alloc: Global, looked: &Looked, name: &str) -> Result<usize, ColumnFault>
     ensures { (names : List (List ℕ)) → IsFound name.now names looked.now.found → string_bytes looked.now.listed ≡ shown_names names → PicksColumn name.now names result }
 {
@@ -75,7 +75,7 @@ fn pick_column(alloc: Global, looked: &Looked, name: &str) -> Result<usize, Colu
     Err(ColumnFault::Name(line_of(alloc, whose, &shown, &looked.listed)?))
 }
 
-/// The part of a text before this place, if there is a text.
+/// The part of a text before the index `end`, or None if the text is empty.
 fn heading_in(text: &[u8], end: usize) -> Option<&[u8]>
     requires { end ≤ length text.now }
     ensures { option_map (λ row. row.now) result ≡ spec.heading_in text.now end }

@@ -31,7 +31,7 @@ pub(crate) struct FirstRow {
     place: Place,
 }
 
-/// The place after more bytes of a row, by that before them.
+/// The place in a row after the bytes of `part`, by the place before them. Only a row of CSV has places within quotes.
 fn place_then(separator: Separator, place: Place, part: &[u8]) -> Place
     ensures { result ≡ spec.place_then separator place part.now }
 {
@@ -51,7 +51,7 @@ fn long_fault(separator: Separator) -> ToolFault
     }
 }
 
-/// Appends more bytes to a row, and gives the place after them.
+/// Appends a further part to a row, and gives the place after it. Refused if the row is too long then.
 fn append_part(
     separator: Separator,
     text: &mut Vec<u8>,
@@ -67,7 +67,7 @@ fn append_part(
     Ok(place_then(separator, place, part))
 }
 
-/// Appends a piece to a text that is one row so far, and tells where the first row ends, if it does.
+/// Appends a piece to a text that is one row so far, and gives the index at which the row ends, or None if it goes on.
 fn take_text(
     separator: Separator,
     text: &mut Vec<u8>,
@@ -94,7 +94,7 @@ fn take_text(
 }
 
 impl FirstRow {
-    /// Nothing taken so far.
+    /// No bytes taken so far.
     pub(crate) fn new(alloc: Global) -> FirstRow
         ensures undecided { IsUndecided result }
         ensures nothing { spec.taken_by result ≡ [] }
@@ -107,7 +107,8 @@ impl FirstRow {
         }
     }
 
-    /// Splits the mark off the bytes that are kept, and takes the text after it.
+    /// Splits the byte order mark off the bytes that are kept, and takes the text after it. It gives the index in that text
+    /// at which the first row ends, or None if it goes on.
     fn begin(&mut self, separator: Separator) -> Result<Option<usize>, ToolFault>
         requires none { self.old.text.items ≡ [] }
         requires fresh { self.old.place ≡ Place.Fresh }
@@ -121,7 +122,8 @@ impl FirstRow {
         Ok(end)
     }
 
-    /// Takes the next bytes, and tells where the first row ends in the text after the mark, if it does.
+    /// Takes the next bytes, and gives the index in the text after the mark at which the first row ends, or None if it goes
+    /// on.
     fn take_piece(&mut self, separator: Separator, piece: &[u8]) -> Result<Option<usize>, ToolFault>
         requires { IsGoing separator self.old }
         ensures { TakesPiece separator piece.now self.old self.new result }
@@ -153,7 +155,7 @@ impl FirstRow {
         Ok(mark)
     }
 
-    /// Ends the text, which is one row, and tells its length.
+    /// Ends the text, which is one row, and gives its length. Refused with `BadCsv` if a quote is open.
     fn end_text(&self) -> Result<usize, ToolFault>
         ensures { (separator : Separator) → EndsText separator self.now result }
     {
@@ -163,7 +165,7 @@ impl FirstRow {
         Ok(self.text.len())
     }
 
-    /// Ends the bytes, and tells where the first row ends.
+    /// Ends the bytes, and gives the index in the text after the mark at which the first row ends.
     fn finish(&mut self, separator: Separator) -> Result<usize, ToolFault>
         requires { IsGoing separator self.old }
         ensures { FinishesText separator self.old self.new result }
@@ -178,7 +180,7 @@ impl FirstRow {
     }
 }
 
-/// Reads the first row, and tells where it ends in the text after the mark.
+/// Reads the first row into `first`, and gives the index in the text after the mark at which it ends.
 pub(crate) fn read_heading<R: Read>(
     alloc: Global,
     separator: Separator,

@@ -21,7 +21,7 @@ pub(crate) enum Found {
 }
 
 impl Found {
-    /// The same with one name more, which has this number.
+    /// What is found after a further name, which has this number; `is_name` says whether it is the one that is looked for.
     fn with(self, number: usize, is_name: bool) -> Found
         ensures { result ≡ found_then self number is_name }
     {
@@ -41,7 +41,7 @@ pub(crate) struct Looked {
     pub(crate) listed: String,
 }
 
-/// A text in quotes as it is meant: a quote that follows another one that stays is left out.
+/// The text between the quotes of a field, with each doubled quote as one.
 fn undoubled(alloc: Global, text: &[u8]) -> Result<Vec<u8>, AllocError>
     ensures { IfOk result (λ name. name.items ≡ spec.undoubled false text.now) }
 {
@@ -58,7 +58,7 @@ fn undoubled(alloc: Global, text: &[u8]) -> Result<Vec<u8>, AllocError>
     Ok(name)
 }
 
-/// The name of the column that has this field in the heading.
+/// The name of a column, by its field in the heading: the text of the field, with each doubled quote as one if it is quoted.
 fn name_of(alloc: Global, separator: Separator, field: &[u8]) -> Result<Vec<u8>, AllocError>
     ensures { IfOk result (λ name. IsNameOf separator field.now name.items) }
 {
@@ -71,7 +71,7 @@ fn name_of(alloc: Global, separator: Separator, field: &[u8]) -> Result<Vec<u8>,
     Ok(name)
 }
 
-/// Appends a name as it is shown, after a space and between quotes.
+/// Appends a space and a name between quotes, with escapes for what can't be printed as it is.
 pub(crate) fn append_shown(shown: &mut String, alloc: Global, name: &[u8]) -> Result<(), AllocError>
     ensures { OnOk result (string_bytes shown.new ≡ string_bytes shown.old ++ shown_name name.now) }
 {
@@ -81,7 +81,7 @@ pub(crate) fn append_shown(shown: &mut String, alloc: Global, name: &[u8]) -> Re
     shown.push('"')
 }
 
-/// Looks a name up in the row that a heading is.
+/// Looks a name up among the names of the columns in a heading, which is this row.
 fn look_up_in_row(
     alloc: Global,
     separator: Separator,
@@ -118,7 +118,7 @@ fn without_return(row: &[u8]) -> &[u8]
     }
 }
 
-/// Looks a name up in a heading, if there is one.
+/// Looks a name up among the names of the columns in a heading. Without a heading it is missing.
 pub(crate) fn look_up(
     alloc: Global,
     separator: Separator,

@@ -21,6 +21,7 @@ pub trait Reads: Read {
 impl<R: Read> Reads for R {
     ghost gives = { λ old before result new after. ReadConsumes (R.remaining old) (R.remaining new) result after };
 
+    /// Calls the reader's `read`.
     fn read_once(&mut self, buf: &mut [u8]) -> io::Result<usize> {
         self.read(buf)
     }
@@ -51,10 +52,12 @@ impl<W: Write> Writes for W {
 
     ghost flushes = { λ old result new. Keeps (W.contents old) (W.contents new) };
 
+    /// Calls the writer's `write`.
     fn write_once(&mut self, buf: &[u8]) -> io::Result<usize> {
         self.write(buf)
     }
 
+    /// Calls the writer's `flush`.
     fn flush_once(&mut self) -> io::Result<()> {
         self.flush()
     }

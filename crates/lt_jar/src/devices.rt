@@ -47,7 +47,7 @@ impl<T> Device<T> {
 impl<R: Reads> Read for Device<R> {
     ghost remaining = { λ device. R.remaining (inner_of device) };
 
-    /// What one call of the reader with this slice answers.
+    /// Calls the reader once. The call is counted, and so is a failure.
     fn read(&mut self, buf: &mut [u8]) -> io::Result<usize>
         ensures bound { ReadsAtMost result buf.new }
         ensures bytes { ReadConsumes (R.remaining (inner_of self.old)) (R.remaining (inner_of self.new))
@@ -77,7 +77,7 @@ impl<R: Reads> Read for Device<R> {
 impl<W: Writes> Write for Device<W> {
     ghost contents = { λ device. W.contents (inner_of device) };
 
-    /// What one call of the writer with this slice answers.
+    /// Calls the writer once. A failure is counted: an error, or no byte taken of a slice that is not empty.
     fn write(&mut self, buf: &[u8]) -> io::Result<usize>
         ensures bound { WritesAtMost result buf.now }
         ensures bytes { WriteAppends (W.contents (inner_of self.old)) (W.contents (inner_of self.new))
@@ -105,7 +105,7 @@ impl<W: Writes> Write for Device<W> {
         }
     }
 
-    /// What one call of the writer's `flush` answers.
+    /// Calls the writer's `flush`. A failure of it is not counted.
     fn flush(&mut self) -> io::Result<()>
         ensures bytes { Keeps (W.contents (inner_of self.old)) (W.contents (inner_of self.new)) }
         ensures passes { W.flushes (inner_of self.old) result (inner_of self.new) }
@@ -117,7 +117,7 @@ impl<W: Writes> Write for Device<W> {
     }
 }
 
-/// Counts one more, up to the greatest count.
+/// Adds one to a count, up to the greatest number.
 fn count_up(count: &mut u64)
     ensures { count.new ≡ one_more count.old }
 {

@@ -35,6 +35,7 @@ pub(crate) struct Draft {
 }
 
 impl Draft {
+    /// A draft of a record without fields.
     pub(crate) fn new(alloc: Global) -> Draft
         ensures { take result.count result.fields.items ≡ [] }
     {
@@ -44,26 +45,29 @@ impl Draft {
         }
     }
 
+    /// Whether the record has no field yet.
     pub(crate) fn is_empty(&self) -> bool
         ensures { IsTrue result ↔ (take self.now.count self.now.fields.items ≡ []) }
     {
         self.count == 0
     }
 
+    /// The fields of the record so far.
     pub(crate) fn fields(&self) -> &[JarField]
         ensures { result.now ≡ take self.now.count self.now.fields.items }
     {
         &self.fields[..self.count]
     }
 
-    /// Leaves no field, and keeps the memory of all.
+    /// Leaves no field, and keeps the memory of all for the next record.
     pub(crate) fn clear(&mut self)
         ensures { take self.new.count self.new.fields.items ≡ [] }
     {
         self.count = 0;
     }
 
-    /// Takes the next line, after this many records that have ended.
+    /// Takes the next line, and tells whether it ends the record. `ended` is how many records have ended before this one.
+    /// Refused with what is wrong with the line.
     pub(crate) fn take_line(
         &mut self,
         alloc: Global,
@@ -82,7 +86,8 @@ impl Draft {
         }
     }
 
-    /// The same of a line that is UTF-8.
+    /// Takes the next line, which is UTF-8, and tells whether it ends the record. `ended` is how many records have ended
+    /// before.
     pub(crate) fn take_text(
         &mut self,
         alloc: Global,
@@ -98,8 +103,8 @@ impl Draft {
         self.take_short_line(alloc, line, ended)
     }
 
-    /// Takes the next line, which is UTF-8 and not too long. Most begin a field that has the name of the one in its place in the record
-    /// before: there the name is neither looked for nor written.
+    /// Takes the next line, which is UTF-8 and not too long, and tells whether it ends the record. Most lines begin a field
+    /// that has the name of the field in its place in the record before: then the name is neither looked for nor written.
     fn take_short_line(
         &mut self,
         alloc: Global,
@@ -115,7 +120,8 @@ impl Draft {
         }
     }
 
-    /// What the body begins with, if the line begins a field that has the name of the one in its place in the record before.
+    /// What the body begins with, if the line begins a field with the name that the field in its place had in the record
+    /// before. None of any other line.
     fn body_again<'l>(&self, line: &'l str) -> Option<&'l str>
         ensures { IfSome result (λ body. reading.BeginsAgain self.now.count self.now.fields.items line.now body.now) }
     {
@@ -126,6 +132,7 @@ impl Draft {
         }
     }
 
+    /// Takes a line that is of this kind, and tells whether it ends the record. Refused if it is a bad line.
     fn take_kind(
         &mut self,
         alloc: Global,
@@ -146,6 +153,7 @@ impl Draft {
         }
     }
 
+    /// Puts the text of a continuation line after the body of the last field. Refused if there is no field.
     fn continue_field(&mut self, text: &str) -> Result<Progress, JarFaultKind>
         ensures { IsTaken result (reading.continued text.now (take self.old.count self.old.fields.items)) (take self.new.count self.new.fields.items) }
     {
@@ -156,6 +164,7 @@ impl Draft {
         Ok(Progress::GoesOn)
     }
 
+    /// Begins a field with this name, and a body that begins with `body`.
     fn start_field(
         &mut self,
         alloc: Global,
@@ -179,7 +188,8 @@ impl Draft {
         self.put_body(body, ended)
     }
 
-    /// Begins a field by its body, under the name that is in its place.
+    /// Begins a field with what its body begins with; its name is in its place already. Refused if the record is one too
+    /// many.
     fn put_body(&mut self, body: &str, ended: usize) -> Result<Progress, JarFaultKind>
         requires { self.old.count < vec_len self.old.fields }
         ensures { IsTaken result (reading.started ended ((get_or self.old.fields.items self.old.count reading.nothing).0, body.now)
@@ -193,7 +203,7 @@ impl Draft {
         Ok(Progress::GoesOn)
     }
 
-    /// The record, whose place an empty draft takes.
+    /// Takes out the record; the draft has no fields then.
     pub(crate) fn take_record(&mut self, alloc: Global) -> Record
         ensures record { result ≡ take self.old.count self.old.fields.items }
         ensures empty { take self.new.count self.new.fields.items ≡ [] }
@@ -208,7 +218,7 @@ impl Draft {
 
 ghost use Rattle.std.specs.Prelude.{◌↔◌, IsTrue};
 
-/// Makes a text another. Often it is that already, and nothing is written.
+/// Makes `text` the same as `other`. Often it is already, and nothing is written.
 #[inline(always)]
 fn write_over(text: &mut String, other: &str) -> Result<(), AllocError>
     ensures { OnOk result (string_bytes text.new ≡ other.now) }
@@ -220,7 +230,8 @@ fn write_over(text: &mut String, other: &str) -> Result<(), AllocError>
     text.push_str(other)
 }
 
-/// Puts a further text after a body.
+/// Puts a further text after a body, with a space between them. An empty one adds nothing, and to an empty one no space is
+/// added.
 fn lengthen(body: &mut String, text: &str) -> Result<(), AllocError>
     ensures { OnOk result (string_bytes body.new ≡ reading.lengthened (string_bytes body.old) text.now) }
 {

@@ -41,7 +41,7 @@ impl Engine {
         }
     }
 
-    /// Takes the bytes that end a line.
+    /// Takes the last bytes of a line, those before its line feed, and tells whether the line ends the record.
     fn end_line(&mut self, alloc: Global, last: &[u8]) -> Result<Progress, JarFaultKind>
         requires { self.old.line + 1 < 2 ^ 64 }
         ensures taken { IsTaken result (reading.take_line self.old.ended (fields_in self.old)
@@ -61,7 +61,7 @@ impl Engine {
         Ok(progress)
     }
 
-    /// The same of bytes that are UTF-8.
+    /// Takes the last bytes of a line, which are UTF-8, and tells whether the line ends the record.
     #[inline(always)]
     fn end_text(&mut self, alloc: Global, last: &str) -> Result<Progress, JarFaultKind>
         requires { self.old.line + 1 < 2 ^ 64 }
@@ -78,7 +78,7 @@ impl Engine {
         Ok(progress)
     }
 
-    /// Keeps the bytes of a line whose end is not read, up to the longest line.
+    /// Keeps the bytes of a line whose end is not read yet. Refused if the line is too long.
     fn keep(&mut self, part: &[u8]) -> Result<(), JarFaultKind>
         ensures kept { KeepsBytes self.old self.new part.now result }
         ensures same { (fields_in self.new ≡ fields_in self.old) × (self.new.ended ≡ self.old.ended) × (self.new.line ≡ self.old.line) }
@@ -93,8 +93,8 @@ impl Engine {
         Ok(())
     }
 
-    /// Takes a piece of the text up to the end of a record, and gives what follows that. With
-    /// `None` the piece is used, and the record goes on.
+    /// Takes a piece of the text up to the end of a record, and gives what follows that. None if the piece is used up and
+    /// the record goes on.
     pub(crate) fn take<'p>(
         &mut self,
         alloc: Global,
@@ -115,7 +115,8 @@ impl Engine {
         Ok(None)
     }
 
-    /// The same of a piece that is UTF-8, whose lines are not looked at again for that.
+    /// Takes a piece of the text that is UTF-8 up to the end of a record, and gives what follows that. None if the piece is
+    /// used up and the record goes on. Its lines are not looked at again for UTF-8.
     pub(crate) fn take_text<'p>(
         &mut self,
         alloc: Global,
@@ -149,7 +150,7 @@ impl Engine {
         Ok(!self.draft.is_empty())
     }
 
-    /// Begins a record.
+    /// Begins a record, without fields.
     pub(crate) fn begin_record(&mut self)
         ensures fields { fields_in self.new ≡ [] }
         ensures same { (self.new.partial.items ≡ self.old.partial.items) × (self.new.ended ≡ self.old.ended)
@@ -158,7 +159,7 @@ impl Engine {
         self.draft.clear();
     }
 
-    /// The record that ended, which is counted; another begins.
+    /// Takes out the record that ended, and counts it. Another one begins.
     pub(crate) fn take_record(&mut self, alloc: Global) -> Record
         requires { self.old.ended < 100000 }
         ensures record { result ≡ fields_in self.old }

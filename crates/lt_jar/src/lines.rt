@@ -9,7 +9,7 @@ ghost use Rattle.lt_jar.specs.Pieces.{EndsAt, SplitsLine};
 use crate::words::are_same;
 use memchr::{memchr, memchr_iter};
 
-/// What is before the first line feed and after it, if there is one.
+/// What is before the first line feed and after it, or None if there is none.
 #[tactic(auto, using(crate::proofs::CutLemmas::line_front, crate::proofs::CutLemmas::split_at, crate::proofs::CutLemmas::whole_line))]
 pub(crate) fn split_line(text: &[u8]) -> Option<(&[u8], &[u8])>
     ensures { SplitsLine text.now result }
@@ -20,7 +20,7 @@ pub(crate) fn split_line(text: &[u8]) -> Option<(&[u8], &[u8])>
     }
 }
 
-/// Where the first line feed is.
+/// Where the first line feed is, or None if there is none.
 #[tactic(auto, using(crate::proofs::CutLemmas::line_front, crate::proofs::CutLemmas::whole_line))]
 fn line_end(text: &[u8]) -> Option<usize>
     ensures { MatchOption result (IsOneLine text.now) (EndsAt text.now) }
@@ -32,7 +32,7 @@ fn line_end(text: &[u8]) -> Option<usize>
     }
 }
 
-/// What is before the first line feed and after it, of a text that is UTF-8, as both parts are.
+/// What is before the first line feed of a text that is UTF-8 and after it, or None if there is none. Both parts are UTF-8.
 pub(crate) fn split_text(text: &str) -> Option<(&str, &str)>
     ensures { SplitsLine text.now result }
 {
@@ -56,7 +56,7 @@ pub(crate) enum LineKind<'a> {
     Bad,
 }
 
-/// What the line is, whose line feed was taken away.
+/// What kind of line this is. The line feed that ends it is no part of it.
 pub(crate) fn kind_of(line: &str) -> LineKind<'_>
     ensures { line_in result ≡ lines.line_of line.now }
 {
@@ -72,18 +72,21 @@ pub(crate) fn kind_of(line: &str) -> LineKind<'_>
     }
 }
 
+/// Whether a byte is a space or a tab.
 fn is_blank(byte: u8) -> bool
     ensures { result ≡ lines.is_blank byte }
 {
     byte == b' ' || byte == b'\t'
 }
 
+/// Whether a byte can be in the name of a field: a letter, a digit or a hyphen.
 fn is_name_byte(byte: u8) -> bool
     ensures { result ≡ lines.is_name_byte byte }
 {
     byte.is_ascii_alphanumeric() || byte == b'-'
 }
 
+/// Whether all bytes are spaces and tabs.
 fn are_blank(bytes: &[u8]) -> bool
     ensures { result ≡ list_all lines.is_blank bytes.now }
 {
@@ -95,6 +98,7 @@ fn are_blank(bytes: &[u8]) -> bool
     true
 }
 
+/// Whether a line parts records: it is `%%`, with nothing but spaces and tabs after it.
 fn is_separator(bytes: &[u8]) -> bool
     ensures { result ≡ lines.separates bytes.now }
 {
@@ -138,7 +142,7 @@ fn trim_end(text: &str) -> &str
     &text[..end]
 }
 
-/// The text without the spaces and tabs at both ends: of most it is one space at the front.
+/// The text without the spaces and tabs at both ends. Most texts have just one space at the front, which is tried first.
 fn trim(text: &str) -> &str
     ensures { result.now ≡ lines.trim text.now }
 {
@@ -150,7 +154,7 @@ fn trim(text: &str) -> &str
     trim_end(trim_start(text))
 }
 
-/// The name at the front, and what follows it.
+/// The bytes at the front that can be in a name, and what follows them.
 fn split_name(text: &str) -> (&str, &str)
     ensures name { result.0.now ≡ lines.name_at_front text.now }
     ensures rest { result.1.now ≡ drop (length (lines.name_at_front text.now)) text.now }
@@ -165,8 +169,8 @@ fn split_name(text: &str) -> (&str, &str)
 
 ghost use Rattle.std.specs.Prelude.{drop};
 
-/// What the body of a line begins with that begins with this name, as that of a field did before it. `None` says nothing
-/// of the line.
+/// What the body begins with, if the line begins a field with just this name, which the field in its place had in the record
+/// before. None says nothing of the line.
 pub(crate) fn body_again<'l>(line: &'l str, name: &str) -> Option<&'l str>
     requires { lines.IsNamed name.now }
     ensures { IfSome result (λ body. lines.line_of line.now ≡ lines.Start name.now body.now) }
@@ -184,7 +188,7 @@ pub(crate) fn body_again<'l>(line: &'l str, name: &str) -> Option<&'l str>
     }
 }
 
-/// A line that begins a field, or a bad one.
+/// The line as one that begins a field, or as a bad one if it doesn't.
 fn field_start(text: &str) -> LineKind<'_>
     ensures { line_in result ≡ lines.start_of text.now }
 {

@@ -21,7 +21,7 @@ pub struct Pieces<'a> {
 }
 
 impl<'a> Pieces<'a> {
-    /// A reader that gives the bytes once, this many in a call; in pieces of no bytes it gives none.
+    /// A reader that gives the bytes once, at most `piece` of them in a call; if `piece` is 0 it gives none.
     pub fn once(bytes: &'a [u8], piece: usize) -> Pieces<'a>
         ensures unread { IsUnread result bytes.now piece }
         ensures ends { result.endless ≡ false }
@@ -37,7 +37,7 @@ impl<'a> Pieces<'a> {
         }
     }
 
-    /// A reader that begins again after the last byte.
+    /// A reader that gives at most `piece` bytes in a call, and begins again after the last byte.
     pub fn for_ever(bytes: &'a [u8], piece: usize) -> Pieces<'a>
         ensures unread { IsUnread result bytes.now piece }
         ensures endless { result.endless ≡ true }
@@ -53,7 +53,7 @@ impl<'a> Pieces<'a> {
         }
     }
 
-    /// The same reader, whose call of this number fails, counted from 1.
+    /// The same reader, but for its call of this number, counted from 1, which fails.
     pub fn failing_at(self, call: u64) -> Pieces<'a>
         ensures fails { result ≡ record self.entry { fails_at = call } }
         ensures remaining { remaining_of result ≡ remaining_of self.entry }
@@ -72,6 +72,7 @@ impl<'a> Pieces<'a> {
 impl Read for Pieces<'_> {
     ghost remaining = { remaining_of };
 
+    /// Gives the next bytes, at most one piece; or fails, at the call that is to fail.
     fn read(&mut self, buf: &mut [u8]) -> io::Result<usize>
         ensures bound { ReadsAtMost result buf.new }
         ensures bytes { ReadConsumes (remaining_of self.old) (remaining_of self.new)
@@ -115,7 +116,7 @@ pub struct Takes {
 }
 
 impl Takes {
-    /// A writer that takes at most this many bytes in a call.
+    /// A writer that takes at most `piece` bytes in a call.
     pub fn new(alloc: Global, piece: usize) -> Takes
         ensures { IsUnwritten result piece }
     {
@@ -128,14 +129,14 @@ impl Takes {
         }
     }
 
-    /// The call of this number fails, counted from 1.
+    /// From now on the call of this number, counted from 1, fails.
     pub fn fail_at(&mut self, call: u64)
         ensures { self.new ≡ record self.old { fails_at = call } }
     {
         self.fails_at = call;
     }
 
-    /// The call of this number takes no byte, counted from 1.
+    /// From now on the call of this number, counted from 1, takes no byte.
     pub fn take_none_at(&mut self, call: u64)
         ensures { self.new ≡ record self.old { full_at = call } }
     {
@@ -153,6 +154,7 @@ impl Takes {
 impl Write for Takes {
     ghost contents = { λ writer. Some (taken_by writer) };
 
+    /// Takes at most one piece of the bytes; at the calls that are to fail or to take none, it does so.
     fn write(&mut self, buf: &[u8]) -> io::Result<usize>
         ensures bound { WritesAtMost result buf.now }
         ensures bytes { WriteAppends (Some (taken_by self.old)) (Some (taken_by self.new))
@@ -180,6 +182,7 @@ impl Write for Takes {
         Ok(count)
     }
 
+    /// Does nothing.
     fn flush(&mut self) -> io::Result<()>
         ensures bytes { Keeps (Some (taken_by self.old)) (Some (taken_by self.new)) }
         ensures ok { IsOk result }

@@ -10,8 +10,8 @@ use crate::faults::{JarFault, JarFaultKind};
 use crate::jars::{Jar, Record};
 use std::alloc::Global;
 
-/// Puts the record that ended after the others. Where memory runs out, it does so at the line
-/// that ended it.
+/// Puts the record that ended after the others. Refused where memory runs out, with the number of the line that ended the
+/// record.
 fn push_record(
     alloc: Global,
     engine: &mut Engine,

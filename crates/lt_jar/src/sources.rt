@@ -64,7 +64,7 @@ impl JarSource {
         }
     }
 
-    /// Hands on what was read, up to the end of a record, and tells whether one ended.
+    /// Takes the bytes that were read, up to the end of a record, and tells whether one ended.
     fn take_unread(&mut self, alloc: Global) -> Result<bool, JarFaultKind>
         ensures takes { TakesUnread self.old self.new result }
         ensures same { (self.new.turns ≡ self.old.turns) × (self.new.status ≡ self.old.status) }
@@ -76,7 +76,7 @@ impl JarSource {
         }
     }
 
-    /// Hands on what was read and is UTF-8.
+    /// Takes the bytes that were read, which are UTF-8, up to the end of a record, and tells whether one ended.
     fn take_unread_text(&mut self, alloc: Global) -> Result<bool, JarFaultKind>
         requires { self.old.is_text ≡ true }
         ensures takes { TakesUnread self.old self.new result }
@@ -105,7 +105,7 @@ impl JarSource {
         }
     }
 
-    /// Hands on what was read, of which a part may be no UTF-8.
+    /// Takes the bytes that were read, which may be no UTF-8, up to the end of a record, and tells whether one ended.
     fn take_unread_bytes(&mut self, alloc: Global) -> Result<bool, JarFaultKind>
         requires { self.old.is_text ≡ false }
         ensures takes { TakesUnread self.old self.new result }
@@ -128,7 +128,8 @@ impl JarSource {
         }
     }
 
-    /// Reads once. `false` is the end.
+    /// Reads once into the buffer, and tells whether bytes came: false is the end of the text. Refused if the read fails or
+    /// is one too many.
     fn fill<R: Read>(&mut self, device: &mut Device<R>) -> Result<bool, JarFaultKind>
         requires { self.old.start ≡ self.old.end }
         ensures fills { Fills R.remaining self.old self.new device.old device.new result }
@@ -167,7 +168,7 @@ impl JarSource {
         Ok(some)
     }
 
-    /// Reads up to the end of a record. `false` is the end of the text.
+    /// Reads up to the end of a record, and tells whether there is one: false is the end of the text.
     fn read_record<R: Read>(
         &mut self,
         alloc: Global,
@@ -188,7 +189,7 @@ impl JarSource {
         }
     }
 
-    /// Moves to the next record. `false` is the end of the text.
+    /// Moves to the next record, and tells whether there is one: false is the end of the text.
     pub(crate) fn advance<R: Read>(
         &mut self,
         alloc: Global,
@@ -224,7 +225,7 @@ impl JarSource {
     }
 }
 
-/// The bytes of a buffer between two places.
+/// The bytes of a buffer from `start` up to `end`.
 fn between(buffer: &[u8; PIECE], start: usize, end: usize) -> &[u8]
     requires { (start ≤ end) × (end ≤ 8192) }
     ensures bytes { result.now ≡ take (end - start) (drop start buffer.now) }

@@ -11,7 +11,7 @@ use lt_registry::Lookup;
 use lt_tag::OutOfMemory;
 use std::alloc::{AllocError, Global};
 
-/// Appends the members of a canonical text.
+/// Appends the members of the answer to a text that has a canonical text; the others are null.
 #[tactic(auto, using(lt_json_text::proofs::ChainLemmas::four_members))]
 fn append_canonical(objects: &mut Vec<u8>, canonical: &[u8]) -> Result<(), AllocError>
     ensures { OnOk result (objects.new.items ≡ objects.old.items ++ more_members (answer_members (Ok canonical.now))) }
@@ -23,7 +23,7 @@ fn append_canonical(objects: &mut Vec<u8>, canonical: &[u8]) -> Result<(), Alloc
     Ok(())
 }
 
-/// Appends the member of a place.
+/// Appends the member `place`, with a number.
 fn append_next_place(objects: &mut Vec<u8>, place: u32) -> Result<(), AllocError>
     ensures { OnOk result (objects.new.items ≡ objects.old.items ++ 44 ∷ member_text (member (codes "place") (decimal place))) }
 {
@@ -32,7 +32,7 @@ fn append_next_place(objects: &mut Vec<u8>, place: u32) -> Result<(), AllocError
     Ok(())
 }
 
-/// Appends the member of the place of a refusal, whose value is null where it has none.
+/// Appends the member of the place of a refusal, which is null if the refusal has none.
 fn append_place(objects: &mut Vec<u8>, refusal: &TextRefusal) -> Result<(), AllocError>
     ensures { OnOk result (objects.new.items ≡ objects.old.items ++ 44 ∷ member_text (member (codes "place") (or_null decimal (place_of refusal.now)))) }
 {
@@ -44,7 +44,7 @@ fn append_place(objects: &mut Vec<u8>, refusal: &TextRefusal) -> Result<(), Allo
     }
 }
 
-/// Appends the member of the variant that steps can repeat, whose value is null where the refusal names none.
+/// Appends the member of the variant that steps can repeat, which is null if the refusal names none.
 fn append_variant(objects: &mut Vec<u8>, refusal: &TextRefusal) -> Result<(), AllocError>
     ensures { OnOk result (objects.new.items ≡ objects.old.items ++ 44 ∷ member_text (member (codes "variant") (or_null string (variant_of refusal.now)))) }
 {
@@ -58,7 +58,7 @@ fn append_variant(objects: &mut Vec<u8>, refusal: &TextRefusal) -> Result<(), Al
     }
 }
 
-/// Appends the members of a refusal.
+/// Appends the members of the answer to a text that is refused: its fault, and the place or the variant.
 #[tactic(auto, using(lt_json_text::proofs::ChainLemmas::four_members))]
 fn append_refusal(objects: &mut Vec<u8>, refusal: &TextRefusal) -> Result<(), AllocError>
     ensures { OnOk result (objects.new.items ≡ objects.old.items ++ more_members (answer_members (Err refusal.now))) }

@@ -9,7 +9,7 @@ use lt_subtag::{Case, Subtag};
 use lt_tag::Core;
 use std::alloc::AllocError;
 
-/// Appends the member of a script.
+/// Appends the member of a script, which is null if there is none.
 fn append_script(objects: &mut Vec<u8>, script: Option<&Subtag>) -> Result<(), AllocError>
     ensures { OnOk result (objects.new.items ≡ objects.old.items ++ 44 ∷ member_text (member (codes "script") (or_null script_value (option_copied script.entry)))) }
 {
@@ -19,7 +19,7 @@ fn append_script(objects: &mut Vec<u8>, script: Option<&Subtag>) -> Result<(), A
     }
 }
 
-/// Appends the member of a region.
+/// Appends the member of a region, which is null if there is none.
 fn append_region(objects: &mut Vec<u8>, region: Option<&Subtag>) -> Result<(), AllocError>
     ensures { OnOk result (objects.new.items ≡ objects.old.items ++ 44 ∷ member_text (member (codes "region") (or_null region_value (option_copied region.entry)))) }
 {
@@ -29,7 +29,7 @@ fn append_region(objects: &mut Vec<u8>, region: Option<&Subtag>) -> Result<(), A
     }
 }
 
-/// Appends the members of a core.
+/// Appends the members of a core: its language, extlangs, script, region and variants.
 #[tactic(auto, using(lt_json_text::proofs::ChainLemmas::five_members))]
 fn append_core(objects: &mut Vec<u8>, core: &Core) -> Result<(), AllocError>
     ensures { OnOk result (objects.new.items ≡ objects.old.items ++ more_members (core_members core.now)) }
@@ -42,7 +42,7 @@ fn append_core(objects: &mut Vec<u8>, core: &Core) -> Result<(), AllocError>
     Ok(())
 }
 
-/// Appends the members of a text that has no core.
+/// Appends the members of a core where there is none, which are null and empty arrays.
 #[tactic(auto, using(lt_json_text::proofs::ChainLemmas::five_members))]
 pub(crate) fn append_no_core(objects: &mut Vec<u8>) -> Result<(), AllocError>
     ensures { OnOk result (objects.new.items ≡ objects.old.items ++ more_members no_core_members) }
@@ -55,7 +55,7 @@ pub(crate) fn append_no_core(objects: &mut Vec<u8>) -> Result<(), AllocError>
     Ok(())
 }
 
-/// Appends the members of the core of a tag, or those of a tag that has none.
+/// Appends the members of the core of a tag, which are null and empty arrays if it has none.
 pub(crate) fn append_core_of(objects: &mut Vec<u8>, core: Option<&Core>) -> Result<(), AllocError>
     ensures { OnOk result (objects.new.items ≡ objects.old.items ++ more_members (core_members_of (option_copied core.entry))) }
 {

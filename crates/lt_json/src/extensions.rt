@@ -10,7 +10,7 @@ use lt_json_text::{append_comma, append_first_string, append_name};
 use lt_tag::{Extension, OutOfMemory, TransformFault, split_t, split_u};
 use std::alloc::{AllocError, Global};
 
-/// Appends any extension by its subtags.
+/// Appends an extension as an object of its singleton and its subtags.
 #[tactic(auto, using(lt_json_text::proofs::ChainLemmas::two_object), unfolding(crate::specs::Parts::plain_value))]
 fn append_plain(objects: &mut Vec<u8>, extension: &Extension) -> Result<(), AllocError>
     ensures { OnOk result (objects.new.items ≡ objects.old.items ++ plain_value extension.now) }
@@ -21,7 +21,7 @@ fn append_plain(objects: &mut Vec<u8>, extension: &Extension) -> Result<(), Allo
     Ok(())
 }
 
-/// Appends a `t` extension by its parts, or by its subtags where it has no parts.
+/// Appends a `t` extension as an object of its parts, or of its subtags if it doesn't have the form of such.
 #[tactic(auto, using(crate::proofs::ExtensionLemmas::of_transform, crate::proofs::ExtensionLemmas::of_no_transform))]
 fn append_t(objects: &mut Vec<u8>, alloc: Global, extension: &Extension) -> Result<(), OutOfMemory>
     requires { extension.now.singleton ≡ transform }
@@ -35,7 +35,7 @@ fn append_t(objects: &mut Vec<u8>, alloc: Global, extension: &Extension) -> Resu
     Ok(())
 }
 
-/// Appends a `u` extension by its parts.
+/// Appends a `u` extension as an object of its parts.
 #[tactic(auto, using(crate::proofs::ExtensionLemmas::of_unicode))]
 fn append_u(objects: &mut Vec<u8>, alloc: Global, extension: &Extension) -> Result<(), OutOfMemory>
     requires { extension.now.singleton ≡ unicode }
@@ -45,7 +45,7 @@ fn append_u(objects: &mut Vec<u8>, alloc: Global, extension: &Extension) -> Resu
     Ok(())
 }
 
-/// Appends an extension.
+/// Appends an extension as an object.
 #[tactic(auto, using(crate::proofs::ExtensionLemmas::of_other))]
 fn append_extension(
     objects: &mut Vec<u8>,

@@ -13,7 +13,7 @@ use lt_tag::OutOfMemory;
 use simdutf8::basic::from_utf8;
 use std::alloc::{AllocError, Global};
 
-/// Appends the beginning of the object, with a text of UTF-8.
+/// Appends the beginning of the object of a text that is UTF-8.
 fn append_text(objects: &mut Vec<u8>, text: &[u8]) -> Result<(), AllocError>
     ensures { OnOk result (objects.new.items ≡ objects.old.items ++ opening true text.now) }
 {
@@ -22,7 +22,7 @@ fn append_text(objects: &mut Vec<u8>, text: &[u8]) -> Result<(), AllocError>
     Ok(())
 }
 
-/// The same with bytes that are none, in hexadecimal digits.
+/// Appends the beginning of the object of bytes that are no UTF-8, with their hexadecimal digits.
 fn append_bytes(objects: &mut Vec<u8>, alloc: Global, bytes: &[u8]) -> Result<(), AllocError>
     ensures { OnOk result (objects.new.items ≡ objects.old.items ++ opening false bytes.now) }
 {
@@ -33,7 +33,7 @@ fn append_bytes(objects: &mut Vec<u8>, alloc: Global, bytes: &[u8]) -> Result<()
     Ok(())
 }
 
-/// Appends the beginning of the object, with the text.
+/// Appends the beginning of the object: the text, or its bytes if it is no UTF-8.
 fn append_opening(objects: &mut Vec<u8>, alloc: Global, text: &[u8]) -> Result<(), AllocError>
     ensures { OnOk result (AppendsOpening text.now objects.old.items objects.new.items) }
 {

@@ -9,7 +9,7 @@ use lt_json_text::{append_comma, append_first_string, append_name};
 use lt_tag::{Field, Keyword, OutOfMemory, TParts, UParts};
 use std::alloc::{AllocError, Global};
 
-/// Appends a keyword.
+/// Appends a keyword as an object of its key and its types.
 #[tactic(auto, using(lt_json_text::proofs::ChainLemmas::two_object), unfolding(crate::specs::Parts::keyword_value))]
 fn append_keyword(objects: &mut Vec<u8>, keyword: &Keyword) -> Result<(), AllocError>
     ensures { OnOk result (objects.new.items ≡ objects.old.items ++ keyword_value keyword.now) }
@@ -43,7 +43,7 @@ fn append_next_keywords(objects: &mut Vec<u8>, keywords: &[Keyword]) -> Result<(
     Ok(())
 }
 
-/// Appends a `u` extension of these parts.
+/// Appends a `u` extension as an object of these parts.
 #[tactic(auto, using(lt_json_text::proofs::ChainLemmas::three_object), unfolding(crate::specs::Parts::unicode_value))]
 pub(crate) fn append_unicode(objects: &mut Vec<u8>, parts: &UParts) -> Result<(), AllocError>
     ensures { OnOk result (objects.new.items ≡ objects.old.items ++ unicode_value parts.now) }
@@ -55,7 +55,7 @@ pub(crate) fn append_unicode(objects: &mut Vec<u8>, parts: &UParts) -> Result<()
     Ok(())
 }
 
-/// Appends a field.
+/// Appends a field of a `t` extension as an object of its separator and its values.
 #[tactic(auto, using(lt_json_text::proofs::ChainLemmas::two_object), unfolding(crate::specs::Parts::field_value))]
 fn append_field(objects: &mut Vec<u8>, field: &Field) -> Result<(), AllocError>
     ensures { OnOk result (objects.new.items ≡ objects.old.items ++ field_value field.now) }
@@ -89,7 +89,7 @@ fn append_next_fields(objects: &mut Vec<u8>, fields: &[Field]) -> Result<(), All
     Ok(())
 }
 
-/// Appends a `t` extension of these parts.
+/// Appends a `t` extension as an object of these parts.
 #[tactic(auto, using(lt_json_text::proofs::ChainLemmas::three_object), unfolding(crate::specs::Parts::transform_value))]
 pub(crate) fn append_transform(
     objects: &mut Vec<u8>,

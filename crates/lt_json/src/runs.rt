@@ -25,7 +25,7 @@ fn without_return(line: &[u8]) -> &[u8]
     }
 }
 
-/// Appends the line that is owed for a line, and tells whether it is refused.
+/// Appends the object that answers a line, and a line feed, and tells whether the line is refused.
 #[tactic(auto, using(crate::proofs::RunLemmas::line_appended))]
 fn append_line<L: Lookup>(
     lines: &mut Vec<u8>,
@@ -40,7 +40,7 @@ fn append_line<L: Lookup>(
     Ok(refused)
 }
 
-/// Whether the first or the second holds.
+/// Whether one of two is true.
 fn either(first: bool, second: bool) -> bool
     ensures { result ≡ first || second }
 {
@@ -61,10 +61,12 @@ impl<'a, L: Lookup> Lines for Objects<'a, L> {
     ghost answered = { λ first here lines bytes. (here.checked.now ≡ first.checked.now)
         × AreObjects (L.listed here.checked.now) lines bytes here.refused };
 
+    /// As many bytes as are answered of a line.
     fn longest(&self) -> usize {
         LONGEST_LINE
     }
 
+    /// Appends the object that answers the line, and notes whether it is refused.
     fn take_line(
         &mut self,
         alloc: Global,

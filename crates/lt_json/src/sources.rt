@@ -44,7 +44,7 @@ fn text_of(alloc: Global, core: &Core) -> Result<Vec<u8>, OutOfMemory>
     Ok(text)
 }
 
-/// Appends the member of a source, whose value is null where there is none.
+/// Appends the member of the source of a `t` extension, which is null if there is none.
 pub(crate) fn append_source(
     objects: &mut Vec<u8>,
     alloc: Global,

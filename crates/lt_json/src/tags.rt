@@ -12,7 +12,7 @@ use lt_json_text::{append_next_null, append_next_string};
 use lt_tag::{OutOfMemory, Tag, TagFaultKind, read_tag};
 use std::alloc::{AllocError, Global};
 
-/// Appends the members of a tag.
+/// Appends the members of a tag: its class, those of its core, its extensions and private use.
 #[tactic(auto, using(crate::proofs::ObjectLemmas::tag_is))]
 fn append_members(objects: &mut Vec<u8>, alloc: Global, tag: &Tag) -> Result<(), OutOfMemory>
     ensures { OnOk result (objects.new.items ≡ objects.old.items ++ more_members (members_of_tag tag.now)) }
@@ -24,7 +24,7 @@ fn append_members(objects: &mut Vec<u8>, alloc: Global, tag: &Tag) -> Result<(),
     Ok(())
 }
 
-/// Appends the members of a text that is no tag.
+/// Appends the members of a tag where there is none, which are null and empty arrays.
 #[tactic(auto, using(crate::proofs::ObjectLemmas::tag_is))]
 fn append_none(objects: &mut Vec<u8>) -> Result<(), AllocError>
     ensures { OnOk result (objects.new.items ≡ objects.old.items ++ more_members members_of_none) }
@@ -36,7 +36,7 @@ fn append_none(objects: &mut Vec<u8>) -> Result<(), AllocError>
     Ok(())
 }
 
-/// Appends the members of the tag that a text is read as, or those of a text that is none.
+/// Appends the members of the tag that a text is read as, which are null and empty arrays if the text is no tag.
 #[tactic(auto, using(crate::proofs::ObjectLemmas::tag_read, crate::proofs::ObjectLemmas::no_tag_read))]
 pub(crate) fn append_tag(
     objects: &mut Vec<u8>,

@@ -5,7 +5,7 @@ ghost use Rattle.lt_json_text.specs.Strings as spec;
 
 use std::alloc::AllocError;
 
-/// Whether a byte stands for itself in a string.
+/// Whether a byte stands for itself in a string: it is no control character, no quote and no backslash.
 fn is_plain(byte: u8) -> bool
     ensures { result ≡ spec.is_plain byte }
 {

@@ -13,14 +13,15 @@ use lt_registry::Lookup;
 use lt_tag::OutOfMemory;
 use std::alloc::{AllocError, Global};
 
-/// Appends a number.
+/// Appends a number in decimal.
 fn append_number(lines: &mut Vec<u8>, number: u32) -> Result<(), AllocError>
     ensures { OnOk result (lines.new.items ≡ lines.old.items ++ decimal number) }
 {
     lines.extend_from_slice(Buffer::new().format(number).as_bytes())
 }
 
-/// Appends the name of a refusal, a space, and the place of the fault or the variant that steps can repeat.
+/// Appends the name of a refusal, a space, and the place of the fault or the variant that steps can repeat. Refused where
+/// memory runs out, and for `TextRefusal::OutOfMemory`; a part may then have been appended.
 pub(crate) fn append_told(lines: &mut Vec<u8>, refusal: &TextRefusal) -> Result<(), OutOfMemory>
     ensures { OnOk result (AppendsTold refusal.now lines.old.items lines.new.items) }
 {
@@ -57,7 +58,8 @@ pub(crate) fn without_return(line: &[u8]) -> &[u8]
     }
 }
 
-/// Appends what is owed for a text, and tells whether it was refused.
+/// Appends the line that answers a text, its canonical text or `! ` and its refusal, and tells whether it was refused.
+/// `ends` are the canonical ends that were found lately.
 #[tactic(auto, using(crate::proofs::TextLemmas::canonical_reply))]
 pub(crate) fn append_answer<L: Lookup>(
     lines: &mut Vec<u8>,

@@ -18,7 +18,7 @@ use lt_rows::{Found, Look, Separator, TextAt, has_return};
 use lt_tag::OutOfMemory;
 use std::alloc::{AllocError, Global};
 
-/// Appends what ends a line.
+/// Appends the end of the answer to `line`: a line feed, after a carriage return if `line` ends with one.
 #[inline(always)]
 fn append_end(lines: &mut Vec<u8>, line: &[u8]) -> Result<(), AllocError>
     ensures { OnOk result (lines.new.items ≡ lines.old.items ++ end_of line.now) }
@@ -32,7 +32,8 @@ fn append_end(lines: &mut Vec<u8>, line: &[u8]) -> Result<(), AllocError>
     }
 }
 
-/// Appends a row, this field more where rows are kept, and a last field.
+/// Appends a row, then `canonical` as a further field if rows are kept, then `last` as the last field, and the end of the
+/// line. `line` is the line of the row, whose carriage return the answer keeps.
 #[inline(never)]
 fn append_longer(
     lines: &mut Vec<u8>,
@@ -55,7 +56,8 @@ fn append_longer(
     append_end(lines, line)
 }
 
-/// Appends what follows the canonical text of a field in a row, an empty field after all others, and the end of the line.
+/// Ends the row of an answer whose canonical text was appended: appends `after`, which is the rest of the row if rows are
+/// not kept, an empty field for the fault, and the end of the line. The answer keeps the carriage return of `line`.
 #[inline(always)]
 fn end_answered(
     lines: &mut Vec<u8>,
@@ -70,7 +72,8 @@ fn end_answered(
     append_end(lines, line)
 }
 
-/// Appends a row from the text of a field that is refused on, a field after all others, which says why, and the end of the line.
+/// Ends the row of an answer that is refused: appends `text`, which is the rest of the row as it was if rows are not kept, a
+/// last field that says why, and the end of the line. The answer keeps the carriage return of `line`.
 #[inline(never)]
 fn end_refused(
     lines: &mut Vec<u8>,
@@ -88,8 +91,9 @@ fn end_refused(
     Ok(())
 }
 
-/// Appends a row as it is, with the canonical text of the first `count` bytes of a text, which are that of its field, or with
-/// why it is refused, and tells whether it is.
+/// Appends a row as it is, and two fields after it: the canonical text of its tag and an empty one, or an empty one and why
+/// the tag is refused. Tells whether it is refused. The tag is the first `count` bytes of `text`; `line` is the line of the
+/// row.
 #[inline(never)]
 fn append_kept<L: Lookup>(
     lines: &mut Vec<u8>,
@@ -122,8 +126,8 @@ fn append_kept<L: Lookup>(
     }
 }
 
-/// Appends what is owed for a row whose field has its text there, and tells whether it is refused. The row's line is the
-/// first `count` bytes of a text.
+/// Appends the answer to a row whose tag stands at `place`, and tells whether the tag is refused. The row's line is the
+/// first `count` bytes of `text`.
 #[inline(always)]
 fn append_found<L: Lookup>(
     lines: &mut Vec<u8>,
@@ -167,7 +171,8 @@ fn append_found<L: Lookup>(
     }
 }
 
-/// Looks at a row of which a front was kept.
+/// Looks at a row that is whole only now, as its front was kept from an earlier piece, so that nothing is known of its
+/// bytes. The row's line is the first `count` bytes of `text`, and `before` is how many fields come before that of the tag.
 #[inline(never)]
 fn look_at_kept(separator: Separator, before: usize, text: &[u8], count: usize) -> Look
     requires { count ≤ length text.now }
@@ -176,7 +181,8 @@ fn look_at_kept(separator: Separator, before: usize, text: &[u8], count: usize) 
     look_at_row(separator, UNKNOWN, before, text, count)
 }
 
-/// What the line that the first `count` bytes of a text are is answered by, if it was not looked at before.
+/// What the look at a row found: `look`, or, where there was none before, a look at the first `count` bytes of `text`.
+/// `before` is how many fields come before that of the tag.
 #[inline(always)]
 fn looked_at(
     separator: Separator,
@@ -195,7 +201,9 @@ fn looked_at(
     }
 }
 
-/// Appends what is owed for a row, the first `count` bytes of a text, and tells whether it is refused.
+/// Appends the answer to a row, and tells whether it is refused: `BadReturn` and `NoColumn` are told in its last field, and
+/// so is the refusal of its tag. The row's line is the first `count` bytes of `text`, and `look` is the look at it, if there
+/// was one.
 #[inline(always)]
 fn append_row<L: Lookup>(
     lines: &mut Vec<u8>,
@@ -232,7 +240,8 @@ fn append_row<L: Lookup>(
     }
 }
 
-/// Appends what is owed for a heading, and tells whether it is refused.
+/// Appends the answer to a heading, with the names of the fields that are added, `langtag` and `langtag_fault`, and tells
+/// whether it is refused, as it is with `BadReturn`.
 #[inline(never)]
 fn append_heading(
     lines: &mut Vec<u8>,
@@ -259,8 +268,8 @@ fn append_heading(
     Ok(false)
 }
 
-/// Appends what is owed for a line, the first `count` bytes of a text, which may be the first of all, and so a heading, or a
-/// row, and tells whether it is refused.
+/// Appends the answer to a line, and tells whether it is refused. The first line of all is a heading if the form has one;
+/// each other is a row. The line is the first `count` bytes of `text`, and `look` is the look at it, if there was one.
 #[inline(always)]
 pub(crate) fn append_among<L: Lookup>(
     lines: &mut Vec<u8>,

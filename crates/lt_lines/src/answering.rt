@@ -54,7 +54,7 @@ pub(crate) struct Answering {
     recent: RecentAnswers,
 }
 
-/// Keeps more of a line, as far as it is needed.
+/// Keeps a further part of a line, of a tag only as far as `LONGEST_KEPT` bytes in all.
 fn keep(form: LineForm, kept: &mut Vec<u8>, part: &[u8]) -> Result<(), AllocError>
     ensures { OnOk result (kept.new.items ≡ kept.old.items ++ spec.part_kept form (vec_len kept.old) part.now) }
 {
@@ -67,7 +67,7 @@ fn keep(form: LineForm, kept: &mut Vec<u8>, part: &[u8]) -> Result<(), AllocErro
     }
 }
 
-/// The fault of a row or a record that is too long and begins in this line.
+/// The fault of a row or a record that is too long, by the number of the line in which it begins.
 fn long_fault(form: LineForm, line: u64) -> ToolFault
     ensures { result ≡ owed.long_fault form line }
 {
@@ -77,7 +77,8 @@ fn long_fault(form: LineForm, line: u64) -> ToolFault
     }
 }
 
-/// Appends what is owed for the line that the first `count` bytes of a text are, and tells whether it was refused.
+/// Appends the answer to a line, and tells whether it was refused. The line is the first `count` bytes of `text`, and `look`
+/// is the look at it, if there was one.
 #[tactic(auto, using(crate::proofs::TextLemmas::csv_recent))]
 fn append_reply<L: Lookup>(
     lines: &mut Vec<u8>,
@@ -132,8 +133,8 @@ fn append_reply<L: Lookup>(
     }
 }
 
-/// Appends what is owed for the line that is kept and goes on with the first `count` bytes of a text, and tells
-/// whether it was refused.
+/// Appends the answer to a line, and tells whether it was refused. The line is what is in `kept` and then the first `count`
+/// bytes of `text`, which are kept too if anything was.
 fn append_line<L: Lookup>(
     lines: &mut Vec<u8>,
     alloc: Global,
@@ -159,6 +160,7 @@ fn append_line<L: Lookup>(
         );
     }
     keep(form, kept, &text[..count])?;
+    // So that the form of the codes is known.
     basis.know_codes();
     append_reply(
         lines,
@@ -173,7 +175,7 @@ fn append_line<L: Lookup>(
     )
 }
 
-/// A line of which this is kept, or this part of a piece where nothing is kept.
+/// The line that was answered: what is kept, or `part` if nothing is kept.
 fn line_at<'a>(kept: &'a [u8], part: &'a [u8]) -> &'a [u8]
     ensures { result.now ≡ at_line kept.now part.now }
 {
@@ -181,7 +183,7 @@ fn line_at<'a>(kept: &'a [u8], part: &'a [u8]) -> &'a [u8]
 }
 
 impl Answering {
-    /// Nothing taken so far.
+    /// No bytes taken so far, and nothing owed.
     pub(crate) fn new(alloc: Global) -> Answering
         ensures items { (result.kept.items ≡ []) × (result.owed.items ≡ []) }
         ensures place { (result.place ≡ Place.Fresh) × (result.feeds ≡ 0) }
@@ -203,7 +205,8 @@ impl Answering {
         }
     }
 
-    /// Answers the line that the first `count` bytes of a text end.
+    /// Answers the line that ends after the first `count` bytes of `text`, counts it, and keeps nothing of it. `look` is the
+    /// look at it, if there was one.
     #[inline(always)]
     fn answer_line<L: Lookup>(
         &mut self,
@@ -251,7 +254,7 @@ impl Answering {
         Ok(())
     }
 
-    /// Keeps the bytes before a line feed, and the line feed.
+    /// Keeps the bytes before a line feed that is within quotes, and the line feed.
     #[inline(never)]
     fn go_on(&mut self, form: LineForm, part: &[u8]) -> Result<(), OutOfMemory>
         requires { spec.HasRoom self.old 1 }
@@ -264,8 +267,8 @@ impl Answering {
         Ok(())
     }
 
-    /// Answers the row or the record that the first `count` bytes of a text end, unless the line feed after them is within
-    /// quotes.
+    /// Takes the first `count` bytes of `text` and the line feed after them: answers the row or the record that they end, or
+    /// keeps them if the line feed is within quotes. `lacks` is what these bytes are known to lack.
     #[inline(always)]
     fn end_row<L: Lookup>(
         &mut self,
@@ -291,7 +294,8 @@ impl Answering {
         self.answer_line(alloc, basis, form, &look, text, count)
     }
 
-    /// Answers the line that the first `count` bytes of a text end, unless the line feed after them is within quotes.
+    /// Takes the first `count` bytes of `text` and the line feed after them: answers the line that they end, or keeps them
+    /// if the line feed is within the quotes of a record. `lacks` is what these bytes are known to lack.
     #[inline(always)]
     fn end_line<L: Lookup>(
         &mut self,
@@ -317,7 +321,7 @@ impl Answering {
         }
     }
 
-    /// Writes what is owed.
+    /// Writes the lines that are owed, and owes none then.
     fn write<W: Write>(&mut self, output: &mut Device<W>) -> Result<(), ToolFault>
         ensures writes { spec.WritesOwed W.contents self.old self.new output.old output.new result }
         ensures emptied { OnOk result (self.new.owed.items ≡ []) }
@@ -327,7 +331,7 @@ impl Answering {
         Ok(())
     }
 
-    /// Writes what is owed if it is much.
+    /// Writes the lines that are owed if they are `FULL` bytes or more.
     fn write_much<W: Write>(&mut self, output: &mut Device<W>) -> Result<(), ToolFault>
         ensures writes { spec.WritesOwed W.contents self.old self.new output.old output.new result }
         ensures emptied { OnOk result (spec.full ≤ vec_len self.old.owed → self.new.owed.items ≡ []) }
@@ -338,7 +342,7 @@ impl Answering {
         self.write(output)
     }
 
-    /// Whether what is kept of a row or a record is too long with this many bytes more.
+    /// Whether what is kept of a row or a record is too long once `count` bytes follow. A tag's line is never too long.
     fn is_too_long(&self, form: LineForm, count: usize) -> bool
         ensures { IsTrue result ↔ spec.IsLongBy form (length self.now.kept.items) count }
     {
@@ -350,7 +354,7 @@ impl Answering {
         }
     }
 
-    /// The line, counted from 1, in which what is kept begins.
+    /// The number of the line, counted from 1, in which the kept part of a row or a record begins.
     fn kept_from(&self) -> u64
         requires { spec.HasRoom self.now 1 }
         ensures { result ≡ spec.line_of self.now }
@@ -359,7 +363,8 @@ impl Answering {
         self.feeds.saturating_sub(within as u64) + 1
     }
 
-    /// Writes what is owed, where what is kept is too long, and tells what ends the run.
+    /// Ends the run at a row or a record that is too long: writes the lines that are owed, and gives the fault, which is
+    /// that of the write if it fails.
     #[inline(never)]
     fn stop_long<W: Write>(&mut self, form: LineForm, output: &mut Device<W>) -> ToolFault
         requires { spec.HasRoom self.old 1 }
@@ -371,7 +376,8 @@ impl Answering {
         }
     }
 
-    /// Takes the next bytes, answers the lines that they end, and writes what is owed.
+    /// Takes the next bytes of the input, answers the lines that they end, and writes the answers. Stops at a row or a
+    /// record that is too long, and where memory or a write fails.
     pub(crate) fn take_piece<L: Lookup, W: Write>(
         &mut self,
         alloc: Global,
@@ -401,7 +407,7 @@ impl Answering {
         self.write(output)
     }
 
-    /// Answers a last line that no line feed ended, if there is any.
+    /// Answers a last line that has no line feed, if there is one.
     fn end_last<L: Lookup>(
         &mut self,
         alloc: Global,
@@ -419,7 +425,7 @@ impl Answering {
         self.answer_line(alloc, basis, form, &None, &[], 0)
     }
 
-    /// Ends the lines, and writes what is owed; no quote is open.
+    /// Answers a last line without a line feed, writes what is owed, and gives the counts. No quote may be open.
     fn finish_closed<L: Lookup, W: Write>(
         &mut self,
         alloc: Global,
@@ -436,7 +442,8 @@ impl Answering {
         Ok(self.counts)
     }
 
-    /// Ends the lines, and writes what is owed.
+    /// Answers a last line without a line feed, writes what is owed, and gives the counts. Refused with `BadCsv` if a quote
+    /// is open.
     pub(crate) fn finish<L: Lookup, W: Write>(
         &mut self,
         alloc: Global,

@@ -16,7 +16,7 @@ pub(crate) const UNKNOWN: Lacks = Lacks {
     quotes: false,
 };
 
-/// What is known of the lines of a piece, where it is asked for.
+/// What the lines of a piece are known to lack. Only records of CSV are looked through for it.
 pub(crate) fn lacks_in(form: LineForm, piece: &[u8]) -> Lacks
     ensures { IsKnownToLack piece.now result }
 {
@@ -26,7 +26,8 @@ pub(crate) fn lacks_in(form: LineForm, piece: &[u8]) -> Lacks
     }
 }
 
-/// Looks at the line that the first `count` bytes of a text are, for the field of its row after this many others.
+/// Looks at a row for the field that comes after `before` others. The row's line is the first `count` bytes of `text`, and
+/// `lacks` is what it is known to lack.
 #[tactic(auto, using(crate::proofs::LookLemmas::content_short))]
 #[inline(always)]
 pub(crate) fn look_at_row(
@@ -44,7 +45,8 @@ pub(crate) fn look_at_row(
     look_at(separator, lacks, text, row.len(), before)
 }
 
-/// The same of a line of this form, if it is a row or a record, and nothing of it is kept.
+/// Looks at a line of `form`, the first `count` bytes of `text`, before it is answered. None if it is no row or record, or
+/// if `kept` has a front of it.
 #[inline(always)]
 pub(crate) fn look_ahead(
     form: LineForm,
@@ -70,7 +72,7 @@ pub(crate) fn look_ahead(
     }
 }
 
-/// The place after these bytes of a line, by the place before them.
+/// The place in a line after the bytes of `part`, by the place before them. Only a record of CSV has places within quotes.
 pub(crate) fn place_then(form: LineForm, place: Place, part: &[u8]) -> Place
     ensures { result ≡ spec.place_then form place part.now }
 {
@@ -80,8 +82,8 @@ pub(crate) fn place_then(form: LineForm, place: Place, part: &[u8]) -> Place
     }
 }
 
-/// Whether a line that ends with these bytes ends within quotes: as the look at it found, or, where there was no look, by the
-/// place before them.
+/// Whether a line feed after `part` is within quotes: as the look at the line found, or, without a look, by the place before
+/// `part`.
 #[inline(always)]
 pub(crate) fn is_open(form: LineForm, look: &Option<Look>, place: Place, part: &[u8]) -> bool
     ensures { MatchOption look.now (result ≡ is_quoted (spec.place_then form place part.now)) (λ look. result ≡ look.is_open) }

@@ -24,7 +24,8 @@ pub(crate) struct Marked {
     pub(crate) answering: Answering,
 }
 
-/// The mark at the beginning of some bytes, and the text after it.
+/// The byte order mark that some bytes begin with, if any, and the text after it. In lines that are tags no mark is looked
+/// for.
 fn split_text(form: LineForm, bytes: &[u8]) -> (&[u8], &[u8])
     ensures { SplitsText form bytes.now result.0.now result.1.now }
 {
@@ -35,7 +36,7 @@ fn split_text(form: LineForm, bytes: &[u8]) -> (&[u8], &[u8])
 }
 
 impl Marked {
-    /// Nothing taken so far.
+    /// No bytes taken so far.
     pub(crate) fn new(alloc: Global) -> Marked
         ensures { (terms : Terms) → IsNew terms result }
     {
@@ -48,7 +49,7 @@ impl Marked {
         }
     }
 
-    /// Writes the mark that the first bytes begin with, and answers what follows it.
+    /// Writes the byte order mark that the first bytes begin with, if any, and answers what follows it.
     fn begin<L: Lookup, W: Write>(
         &mut self,
         alloc: Global,
@@ -67,7 +68,8 @@ impl Marked {
         Ok(())
     }
 
-    /// Takes the next bytes, answers the lines that they end, and writes what is owed.
+    /// Takes the next bytes of the input, answers the lines that they end, and writes the answers. The first bytes wait
+    /// until it is known whether they are a byte order mark; that of UTF-16 is refused with `Utf16`.
     pub(crate) fn take_piece<L: Lookup, W: Write>(
         &mut self,
         alloc: Global,
@@ -92,7 +94,8 @@ impl Marked {
         self.begin(alloc, basis, form, output)
     }
 
-    /// Ends the lines, and writes what is owed.
+    /// Answers a last line without a line feed, writes what is owed, and gives the counts. Refused with `BadCsv` if a quote
+    /// is open.
     pub(crate) fn finish<L: Lookup, W: Write>(
         &mut self,
         alloc: Global,

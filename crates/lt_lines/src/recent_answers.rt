@@ -23,7 +23,7 @@ pub(crate) struct RecentAnswers {
 }
 
 impl RecentAnswers {
-    /// None so far.
+    /// No answers so far.
     pub(crate) fn new(alloc: Global) -> RecentAnswers
         ensures { (R : List EntryParts) (form : LineForm) → AreRecent R form result }
     {
@@ -34,7 +34,8 @@ impl RecentAnswers {
     }
 }
 
-/// The text with what is registered for its first subtag in the place of that, if the table has it.
+/// The text with the subtag that the table has for its first one in place of it. None if the table has no such code: the
+/// text stays as it is.
 fn replaced_text(
     alloc: Global,
     codes: &CodeTable,
@@ -50,7 +51,8 @@ fn replaced_text(
     }
 }
 
-/// Appends what is owed for the first `count` bytes of a text, and tells whether they were refused.
+/// Appends the answer to a tag, and tells whether it was refused. The tag is the first `count` bytes of `text`, read with
+/// the basis's table of codes if there is one.
 pub(crate) fn append_again<L: Lookup>(
     lines: &mut Vec<u8>,
     alloc: Global,
@@ -71,7 +73,8 @@ pub(crate) fn append_again<L: Lookup>(
     }
 }
 
-/// The same by the codes of a table.
+/// Appends the answer to a tag, the first `count` bytes of `text`, read with the codes of a table, and tells whether it was
+/// refused.
 #[inline(never)]
 fn append_replaced<L: Lookup>(
     lines: &mut Vec<u8>,
@@ -94,9 +97,9 @@ fn append_replaced<L: Lookup>(
     }
 }
 
-/// Appends what is owed for the first `count` bytes of a text as they are, and tells whether they were refused. A text whose
-/// subtags stay as they are is answered at once. Another answer that was given lately is not worked out again: where 32 bytes
-/// are left of the text, they are looked for without a copy.
+/// Appends the answer to a tag, the first `count` bytes of `text`, and tells whether it was refused. A text whose subtags
+/// stay as they are is answered at once. Another answer that was given lately is not worked out again: if `text` has at
+/// least 32 bytes, it is looked for without a copy.
 #[inline(always)]
 fn append_read<L: Lookup>(
     lines: &mut Vec<u8>,
@@ -118,8 +121,8 @@ fn append_read<L: Lookup>(
     append_found(lines, alloc, checked, recent, text, count)
 }
 
-/// Appends what is owed for a text whose subtags stay as they are, and tells whether it did; for any other it does
-/// nothing.
+/// Appends the answer to a text whose subtags stay as they are, and gives true. For any other text it does nothing and gives
+/// false.
 #[tactic(auto, using(crate::proofs::TextLemmas::canonical_reply))]
 #[inline(always)]
 fn append_usual_answer<L: Lookup>(
@@ -137,7 +140,8 @@ fn append_usual_answer<L: Lookup>(
     Ok(told)
 }
 
-/// Appends what is owed for the first `count` bytes of any text, by the answers that were given lately.
+/// Appends the answer to a tag, the first `count` bytes of `text`, and tells whether it was refused. An answer that was
+/// given lately is taken; any other is worked out and put with those.
 fn append_found<L: Lookup>(
     lines: &mut Vec<u8>,
     alloc: Global,
@@ -163,7 +167,8 @@ fn append_found<L: Lookup>(
     Ok(refused)
 }
 
-/// Appends the canonical text of a field, the first `count` bytes of the rest of a text, or tells why it is refused.
+/// Appends the canonical text of a field and gives None, or gives why it is refused. The field is the first `count` bytes of
+/// `rest`, read with the basis's table of codes if there is one.
 #[inline(always)]
 pub(crate) fn append_field<L: Lookup>(
     lines: &mut Vec<u8>,
@@ -188,7 +193,8 @@ pub(crate) fn append_field<L: Lookup>(
     }
 }
 
-/// The same by the codes of a table.
+/// Appends the canonical text of a field, the first `count` bytes of `rest` read with the codes of a table, and gives None,
+/// or gives why it is refused.
 #[inline(never)]
 fn append_replaced_field<L: Lookup>(
     lines: &mut Vec<u8>,
@@ -214,9 +220,9 @@ fn append_replaced_field<L: Lookup>(
     }
 }
 
-/// Appends the canonical text of a field as it is, the first `count` bytes of the rest of a text, or tells why it is refused.
-/// A field whose subtags stay as they are is answered at once, and another canonical text that was found lately is not worked
-/// out again: where the rest has 32 bytes, it is looked for without a copy.
+/// Appends the canonical text of a field, the first `count` bytes of `rest`, and gives None, or gives why it is refused. A
+/// field whose subtags stay as they are is answered at once, and another canonical text that was found lately is not worked
+/// out again: if `rest` has at least 32 bytes, it is looked for without a copy.
 #[inline(always)]
 fn append_read_field<L: Lookup>(
     lines: &mut Vec<u8>,
@@ -239,7 +245,8 @@ fn append_read_field<L: Lookup>(
     append_found_field(lines, alloc, checked, row, recent, rest, count)
 }
 
-/// The same of any field, by the canonical texts that were found lately.
+/// Appends the canonical text of a field, the first `count` bytes of `rest`, and gives None, or gives why it is refused. A
+/// canonical text that was found lately is taken; any other is worked out and put with those.
 #[inline(never)]
 fn append_found_field<L: Lookup>(
     lines: &mut Vec<u8>,

@@ -25,7 +25,7 @@ pub struct Counts {
 }
 
 impl Counts {
-    /// Counts one line more.
+    /// Counts a line, and whether it was refused.
     pub(crate) fn count(&mut self, refused: bool)
         requires { (self.old.lines + 1 < 2 ^ 64) × (self.old.refused + 1 < 2 ^ 64) }
         ensures lines { self.new.lines ≡ self.old.lines + 1 }
@@ -56,6 +56,7 @@ impl<'a, L: Lookup, W: Write> Pieces<Device<W>> for Reading<'a, L> {
 
     ghost finished = { λ first start now read here result. spec.EndsReading (terms (ground_of L.listed first.basis.now) first.form) W.contents start now read here.text.answering.tallies result };
 
+    /// Answers the lines that the piece ends. Only a fault ends the run here.
     fn take_piece(
         &mut self,
         alloc: Global,
@@ -67,6 +68,7 @@ impl<'a, L: Lookup, W: Write> Pieces<Device<W>> for Reading<'a, L> {
         Ok(None)
     }
 
+    /// Answers what is left, and gives the counts of lines.
     fn finish(&mut self, alloc: Global, output: &mut Device<W>) -> Result<Counts, ToolFault> {
         self.text.finish(alloc, self.basis, self.form, output)
     }

@@ -12,14 +12,16 @@ use std::alloc::{AllocError, Global};
 /// The most bytes that are shown of a text that is refused.
 const MOST_SHOWN: usize = 64;
 
-/// How many separators are between a row as it was and what the answer tells that refuses it.
+/// How many separators are between a row as it was and what a refusal tells: two where rows are kept, as an empty field is
+/// between them, and else one.
 fn separators_in(row: RowForm) -> usize
     ensures { result ≡ spec.separators_in row }
 {
     if row.is_kept { 2 } else { 1 }
 }
 
-/// What the answer tells that refuses a line: the name of its fault, and a place or a variant.
+/// What the answer to `line` tells that refuses it: the name of the fault, and a place or a variant. It comes after `! `, or
+/// after the row and its separators.
 #[tactic(auto, using(crate::proofs::FaultLemmas::after_front))]
 fn told_in<'a>(form: LineForm, line: &[u8], answer: &'a [u8]) -> &'a [u8]
     ensures { result.now ≡ spec.told_in form line.now answer.now }
@@ -33,14 +35,14 @@ fn told_in<'a>(form: LineForm, line: &[u8], answer: &'a [u8]) -> &'a [u8]
     &answer[before.min(answer.len())..]
 }
 
-/// Where a name ends.
+/// Where the name ends that `told` begins with: at the first byte that is a space or below. None if there is none.
 fn name_end(told: &[u8]) -> Option<usize>
     ensures { result ≡ position (λ byte. nat_le byte 32) told.now }
 {
     told.iter().position(|byte| *byte <= b' ')
 }
 
-/// The name of the fault for which an answer refuses a line.
+/// The name of the fault with which `answer` refuses `line`.
 #[tactic(auto, using(crate::proofs::FaultLemmas::before_found, crate::proofs::FaultLemmas::before_none))]
 fn fault_in<'a>(form: LineForm, line: &[u8], answer: &'a [u8]) -> &'a [u8]
     ensures { result.now ≡ spec.fault_in form line.now answer.now }
@@ -52,7 +54,7 @@ fn fault_in<'a>(form: LineForm, line: &[u8], answer: &'a [u8]) -> &'a [u8]
     }
 }
 
-/// The text of a field of a row, or nothing where there is no such field.
+/// The text of the field of a row that comes after `before` others, or no bytes if the row has no such field.
 fn field_text(separator: Separator, before: usize, row: &[u8]) -> &[u8]
     ensures { IsFieldOrNone separator before row.now result.now }
 {
@@ -62,7 +64,7 @@ fn field_text(separator: Separator, before: usize, row: &[u8]) -> &[u8]
     }
 }
 
-/// The text of a line that is read as a tag.
+/// The part of a line that is read as a tag: all of it, or the text of a row's field. No bytes if the row has no such field.
 fn tag_in(form: LineForm, line: &[u8]) -> &[u8]
     ensures { IsTagIn form line.now result.now }
 {
@@ -76,7 +78,8 @@ fn tag_in(form: LineForm, line: &[u8]) -> &[u8]
     }
 }
 
-/// Counts a line of this number that this answer refuses.
+/// Counts a line that `answer` refuses, by the name of its fault. Its number and the front of its tag go with it, as the
+/// first line of each fault is kept.
 #[inline(never)]
 fn count_line(
     tallies: &mut Tallies,
@@ -93,7 +96,7 @@ fn count_line(
     tallies.count(alloc, fault_in(form, line, answer), number, shown)
 }
 
-/// The same of a line that was answered, if it was refused.
+/// Counts a line that was answered, if it was refused.
 #[inline(always)]
 pub(crate) fn count_if(
     tallies: &mut Tallies,

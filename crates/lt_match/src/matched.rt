@@ -33,7 +33,7 @@ pub fn canonical_subtags<L: Lookup>(
     Ok(TagSubtags::of(alloc, &form)?)
 }
 
-/// The canonical form of the tag that a text is read as.
+/// The canonical form of the tag that a text is read as, or why there is none.
 #[tactic(auto, using(lt_canon::proofs::CanonicalForms::refused))]
 fn form_of_text<L: Lookup>(
     alloc: Global,
@@ -47,7 +47,7 @@ fn form_of_text<L: Lookup>(
     Ok(canonical(alloc, checked, &tag)?)
 }
 
-/// The range that a text is, as it is written.
+/// The range that a text is, as it is written. Refused with `NotARange` if it is none.
 fn plain_range(alloc: Global, text: &[u8]) -> Result<LanguageRange, RangeRefusal>
     ensures range { IfOk result (λ range. range_of text.now ≡ Ok range) }
     ensures refusal { IfErr result (IsPlainRefusal text.now) }

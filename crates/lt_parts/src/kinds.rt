@@ -78,7 +78,7 @@ impl PartKind {
         }
     }
 
-    /// The kind that a part of a core has in the source of a `t` extension.
+    /// The kind that a part of a core has in the source of a `t` extension. Any other kind stays.
     pub(crate) fn in_source(self) -> PartKind
         ensures { result ≡ spec.in_source self }
     {

@@ -20,7 +20,7 @@ pub struct Part {
     pub length: usize,
 }
 
-/// What is between the hyphens of a text, each with its kind.
+/// The parts of a text, which are between its hyphens: each with its kind, of which there is one for each in `kinds`.
 fn place(alloc: Global, kinds: &[PartKind], text: &[u8]) -> Result<Vec<Part>, OutOfMemory>
     ensures { IfOk result (λ parts. parts.items ≡ placed 0 kinds.now (pieces text.now)) }
 {

@@ -93,7 +93,7 @@ fn append_t(alloc: Global, kinds: &mut Vec<PartKind>, parts: &TParts) -> Result<
     append_fields(kinds, &parts.fields)
 }
 
-/// Adds the kinds of the subtags after a `u`.
+/// Adds the kinds of the subtags after the singleton of a `u` extension.
 fn append_unicode(
     alloc: Global,
     kinds: &mut Vec<PartKind>,
@@ -106,7 +106,8 @@ fn append_unicode(
     append_u(kinds, &parts)
 }
 
-/// Adds the kinds of the subtags after a `t`.
+/// Adds the kinds of the subtags after the singleton of a `t` extension. One without the form of such has subtags of any
+/// extension.
 fn append_transform(
     alloc: Global,
     kinds: &mut Vec<PartKind>,
@@ -124,7 +125,7 @@ fn append_transform(
     }
 }
 
-/// Adds the kinds of the subtags of extensions.
+/// Adds the kinds of the subtags of extensions, with their singletons.
 fn append_extensions(
     alloc: Global,
     kinds: &mut Vec<PartKind>,

@@ -38,7 +38,7 @@ impl Scheme {
         true
     }
 
-    /// Adds the places of the tags that a range matches, and none of those before it.
+    /// Adds the places of the tags that a range matches, without those that a range of `before` matches.
     fn append_places(
         self,
         places: &mut Vec<usize>,
@@ -56,7 +56,7 @@ impl Scheme {
         Ok(())
     }
 
-    /// The places of the tags that a priority list matches.
+    /// The places of the tags that a priority list matches, in the order of its ranges.
     fn filter(
         self,
         alloc: Global,
@@ -86,7 +86,9 @@ pub fn filter_basic(
     Scheme::Basic.filter(alloc, ranges, tags)
 }
 
-/// The same by extended filtering (RFC 4647, 3.3.2).
+/// The places, counted from 0, of the tags that a language priority list matches by extended filtering (RFC 4647, 3.3.2):
+/// first of those that its first range matches, in their order, then of the others that its second matches, and so on. The
+/// only refusal is running out of memory.
 pub fn filter_extended(
     alloc: Global,
     ranges: &[LanguageRange],

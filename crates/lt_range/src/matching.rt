@@ -14,7 +14,7 @@ fn are_same(first: &Subtag, second: &Subtag) -> bool
     first == second
 }
 
-/// What follows subtags at the front of a list, if it begins with them.
+/// What follows the subtags of `front` in a list that begins with them. None if it doesn't.
 fn after_front<'a>(list: &'a [Subtag], front: &[Subtag]) -> Option<&'a [Subtag]>
     ensures { MatchOption result (BeginsWith front.now list.now → ⊥) (λ rest. list.now ≡ front.now ++ rest.now) }
 {
@@ -35,7 +35,7 @@ fn is_no_singleton(subtag: &Subtag) -> bool
     subtag.bytes().len() != 1
 }
 
-/// What follows the first place of a subtag in a list, if no singleton is before it.
+/// What follows the first place of a subtag in a list. None if it isn't there, or if a singleton is before it.
 fn after_subtag<'a>(list: &'a [Subtag], subtag: &Subtag) -> Option<&'a [Subtag]>
     ensures { MatchOption result (IsPassedTo list.now subtag.now → ⊥) (λ rest. FollowsFirst list.now subtag.now rest.now) }
 {
@@ -52,7 +52,7 @@ fn after_subtag<'a>(list: &'a [Subtag], subtag: &Subtag) -> Option<&'a [Subtag]>
     None
 }
 
-/// Whether subtags are in a list, one after another, with no singleton among those that are passed over.
+/// Whether the subtags of `named` are in a list, in their order, with no singleton among those that are passed over.
 fn are_in_turn(named: &[Subtag], list: &[Subtag]) -> bool
     ensures { IsTrue result ↔ AreInTurn named.now list.now }
 {
@@ -66,7 +66,7 @@ fn are_in_turn(named: &[Subtag], list: &[Subtag]) -> bool
     true
 }
 
-/// Whether the last subtag of a list has more than one letter or digit.
+/// Whether the last subtag of a list has more than one letter or digit. False of an empty list.
 fn ends_long(list: &[Subtag]) -> bool
     ensures { result ≡ spec.ends_long list.now }
 {

@@ -40,14 +40,14 @@ fn is_star(piece: &[u8]) -> bool
     }
 }
 
-/// Whether a subtag is of letters alone.
+/// Whether a subtag has letters alone.
 fn is_alphabetic(subtag: &Subtag) -> bool
     ensures { result ≡ shapes.is_alphabetic subtag.now }
 {
     subtag.bytes().iter().all(|byte| byte.is_ascii_lowercase())
 }
 
-/// The subtag that a piece after the first is, or nothing where it is `*`.
+/// The subtag that a piece after the first is, or None if it is `*`.
 fn later_piece(piece: &[u8]) -> Result<Option<Subtag>, RangeFault>
     ensures { result ≡ reading.later_piece piece.now }
 {
@@ -60,7 +60,7 @@ fn later_piece(piece: &[u8]) -> Result<Option<Subtag>, RangeFault>
     }
 }
 
-/// The subtag that the first piece is, or nothing where it is `*`.
+/// The subtag that the first piece is, or None if it is `*`. Refused with `BadFirst` if it has a digit.
 fn first_piece(piece: &[u8]) -> Result<Option<Subtag>, RangeFault>
     ensures { result ≡ reading.first_piece piece.now }
 {
@@ -74,7 +74,7 @@ fn first_piece(piece: &[u8]) -> Result<Option<Subtag>, RangeFault>
     }
 }
 
-/// Adds the subtags that pieces name.
+/// Adds the subtags that further pieces are, without those that are `*`.
 fn append_pieces(named: &mut Vec<Subtag>, pieces: Option<&[u8]>) -> Result<(), RangeFault>
     ensures appended { OnOk result (AppendsRead named.old.items named.new.items (later_pieces (pieces_left pieces.entry))) }
     ensures refused { IfErr result (IsRefused (later_pieces (pieces_left pieces.entry))) }
@@ -94,8 +94,9 @@ impl LanguageRange {
     /// The range that a text is, in any letter case (RFC 4647, 2.2): its subtags are of 1 to 8 letters or digits or
     /// are `*`, and the first has no digit.
     ///
-    /// - `BadSubtag`, with the fault, where the leftmost piece between hyphens that can't be where it is is neither
-    ///   `*` nor a subtag.
+    /// It is refused for the leftmost piece between hyphens that can't be where it is, or for lack of memory:
+    ///
+    /// - `BadSubtag`, with the fault, where that piece is neither `*` nor a subtag.
     /// - `BadFirst` where it is the first piece and has a digit.
     /// - `OutOfMemory` where memory runs out.
     pub fn read(alloc: Global, text: &[u8]) -> Result<LanguageRange, RangeFault>

@@ -26,7 +26,7 @@ impl Model for TagSubtags {
     ghost view = { λ t. t.subtags.items };
 }
 
-/// The subtags of a text of which each piece is one.
+/// The subtags between the hyphens of a text, each piece of which is a subtag.
 fn read_subtags(alloc: Global, text: &[u8]) -> Result<Vec<Subtag>, OutOfMemory>
     requires { HasList text.now }
     ensures { IfOk result (λ subtags. subtags.items ≡ list_of text.now) }
@@ -49,6 +49,7 @@ impl TagSubtags {
     pub fn of(alloc: Global, tag: &Tag) -> Result<TagSubtags, OutOfMemory>
         ensures { IfOk result (λ subtags. subtags ≡ spell tag.now) }
     {
+        // So that each piece of the text is known to be a subtag.
         text_of_tag_has_its_list();
         // So that their shapes are known.
         let _ = tag.private();

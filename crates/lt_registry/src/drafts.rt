@@ -12,7 +12,8 @@ use lt_jar::{JarFault, JarField, JarReader};
 use std::alloc::Global;
 use std::io::Read;
 
-/// Puts the entry of the record of these fields after the others; a header has none.
+/// Puts the entry of a record after the others; a header has none. `number` is that of the record in the file, counted from
+/// 1, and is named in the refusal.
 pub(crate) fn add_record(
     alloc: Global,
     entries: &mut Vec<Entry>,
@@ -32,7 +33,7 @@ pub(crate) fn add_record(
     }
 }
 
-/// Puts the entry of a record after the others.
+/// Puts the entry of a record after the others. Refused with the first fault of the record.
 fn add_entry(
     alloc: Global,
     entries: &mut Vec<Entry>,
@@ -55,6 +56,7 @@ pub(crate) struct Draft {
 }
 
 impl Draft {
+    /// A draft before the first record.
     pub(crate) fn new(alloc: Global) -> Draft
         ensures entries { result.entries.items ≡ [] }
         ensures number { result.number ≡ 0 }
@@ -67,7 +69,7 @@ impl Draft {
         }
     }
 
-    /// Takes the next record. After a fault no more entries are made.
+    /// Takes the next record. After a record at fault no more entries are made.
     fn take(&mut self, alloc: Global, fields: &[JarField])
         requires { self.old.number < 100000 }
         ensures { Takes fields.now self.old self.new }
@@ -97,7 +99,7 @@ impl Draft {
         }
     }
 
-    /// The entries, or the fault.
+    /// The entries, or the lowest record at fault.
     pub(crate) fn finish(self) -> Result<Vec<Entry>, RecordFault>
         ensures { result ≡ finished self.entries self.fault }
     {

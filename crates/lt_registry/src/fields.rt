@@ -40,7 +40,7 @@ pub(crate) enum FieldName {
     Other,
 }
 
-/// The field that has a name. The names of most records are looked for as they are written there.
+/// Which field has this name, letter case aside. The names of most fields are tried first as they are usually written.
 fn field_name(text: &str) -> FieldName
     ensures { result ≡ steps.field_told text.now }
 {
@@ -51,7 +51,7 @@ fn field_name(text: &str) -> FieldName
     }
 }
 
-/// The same, letter case aside. Texts of another length are no further compared.
+/// Which field has this name, letter case aside.
 fn field_name_in_any_case(text: &str) -> FieldName
     ensures { result ≡ steps.field_told text.now }
 {
@@ -83,7 +83,7 @@ pub(crate) struct Found {
 }
 
 impl Found {
-    /// Nothing was looked at.
+    /// What is found before any field is looked at.
     fn none() -> Found
         ensures { steps.HasFound [] result }
     {
@@ -97,7 +97,7 @@ impl Found {
         }
     }
 
-    /// Looks at a field more, which has this place and name.
+    /// Notes a further field, which has this place and name, if it is one of those that are looked for.
     fn put(&mut self, place: usize, name: &str)
         ensures { (r : List Field) (f : Field) → length r ≡ place → f.0 ≡ name.now
             → steps.HasFound r self.old → steps.HasFound (r ++ f ∷ []) self.new }
@@ -125,7 +125,7 @@ impl Found {
         }
     }
 
-    /// What is found among all fields of a record.
+    /// The places of the fields that are looked for among all fields of a record.
     #[tactic(auto, using(crate::proofs::ListLemmas::take_turn))]
     fn among(fields: &[JarField]) -> Found
         ensures { steps.HasFound fields.now result }
@@ -138,7 +138,7 @@ impl Found {
     }
 }
 
-/// The body of the field at a place, if there is one.
+/// The body of the field at a place, or None if there is no such field.
 #[tactic(auto, using(std::proofs::lemmas::Option::gets))]
 fn body_at(fields: &[JarField], place: usize) -> Option<&str>
     ensures { option_copied result ≡ option_map (λ (f : Field). f.1) (slice_get fields.now place) }
@@ -155,7 +155,7 @@ pub(crate) struct RecordFields<'a> {
 }
 
 impl<'a> RecordFields<'a> {
-    /// The fields, looked at.
+    /// The fields of a record, with the places of those that are looked for.
     pub(crate) fn of(fields: &'a [JarField]) -> RecordFields<'a>
         ensures { result.all.now ≡ fields.now }
     {
@@ -165,7 +165,7 @@ impl<'a> RecordFields<'a> {
         }
     }
 
-    /// All fields.
+    /// All fields of the record.
     pub(crate) fn all(&self) -> &'a [JarField]
         ensures { result.now ≡ self.now.all.now }
     {
@@ -179,7 +179,7 @@ impl<'a> RecordFields<'a> {
         self.found.repeats
     }
 
-    /// Whether the record has a date and no type.
+    /// Whether the fields are those of a header: they have a File-Date and no Type.
     #[tactic(auto, using(crate::proofs::FieldLemmas::found_or_none))]
     pub(crate) fn are_header(&self) -> bool
         ensures { result ≡ record_words.is_header self.now.all.now }
@@ -187,7 +187,7 @@ impl<'a> RecordFields<'a> {
         self.found.is_dated & self.found.kind.is_none()
     }
 
-    /// The body of the field at a place that was found.
+    /// The body of the field at a place that was found, or None if it wasn't found.
     fn body(&self, place: Option<usize>) -> Option<&'a str>
         ensures { (name : List ℕ) → steps.IsPlace name self.now.all.now place
             → option_copied result ≡ record_words.body name self.now.all.now }
@@ -198,14 +198,15 @@ impl<'a> RecordFields<'a> {
         }
     }
 
-    /// The type.
+    /// The body of Type, or None if the record has no such field.
     pub(crate) fn kind(&self) -> Option<&'a str>
         ensures { option_copied result ≡ record_words.body record_words.type_name self.now.all.now }
     {
         self.body(self.found.kind)
     }
 
-    /// What names the subject of a record of a kind: its Tag, if that is a kind of whole tags, else its Subtag.
+    /// The body of the field that names the subject of a record of a kind: of its Tag, if that is a kind of whole tags, else
+    /// of its Subtag. None if the record has no such field.
     pub(crate) fn name(&self, kind: Kind) -> Option<&'a str>
         ensures { option_copied result ≡ record_words.body (record_words.name_field kind) self.now.all.now }
     {
@@ -216,7 +217,7 @@ impl<'a> RecordFields<'a> {
         }
     }
 
-    /// The preferred value.
+    /// The body of Preferred-Value, or None if the record has no such field.
     pub(crate) fn value(&self) -> Option<&'a str>
         ensures { option_copied result ≡ record_words.body record_words.value_name self.now.all.now }
     {
@@ -224,7 +225,7 @@ impl<'a> RecordFields<'a> {
     }
 }
 
-/// Grandfathered and redundant tags are named by a Tag.
+/// Whether records of a kind are of whole tags, grandfathered or redundant ones, which a Tag names.
 pub(crate) fn is_whole_kind(kind: Kind) -> bool
     ensures { result ≡ entry_words.is_whole_kind kind }
 {
@@ -234,7 +235,7 @@ pub(crate) fn is_whole_kind(kind: Kind) -> bool
     }
 }
 
-/// The kind that a type names. That of most records is looked for as it is written there.
+/// The kind that the body of Type names, letter case aside; None if it names none. The one of most records is tried first.
 pub(crate) fn kind_of(text: &str) -> Option<Kind>
     ensures { result ≡ record_words.kind_of text.now }
 {
@@ -244,7 +245,7 @@ pub(crate) fn kind_of(text: &str) -> Option<Kind>
     }
 }
 
-/// The same, letter case aside.
+/// The kind that the body of Type names, letter case aside; None if it names none.
 fn kind_in_any_case(text: &str) -> Option<Kind>
     ensures { result ≡ record_words.kind_of text.now }
 {
@@ -267,7 +268,7 @@ fn kind_in_any_case(text: &str) -> Option<Kind>
     }
 }
 
-/// The bytes before the first two full stops, and those after them.
+/// The bytes before the first two full stops, which stand in a range, and those after them. None if there are no such.
 #[tactic(auto, using(crate::proofs::RecordTexts::ends_found, crate::proofs::RecordTexts::ends_stay, crate::proofs::RecordTexts::ends_none, std::proofs::lemmas::List::take_rest))]
 pub(crate) fn ends_of(text: &[u8]) -> Option<(&[u8], &[u8])>
     ensures { MatchOption result (record_words.ends_of text.now ≡ None) (λ ends. record_words.ends_of text.now ≡ Some (ends.0.now, ends.1.now)) }
@@ -280,6 +281,7 @@ pub(crate) fn ends_of(text: &[u8]) -> Option<(&[u8], &[u8])>
     None
 }
 
+/// Whether a text begins with two full stops.
 fn begins_dots(text: &[u8]) -> bool
     ensures { result ≡ record_words.begins_dots text.now }
 {
@@ -289,7 +291,7 @@ fn begins_dots(text: &[u8]) -> bool
     }
 }
 
-/// The subtags of a Prefix, if it is a list of subtags.
+/// The subtags of a Prefix, or None if a piece of it is no subtag.
 #[tactic(auto, using(crate::proofs::RecordTexts::piece_stays, crate::proofs::RecordTexts::piece_fails, crate::proofs::RecordTexts::piece_last, crate::proofs::RecordTexts::prefix_is))]
 pub(crate) fn read_prefix(alloc: Global, text: &[u8]) -> Result<Option<Prefix>, OutOfMemory>
     ensures { IfOk result (λ prefix. prefix ≡ record_words.prefix_of text.now) }

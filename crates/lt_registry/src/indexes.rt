@@ -55,7 +55,7 @@ impl Indexes {
         })
     }
 
-    /// The index of a kind. Whole records have none by subtags.
+    /// The index of the records of a kind by their subtags. None of the kinds of whole tags.
     pub(crate) fn of_kind(&self, kind: Kind) -> Option<&KindIndex>
         ensures { option_copied result ≡ sorted.index_of self.now kind }
     {
@@ -70,7 +70,7 @@ impl Indexes {
     }
 }
 
-/// The entry at a place.
+/// The entry at an index, or None if there is none.
 #[tactic(auto, using(std::proofs::lemmas::Option::gets))]
 pub(crate) fn entry_at(entries: &[Entry], place: usize) -> Option<&Entry>
     ensures { option_copied result ≡ slice_get entries.now place }

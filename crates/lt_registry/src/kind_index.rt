@@ -49,7 +49,7 @@ impl KindIndex {
         })
     }
 
-    /// The entry of a subtag under the kind.
+    /// The entry of a subtag under the kind: the record of the subtag alone, or else that of a range. None if it has none.
     pub(crate) fn find<'a>(&self, entries: &'a [Entry], subtag: &Subtag) -> Option<&'a Entry>
         requires index { sorted.IsKindIndex entries.now self.now }
         requires forms { All IsEntry entries.now }
@@ -61,7 +61,7 @@ impl KindIndex {
         }
     }
 
-    /// The first record of the kind that names a subtag alone.
+    /// The first record of the kind that names a subtag alone, or None if there is none.
     fn single<'a>(&self, entries: &'a [Entry], subtag: &Subtag) -> Option<&'a Entry>
         requires index { sorted.IsKindIndex entries.now self.now }
         requires forms { All IsEntry entries.now }
@@ -71,7 +71,8 @@ impl KindIndex {
         entry_at(entries, place)
     }
 
-    /// The place of the record of a number, which is looked for among those that begin alike.
+    /// The place of the record of a subtag alone, by the number of the subtag; None if there is none. It is looked for among
+    /// the subtags that begin alike.
     #[tactic(auto, using(crate::proofs::SpanLemmas::none_listed, crate::proofs::SpanLemmas::none_alike, crate::proofs::SpanLemmas::part_rises, crate::proofs::SpanLemmas::place_alike))]
     fn place(&self, number: u64) -> Option<usize>
         requires rising { sorted.RowsRise self.now.singles.items }
@@ -85,7 +86,7 @@ impl KindIndex {
         place_of(alike, number)
     }
 
-    /// The first range of the kind that holds a subtag.
+    /// The first range of the kind that holds a subtag, or None if there is none.
     #[tactic(auto, using(crate::proofs::RangeLemmas::range_found, crate::proofs::RangeLemmas::none_holds, crate::proofs::NumberLemmas::subtag_few))]
     fn range<'a>(&self, entries: &'a [Entry], subtag: &Subtag) -> Option<&'a Entry>
         requires index { sorted.IsKindIndex entries.now self.now }
@@ -100,7 +101,7 @@ impl KindIndex {
     }
 }
 
-/// The rows of single records in the order of the subtags; the first alone for each subtag.
+/// The rows of the records of single subtags in the order of the subtags. Of several records of a subtag the first stays.
 fn sorted_rows(mut rows: Vec<Row>) -> Result<Vec<Row>, AllocError>
     ensures { IfOk result (λ singles. (R : List EntryParts) (kind : Kind) → sorted.AreRows (sorted.single_row kind) (λ (row : Row). row.place) R (length R) rows.items
         → sorted.IsSingles R kind singles.items) }
@@ -111,8 +112,8 @@ fn sorted_rows(mut rows: Vec<Row>) -> Result<Vec<Row>, AllocError>
     Ok(rows)
 }
 
-/// The beginning of a number: the first byte of its subtag, and the place of the second among the
-/// letters, which is 0 for a digit.
+/// The beginning of a subtag's number: its first byte, and the place of its second among the letters, which is 0 for a
+/// digit.
 fn beginning(number: u64) -> usize
     ensures { result ≡ sorted.beginning number }
 {
@@ -121,7 +122,7 @@ fn beginning(number: u64) -> usize
     first * 32 + second.saturating_sub(96).min(31)
 }
 
-/// The place of the record of a number, by sorted rows.
+/// The place of the record of a number, by sorted rows; None if no row has it.
 fn place_of(rows: &[Row], number: u64) -> Option<usize>
     requires { sorted.RowsRise rows.now }
     ensures { result ≡ sorted.place_of number rows.now }
@@ -132,7 +133,7 @@ fn place_of(rows: &[Row], number: u64) -> Option<usize>
     }
 }
 
-/// Where sorted rows of each beginning start.
+/// Where the rows of each beginning start, in sorted rows.
 fn starts(alloc: Global, rows: &[Row]) -> Result<Vec<usize>, AllocError>
     requires { sorted.RowsRise rows.now }
     ensures { IfOk result (λ starts. sorted.AreStarts rows.now starts.items) }

@@ -37,7 +37,8 @@ impl KindRows {
         Ok(rows)
     }
 
-    /// Puts the row of an entry at a place behind the others, if the entry is of the kind and no whole record.
+    /// Puts the row of an entry behind the others, if the entry is of the kind and not of a whole tag. `place` is the
+    /// entry's index.
     fn put(&mut self, kind: Kind, place: usize, entry: &Entry) -> Result<(), AllocError>
         ensures singles { OnOk result (self.new.singles.items ≡ self.old.singles.items ++ cons_option (sorted.single_row kind place entry.now) []) }
         ensures ranges { OnOk result (self.new.ranges.items ≡ self.old.ranges.items ++ cons_option (sorted.range_row kind place entry.now) []) }

@@ -21,13 +21,13 @@ pub fn proper_repeats_at_most()
     ensures { (R : List EntryParts) (t : TagForm) → IsTagValue t → IsProper R t ↔ RepeatsAtMost R t }
 {}
 
-/// One fault of a tag is reported.
+/// A tag has at most one first fault, so one is reported.
 #[tactic(auto, using(crate::proofs::ValidityLaws::one_fault_law))]
 pub fn one_first_fault()
     ensures { (R : List EntryParts) (t : TagForm) (k l : ValidFaultKind) (p q : ℕ) → IsFirstFault R t k p → IsFirstFault R t l q → (k ≡ l) × (p ≡ q) }
 {}
 
-/// Records give one list of entries.
+/// Records give at most one list of entries.
 #[tactic(auto, using(crate::proofs::EntryLaws::one_list))]
 pub fn one_list_of_entries()
     ensures { (records : List (List Field)) (a b : List EntryParts) → HasEntries records a → HasEntries records b → a ≡ b }
@@ -39,7 +39,7 @@ pub fn fault_or_entries()
         → HasEntries records entries → HasFaultAt records kind number → ⊥ }
 {}
 
-/// One fault of some records is reported.
+/// Records have at most one first fault, so one is reported.
 pub fn one_first_record_fault()
     ensures { (records : List (List Field)) (k l : RecordFaultKind) (m n : ℕ)
         → IsFirstRecordFault records k m → IsFirstRecordFault records l n → (k ≡ l) × (m ≡ n) }

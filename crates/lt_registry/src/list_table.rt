@@ -44,11 +44,13 @@ impl Lookup for ListTable {
         self.registry.entries()
     }
 
+    /// The record of the subtag alone, or else that of a range, or None. Each entry is looked at in turn.
     fn entry(&self, kind: Kind, subtag: &Subtag) -> Option<&Entry> {
         let entries = self.registry.entries();
         single(entries, kind, subtag).or(range(entries, kind, subtag))
     }
 
+    /// The first record of the tag, or None. Each entry is looked at in turn.
     fn whole(&self, tag: &Tag) -> Option<&Entry> {
         self.registry
             .entries()
@@ -57,20 +59,21 @@ impl Lookup for ListTable {
     }
 }
 
-/// The first record of a kind that names a subtag alone.
+/// The first record of a kind that names a subtag alone, or None if there is none.
 fn single<'a>(entries: &'a [Entry], kind: Kind, subtag: &Subtag) -> Option<&'a Entry>
     ensures { option_copied result ≡ find (λ (e : EntryParts). same.same_kind e.kind kind && forms.is_named subtag.now e.name) entries.now }
 {
     entries.iter().find(|entry| entry.kind() == kind && is_named(entry.name(), subtag))
 }
 
-/// The first range of a kind that holds a subtag.
+/// The first range of a kind that holds a subtag, or None if there is none.
 fn range<'a>(entries: &'a [Entry], kind: Kind, subtag: &Subtag) -> Option<&'a Entry>
     ensures { option_copied result ≡ find (λ (e : EntryParts). same.same_kind e.kind kind && forms.holds subtag.now e.name) entries.now }
 {
     entries.iter().find(|entry| entry.kind() == kind && holds(entry.name(), subtag))
 }
 
+/// Whether a record of this name is that of the subtag alone.
 fn is_named(name: &EntryName, subtag: &Subtag) -> bool
     ensures { result ≡ forms.is_named subtag.now name.now }
 {
@@ -80,6 +83,7 @@ fn is_named(name: &EntryName, subtag: &Subtag) -> bool
     }
 }
 
+/// Whether a record of this name is that of the whole tag.
 #[tactic(auto, using(crate::proofs::SortedLemmas::tags_equal))]
 fn is_whole(name: &EntryName, tag: &Tag) -> bool
     ensures { result ≡ forms.is_whole tag.now name.now }

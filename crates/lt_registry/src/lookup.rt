@@ -19,13 +19,13 @@ pub trait Lookup {
         ensures rising { NumbersRise (listed self.now) }
         ensures forms { All IsEntry (listed self.now) };
 
-    /// The entry of a subtag under a kind: the first record of the kind that names this subtag and no other;
-    /// or, without such a record, the first whose range holds it. No subtag has an entry as a grandfathered or
+    /// The entry of a subtag under a kind: the first record of the kind that names this subtag and no other; or, without
+    /// such a record, the first whose range holds it. None if there is neither. No subtag has an entry as a grandfathered or
     /// redundant tag.
     fn entry(&self, kind: Kind, subtag: &Subtag) -> Option<&Entry>
         ensures { option_copied result ≡ entry (listed self.now) kind subtag.now };
 
-    /// The entry of a whole tag: the first grandfathered or redundant record of that tag.
+    /// The entry of a whole tag: the first grandfathered or redundant record of that tag, or None if it has none.
     fn whole(&self, tag: &Tag) -> Option<&Entry>
         ensures { option_copied result ≡ whole (listed self.now) tag.now };
 }

@@ -7,14 +7,14 @@ use crate::entries::EntryName;
 use lt_subtag::Subtag;
 use std::cmp::Ordering;
 
-/// Letters alone.
+/// Whether a subtag has letters alone.
 pub(crate) fn is_alphabetic(subtag: &Subtag) -> bool
     ensures { result ≡ shapes.is_alphabetic subtag.now }
 {
     subtag.bytes().iter().all(|byte| byte.is_ascii_lowercase())
 }
 
-/// Whether the first is the other or is before it in letter order.
+/// Whether `first` is the same as `other` or before it in letter order.
 #[tactic(auto, using(crate::proofs::OrderLemmas::letters_le_is))]
 pub(crate) fn is_up_to(first: &Subtag, other: &Subtag) -> bool
     ensures { result ≡ forms.letters_le first.now other.now }

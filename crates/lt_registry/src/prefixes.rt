@@ -58,7 +58,7 @@ impl Prefixes {
         }
     }
 
-    /// These Prefixes. Refused only where memory runs out.
+    /// The Prefixes of a list, in its order. Refused only where memory runs out.
     pub(crate) fn of_list(alloc: Global, prefixes: Vec<Prefix>) -> Result<Prefixes, OutOfMemory>
         ensures { IfOk result (λ made. made ≡ prefixes.items) }
     {
@@ -70,14 +70,14 @@ impl Prefixes {
         })
     }
 
-    /// The Prefixes in order.
+    /// The Prefixes in the order of the file.
     pub(crate) fn all(&self) -> &[Prefix]
         ensures { result.now ≡ self.now }
     {
         self.all.as_slice()
     }
 
-    /// Whether a subtag alone is one of them.
+    /// Whether a subtag alone is one of the Prefixes.
     pub(crate) fn has(&self, subtag: &Subtag) -> bool
         requires { AllByRecursion IsPrefix self.now }
         ensures { result ≡ has_prefix self.now subtag.now }
@@ -86,7 +86,7 @@ impl Prefixes {
     }
 }
 
-/// The numbers of the Prefixes that are one subtag.
+/// The numbers of the subtags that are a Prefix alone.
 fn singles(alloc: Global, prefixes: &[Prefix]) -> Result<Vec<u64>, OutOfMemory>
     ensures { IfOk result (λ numbers. numbers.items ≡ filter_map single_of prefixes.now) }
 {

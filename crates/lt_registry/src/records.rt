@@ -43,6 +43,7 @@ pub(crate) fn read_entry(
     Ok(Entry::of_parts(number, kind, name, value, prefixes))
 }
 
+/// The kind of a record, by its Type.
 fn read_kind(fields: &RecordFields<'_>) -> Result<Kind, RecordFaultKind>
     ensures { result ≡ steps.kind_by (record_words.body record_words.type_name fields.now.all.now) }
 {
@@ -52,6 +53,7 @@ fn read_kind(fields: &RecordFields<'_>) -> Result<Kind, RecordFaultKind>
     }
 }
 
+/// What a record names: a subtag, a range, or a whole tag.
 #[tactic(auto, using(crate::proofs::RecordLaws::name_told))]
 fn read_name(
     alloc: Global,
@@ -74,7 +76,7 @@ fn read_name(
     }
 }
 
-/// The tag of a text, if it is well-formed.
+/// The tag of a text, or None if it isn't well-formed.
 fn read_whole(alloc: Global, text: &[u8]) -> Result<Option<WholeTag>, OutOfMemory>
     ensures tag { IfOk result (IsTagOf text.now) }
     ensures value { IfOk result (λ tag. IfSome tag IsTagValue) }
@@ -92,7 +94,7 @@ fn read_whole(alloc: Global, text: &[u8]) -> Result<Option<WholeTag>, OutOfMemor
     }
 }
 
-/// The subtag, or the range, that a text names.
+/// The subtag that a text names, or the range if it has two full stops. Refused if it doesn't have the form of the kind.
 fn read_subtags(kind: Kind, text: &[u8]) -> Result<EntryName, RecordFaultKind>
     ensures named { result ≡ record_words.subtags_named kind text.now }
     ensures fits { IfOk result (FitsName kind) }
@@ -106,7 +108,7 @@ fn read_subtags(kind: Kind, text: &[u8]) -> Result<EntryName, RecordFaultKind>
     }
 }
 
-/// The subtag of a text, if it has the form of a kind.
+/// The subtag of a text, or None if it doesn't have the form of the kind.
 fn read_formed(kind: Kind, text: &[u8]) -> Option<Subtag>
     ensures { result ≡ record_words.formed (entry_words.has_form kind) (subtag_of text.now) }
 {
@@ -118,6 +120,7 @@ fn read_formed(kind: Kind, text: &[u8]) -> Option<Subtag>
     }
 }
 
+/// Whether a subtag has the form of the kind (RFC 5646, 2.1). False of the kinds of whole tags.
 fn has_form(kind: Kind, subtag: &Subtag) -> bool
     ensures { result ≡ entry_words.has_form kind subtag.now }
 {
@@ -131,6 +134,7 @@ fn has_form(kind: Kind, subtag: &Subtag) -> bool
     }
 }
 
+/// The range from a first to a last subtag. Refused if they aren't the ends of one.
 fn read_range(kind: Kind, first: &[u8], last: &[u8]) -> Result<EntryName, RecordFaultKind>
     ensures range { result ≡ record_words.range_of kind (subtag_of first.now) (subtag_of last.now) }
     ensures fits { IfOk result (FitsName kind) }
@@ -145,6 +149,7 @@ fn read_range(kind: Kind, first: &[u8], last: &[u8]) -> Result<EntryName, Record
     }
 }
 
+/// Whether two subtags are the ends of a range of the kind: letters alone, of one length, and in order.
 fn is_range(kind: Kind, first: &Subtag, last: &Subtag) -> bool
     ensures { result ≡ record_words.is_range kind first.now last.now }
 {
@@ -156,6 +161,7 @@ fn is_range(kind: Kind, first: &Subtag, last: &Subtag) -> bool
         && is_up_to(first, last)
 }
 
+/// The preferred value of a record, or None if it has none.
 #[tactic(auto, using(crate::proofs::RecordLaws::text_told))]
 fn read_value(
     alloc: Global,
@@ -172,7 +178,7 @@ fn read_value(
     }
 }
 
-/// The value that a text gives.
+/// The preferred value that a text gives: a subtag, or a whole tag for the kinds of whole tags.
 fn read_one_value(alloc: Global, kind: Kind, text: &[u8]) -> Result<EntryValue, RecordFaultKind>
     ensures ok { IfOk result (IsValue kind text.now) }
     ensures fits { IfOk result (FitsValue kind) }
@@ -190,7 +196,7 @@ fn read_one_value(alloc: Global, kind: Kind, text: &[u8]) -> Result<EntryValue, 
     }
 }
 
-/// The subtag of a text, if it has the form of a kind's values.
+/// The subtag of a text, or None if it doesn't have the form of the kind's values.
 fn read_valued(kind: Kind, text: &[u8]) -> Option<Subtag>
     ensures { result ≡ record_words.formed (entry_words.has_value_form kind) (subtag_of text.now) }
 {
@@ -202,6 +208,7 @@ fn read_valued(kind: Kind, text: &[u8]) -> Option<Subtag>
     }
 }
 
+/// Whether a subtag has the form of the kind's values. That of an extlang is a language, and that of a variant may be one.
 fn has_value_form(kind: Kind, subtag: &Subtag) -> bool
     ensures { result ≡ entry_words.has_value_form kind subtag.now }
 {
@@ -216,6 +223,7 @@ fn has_value_form(kind: Kind, subtag: &Subtag) -> bool
     }
 }
 
+/// Whether records of the kind can have Prefixes.
 fn has_prefixes(kind: Kind) -> bool
     ensures { result ≡ record_words.has_prefixes kind }
 {
@@ -227,6 +235,7 @@ fn has_prefixes(kind: Kind) -> bool
     }
 }
 
+/// The Prefixes of a record, or none if its kind can't have any.
 fn read_prefixes(
     alloc: Global,
     kind: Kind,
@@ -242,6 +251,7 @@ fn read_prefixes(
     }
 }
 
+/// The Prefixes that the fields give. Refused if one isn't a list of subtags.
 #[tactic(auto, using(crate::proofs::RecordTexts::field_taken, crate::proofs::RecordTexts::field_skipped, crate::proofs::RecordTexts::field_fails, crate::proofs::RecordTexts::no_field))]
 fn read_all_prefixes(alloc: Global, fields: &[JarField]) -> Result<Vec<Prefix>, RecordFaultKind>
     ensures ok { IfOk result (λ prefixes. record_words.prefixes_of (record_words.bodies record_words.prefix_name fields.now) ≡ Some prefixes.items) }

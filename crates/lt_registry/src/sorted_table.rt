@@ -61,12 +61,14 @@ impl Lookup for SortedTable {
         self.registry.entries()
     }
 
+    /// The entry that the index of the kind has, or None.
     #[tactic(auto, using(crate::proofs::IndexLemmas::no_entry, crate::proofs::IndexLemmas::no_index))]
     fn entry(&self, kind: Kind, subtag: &Subtag) -> Option<&Entry> {
         let entries = self.registry.entries();
         self.indexes.of_kind(kind)?.find(entries, subtag)
     }
 
+    /// The entry that the index of the whole tags has, or None.
     fn whole(&self, tag: &Tag) -> Option<&Entry> {
         self.indexes.wholes.find(self.registry.entries(), tag)
     }

@@ -41,14 +41,14 @@ pub(crate) fn rank_of(subtag: &Subtag) -> u128
     length * NUMBERS + number_of(subtag) as u128
 }
 
-/// The byte at an index, and zero after the last.
+/// The byte at an index, or zero after the last.
 fn byte_at(bytes: &[u8], index: usize) -> u8
     ensures { result ≡ slice_index_or bytes.now index 0 }
 {
     if index < bytes.len() { bytes[index] } else { 0 }
 }
 
-/// The bytes, and zeros up to eight.
+/// The bytes, and zeros after them up to eight.
 #[tactic(auto, using(crate::proofs::NumberLemmas::filled_by_index))]
 fn filled(bytes: &[u8]) -> [u8; 8]
     requires { length bytes.now ≤ 8 }
@@ -66,7 +66,7 @@ fn filled(bytes: &[u8]) -> [u8; 8]
     ]
 }
 
-/// The numbers of subtags.
+/// The numbers of subtags, at most 256.
 fn numbers_of(subtags: &[Subtag]) -> ArrayVec<u64, 256>
     requires { length subtags.now ≤ 256 }
     ensures { result.items ≡ map sorted.number subtags.now }
@@ -78,7 +78,7 @@ fn numbers_of(subtags: &[Subtag]) -> ArrayVec<u64, 256>
     numbers
 }
 
-/// Whether numbers differ. It sorts them.
+/// Whether all numbers are different. It sorts them.
 fn differ(numbers: &mut [u64]) -> bool
     ensures { result ≡ true → IsDistinct (eq_by_cmp nat_cmp) numbers.old }
 {
@@ -86,7 +86,8 @@ fn differ(numbers: &mut [u64]) -> bool
     numbers.is_sorted_by(|number, next| number < next)
 }
 
-/// Whether a sort of their numbers shows that subtags differ. Of a few it is not asked, nor of more than 256.
+/// Whether subtags are all different, as a sort of their numbers shows. False of fewer than 16 or more than 256, where this
+/// is not tried.
 #[tactic(auto, using(crate::proofs::NumberLemmas::subtags_differ))]
 pub(crate) fn many_differ(subtags: &[Subtag]) -> bool
     ensures { result ≡ true → Distinct subtags.now }

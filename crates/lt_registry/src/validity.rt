@@ -16,8 +16,8 @@ use lt_subtag::Subtag;
 use lt_tag::{Core, Extension, OutOfMemory, Tag, TransformFault, split_t};
 use std::alloc::Global;
 
-/// Whether a tag is valid (RFC 5646, 2.2.9): nothing, or the fault of the least place and, there, of the first
-/// kind. Memory is taken only for the parts of a `t` extension, so `OutOfMemory` comes for no other tag.
+/// Whether a tag is valid (RFC 5646, 2.2.9): Ok if it is, else the fault of the least place and, there, of the first kind.
+/// Memory is taken only for the parts of a `t` extension, so `OutOfMemory` comes for no other tag.
 pub fn validate<L: Lookup>(alloc: Global, table: &L, tag: &Tag) -> Result<(), ValidRefusal>
     ensures ok { OnOk result (HasNoFault (L.listed table.now) tag.now) }
     ensures err { IfErr result (IsRefusal (L.listed table.now) tag.now) }
@@ -38,6 +38,7 @@ pub fn proper<L: Lookup>(alloc: Global, table: &L, tag: &Tag) -> Result<bool, Ou
     }
 }
 
+/// Checks a tag, and refuses it with its first fault. If `may_repeat`, variants that repeat are no fault.
 #[tactic(auto, using(crate::proofs::TagFaultLemmas::tag_core_first, crate::proofs::TagFaultLemmas::tag_extensions_told))]
 fn check_tag<L: Lookup>(
     alloc: Global,
@@ -70,7 +71,7 @@ fn core_length(core: &Core) -> u32
     length as u32
 }
 
-/// Checks a core that begins after this many subtags.
+/// Checks a core that begins after `start` subtags. If `may_repeat`, variants that repeat are no fault.
 #[tactic(auto, unfolding(crate::specs::Checking::core_check))]
 fn check_core<L: Lookup>(
     table: &L,
@@ -109,7 +110,7 @@ fn check_core<L: Lookup>(
     check_variants(table, place, core.variants(), may_repeat)
 }
 
-/// The fault unless a test holds.
+/// Refuses with a fault of this kind and place unless `holds`.
 fn check(holds: bool, kind: ValidFaultKind, place: u32) -> Result<(), ValidFault>
     ensures { result ≡ checking.unless holds kind place }
 {
@@ -120,6 +121,8 @@ fn check(holds: bool, kind: ValidFaultKind, place: u32) -> Result<(), ValidFault
     }
 }
 
+/// Checks the extlangs of a core that begins after `start` subtags: the first is registered, the language is one of its
+/// Prefixes, and there is no second one.
 fn check_extlangs<L: Lookup>(
     table: &L,
     start: u32,
@@ -140,6 +143,8 @@ fn check_extlangs<L: Lookup>(
     )
 }
 
+/// Checks that an extlang has an entry, which is given, and that the language is one of its Prefixes. The core begins after
+/// `start` subtags.
 fn check_prefix(extlang: Option<&Entry>, start: u32, language: &Subtag) -> Result<(), ValidFault>
     requires { start ≤ 1100000 }
     ensures { result ≡ checking.prefix_check start language.now (option_copied extlang.entry) }
@@ -156,6 +161,7 @@ fn check_prefix(extlang: Option<&Entry>, start: u32, language: &Subtag) -> Resul
     }
 }
 
+/// Checks that a script or a region is registered, if there is one. `fault` is the fault of one that isn't, at this place.
 fn check_part<L: Lookup>(
     table: &L,
     kind: Kind,
@@ -171,6 +177,7 @@ fn check_part<L: Lookup>(
     }
 }
 
+/// Checks the variants of a core, of which the first has the place `start`. Unless `may_repeat`, none may occur twice.
 fn check_variants<L: Lookup>(
     table: &L,
     start: u32,
@@ -185,7 +192,8 @@ fn check_variants<L: Lookup>(
     check_each_variant(table, start, variants, differ_or_may_repeat)
 }
 
-/// Checks each variant. Where none may repeat it is looked for among those before it.
+/// Checks one variant after another, of which the first has the place `start`. Unless `may_repeat`, each is looked for among
+/// those before it.
 #[tactic(auto, using(crate::proofs::VariantFaultLemmas::variants_on, crate::proofs::VariantFaultLemmas::variants_stop, crate::proofs::VariantFaultLemmas::variants_end))]
 fn check_each_variant<L: Lookup>(
     table: &L,
@@ -205,7 +213,7 @@ fn check_each_variant<L: Lookup>(
     Ok(())
 }
 
-/// Checks a variant that is after others.
+/// Checks a variant, which has this place and comes after those of `before`. Unless `may_repeat`, it must not be among them.
 fn check_variant<L: Lookup>(
     table: &L,
     place: u32,
@@ -221,7 +229,7 @@ fn check_variant<L: Lookup>(
     check(fits, ValidFaultKind::DuplicateVariant, place)
 }
 
-/// Checks the extensions of a langtag, of which the first has its singleton at a place.
+/// Checks the extensions of a langtag. The singleton of the first has the place `first`.
 #[tactic(auto, using(crate::proofs::TagFaultLemmas::told_extension, crate::proofs::TagFaultLemmas::stepped, crate::proofs::TagFaultLemmas::all_told))]
 fn check_extensions<L: Lookup>(
     alloc: Global,
@@ -257,7 +265,7 @@ fn has_singleton(extensions: &[Extension], singleton: u8) -> bool
         .any(|extension| extension.singleton() == singleton)
 }
 
-/// Checks an extension whose singleton is at a place. Of a `t` extension the source is looked at.
+/// Checks an extension whose singleton has this place. Only of a `t` extension is more looked at: its form and its source.
 fn check_extension<L: Lookup>(
     alloc: Global,
     table: &L,
@@ -281,7 +289,7 @@ fn check_extension<L: Lookup>(
     }
 }
 
-/// Checks the source of a `t` extension whose singleton is at a place.
+/// Checks the source of a `t` extension, if it has one. The extension's singleton has this place.
 fn check_source<L: Lookup>(
     table: &L,
     source: &Option<Core>,

@@ -6,14 +6,14 @@ ghost use Rattle.lt_registry.specs.Validity.{Distinct};
 use crate::subtag_numbers::many_differ;
 use lt_subtag::Subtag;
 
-/// Whether a variant is in a list.
+/// Whether a variant is among others.
 fn stands_in(variants: &[Subtag], variant: &Subtag) -> bool
     ensures { result ≡ checking.stands_in variants.now variant.now }
 {
     variants.contains(variant)
 }
 
-/// Whether none is found among those before it.
+/// Whether no variant is among those before it.
 #[tactic(auto, using(crate::proofs::DistinctTests::repeated_at, crate::proofs::DistinctTests::distinct_further))]
 fn none_repeats(variants: &[Subtag]) -> bool
     ensures { IsTrue result ↔ Distinct variants.now }

@@ -22,7 +22,7 @@ pub(crate) struct WholeIndex {
 }
 
 impl WholeIndex {
-    /// The index of the whole records. It is refused only where memory runs out.
+    /// The index of the records of whole tags. It is refused only where memory runs out.
     pub(crate) fn of_entries(alloc: Global, entries: &[Entry]) -> Result<WholeIndex, AllocError>
         ensures { IfOk result (λ index. sorted.IsWholes entries.now index.rows.items) }
     {
@@ -32,7 +32,7 @@ impl WholeIndex {
         Ok(WholeIndex { rows })
     }
 
-    /// The first whole record of a tag.
+    /// The first record of a whole tag, or None if it has none.
     pub(crate) fn find<'a>(&self, entries: &'a [Entry], tag: &Tag) -> Option<&'a Entry>
         requires { sorted.IsWholes entries.now self.now.rows.items }
         ensures { option_copied result ≡ forms.whole entries.now tag.now }
@@ -48,7 +48,7 @@ impl WholeIndex {
     }
 }
 
-/// The whole records in the order of the file.
+/// The rows of the records of whole tags, in the order of the file.
 fn whole_rows(alloc: Global, entries: &[Entry]) -> Result<Vec<Row>, AllocError>
     ensures { IfOk result (λ rows. sorted.AreRows sorted.whole_row (λ (row : Row). row.place) entries.now (length entries.now) rows.items) }
 {
@@ -61,7 +61,7 @@ fn whole_rows(alloc: Global, entries: &[Entry]) -> Result<Vec<Row>, AllocError>
     Ok(rows)
 }
 
-/// The row of an entry at a place, if it is a whole record.
+/// The row of an entry, which has this place, or None if it isn't of a whole tag.
 fn whole_row(entry: &Entry, place: usize) -> Option<Row>
     ensures { result ≡ sorted.whole_row place entry.now }
 {
@@ -74,7 +74,7 @@ fn whole_row(entry: &Entry, place: usize) -> Option<Row>
     }
 }
 
-/// The number of a tag's language, and 0 for a tag without a core.
+/// The number of the language of a tag, or 0 for a tag without a core.
 fn language_number(tag: &Tag) -> u64
     ensures { result ≡ sorted.language_number tag.now }
 {
@@ -84,7 +84,7 @@ fn language_number(tag: &Tag) -> u64
     }
 }
 
-/// The tag that the record at a place names.
+/// The whole tag that the record at a place names, or None if it names none.
 fn tag_at(entries: &[Entry], place: usize) -> Option<&Tag>
     ensures { option_copied result ≡ sorted.tag_at entries.now place }
 {
@@ -103,13 +103,14 @@ fn compare_keys(entries: &[Entry], one: Row, other: Row) -> Ordering
     })
 }
 
-/// The same order, and of equal tags that of their places.
+/// The order of two records by their languages and tags, and of equal tags by their places.
 fn compare_rows(entries: &[Entry], one: Row, other: Row) -> Ordering
     ensures { result ≡ sorted.whole_cmp entries.now one other }
 {
     compare_keys(entries, one, other).then(one.place.cmp(&other.place))
 }
 
+/// Whether two records are of the same tag.
 fn name_same_tag(entries: &[Entry], one: Row, other: Row) -> bool
     ensures { result ≡ is_eq (sorted.whole_key_cmp (sorted.whole_key entries.now one)
         (sorted.whole_key entries.now other)) }
@@ -117,7 +118,7 @@ fn name_same_tag(entries: &[Entry], one: Row, other: Row) -> bool
     compare_keys(entries, one, other).is_eq()
 }
 
-/// The order of a record and a tag, given the number of the tag's language.
+/// The order of a record and a tag, by their languages and tags. `number` is that of the tag's language.
 fn compare_with(entries: &[Entry], row: Row, number: u64, tag: &Tag) -> Ordering
     ensures { result ≡ sorted.whole_key_cmp (sorted.whole_key entries.now row) (number, Some tag.now) }
 {
@@ -127,7 +128,7 @@ fn compare_with(entries: &[Entry], row: Row, number: u64, tag: &Tag) -> Ordering
     ))
 }
 
-/// No tag comes before any.
+/// The order of two tags, where None comes before any tag.
 fn compare_optional_tags(left: Option<&Tag>, right: Option<&Tag>) -> Ordering
     ensures { result ≡ option_cmp tag_cmp (option_copied left.entry) (option_copied right.entry) }
 {

@@ -21,7 +21,7 @@ use lt_subtag::Subtag;
 use lt_tag::{Core, Extension, OutOfMemory, Tag, copy_extensions, copy_subtags};
 use std::alloc::Global;
 
-/// The value of a whole tag, if it comes from the record of a number.
+/// The preferred value of a whole tag, if its record has this number; else None.
 fn whole_value_by<'a, L: Lookup>(table: &'a L, tag: &Tag, number: u32) -> Option<&'a Tag>
     ensures { MatchOption result
         ((other : TagForm) → IsWholeValueBy (L.listed table.now) tag.now number other → ⊥)
@@ -34,7 +34,7 @@ fn whole_value_by<'a, L: Lookup>(table: &'a L, tag: &Tag, number: u32) -> Option
     tag_value(entry)
 }
 
-/// What a step makes of a whole tag, as its record says.
+/// The tag by which a step replaces a whole tag, as its record says. None if the step doesn't lead anywhere.
 fn change_whole<L: Lookup>(
     alloc: Global,
     table: &L,
@@ -56,7 +56,7 @@ fn change_whole<L: Lookup>(
     }
 }
 
-/// What a step makes of the core of a tag.
+/// The core that a step makes of the core of a tag. None if it leads nowhere.
 fn change_core<L: Lookup>(
     alloc: Global,
     table: &L,
@@ -73,7 +73,7 @@ fn change_core<L: Lookup>(
     }
 }
 
-/// What a step makes of the extensions of a tag, which begin after this many subtags.
+/// The extensions that a step makes of those of a tag. They begin after `start` subtags. None if it leads nowhere.
 fn change_extensions<L: Lookup>(
     alloc: Global,
     table: &L,
@@ -94,7 +94,7 @@ fn change_extensions<L: Lookup>(
     }
 }
 
-/// The core and the extensions that a step makes of those of a langtag.
+/// The core and the extensions that a step makes of those of a langtag. None if it leads nowhere.
 fn change_parts<L: Lookup>(
     alloc: Global,
     table: &L,
@@ -118,7 +118,7 @@ fn change_parts<L: Lookup>(
     }
 }
 
-/// The langtag of these parts, unless it spells a grandfathered tag.
+/// The langtag of these parts. None if it spells a grandfathered tag.
 fn langtag(core: Core, extensions: Vec<Extension>, private: Vec<Subtag>) -> Option<Tag>
     requires few_extensions { length extensions.items ≤ longest_text }
     requires few_private { length private.items ≤ longest_text }
@@ -132,7 +132,7 @@ fn langtag(core: Core, extensions: Vec<Extension>, private: Vec<Subtag>) -> Opti
     Some(Tag::from_parts(core, extensions, private))
 }
 
-/// The tag that a step makes of a tag, whether or not it is proper.
+/// The tag to which a step leads, whether or not it is proper. None if it leads nowhere.
 fn change<L: Lookup>(
     alloc: Global,
     table: &L,

@@ -36,8 +36,8 @@ impl fmt::Display for Cycle {
 
 impl std::error::Error for Cycle {}
 
-/// The value of an entry that follows in a chain of a kind: that of a variant only where it is a
-/// variant.
+/// The value of an entry, if it follows in a chain of values of this kind; else None. In a chain of variants only variants
+/// follow.
 pub(crate) fn following(kind: Kind, entry: &Entry) -> Option<&Subtag>
     ensures { option_copied result ≡ following kind entry.now }
 {
@@ -51,7 +51,7 @@ pub(crate) fn following(kind: Kind, entry: &Entry) -> Option<&Subtag>
     }
 }
 
-/// The value that follows a subtag in a chain.
+/// The value that follows a subtag in a chain of values, or None if the chain ends there.
 pub(crate) fn next_value<'a, L: Lookup>(
     table: &'a L,
     kind: Kind,
@@ -65,7 +65,8 @@ pub(crate) fn next_value<'a, L: Lookup>(
     }
 }
 
-/// Where the chain of a kind ends. It does so within as many values as there are entries, if it ends.
+/// Where the chain of values ends that begins with a subtag. If it ends, it does so within as many values as there are
+/// entries; else it is refused with `Cycle`.
 #[tactic(auto, using(crate::proofs::ChainWalks::walk_ends, crate::proofs::ChainWalks::end_form))]
 pub(crate) fn end_of_chain<L: Lookup>(
     table: &L,
@@ -89,7 +90,7 @@ pub(crate) fn end_of_chain<L: Lookup>(
     }
 }
 
-/// The replacement of an extlang: its value, or itself.
+/// The language that replaces an extlang: its preferred value, or itself if it has none.
 #[tactic(auto, using(crate::proofs::Forms::extlang_is_language))]
 pub(crate) fn replacement<L: Lookup>(table: &L, extlang: &Subtag) -> Subtag
     ensures value { result ≡ entries.replacement (L.listed table.now) extlang.now }

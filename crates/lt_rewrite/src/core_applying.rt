@@ -13,7 +13,7 @@ use lt_registry::{Kind, Lookup};
 use lt_subtag::Subtag;
 use lt_tag::Core;
 
-/// The number of the record of a subtag, and 0 where it has none.
+/// The number of the record of a subtag, or 0 if it has none.
 pub(crate) fn record_number<L: Lookup>(table: &L, kind: Kind, subtag: &Subtag) -> u32
     ensures { result ≡ number_of (entry (L.listed table.now) kind subtag.now) }
 {
@@ -23,7 +23,7 @@ pub(crate) fn record_number<L: Lookup>(table: &L, kind: Kind, subtag: &Subtag) -
     }
 }
 
-/// The value of a subtag, if it comes from the record of a number.
+/// The preferred value of a subtag, if its record has this number; else None.
 fn value_by<'a, L: Lookup>(
     table: &'a L,
     kind: Kind,
@@ -41,7 +41,7 @@ fn value_by<'a, L: Lookup>(
     }
 }
 
-/// How many subtags are before the script.
+/// How many subtags of a core are before its script.
 pub(crate) fn before_script(core: &Core) -> usize
     ensures value { result ≡ faults.before_script core.now }
     ensures few { result ≤ 4 }
@@ -49,7 +49,7 @@ pub(crate) fn before_script(core: &Core) -> usize
     1 + core.extlangs().len()
 }
 
-/// How many subtags are before the region.
+/// How many subtags of a core are before its region.
 pub(crate) fn before_region(core: &Core) -> usize
     ensures value { result ≡ faults.before_region core.now }
     ensures few { result ≤ 5 }
@@ -60,7 +60,7 @@ pub(crate) fn before_region(core: &Core) -> usize
     }
 }
 
-/// How many subtags are before the variants.
+/// How many subtags of a core are before its variants.
 pub(crate) fn before_variants(core: &Core) -> usize
     ensures value { result ≡ faults.before_variants core.now }
     ensures few { result ≤ 6 }
@@ -71,7 +71,7 @@ pub(crate) fn before_variants(core: &Core) -> usize
     }
 }
 
-/// The index of the variant at a place.
+/// The index of the variant at a place, in a core that begins after `start` subtags. None if there is none.
 fn variant_at(core: &Core, start: usize, place: u32) -> Option<usize>
     requires { start ≤ 1200000 }
     ensures { MatchOption result
@@ -86,7 +86,8 @@ fn variant_at(core: &Core, start: usize, place: u32) -> Option<usize>
     Some(place - before)
 }
 
-/// The one extlang's replacement becomes the language.
+/// Takes an Extlang step: the replacement of the only extlang becomes the language. False, and nothing changes, if the core
+/// has no such step. The core begins after `start` subtags.
 fn replace_extlang<L: Lookup>(table: &L, core: &mut Core, start: usize, step: Step) -> bool
     requires kind { step.kind ≡ kinds.Extlang }
     requires few { start ≤ 1200000 }
@@ -107,7 +108,8 @@ fn replace_extlang<L: Lookup>(table: &L, core: &mut Core, start: usize, step: St
     true
 }
 
-/// The language is replaced by its value.
+/// Takes a Language step: the language is replaced by its value. False, and nothing changes, if the core has no such step.
+/// The core begins after `start` subtags.
 fn replace_language<L: Lookup>(table: &L, core: &mut Core, start: usize, step: Step) -> bool
     requires kind { step.kind ≡ kinds.Language }
     requires few { start ≤ 1200000 }
@@ -128,7 +130,8 @@ fn replace_language<L: Lookup>(table: &L, core: &mut Core, start: usize, step: S
     }
 }
 
-/// The script is replaced by its value.
+/// Takes a Script step: the script is replaced by its value. False, and nothing changes, if the core has no such step. The
+/// core begins after `start` subtags.
 fn replace_script<L: Lookup>(table: &L, core: &mut Core, start: usize, step: Step) -> bool
     requires kind { step.kind ≡ kinds.Script }
     requires few { start ≤ 1200000 }
@@ -149,7 +152,8 @@ fn replace_script<L: Lookup>(table: &L, core: &mut Core, start: usize, step: Ste
     }
 }
 
-/// The region is replaced by its value.
+/// Takes a Region step: the region is replaced by its value. False, and nothing changes, if the core has no such step. The
+/// core begins after `start` subtags.
 fn replace_region<L: Lookup>(table: &L, core: &mut Core, start: usize, step: Step) -> bool
     requires kind { step.kind ≡ kinds.Region }
     requires few { start ≤ 1200000 }
@@ -170,7 +174,8 @@ fn replace_region<L: Lookup>(table: &L, core: &mut Core, start: usize, step: Ste
     }
 }
 
-/// A variant is replaced by its value in its place.
+/// Takes a Variant step: a variant is replaced in its place by its value, which is a variant. False, and nothing changes, if
+/// the core has no such step. The core begins after `start` subtags.
 fn replace_variant<L: Lookup>(table: &L, core: &mut Core, start: usize, step: Step) -> bool
     requires kind { step.kind ≡ kinds.Variant }
     requires few { start ≤ 1200000 }
@@ -190,8 +195,9 @@ fn replace_variant<L: Lookup>(table: &L, core: &mut Core, start: usize, step: St
     true
 }
 
-/// A VariantLanguage step: the leftmost variant that has a language as its value, and the core's language as a
-/// Prefix, is dropped, and its value becomes the language.
+/// Takes a VariantLanguage step: the leftmost variant that has a language as its value, and the core's language as a Prefix,
+/// is dropped, and its value becomes the language. False, and nothing changes, if the core has no such step. The core begins
+/// after `start` subtags.
 fn apply_variant_language<L: Lookup>(table: &L, core: &mut Core, start: usize, step: Step) -> bool
     requires kind { step.kind ≡ kinds.VariantLanguage }
     requires few { start ≤ 1200000 }
@@ -214,8 +220,7 @@ fn apply_variant_language<L: Lookup>(table: &L, core: &mut Core, start: usize, s
     true
 }
 
-/// The replacement that a step is, on a core that begins after this many subtags. False where there is
-/// no such replacement.
+/// Takes a step on a core that begins after `start` subtags. False, and nothing changes, if the core has no such step.
 pub(crate) fn apply_to_core<L: Lookup>(table: &L, core: &mut Core, start: usize, step: Step) -> bool
     requires { start ≤ 1200000 }
     ensures { Answers (CoreLeads (L.listed table.now) start core.old step) core.new result }

@@ -16,7 +16,8 @@ use crate::values::value;
 use lt_registry::{Kind, Lookup};
 use lt_tag::{Core, OutOfMemory};
 
-/// The step by which a sole extlang's replacement becomes the language.
+/// The step by which the replacement of the only extlang becomes the language, in a core that begins after `start` subtags.
+/// None if there is not exactly one extlang.
 fn extlang_step<L: Lookup>(table: &L, core: &Core, start: usize) -> Option<Step>
     requires { start ≤ 1200000 }
     ensures { MatchOption result
@@ -33,7 +34,8 @@ fn extlang_step<L: Lookup>(table: &L, core: &Core, start: usize) -> Option<Step>
     })
 }
 
-/// The step by which the language is replaced.
+/// The step by which the language is replaced, in a core that begins after `start` subtags. None if it has no value, or if
+/// there are extlangs.
 fn language_step<L: Lookup>(table: &L, core: &Core, start: usize) -> Option<Step>
     requires { start ≤ 1200000 }
     ensures { MatchOption result
@@ -52,7 +54,8 @@ fn language_step<L: Lookup>(table: &L, core: &Core, start: usize) -> Option<Step
     })
 }
 
-/// The step by which the script is replaced.
+/// The step by which the script is replaced, in a core that begins after `start` subtags. None if there is no script, or if
+/// it has no value.
 fn script_step<L: Lookup>(table: &L, core: &Core, start: usize) -> Option<Step>
     requires { start ≤ 1200000 }
     ensures { MatchOption result
@@ -68,7 +71,8 @@ fn script_step<L: Lookup>(table: &L, core: &Core, start: usize) -> Option<Step>
     })
 }
 
-/// The step by which the region is replaced.
+/// The step by which the region is replaced, in a core that begins after `start` subtags. None if there is no region, or if
+/// it has no value.
 fn region_step<L: Lookup>(table: &L, core: &Core, start: usize) -> Option<Step>
     requires { start ≤ 1200000 }
     ensures { MatchOption result
@@ -84,7 +88,8 @@ fn region_step<L: Lookup>(table: &L, core: &Core, start: usize) -> Option<Step>
     })
 }
 
-/// The step by which the leftmost variant that a variant replaces is replaced.
+/// The step that replaces the leftmost variant whose value is a variant, in a core that begins after `start` subtags. None
+/// if there is no such variant.
 fn variant_step<L: Lookup>(table: &L, core: &Core, start: usize) -> Option<Step>
     requires { start ≤ 1200000 }
     ensures { MatchOption result
@@ -103,8 +108,8 @@ fn variant_step<L: Lookup>(table: &L, core: &Core, start: usize) -> Option<Step>
     None
 }
 
-/// The VariantLanguage step: that of the leftmost variant that has a language as its value, and the core's
-/// language as a Prefix.
+/// The VariantLanguage step: that of the leftmost variant that has a language as its value, and the core's language as a
+/// Prefix. The core begins after `start` subtags. None if there is no such variant, or if there are extlangs.
 fn variant_language_step<L: Lookup>(table: &L, core: &Core, start: usize) -> Option<Step>
     requires { start ≤ 1200000 }
     ensures { MatchOption result
@@ -124,7 +129,7 @@ fn variant_language_step<L: Lookup>(table: &L, core: &Core, start: usize) -> Opt
     })
 }
 
-/// The first step on a core that begins after this many subtags.
+/// The first step on a core that begins after `start` subtags. None if no step leads from it.
 fn first_core_step<L: Lookup>(table: &L, core: &Core, start: usize) -> Option<Step>
     requires { start ≤ 1200000 }
     ensures { MatchOption result
@@ -149,8 +154,8 @@ fn first_core_step<L: Lookup>(table: &L, core: &Core, start: usize) -> Option<St
     variant_language_step(table, core, start)
 }
 
-/// Takes the steps on a core that begins after this many subtags, each the first that leads on, until
-/// none does, and adds them to others. Where it is refused, it may have taken some of them.
+/// Takes the first step on a core, and goes on so until there is none. It adds the steps to `steps`. The core begins after
+/// `start` subtags. Where memory runs out, some of the steps may have been taken.
 pub(crate) fn take_core_steps<L: Lookup>(
     table: &L,
     core: &mut Core,
@@ -169,9 +174,9 @@ pub(crate) fn take_core_steps<L: Lookup>(
     Ok(())
 }
 
-/// Takes the steps on a core that begins after this many subtags, each the first that leads on, until none
-/// does, and adds them to others. It gives back the core to which they lead, and all the steps. The chains of
-/// the registry end, as they do where `first_cycle` is None. The only refusal is running out of memory.
+/// Takes the first step on a core, and goes on so until there is none. It gives back the core to which the steps lead, and
+/// `steps` with them at the end. The core begins after `start` subtags. The chains of the registry end, as they do where
+/// `first_cycle` is None. The only refusal is running out of memory.
 pub fn explain_core<L: Lookup>(
     table: &L,
     mut core: Core,

@@ -20,7 +20,8 @@ use lt_registry::{Kind, Lookup};
 use lt_subtag::Subtag;
 use lt_tag::Core;
 
-/// The end of a chain, in a registry whose chains end, by shortcuts if there are some.
+/// Where the chain of values ends that begins with a subtag, in a registry whose chains end. It is found by shortcuts if
+/// there are some.
 fn certain_end<L: Lookup>(
     table: &L,
     shortcuts: Option<&Shortcuts>,
@@ -42,7 +43,7 @@ fn certain_end<L: Lookup>(
     }
 }
 
-/// Replaces the script by the end of its chain.
+/// Replaces the script, if there is one, by the end of its chain of values.
 #[tactic(auto, using(crate::specs::Rewriting::done))]
 fn settle_script<L: Lookup>(table: &L, shortcuts: Option<&Shortcuts>, core: &mut Core)
     requires chains { All (HasEndingChain (L.listed table.now)) (L.listed table.now) }
@@ -57,7 +58,7 @@ fn settle_script<L: Lookup>(table: &L, shortcuts: Option<&Shortcuts>, core: &mut
     }
 }
 
-/// Replaces the region by the end of its chain.
+/// Replaces the region, if there is one, by the end of its chain of values.
 #[tactic(auto, using(crate::specs::Rewriting::done))]
 fn settle_region<L: Lookup>(table: &L, shortcuts: Option<&Shortcuts>, core: &mut Core)
     requires chains { All (HasEndingChain (L.listed table.now)) (L.listed table.now) }
@@ -87,7 +88,7 @@ fn settle_variants<L: Lookup>(table: &L, shortcuts: Option<&Shortcuts>, core: &m
     }
 }
 
-/// Replaces the language and a sole extlang by the extlang's replacement.
+/// Makes the replacement of a sole extlang the language, in place of both.
 #[tactic(auto, using(crate::specs::Rewriting::done))]
 fn settle_extlang<L: Lookup>(table: &L, core: &mut Core)
     ensures reached { Star (CoreStep (L.listed table.now)) core.old core.new }
@@ -101,7 +102,7 @@ fn settle_extlang<L: Lookup>(table: &L, core: &mut Core)
     }
 }
 
-/// Replaces a language without extlangs by the end of its chain.
+/// Replaces the language of a core without extlangs by the end of its chain of values.
 fn settle_language<L: Lookup>(table: &L, shortcuts: Option<&Shortcuts>, core: &mut Core)
     requires chains { All (HasEndingChain (L.listed table.now)) (L.listed table.now) }
     requires shortcuts { IfSome shortcuts (λ s. AreShortcuts (L.listed table.now) s.now) }
@@ -114,8 +115,8 @@ fn settle_language<L: Lookup>(table: &L, shortcuts: Option<&Shortcuts>, core: &m
     core.set_language(end);
 }
 
-/// The language to which a variant leads beside a language by a VariantLanguage step: its value, if that is a
-/// language and the language beside it one of its Prefixes.
+/// The language to which a variant leads beside a language by a VariantLanguage step: its value, if that is a language and
+/// the language beside it one of its Prefixes. Else None.
 fn variant_language<'a, L: Lookup>(
     table: &'a L,
     language: &Subtag,
@@ -133,8 +134,8 @@ fn variant_language<'a, L: Lookup>(
     }
 }
 
-/// The leftmost variant with a VariantLanguage step: its index, counted from 0, and the language to which it
-/// leads.
+/// The leftmost variant with a VariantLanguage step: its index, counted from 0, and the language to which it leads. None if
+/// no variant has one.
 pub(crate) fn first_variant_language<L: Lookup>(table: &L, core: &Core) -> Option<(usize, Subtag)>
     ensures variant_language { MatchOption result
         (HasNoVariantLanguage (L.listed table.now) core.now)
@@ -149,8 +150,8 @@ pub(crate) fn first_variant_language<L: Lookup>(table: &L, core: &Core) -> Optio
     None
 }
 
-/// Replaces a language without extlangs by the end of its chain; and as long as there is a VariantLanguage
-/// step, takes it, and follows the chain of the new language.
+/// Replaces the language of a core without extlangs by the end of its chain of values. As long as there is a VariantLanguage
+/// step, it takes that, and follows the chain of the new language.
 fn settle_variant_languages<L: Lookup>(table: &L, shortcuts: Option<&Shortcuts>, core: &mut Core)
     requires chains { All (HasEndingChain (L.listed table.now)) (L.listed table.now) }
     requires shortcuts { IfSome shortcuts (λ s. AreShortcuts (L.listed table.now) s.now) }
@@ -170,8 +171,8 @@ fn settle_variant_languages<L: Lookup>(table: &L, shortcuts: Option<&Shortcuts>,
     }
 }
 
-/// Replaces each of at most 256 variants by the end of its chain of variants, by shortcuts, and gives the places of
-/// their entries.
+/// Replaces each of at most 256 variants by the end of its chain of variants, by shortcuts. It gives the places of the
+/// entries of these ends.
 #[tactic(auto, using(crate::proofs::CoreSettling::none_settled, crate::proofs::CoreSettling::all_final))]
 fn settle_few_variants<L: Lookup>(
     table: &L,
@@ -195,7 +196,9 @@ fn settle_few_variants<L: Lookup>(
     places
 }
 
-/// Replaces the language and at most 256 variants so, by shortcuts: each variant is looked up once.
+/// Replaces the variants, at most 256, by the ends of their chains of variants, and the language by the end of its chain,
+/// also after each VariantLanguage step, which it takes as long as there is one. By shortcuts, each variant is looked up
+/// once.
 fn settle_few_variant_languages<L: Lookup>(table: &L, shortcuts: &Shortcuts, core: &mut Core)
     requires chains { All (HasEndingChain (L.listed table.now)) (L.listed table.now) }
     requires shortcuts { AreShortcuts (L.listed table.now) shortcuts.now }
@@ -217,8 +220,9 @@ fn settle_few_variant_languages<L: Lookup>(table: &L, shortcuts: &Shortcuts, cor
     }
 }
 
-/// Replaces the language and any variants so. Without shortcuts, and of few or very many, each is looked up again for
-/// each language.
+/// Replaces the variants by the ends of their chains of variants, and the language by the end of its chain, also after each
+/// VariantLanguage step, which it takes as long as there is one. Without shortcuts, or with fewer than 16 or more than 256
+/// variants, each is looked up again for each language.
 #[tactic(auto, using(crate::proofs::Stars::star_trans))]
 fn settle_all_variant_languages<L: Lookup>(
     table: &L,

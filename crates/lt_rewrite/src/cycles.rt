@@ -18,7 +18,7 @@ enum Order {
 }
 
 impl Order {
-    /// The place of a number in the order.
+    /// The place of the record of a number in the order.
     #[tactic(auto, unfolding(crate::specs::Cycles::place))]
     fn place(self, number: u32) -> u32
         ensures { result ≡ place self number }
@@ -30,8 +30,8 @@ impl Order {
     }
 }
 
-/// Whether the chain from a record's value ends, or comes to a record before it in an order. It
-/// does neither only where it has no end.
+/// Whether the chain of values from a record's value ends, or comes to a record that is before this one in an order. False
+/// only if it has no end.
 fn ends_or_falls<L: Lookup>(table: &L, order: Order, entry: &Entry) -> bool
     ensures { MatchBool result (EndsAfterEarlier (L.listed table.now) order entry.now) (HasEndingChain (L.listed table.now) entry.now → ⊥) }
 {
@@ -56,7 +56,7 @@ fn ends_or_falls<L: Lookup>(table: &L, order: Order, entry: &Entry) -> bool
     next_value(table, kind, &subtag).is_none()
 }
 
-/// Whether the chain of each record ends.
+/// Whether the chain of values from each record's value ends.
 fn all_end<L: Lookup>(table: &L) -> bool
     ensures { MatchBool result (All (HasEndingChain (L.listed table.now)) (L.listed table.now)) (All (HasEndingChain (L.listed table.now)) (L.listed table.now) → ⊥) }
 {
@@ -68,7 +68,7 @@ fn all_end<L: Lookup>(table: &L) -> bool
     true
 }
 
-/// The number of the first record in the file whose chain has no end.
+/// The number of the first record in the file from which the chain of values has no end. None if each chain ends.
 fn first_endless<L: Lookup>(table: &L) -> Option<u32>
     ensures { MatchOption result (All (HasEndingChain (L.listed table.now)) (L.listed table.now)) (IsFirstCycle (L.listed table.now)) }
 {

@@ -15,7 +15,7 @@ use lt_registry::Lookup;
 use lt_tag::{Extension, OutOfMemory, TransformFault, join_t, join_u, split_t, split_u};
 use std::alloc::Global;
 
-/// What a step makes of a `u` extension whose singleton is at a place.
+/// The `u` extension that a step makes of one whose singleton has the place `start`. None if the step leads nowhere.
 fn apply_in_unicode(
     alloc: Global,
     extension: &Extension,
@@ -33,7 +33,7 @@ fn apply_in_unicode(
     Ok(Some(join_u(alloc, &parts)?))
 }
 
-/// What a step makes of a `t` extension whose singleton is at a place.
+/// The `t` extension that a step makes of one whose singleton has the place `start`. None if the step leads nowhere.
 fn apply_in_transform<L: Lookup>(
     alloc: Global,
     table: &L,
@@ -58,8 +58,8 @@ fn apply_in_transform<L: Lookup>(
     Ok(Some(join_t(alloc, &parts)?))
 }
 
-/// What a step makes of an extension whose singleton is at a place. Other extensions than `u` and
-/// `t` have no steps.
+/// The extension that a step makes of one whose singleton has the place `start`. None if the step leads nowhere, as on all
+/// extensions but `u` and `t`.
 fn apply_to_extension<L: Lookup>(
     alloc: Global,
     table: &L,
@@ -80,8 +80,8 @@ fn apply_to_extension<L: Lookup>(
     Ok(None)
 }
 
-/// The index of an extension inside which a step acts, and what it makes of it. The extensions begin
-/// after this many subtags.
+/// The index of the extension inside which a step acts, and what it makes of that. None if it acts inside none. The
+/// extensions begin after `start` subtags.
 fn find_change<L: Lookup>(
     alloc: Global,
     table: &L,
@@ -104,7 +104,8 @@ fn find_change<L: Lookup>(
     Ok(None)
 }
 
-/// Two neighbouring extensions change places.
+/// Takes a SwapExtensions step: two neighbouring extensions change places. False, and nothing changes, if there is no such
+/// step. The extensions begin after `start` subtags.
 #[tactic(auto, using(crate::proofs::ExtensionLeading::swaps_answers))]
 fn swap_extensions(extensions: &mut Vec<Extension>, start: usize, step: Step) -> bool
     requires kind { step.kind ≡ kinds.SwapExtensions }
@@ -117,8 +118,7 @@ fn swap_extensions(extensions: &mut Vec<Extension>, start: usize, step: Step) ->
     swap_at(extensions, start, step.place)
 }
 
-/// The step that a step is, on extensions that begin after this many subtags. False where there is no
-/// such step.
+/// Takes a step on extensions that begin after `start` subtags. False, and nothing changes, if there is no such step.
 pub(crate) fn apply_to_extensions<L: Lookup>(
     alloc: Global,
     table: &L,

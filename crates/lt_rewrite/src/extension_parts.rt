@@ -10,6 +10,7 @@ use lt_tag::Extension;
 impl Spelled for Extension {
     ghost spell = { spell_extension };
 
+    /// One for the singleton, and its subtags.
     fn subtag_count(&self) -> usize {
         1 + self.subtags().len()
     }

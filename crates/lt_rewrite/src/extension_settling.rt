@@ -15,7 +15,7 @@ use lt_registry::Lookup;
 use lt_tag::{Keyword, OutOfMemory, TParts, UParts};
 use std::alloc::Global;
 
-/// Drops a sole type `true`.
+/// Takes the types from a keyword if they are exactly `true`.
 fn drop_true(keyword: &mut Keyword)
     ensures { keyword.new ≡ untrue keyword.old }
 {
@@ -63,6 +63,7 @@ pub(crate) fn settle_transform<L: Lookup>(
     ensures shaped { IsT parts.old → IsT parts.new }
     ensures few { length (spell_t parts.new) ≤ length (spell_t parts.old) }
 {
+    // So that the forms of the entries are known.
     recall_forms(table);
     put_in_order(&mut parts.fields, false);
     if let Some(source) = &mut parts.source {

@@ -36,7 +36,8 @@ fn subtags_before(extensions: &[Extension], index: usize) -> usize
     count
 }
 
-/// What the `u` extension comes to by its steps, and its index. The extensions begin after this many subtags.
+/// The index of the `u` extension and what it comes to by its steps, which are added to `steps`. None if there is no such
+/// extension. The extensions begin after `start` subtags.
 #[tactic(auto, using(crate::proofs::ExtensionRuns::few_before))]
 fn explained_unicode(
     alloc: Global,
@@ -56,7 +57,8 @@ fn explained_unicode(
     Ok(Some((index, join_u(alloc, &parts)?)))
 }
 
-/// What the `t` extension comes to by its steps, and its index. The extensions begin after this many subtags.
+/// The index of the `t` extension and what it comes to by its steps, which are added to `steps`. None if there is no such
+/// extension. The extensions begin after `start` subtags.
 #[tactic(auto, using(crate::proofs::ExtensionRuns::few_before))]
 fn explained_transform<L: Lookup>(
     alloc: Global,
@@ -79,15 +81,16 @@ fn explained_transform<L: Lookup>(
         Err(TransformFault::OutOfMemory) => return Err(OutOfMemory),
         Err(TransformFault::BadTransform) => unreachable!(),
     };
+    // So that the forms of the entries are known.
     recall_forms(table);
     explain_t(table, &mut parts, place, steps)?;
     Ok(Some((index, join_t(alloc, &parts)?)))
 }
 
-/// Takes the steps on extensions that begin after this many subtags, each the first that leads on,
-/// until none does, and adds them to others. It gives back the extensions to which they lead, and
-/// all the steps. Each singleton occurs once, a `t` extension has the form of one, and the chains of
-/// the registry end, as they do where `first_cycle` is None. It is refused only where memory runs out.
+/// Takes the first step on a list of extensions, and goes on so until there is none. It gives back the extensions to which
+/// the steps lead, and `steps` with them at the end. The extensions begin after `start` subtags. Each singleton occurs once,
+/// a `t` extension has the form of one, and the chains of the registry end, as they do where `first_cycle` is None. It is
+/// refused only where memory runs out.
 pub fn explain_extensions<L: Lookup>(
     alloc: Global,
     table: &L,

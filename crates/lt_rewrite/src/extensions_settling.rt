@@ -18,7 +18,7 @@ use lt_registry::Lookup;
 use lt_tag::{Extension, OutOfMemory, TransformFault, join_t, join_u, split_t, split_u};
 use std::alloc::Global;
 
-/// Where the first extension of a singleton is.
+/// The index of the first extension of a singleton, or None if there is none.
 pub(crate) fn place_of(extensions: &[Extension], singleton: u8) -> Option<usize>
     ensures { result ≡ position (λ (e : ExtensionParts). e.singleton == singleton) extensions.now }
 {
@@ -27,7 +27,7 @@ pub(crate) fn place_of(extensions: &[Extension], singleton: u8) -> Option<usize>
         .position(|extension| extension.singleton() == singleton)
 }
 
-/// The normal form of the `u` extension, and where that is.
+/// The index of the `u` extension, and its normal form. None if there is no such extension.
 #[tactic(auto, using(crate::proofs::ExtensionLaws::none_there))]
 fn settled_unicode(
     alloc: Global,
@@ -43,7 +43,7 @@ fn settled_unicode(
     Ok(Some((place, join_u(alloc, &parts)?)))
 }
 
-/// The normal form of the `t` extension, and where that is.
+/// The index of the `t` extension, and its normal form. None if there is no such extension.
 #[tactic(auto, using(crate::proofs::ExtensionLaws::none_there))]
 fn settled_transform<L: Lookup>(
     alloc: Global,
@@ -64,12 +64,13 @@ fn settled_transform<L: Lookup>(
         Err(TransformFault::OutOfMemory) => return Err(OutOfMemory),
         Err(TransformFault::BadTransform) => unreachable!(),
     };
+    // So that the forms of the entries are known.
     recall_forms(table);
     settle_transform(table, shortcuts, &mut parts);
     Ok(Some((place, join_t(alloc, &parts)?)))
 }
 
-/// Puts a settled extension in its place.
+/// Puts an extension in place of the one at its index, if one is given.
 pub(crate) fn put_back(extensions: &mut Vec<Extension>, settled: Option<(usize, Extension)>)
     requires { IfSome settled (λ settled. settled.0 < length extensions.old.items) }
     ensures { extensions.new.items ≡ placed settled extensions.old.items }

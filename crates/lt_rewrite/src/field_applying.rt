@@ -21,7 +21,7 @@ pub fn core_length(core: &Core) -> usize
     before_variants(core) + core.variants().len()
 }
 
-/// How many subtags a source has.
+/// How many subtags a source has: none if there is no source.
 pub(crate) fn source_length(source: &Option<Core>) -> usize
     ensures value { result ≡ length (spell_source source.now) }
     ensures few { result ≤ 1030 }
@@ -32,7 +32,8 @@ pub(crate) fn source_length(source: &Option<Core>) -> usize
     }
 }
 
-/// Two neighbouring fields change places.
+/// Takes a SwapFields step: two neighbouring fields change places. False, and nothing changes, if there is no such step. The
+/// extension's singleton has the place `start`.
 fn swap_fields(parts: &mut TParts, start: usize, step: Step) -> bool
     requires kind { step.kind ≡ kinds.SwapFields }
     requires few { start + length (spell_t parts.old) ≤ 1200000 }
@@ -45,8 +46,8 @@ fn swap_fields(parts: &mut TParts, start: usize, step: Step) -> bool
     swap_at(&mut parts.fields, first_field, step.place)
 }
 
-/// The step that a step is, on the parts of a `t` extension whose singleton is at a place. False
-/// where there is no such step.
+/// Takes a step on the parts of a `t` extension whose singleton has the place `start`. False, and nothing changes, if there
+/// is no such step.
 pub(crate) fn apply_to_transform<L: Lookup>(
     table: &L,
     parts: &mut TParts,

@@ -26,6 +26,7 @@ pub(crate) trait Spelled: Part {
 impl Spelled for Subtag {
     ghost spell = { λ a. a ∷ [] };
 
+    /// One subtag.
     fn subtag_count(&self) -> usize {
         1
     }
@@ -37,6 +38,7 @@ impl Spelled for Subtag {
 impl Spelled for Keyword {
     ghost spell = { spell_keyword };
 
+    /// The key and its types.
     fn subtag_count(&self) -> usize {
         1 + self.types.len()
     }
@@ -48,6 +50,7 @@ impl Spelled for Keyword {
 impl Spelled for Field {
     ghost spell = { spell_field };
 
+    /// The separator and its values.
     fn subtag_count(&self) -> usize {
         1 + self.values.len()
     }
@@ -55,8 +58,8 @@ impl Spelled for Field {
     ghost some = { λ f. zero-lt-suc (length f.values) };
 }
 
-/// The index of the part whose first subtag is at a place, in a list that begins after this many
-/// subtags.
+/// The index of the part whose first subtag has this place, in a list that begins after `start` subtags. None if there is
+/// none.
 pub(crate) fn index_at<P: Spelled>(parts: &[P], start: usize, place: u32) -> Option<usize>
     requires { start + length (flat_map P.spell parts.now) < 2 ^ 32 }
     ensures { MatchOption result
@@ -73,7 +76,7 @@ pub(crate) fn index_at<P: Spelled>(parts: &[P], start: usize, place: u32) -> Opt
     None
 }
 
-/// Whether the like of the part at an index is before it.
+/// Whether a part that is equal in the order to the part at an index is before it.
 pub(crate) fn has_like<P: Part>(parts: &[P], index: usize) -> bool
     requires { index < length parts.now }
     ensures { MatchBool result (HasLike P.order parts.now index) (HasLike P.order parts.now index → ⊥) }
@@ -86,8 +89,8 @@ pub(crate) fn has_like<P: Part>(parts: &[P], index: usize) -> bool
     false
 }
 
-/// The part whose first subtag is at a place changes places with the next, if they are in falling
-/// order. The list begins after this many subtags.
+/// Exchanges the part whose first subtag has this place and the next one, if they are in falling order. False, and nothing
+/// changes, if there is no such part. The list begins after `start` subtags.
 pub(crate) fn swap_at<P: Spelled>(parts: &mut Vec<P>, start: usize, place: u32) -> bool
     requires { start + length (flat_map P.spell parts.old.items) < 2 ^ 32 }
     ensures { Answers (SwapLeads P.order P.spell start place parts.old.items) parts.new.items result }
@@ -107,8 +110,8 @@ pub(crate) fn swap_at<P: Spelled>(parts: &mut Vec<P>, start: usize, place: u32) 
     }
 }
 
-/// The part whose first subtag is at a place is dropped, if its like is before it. The list begins after this
-/// many subtags.
+/// Drops the part whose first subtag has this place, if an equal one in the order is before it. False, and nothing changes,
+/// if there is no such part. The list begins after `start` subtags.
 pub(crate) fn drop_at<P: Spelled>(parts: &mut Vec<P>, start: usize, place: u32) -> bool
     requires { start + length (flat_map P.spell parts.old.items) < 2 ^ 32 }
     ensures { Answers (DropLeads P.order P.spell start place parts.old.items) parts.new.items result }

@@ -55,8 +55,8 @@ impl Shortcuts {
         })
     }
 
-    /// The subtag as many values on from a subtag as there are records: the end of its chain, if it
-    /// has one.
+    /// The subtag that is as many values on from a subtag as there are records: the end of its chain of values, if that has
+    /// one.
     #[tactic(auto, using(std::proofs::lemmas::Option::slice_get_within, crate::proofs::ChainWalks::entry_there, crate::proofs::ShortcutWalks::onward_rest, crate::proofs::ShortcutWalks::entry_next, crate::proofs::ShortcutWalks::none_follows, crate::proofs::ChainWalks::next_by, crate::proofs::ShortcutWalks::led_to, crate::proofs::ShortcutWalks::led_far, crate::proofs::ShortcutWalks::some_follows))]
     fn further<'a, L: Lookup>(&self, table: &'a L, kind: Kind, subtag: &'a Subtag) -> &'a Subtag
         requires { AreShortcuts (L.listed table.now) self.now }
@@ -77,7 +77,7 @@ impl Shortcuts {
         }
     }
 
-    /// Where the chain of a kind ends.
+    /// Where the chain of values ends that begins with a subtag, or `Cycle` if it has no end.
     pub(crate) fn end_of_chain<L: Lookup>(
         &self,
         table: &L,
@@ -96,7 +96,7 @@ impl Shortcuts {
         }
     }
 
-    /// Where the chain of a kind ends, in a registry whose chains end.
+    /// Where the chain of values ends that begins with a subtag, in a registry whose chains end.
     pub(crate) fn certain_end<L: Lookup>(&self, table: &L, kind: Kind, subtag: &Subtag) -> Subtag
         requires chains { All (HasEndingChain (L.listed table.now)) (L.listed table.now) }
         requires shortcuts { AreShortcuts (L.listed table.now) self.now }
@@ -106,7 +106,7 @@ impl Shortcuts {
         self.further(table, kind, subtag).copy()
     }
 
-    /// Whether the chain of values from a record's value ends.
+    /// Whether the chain of values from a record's value ends. True of a record without value.
     pub fn has_end<L: Lookup>(&self, table: &L, entry: &Entry) -> bool
         requires { AreShortcuts (L.listed table.now) self.now }
         ensures { IsTrue result ↔ HasEndingChain (L.listed table.now) entry.now }
@@ -165,7 +165,7 @@ impl Shortcuts {
     }
 }
 
-/// The place of one of the entries, at once where their numbers follow on one another.
+/// The place of an entry among the entries of a table. It is told at once where their numbers follow on one another.
 pub(crate) fn place_of(entries: &[Entry], entry: &Entry) -> usize
     requires rising { NumbersRise entries.now }
     requires there { Contains entries.now entry.now }
@@ -179,8 +179,8 @@ pub(crate) fn place_of(entries: &[Entry], entry: &Entry) -> usize
     }
 }
 
-/// The place of the entry of the value that follows an entry at a place, or its own place where that
-/// value is the last.
+/// The place of the entry of the value that follows an entry, if a further value follows that one; else the entry's own
+/// place.
 #[tactic(auto, using(std::proofs::lemmas::Option::slice_get_within, crate::proofs::ChainWalks::entry_there, crate::proofs::ShortcutWalks::to_itself, crate::proofs::ShortcutWalks::to_next, crate::proofs::ChainWalks::next_by))]
 fn next_place<L: Lookup>(table: &L, entry: &Entry, place: usize) -> usize
     requires { slice_get (L.listed table.now) place ≡ Some entry.now }
@@ -199,7 +199,7 @@ fn next_place<L: Lookup>(table: &L, entry: &Entry, place: usize) -> usize
     }
 }
 
-/// The shortcut of each entry to the next on its chain.
+/// For each entry, the place to which its shortcut of one value leads.
 fn first_places<L: Lookup>(alloc: Global, table: &L) -> Result<Vec<usize>, AllocError>
     ensures { IfOk result (λ places. LeadOn (L.listed table.now) 1 places.items) }
 {
@@ -210,7 +210,7 @@ fn first_places<L: Lookup>(alloc: Global, table: &L) -> Result<Vec<usize>, Alloc
     Ok(places)
 }
 
-/// The shortcut of each entry to as many values on as there are entries.
+/// For each entry, the place to which its shortcut leads over as many values as there are entries.
 fn last_places<L: Lookup>(alloc: Global, table: &L) -> Result<Vec<usize>, AllocError>
     ensures { IfOk result (λ places. LeadOn (L.listed table.now) (length (L.listed table.now)) places.items) }
 {

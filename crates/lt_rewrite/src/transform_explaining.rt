@@ -15,8 +15,8 @@ use crate::steps::{Step, StepKind};
 use lt_registry::Lookup;
 use lt_tag::{OutOfMemory, TParts};
 
-/// Takes the steps on the source of a `t` extension whose singleton is at a place, each the first
-/// that leads on, until none does, and adds them to others. Where there is no source, there are none.
+/// Takes the first step on the source of a `t` extension, and goes on so until there is none. It adds the steps to `steps`;
+/// without a source there are none. The extension's singleton has the place `start`.
 fn explain_source<L: Lookup>(
     table: &L,
     parts: &mut TParts,
@@ -35,8 +35,8 @@ fn explain_source<L: Lookup>(
     take_core_steps(table, source, start, steps)
 }
 
-/// Takes the steps on the parts of a `t` extension whose singleton is at a place, each the first
-/// that leads on, until none does, and adds them to others. The chains of the registry end.
+/// Takes the first step on the parts of a `t` extension, and goes on so until there is none. It adds the steps to `steps`.
+/// The extension's singleton has the place `start`. The chains of the registry end.
 pub(crate) fn explain_t<L: Lookup>(
     table: &L,
     parts: &mut TParts,
@@ -49,6 +49,7 @@ pub(crate) fn explain_t<L: Lookup>(
     ensures at_rest { IfOk result (λ _. NoneLeads (TransformLeads (L.listed table.now) start parts.new)) }
     ensures shaped { IfOk result (λ _. IsT parts.old → IsT parts.new) }
 {
+    // So that the forms of the entries are known.
     recall_forms(table);
     explain_source(table, parts, start, steps)?;
     let first_field = start + source_length(&parts.source);

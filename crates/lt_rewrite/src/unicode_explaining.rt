@@ -11,8 +11,8 @@ use crate::part_explaining::{explain_drops, explain_swaps};
 use crate::steps::{Step, StepKind};
 use lt_tag::{Keyword, OutOfMemory, UParts};
 
-/// Takes the types of the leftmost keyword whose types are exactly `true`, as long as there is one.
-/// The list begins after this many subtags.
+/// Takes the types from the leftmost keyword whose types are exactly `true`, until there is none. It adds the steps to
+/// `steps`. The keywords begin after `start` subtags.
 fn drop_trues(
     keywords: &mut Vec<Keyword>,
     start: usize,
@@ -37,8 +37,8 @@ fn drop_trues(
     Ok(())
 }
 
-/// Takes the steps on the parts of a `u` extension whose singleton is at a place, each the first
-/// that leads on, until none does, and adds them to others.
+/// Takes the first step on the parts of a `u` extension, and goes on so until there is none. It adds the steps to `steps`.
+/// The extension's singleton has the place `start`.
 pub(crate) fn explain_u(
     parts: &mut UParts,
     start: usize,

@@ -11,7 +11,7 @@ use lt_registry::{Entry, EntryName, EntryValue, Kind, Lookup};
 use lt_subtag::Subtag;
 use lt_tag::{Class, Tag};
 
-/// The one subtag that an entry gives as its value, if it has such a value.
+/// The one subtag that an entry has as its preferred value, or None if it has no such value.
 pub fn one_value(entry: &Entry) -> Option<&Subtag>
     ensures value { option_copied result ≡ one_of entry.now.value }
     ensures form { IfSome result (λ value. has_value_form entry.now.kind value.now ≡ true) }
@@ -22,7 +22,7 @@ pub fn one_value(entry: &Entry) -> Option<&Subtag>
     }
 }
 
-/// The whole tag that an entry gives as its value, if it has such a value.
+/// The whole tag that an entry has as its preferred value, or None if it has no such value.
 pub fn tag_value(entry: &Entry) -> Option<&Tag>
     ensures { option_copied result ≡ tag_of entry.now.value }
 {
@@ -32,7 +32,7 @@ pub fn tag_value(entry: &Entry) -> Option<&Tag>
     }
 }
 
-/// The tag and the value of a whole record that has a value. Other records give none.
+/// The tag and the preferred value of a record of a whole tag. None of a record without value, and of any other.
 pub fn tag_and_value(entry: &Entry) -> Option<(&Tag, &Tag)>
     ensures { MatchOption result
         ((t u : TagForm) → entry.now.name ≡ names.Whole t → tag_of entry.now.value ≡ Some u → ⊥)
@@ -44,7 +44,7 @@ pub fn tag_and_value(entry: &Entry) -> Option<(&Tag, &Tag)>
     }
 }
 
-/// Whether a value of a variant is a language: it has at most 3 letters.
+/// Whether the preferred value of a variant is a language: it has at most 3 letters.
 pub fn is_short(subtag: &Subtag) -> bool
     ensures { result ≡ entries.is_short subtag.now }
 {
@@ -58,7 +58,7 @@ pub fn is_registered<L: Lookup>(table: &L, kind: Kind, subtag: &Subtag) -> bool
     table.entry(kind, subtag).is_some()
 }
 
-/// The value of a subtag under a kind, if it is registered and has one.
+/// The preferred value of a subtag under a kind. None if it is not registered, or has none.
 pub fn value<'a, L: Lookup>(table: &'a L, kind: Kind, subtag: &Subtag) -> Option<&'a Subtag>
     ensures value { option_copied result ≡ entries.preferred_value (L.listed table.now) kind subtag.now }
     ensures form { IfSome result (λ value. has_value_form kind value.now ≡ true) }
@@ -69,7 +69,7 @@ pub fn value<'a, L: Lookup>(table: &'a L, kind: Kind, subtag: &Subtag) -> Option
     }
 }
 
-/// The value of a tag by its whole record, if it has both.
+/// The preferred value of a whole tag. None if the tag has no record, or the record has no value.
 pub fn whole_value<'a, L: Lookup>(table: &'a L, tag: &Tag) -> Option<&'a Tag>
     ensures { option_copied result ≡ entries.whole_value (L.listed table.now) tag.now }
 {
@@ -79,7 +79,7 @@ pub fn whole_value<'a, L: Lookup>(table: &'a L, tag: &Tag) -> Option<&'a Tag>
     }
 }
 
-/// Whether a tag can be replaced whole: it is grandfathered, or a langtag and a core alone.
+/// Whether a tag can be replaced as a whole: it is grandfathered, or a langtag without extensions and private use.
 pub fn can_be_replaced_whole(tag: &Tag) -> bool
     ensures { MatchBool result (CanBeReplacedWhole tag.now) (CanBeReplacedWhole tag.now → ⊥) }
 {
@@ -90,7 +90,7 @@ pub fn can_be_replaced_whole(tag: &Tag) -> bool
     }
 }
 
-/// Whether a variant has a language as its value.
+/// Whether a variant is registered with a language as its preferred value.
 pub fn has_language_value<L: Lookup>(table: &L, variant: &Subtag) -> bool
     ensures { result ≡ is_some (language_value (L.listed table.now) variant.now) }
 {

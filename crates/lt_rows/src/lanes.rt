@@ -10,7 +10,7 @@ use std::simd::prelude::*;
 /// So many bytes are looked at together.
 pub(crate) const LANES: usize = 64;
 
-/// Where such a byte is among the first 64 of a text: bit k is set where it is at place k.
+/// Where a byte is among the first 64 of a text: bit k is set where it is at place k.
 #[inline(always)]
 fn bits_of(byte: u8, text: &[u8]) -> u64
     requires { 64 ≤ length text.now }
@@ -21,7 +21,7 @@ fn bits_of(byte: u8, text: &[u8]) -> u64
         .to_bitmask()
 }
 
-/// How many of the first 64 bytes of a text are this one.
+/// How many of the first 64 bytes of a text are equal to `byte`.
 #[inline(always)]
 fn count_in_lanes(byte: u8, text: &[u8]) -> usize
     requires { 64 ≤ length text.now }
@@ -33,7 +33,7 @@ fn count_in_lanes(byte: u8, text: &[u8]) -> usize
         .count_ones() as usize
 }
 
-/// The bits below this one.
+/// The lowest `count` of the bits.
 #[inline(always)]
 fn bits_below(bits: u64, count: usize) -> u64
     requires { count < 64 }
@@ -42,7 +42,7 @@ fn bits_below(bits: u64, count: usize) -> u64
     bits & ((1 << count) - 1)
 }
 
-/// Where such a byte is in a row, the first `count` bytes of a text.
+/// Where a byte is in a row: bit k is set where it is at place k. The row is the first `count` bytes of `text`.
 #[inline(always)]
 pub(crate) fn bits_in(byte: u8, text: &[u8], count: usize) -> u64
     requires { (count < 64) × (64 ≤ length text.now) }
@@ -51,7 +51,7 @@ pub(crate) fn bits_in(byte: u8, text: &[u8], count: usize) -> u64
     bits_below(bits_of(byte, text), count)
 }
 
-/// Takes the lowest of the bits, if one is set: the next place of a byte in a row.
+/// Clears the lowest bit that is set and gives its place: the next place of a byte in a row. None if no bit is set.
 #[inline(always)]
 pub(crate) fn take_lowest(bits: &mut u64) -> Option<usize>
     ensures next { (byte start : ℕ) (row : List ℕ) → AreBitsFrom byte start row bits.old → IsNextPlace byte start row result }
@@ -67,8 +67,8 @@ pub(crate) fn take_lowest(bits: &mut u64) -> Option<usize>
     Some(lowest)
 }
 
-/// How many of the first bytes of a text have neither of these bytes among them. They are looked at in blocks of 64, up to
-/// the first that has one.
+/// A length such that neither byte is among so many first bytes of a text. They are looked at in blocks of 64, up to the
+/// first that has one of the two.
 pub(crate) fn free_front(one: u8, other: u8, text: &[u8]) -> usize
     ensures inside { result ≤ length text.now }
     ensures free { IsFreeOf one (take result text.now) × IsFreeOf other (take result text.now) }
@@ -84,14 +84,14 @@ pub(crate) fn free_front(one: u8, other: u8, text: &[u8]) -> usize
     at
 }
 
-/// How many of the bytes of a text are this one, which are counted one by one.
+/// How many bytes of a text are equal to `byte`, counted one by one.
 fn count_each(byte: u8, text: &[u8]) -> usize
     ensures { result ≡ count_by (λ other. other == byte) text.now }
 {
     text.iter().filter(|other| **other == byte).count()
 }
 
-/// How many of the bytes of a text are this one: 2 of `a-b-c` are hyphens. They are counted in blocks of 64.
+/// How many bytes of a text are equal to `byte`: 2 of `a-b-c` are hyphens. They are counted in blocks of 64.
 pub fn count_of(byte: u8, text: &[u8]) -> usize
     ensures { result ≡ count_by (λ other. other == byte) text.now }
 {

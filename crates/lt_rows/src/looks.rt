@@ -50,7 +50,7 @@ pub struct Lacks {
     pub quotes: bool,
 }
 
-/// Whether such a byte is nowhere in a text.
+/// Whether a text doesn't have this byte.
 fn is_free_of(byte: u8, text: &[u8]) -> bool
     ensures { IsTrue result ↔ IsFreeOf byte text.now }
 {
@@ -60,7 +60,7 @@ fn is_free_of(byte: u8, text: &[u8]) -> bool
     }
 }
 
-/// Whether such a byte is nowhere in a text, of which the first `front` bytes are known to lack it.
+/// Whether a text doesn't have this byte, of which its first `front` bytes are known to be free.
 fn is_free_from(byte: u8, text: &[u8], front: usize) -> bool
     requires { (front ≤ length text.now) × IsFreeOf byte (take front text.now) }
     ensures { IsTrue result ↔ IsFreeOf byte text.now }
@@ -68,7 +68,7 @@ fn is_free_from(byte: u8, text: &[u8], front: usize) -> bool
     is_free_of(byte, &text[front..])
 }
 
-/// Which bytes a text lacks.
+/// Whether a text lacks carriage returns, and whether it lacks quotes.
 pub fn lacks_of(text: &[u8]) -> Lacks
     ensures { AreLackedIn text.now result }
 {
@@ -79,7 +79,8 @@ pub fn lacks_of(text: &[u8]) -> Lacks
     }
 }
 
-/// Whether the first `count` bytes of a text are a record without line feeds and carriage returns.
+/// Whether the first `count` bytes of a text are a record of CSV without line feeds and carriage returns. If `lacks` says
+/// that there are no carriage returns, they are not looked at.
 #[inline(always)]
 fn is_plain_line(separator: Separator, lacks: Lacks, text: &[u8], count: usize) -> bool
     requires count { count ≤ length text.now }
@@ -92,7 +93,8 @@ fn is_plain_line(separator: Separator, lacks: Lacks, text: &[u8], count: usize) 
     }
 }
 
-/// Whether each separator parts fields, in a row of which this is known.
+/// Whether each separator in a row parts fields, as far as that is known: always of tabs, and of a delimiter if the row has
+/// no line feeds by `is_line` and no quotes by `lacks`.
 fn is_plain(separator: Separator, is_line: bool, lacks: Lacks) -> bool
     ensures { (row : List ℕ) → LacksIn row lacks → (IsTrue is_line → IsFreeOf 10 row) → IsTrue result → IsPlain separator row }
 {
@@ -102,7 +104,7 @@ fn is_plain(separator: Separator, is_line: bool, lacks: Lacks) -> bool
     }
 }
 
-/// Whether the first `count` bytes of a text end within quotes, where a field begins at this place of them.
+/// Whether the first `count` bytes of a text end within quotes. A field begins at `start`, before which no quote is open.
 #[tactic(auto, using(crate::proofs::LookLemmas::closed_rest, crate::proofs::LookLemmas::rest_slice))]
 #[inline(always)]
 fn is_open_from(delimiter: u8, text: &[u8], count: usize, start: usize) -> bool
@@ -115,8 +117,7 @@ fn is_open_from(delimiter: u8, text: &[u8], count: usize, start: usize) -> bool
     }
 }
 
-/// Whether a row ends within quotes, where fields are skipped up to this place of it. The row is the first `count` bytes of
-/// a text.
+/// Whether a row ends within quotes. The row is the first `count` bytes of `text`, and one of its fields begins at `start`.
 #[tactic(auto, using(crate::proofs::LookLemmas::closed_row))]
 #[inline(always)]
 fn is_open(separator: Separator, lacks: Lacks, text: &[u8], count: usize, start: usize) -> bool
@@ -139,7 +140,7 @@ fn is_open(separator: Separator, lacks: Lacks, text: &[u8], count: usize, start:
     }
 }
 
-/// The text of a field that goes from this place of a row up to that.
+/// Where the text is of a field that goes from `start` to `end` of a row: between its quotes if it has them.
 #[inline(always)]
 fn text_at(separator: Separator, row: &[u8], start: usize, end: usize) -> TextAt
     requires { (start ≤ end) × (end ≤ length row.now) }
@@ -153,8 +154,8 @@ fn text_at(separator: Separator, row: &[u8], start: usize, end: usize) -> TextAt
     }
 }
 
-/// Looks for the field of a row after this many others, and whether the row ends within quotes. The row is the first
-/// `count` bytes of a text; one that lacks carriage returns by `lacks` has no line feeds either.
+/// Looks in a row for the field that comes after `before` others, and whether the row ends within quotes. The row is the
+/// first `count` bytes of a text; one that lacks carriage returns by `lacks` has no line feeds either.
 #[inline(always)]
 pub fn look_at(separator: Separator, lacks: Lacks, text: &[u8], count: usize, before: usize) -> Look
     requires count { count ≤ length text.now }

@@ -11,7 +11,7 @@ const BIG: &[u8] = b"\xFE\xFF";
 /// That of UTF-16, the low byte of a pair first.
 const LITTLE: &[u8] = b"\xFF\xFE";
 
-/// Whether a text begins with these bytes.
+/// Whether a text begins with the bytes of `front`.
 #[tactic(auto, using(crate::proofs::MarkLemmas::begins_is))]
 fn begins(text: &[u8], front: &[u8]) -> bool
     ensures { IsTrue result ↔ Begins front.now text.now }
@@ -19,7 +19,7 @@ fn begins(text: &[u8], front: &[u8]) -> bool
     text.starts_with(front)
 }
 
-/// Whether a text is a front of a mark, and shorter.
+/// Whether a text is the beginning of a mark, and shorter than it.
 #[tactic(auto, using(crate::proofs::MarkLemmas::short_is, crate::proofs::MarkLemmas::short_length))]
 fn is_short_of(mark: &[u8], text: &[u8]) -> bool
     ensures { IsTrue result ↔ IsShortOf mark.now text.now }
@@ -34,14 +34,14 @@ pub fn is_wide(text: &[u8]) -> bool
     begins(text, BIG) || begins(text, LITTLE)
 }
 
-/// Whether a text, with more bytes, may begin with a byte order mark, and does not yet.
+/// Whether a text may become a byte order mark when more bytes follow.
 pub fn may_be_mark(text: &[u8]) -> bool
     ensures { IsTrue result ↔ MayBeMark text.now }
 {
     is_short_of(UTF8, text) || is_short_of(BIG, text) || is_short_of(LITTLE, text)
 }
 
-/// The byte order mark of UTF-8 at the beginning of a text, or nothing where it has none, and what follows.
+/// The byte order mark of UTF-8 at the beginning of a text, or no bytes if it has none, and what follows.
 pub fn split_mark(text: &[u8]) -> (&[u8], &[u8])
     ensures { SplitsMark text.now result.0.now result.1.now }
 {

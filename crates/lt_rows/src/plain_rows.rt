@@ -11,7 +11,7 @@ use crate::short_rows::short_field_at;
 use crate::splitting::TOGETHER;
 use memchr::{Memchr, memchr_iter};
 
-/// The first `count` bytes of a text, and those after them that are looked at together with the last of them.
+/// The first `count` bytes of a text, and as many after them as a search looks at together with the last of them.
 #[inline(always)]
 fn with_more(text: &[u8], count: usize) -> &[u8]
     requires { count ≤ length text.now }
@@ -20,7 +20,7 @@ fn with_more(text: &[u8], count: usize) -> &[u8]
     &text[..text.len().min(count.saturating_add(TOGETHER))]
 }
 
-/// The next of the places of a byte, if it is one of the first `count`.
+/// The next of the places of a byte, or None if it is not one of the first `count`.
 #[inline(always)]
 fn next_within(places: &mut Memchr<'_>, count: usize) -> Option<usize>
     ensures within { IfSome result (λ end. end < count) }
@@ -35,8 +35,8 @@ fn next_within(places: &mut Memchr<'_>, count: usize) -> Option<usize>
     }
 }
 
-/// Where the field of a row after this many others begins and ends, if there is one. The row is the first `count` bytes of
-/// a text.
+/// Where the field of a row that comes after `before` others begins and ends, or None if there are fewer. The row is the
+/// first `count` bytes of `text`.
 #[inline(always)]
 pub(crate) fn plain_field_at(
     separator: Separator,

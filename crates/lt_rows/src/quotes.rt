@@ -17,14 +17,14 @@ pub enum Place {
 }
 
 impl Place {
-    /// Whether it is within quotes.
+    /// Whether the place is within quotes.
     pub fn is_quoted(self) -> bool
         ensures { result ≡ is_quoted self }
     {
         matches!(self, Place::Quoted)
     }
 
-    /// The place after a byte here, where this byte parts fields.
+    /// The place after `byte`, which stands at this place. `delimiter` is what parts fields.
     fn after(self, delimiter: u8, byte: u8) -> Place
         ensures { result ≡ place_after delimiter self byte }
     {
@@ -36,7 +36,7 @@ impl Place {
         }
     }
 
-    /// The place after a text without quotes here.
+    /// The place after `front`, a text without quotes that begins at this place. `delimiter` is what parts fields.
     #[tactic(auto, using(crate::proofs::RowLemmas::place_of_free, crate::proofs::RowLemmas::quoted_of_free))]
     fn after_front(self, delimiter: u8, front: &[u8]) -> Place
         ensures { IsFreeOf 34 front.now → result ≡ place_at delimiter self front.now }
@@ -48,7 +48,7 @@ impl Place {
     }
 }
 
-/// The place after a byte outside of quotes, which begins none.
+/// The place after a byte that is outside of quotes and is no quote.
 fn outside(delimiter: u8, byte: u8) -> Place
     ensures { result ≡ place_outside delimiter byte }
 {
@@ -59,7 +59,7 @@ fn outside(delimiter: u8, byte: u8) -> Place
     }
 }
 
-/// The place after a text of CSV, by that of its first byte, where this byte parts fields. It goes from quote to quote.
+/// The place after a text of CSV that begins at `place`. `delimiter` is what parts fields. It goes from quote to quote.
 #[tactic(auto, using(crate::proofs::RowLemmas::place_past_quote))]
 pub fn after_text(delimiter: u8, place: Place, text: &[u8]) -> Place
     ensures { result ≡ place_at delimiter place text.now }
@@ -73,7 +73,8 @@ pub fn after_text(delimiter: u8, place: Place, text: &[u8]) -> Place
     now.after_front(delimiter, rest)
 }
 
-/// What is before the first such byte outside of quotes and after it, if there is one. It goes from one such byte to the next.
+/// What is before the first `stop` outside of quotes and what is after it, or None if there is none. `delimiter` is what
+/// parts fields. It goes from one `stop` to the next.
 pub(crate) fn split_outside(delimiter: u8, stop: u8, text: &[u8]) -> Option<(&[u8], &[u8])>
     ensures { SplitsOutside delimiter stop text.now result }
 {

@@ -19,7 +19,7 @@ pub enum Separator {
 }
 
 impl Separator {
-    /// Its byte.
+    /// The byte that parts fields.
     pub fn byte(self) -> u8
         ensures { result ≡ separator self }
     {
@@ -29,8 +29,8 @@ impl Separator {
         }
     }
 
-    /// Where the first field of the rest of a row ends, if a separator ends it. The rest is the first `count` bytes of a
-    /// text, and `is_line` tells only of a rest without line feeds.
+    /// Where the first field of the rest of a row ends, or None if no separator ends it. The rest is the first `count` bytes
+    /// of `text`, and `is_line` may be true only if it has no line feeds.
     #[inline(always)]
     fn field_end(self, is_line: bool, text: &[u8], count: usize) -> Option<usize>
         requires count { count ≤ length text.now }
@@ -52,7 +52,7 @@ impl Separator {
     }
 }
 
-/// Whether the first byte of `count` bytes of a text is a quote.
+/// Whether a quote is the first of the first `count` bytes of a text.
 #[inline(always)]
 fn begins_quoted(text: &[u8], count: usize) -> bool
     requires { count ≤ length text.now }
@@ -61,7 +61,7 @@ fn begins_quoted(text: &[u8], count: usize) -> bool
     count > 0 && text[0] == b'"'
 }
 
-/// Where the first delimiter outside of quotes is, if there is one.
+/// Where the first delimiter outside of quotes is, or None if there is none.
 fn end_outside(delimiter: u8, rest: &[u8]) -> Option<usize>
     ensures { EndsField (separators.Delimiter delimiter) rest.now result }
 {
@@ -71,8 +71,8 @@ fn end_outside(delimiter: u8, rest: &[u8]) -> Option<usize>
     }
 }
 
-/// The same of the first `count` bytes of a text that begins with a quote: they are likely to be a field in which no quote
-/// is doubled, and more.
+/// Where the first delimiter outside of quotes is among the first `count` bytes of a text, or None if there is none. The
+/// text begins with a quote: it is likely that no quote is doubled in its field, so the next quote is looked for first.
 #[inline(always)]
 fn quoted_end(delimiter: u8, text: &[u8], count: usize) -> Option<usize>
     requires count { (0 < count) × (count ≤ length text.now) }
@@ -93,7 +93,8 @@ fn quoted_end(delimiter: u8, text: &[u8], count: usize) -> Option<usize>
     end_outside(delimiter, &text[..count])
 }
 
-/// Where the rest of a row begins after this many fields, if it has more. The row is the first `count` bytes of a text.
+/// Where the rest of a row begins after `before` fields, or None if it has no more than these. The row is the first `count`
+/// bytes of `text`, and `is_line` may be true only if it has no line feeds.
 #[inline(always)]
 fn skip_fields(
     separator: Separator,
@@ -116,8 +117,9 @@ fn skip_fields(
     Some(at)
 }
 
-/// Where the field of a row after this many others begins and ends, if there is one. The row is the first `count` bytes of
-/// a text; `is_line` tells only of a row without line feeds, and `is_plain` of one in which each separator parts fields.
+/// Where the field of a row that comes after `before` others begins and ends, or None if there are fewer. The row is the
+/// first `count` bytes of `text`. `is_line` may be true only of a row without line feeds, and `is_plain` only of one in
+/// which each separator parts fields.
 #[inline(always)]
 pub(crate) fn field_at(
     separator: Separator,
@@ -142,7 +144,8 @@ pub(crate) fn field_at(
     }
 }
 
-/// The field of a row after this many others, with what is before it and what follows it, if there is one.
+/// The field of a row that comes after `count` others, with what is before it and what follows it: `(before, field, after)`.
+/// None if the row has no such field.
 pub fn find_field(separator: Separator, row: &[u8], count: usize) -> Option<(&[u8], &[u8], &[u8])>
     ensures { MatchOption result (HasFewer separator count row.now) (λ p. HasField separator count row.now p.0.now p.1.now p.2.now) }
 {
@@ -151,6 +154,7 @@ pub fn find_field(separator: Separator, row: &[u8], count: usize) -> Option<(&[u
 }
 
 /// Whether a carriage return is in a row of CSV, outside of quotes. One that ends the row's line is no part of the row.
+/// False of rows of tabs.
 #[tactic(auto, using(crate::proofs::RowLemmas::free_of_none, crate::proofs::RowLemmas::not_free))]
 pub fn has_return(separator: Separator, row: &[u8]) -> bool
     ensures { IsTrue result ↔ HasReturn separator row.now }
@@ -163,7 +167,7 @@ pub fn has_return(separator: Separator, row: &[u8]) -> bool
     }
 }
 
-/// What is at both ends of the text of a field, a quote or nothing, and the text.
+/// The quote at both ends of a field, or no bytes if it has none, and the text between them. Only fields of CSV have quotes.
 pub fn text_in(separator: Separator, field: &[u8]) -> (&'static [u8], &[u8])
     ensures { IsTextIn separator field.now result.0.now result.1.now }
 {
@@ -173,7 +177,7 @@ pub fn text_in(separator: Separator, field: &[u8]) -> (&'static [u8], &[u8])
     }
 }
 
-/// Whether a quote is at both ends of a field.
+/// Whether a field begins with a quote and ends with another one.
 fn is_quoted(field: &[u8]) -> bool
     ensures { IsTrue result ↔ IsQuoted field.now }
 {

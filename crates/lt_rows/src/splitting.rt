@@ -8,7 +8,7 @@ use memchr::{memchr_iter, memchr2};
 /// So many bytes of a text are looked at together.
 pub(crate) const TOGETHER: usize = 32;
 
-/// Where the first such byte is, which is likely to be near: the next 32 bytes are looked at first.
+/// Where the first such byte is, or None if there is none. It is likely to be near: the next 32 bytes are looked at first.
 #[tactic(auto, using(crate::proofs::SplitLemmas::first_byte))]
 #[inline(always)]
 fn first_place(byte: u8, bytes: &[u8]) -> Option<usize>
@@ -17,7 +17,7 @@ fn first_place(byte: u8, bytes: &[u8]) -> Option<usize>
     memchr_iter(byte, bytes).next()
 }
 
-/// What is before the first such byte and after it, if there is one: `a` and `b-c` of `a-b-c` at a hyphen.
+/// What is before the first such byte and after it: `a` and `b-c` of `a-b-c` at a hyphen. None if there is none.
 #[tactic(auto, using(crate::proofs::SplitLemmas::free_front, crate::proofs::SplitLemmas::free_whole, crate::proofs::SplitLemmas::split_at))]
 #[inline(always)]
 pub fn split_first(byte: u8, bytes: &[u8]) -> Option<(&[u8], &[u8])>
@@ -29,7 +29,7 @@ pub fn split_first(byte: u8, bytes: &[u8]) -> Option<(&[u8], &[u8])>
     }
 }
 
-/// The first `count` bytes of a text, and those after them that are looked at together with them, where it has as many.
+/// The first `count` bytes of a text, or, of a longer text, as many as a search looks at together.
 #[inline(always)]
 fn near(text: &[u8], count: usize) -> &[u8]
     requires { count ≤ length text.now }
@@ -38,7 +38,7 @@ fn near(text: &[u8], count: usize) -> &[u8]
     &text[..text.len().min(count.max(TOGETHER))]
 }
 
-/// Where the first such byte is among the first `count` bytes of a text, if it is there.
+/// Where the first such byte is among the first `count` bytes of a text, or None if it is not there.
 #[tactic(auto, using(crate::proofs::NearLemmas::none_near, crate::proofs::NearLemmas::none_before, crate::proofs::NearLemmas::place_near))]
 #[inline(always)]
 pub(crate) fn place_within(byte: u8, text: &[u8], count: usize) -> Option<usize>

@@ -20,7 +20,7 @@ pub(crate) struct Closest {
     pub(crate) line: Vec<u8>,
 }
 
-/// The place of the first range that falls back to a tag.
+/// The index of the first range by which lookup finds a tag, or None if none does.
 fn first_falling(ranges: &[LanguageRange], tag: &TagSubtags) -> Option<usize>
     ensures { MatchOption result (spec.NoneFalls ranges.now (length ranges.now) tag.now) (spec.FallsFirst ranges.now tag.now) }
 {
@@ -32,8 +32,8 @@ fn first_falling(ranges: &[LanguageRange], tag: &TagSubtags) -> Option<usize>
     None
 }
 
-/// Whether a tag that a range falls back to is closer than what is found so far: the range comes before, or is the same
-/// and is cut less.
+/// Whether a tag that lookup finds is closer than what is found so far: by a range before that one, or by the same range and
+/// with more subtags. `range` is the index of its range, and `count` how many subtags it has.
 fn is_closer(closest: &Option<Closest>, range: usize, count: usize) -> bool
     ensures { IsTrue result ↔ spec.IsCloser closest.now range count }
 {
@@ -52,7 +52,7 @@ fn copy_line(alloc: Global, line: &[u8]) -> Result<Vec<u8>, OutOfMemory>
     Ok(copy)
 }
 
-/// Takes a line with these subtags.
+/// Takes a line with these subtags, if it is closer than what is found so far.
 fn take_subtags(
     alloc: Global,
     ranges: &[LanguageRange],
@@ -73,7 +73,8 @@ fn take_subtags(
     Ok(())
 }
 
-/// Takes a line, of which so much is kept as tells its subtags.
+/// Takes a line, if it is a tag that is closer than what is found so far. Of a long line, so much is given as tells its
+/// subtags.
 pub(crate) fn take_line<L: Lookup>(
     alloc: Global,
     checked: &Checked<L>,

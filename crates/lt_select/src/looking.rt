@@ -31,10 +31,12 @@ impl<'a, L: Lookup> Lines for LookingUp<'a, L> {
     ghost answered = { λ first here lines bytes. (here.checked.now ≡ first.checked.now) × (here.ranges.now ≡ first.ranges.now)
         × (bytes ≡ []) × Holds (L.listed here.checked.now) here.ranges.now lines here.closest };
 
+    /// As many bytes as tell the tag of a line.
     fn longest(&self) -> usize {
         runs::LONGEST_KEPT
     }
 
+    /// Takes the line if it is closer than what is found so far; nothing is owed.
     fn take_line(
         &mut self,
         alloc: Global,
@@ -46,7 +48,7 @@ impl<'a, L: Lookup> Lines for LookingUp<'a, L> {
 }
 
 impl<'a, L: Lookup> LookingUp<'a, L> {
-    /// The line that was found, if there is one.
+    /// The line that was found, or None if none was.
     fn into_line(self) -> Option<Vec<u8>>
         ensures { result ≡ option_map (λ closest. closest.line) self.entry.closest }
     {
@@ -62,11 +64,11 @@ impl<'a, L: Lookup> LookingUp<'a, L> {
     }
 }
 
-/// The line of a reader that lookup finds by a language priority list (RFC 4647, 3.4), as it stands: by the first range
-/// that finds one, the line that is left where that is cut from the end as little as it takes, and of equal ones the
-/// first. A line is looked up as the tag that it is, by the subtags of the canonical form of that (RFC 5646, 4.5): the
-/// range of `yue-HK` finds `zh-yue`. No range finds a line that is no valid tag, or a tag that `canonical` refuses; a
-/// range that begins with `*` finds none. Where no range finds one, the caller takes a default.
+/// The line of a reader that lookup finds by a language priority list (RFC 4647, 3.4), as it stands. The first range that
+/// finds a line counts, and of its lines the one to which it is cut the least; of equal ones the first. A line is looked up
+/// as the tag that it is, by the subtags of its canonical form (RFC 5646, 4.5): the range of `yue-HK` finds `zh-yue`. No
+/// range finds a line that is no valid tag, or a tag that `canonical` refuses, and a range that begins with `*` finds none.
+/// None if no range finds a line: the caller takes a default then.
 ///
 /// A line feed ends a line, and what follows the last one is a line if it is anything. A carriage return that ends a
 /// line is no part of the tag, and stays with the line. No more than the closest line so far and 1,026 bytes of the
@@ -91,7 +93,7 @@ pub fn look_up_line<L: Lookup, R: Read>(
     let mut none = Device::new(Vec::new(alloc));
     match run_lines(alloc, looking, input, &mut none) {
         (looking, Ok(())) => Ok(looking.into_line()),
-        // (what is written is kept in memory)
+        // What is written is kept in memory, so a write fails only where that runs out.
         (_, Err(ToolFault::Write)) => Err(ToolFault::OutOfMemory),
         (_, Err(fault)) => Err(fault),
     }

@@ -24,7 +24,7 @@ pub(crate) fn without_return(line: &[u8]) -> &[u8]
     }
 }
 
-/// The subtags by which the tag is matched that a text is read as.
+/// The subtags of the canonical form of the tag that a text is read as.
 #[tactic(auto, using(lt_canon::proofs::CanonicalForms::refused))]
 fn subtags_of_text<L: Lookup>(
     alloc: Global,
@@ -38,7 +38,8 @@ fn subtags_of_text<L: Lookup>(
     Ok(canonical_subtags(alloc, checked, &tag)?)
 }
 
-/// The subtags by which a text is matched, if it is a tag that has them.
+/// The subtags of the canonical form of the tag that a text is read as. None if it is no valid tag, or steps can repeat a
+/// variant.
 pub(crate) fn subtags_of<L: Lookup>(
     alloc: Global,
     checked: &Checked<L>,
@@ -55,7 +56,7 @@ pub(crate) fn subtags_of<L: Lookup>(
     }
 }
 
-/// Whether a text is a tag that one of the ranges matches.
+/// Whether a text is a tag that one of the ranges matches by the scheme.
 fn is_matched<L: Lookup>(
     alloc: Global,
     checked: &Checked<L>,
@@ -74,7 +75,8 @@ fn is_matched<L: Lookup>(
     }
 }
 
-/// Whether a line is selected.
+/// Whether a line is a tag that one of the ranges matches by the scheme. A carriage return that ends the line is no part of
+/// the tag.
 pub(crate) fn is_selected<L: Lookup>(
     alloc: Global,
     checked: &Checked<L>,

@@ -34,10 +34,12 @@ impl<'a, L: Lookup> Lines for Selecting<'a, L> {
     ghost answered = { λ first here lines bytes. (here.checked.now ≡ first.checked.now) × (here.scheme ≡ first.scheme) × (here.ranges.now ≡ first.ranges.now)
         × AreOwed (IsSelected (L.listed here.checked.now) here.scheme here.ranges.now) lines bytes here.count };
 
+    /// As many bytes as tell the tag of a line; a longer line is not selected.
     fn longest(&self) -> usize {
         LONGEST_KEPT
     }
 
+    /// Appends the line and a line feed if it is selected, and counts it.
     fn take_line(
         &mut self,
         alloc: Global,
@@ -54,10 +56,10 @@ impl<'a, L: Lookup> Lines for Selecting<'a, L> {
     }
 }
 
-/// Writes the lines of a reader that one of the ranges matches by the scheme, in their order and as they stand, each
-/// ended by a line feed, and tells how many they are. A line is matched as the tag that it is, by the subtags of the
-/// canonical form of that (RFC 5646, 4.5; RFC 4647, 3.3): the range of `yue` selects `zh-yue-HK`. No range matches a
-/// line that is no valid tag, or a tag that `canonical` refuses.
+/// Writes the lines of a reader that one of the ranges matches by the scheme, in their order and as they stand, each ended
+/// by a line feed, and tells how many there are. A line is matched as the tag that it is, by the subtags of its canonical
+/// form (RFC 5646, 4.5; RFC 4647, 3.3): the range of `yue` selects `zh-yue-HK`. No range matches a line that is no valid
+/// tag, or a tag that `canonical` refuses.
 ///
 /// A line feed ends a line, and what follows the last one is a line if it is anything. A carriage return that ends a line
 /// is no part of the tag, and is written with the line. What is owed for the lines of the bytes that were read is written

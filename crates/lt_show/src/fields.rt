@@ -4,8 +4,8 @@ ghost use Rattle.lt_show.specs.Fields as spec;
 
 use lt_jar::{JarField, Record};
 
-/// The fields of the record of a number in a file, counted from 1, with the header counted too; none where there is no such
-/// record.
+/// The fields of the record of a number in a file, counted from 1, with the header counted too; no fields if there is no
+/// such record.
 pub fn fields_of(records: &[Record], number: u32) -> &[JarField]
     ensures { result.now ≡ spec.fields_of records.now number }
 {

@@ -16,7 +16,7 @@ use lt_registry::Lookup;
 use lt_tag::{OutOfMemory, Tag, write_tag};
 use std::alloc::{AllocError, Global};
 
-/// Appends a field.
+/// Appends a field of a record as an object of its name and its body.
 #[tactic(auto, unfolding(crate::specs::Json::field_value))]
 fn append_field(objects: &mut Vec<u8>, field: &JarField) -> Result<(), AllocError>
     ensures { OnOk result (objects.new.items ≡ objects.old.items ++ field_value field.now) }
@@ -29,7 +29,7 @@ fn append_field(objects: &mut Vec<u8>, field: &JarField) -> Result<(), AllocErro
     Ok(())
 }
 
-/// Appends the array of the fields that are shown.
+/// Appends the array of those fields of a record that are shown.
 #[tactic(auto, using(lt_json_text::proofs::ValueLemmas::commaed_more))]
 fn append_fields(objects: &mut Vec<u8>, fields: &[JarField]) -> Result<(), AllocError>
     ensures { OnOk result (objects.new.items ≡ objects.old.items ++ array field_value (shown fields.now)) }
@@ -47,7 +47,7 @@ fn append_fields(objects: &mut Vec<u8>, fields: &[JarField]) -> Result<(), Alloc
     Ok(())
 }
 
-/// Appends the array of the fields of what is listed.
+/// Appends the array of the shown fields of the record that is listed, which is empty if there is none.
 fn append_listed(
     objects: &mut Vec<u8>,
     records: &[Record],
@@ -61,7 +61,7 @@ fn append_listed(
     }
 }
 
-/// The name of a listing.
+/// The name of a listing, as it is printed.
 fn listing_name(listing: Listing) -> &'static str
     ensures { result.now ≡ listing_name listing }
 {
@@ -72,7 +72,7 @@ fn listing_name(listing: Listing) -> &'static str
     }
 }
 
-/// Appends the number of the record, or null.
+/// Appends the number of the record that is listed, or null if there is none.
 fn append_record(objects: &mut Vec<u8>, listing: Listing) -> Result<(), AllocError>
     ensures { OnOk result (objects.new.items ≡ objects.old.items ++ record_value listing) }
 {
@@ -82,14 +82,14 @@ fn append_record(objects: &mut Vec<u8>, listing: Listing) -> Result<(), AllocErr
     }
 }
 
-/// Appends a number.
+/// Appends a number in decimal.
 fn append_decimal(objects: &mut Vec<u8>, alloc: Global, number: usize) -> Result<(), AllocError>
     ensures { OnOk result (objects.new.items ≡ objects.old.items ++ decimal number) }
 {
     objects.extend_from_slice(format!(in alloc; "{number}")?.as_bytes())
 }
 
-/// Appends the beginning of a row: its place, its name and its text.
+/// Appends the beginning of a row's object: its place, the name of its kind and its text, which is a part of `text`.
 #[tactic(auto, unfolding(crate::specs::Json::row_front))]
 fn append_front(
     objects: &mut Vec<u8>,
@@ -107,7 +107,7 @@ fn append_front(
     append_string(objects, cut(text, row.start, row.length))
 }
 
-/// Appends the end of a row: what is listed.
+/// Appends the end of a row's object: what the registry has for it, and the fields of its record.
 fn append_end(objects: &mut Vec<u8>, records: &[Record], listing: Listing) -> Result<(), AllocError>
     ensures { OnOk result (objects.new.items ≡ objects.old.items ++ row_end records.now listing) }
 {
@@ -121,7 +121,7 @@ fn append_end(objects: &mut Vec<u8>, records: &[Record], listing: Listing) -> Re
     Ok(())
 }
 
-/// Appends a row.
+/// Appends the object of a row, of which the text is a part of `text`.
 fn append_row(
     objects: &mut Vec<u8>,
     alloc: Global,
@@ -136,7 +136,7 @@ fn append_row(
     Ok(())
 }
 
-/// Appends the array of rows of a text.
+/// Appends the array of rows, of which each text is a part of `text`.
 #[tactic(auto, using(lt_json_text::proofs::ValueLemmas::commaed_more))]
 fn append_each(
     objects: &mut Vec<u8>,

@@ -41,7 +41,7 @@ impl Subject {
     }
 }
 
-/// The kind of the records that list parts of a kind.
+/// The kind of the records that register parts of this kind. None if no record does.
 fn kind_of(kind: PartKind) -> Option<Kind>
     ensures { result ≡ spec.kind_of kind }
 {
@@ -55,7 +55,7 @@ fn kind_of(kind: PartKind) -> Option<Kind>
     }
 }
 
-/// The listing by an entry.
+/// The listing that an entry gives: its record, or `Unregistered` if there is none.
 pub(crate) fn listed(entry: Option<&Entry>) -> Listing
     ensures { result ≡ listing_by (option_copied entry.entry) }
 {
@@ -65,7 +65,7 @@ pub(crate) fn listed(entry: Option<&Entry>) -> Listing
     }
 }
 
-/// The listing of the subtag that a text spells under a kind.
+/// The listing of a subtag under a kind, by its text.
 fn listing_under<L: Lookup>(table: &L, kind: Kind, text: &[u8]) -> Listing
     ensures { result ≡ listing_by (entry_of (L.listed table.now) kind text.now) }
 {
@@ -75,7 +75,7 @@ fn listing_under<L: Lookup>(table: &L, kind: Kind, text: &[u8]) -> Listing
     }
 }
 
-/// The listing of a part of a tag, by its kind and its text.
+/// What a table has for a part of a tag, by its kind and its text; for a grandfathered tag, by the whole of it.
 pub(crate) fn look_up<L: Lookup>(table: &L, tag: &Tag, kind: PartKind, text: &[u8]) -> Listing
     ensures { result ≡ spec.listing (L.listed table.now) tag.now kind text.now }
 {

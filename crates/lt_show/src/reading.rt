@@ -19,7 +19,7 @@ pub enum RecordsFault {
     OutOfMemory,
 }
 
-/// A field like another.
+/// An equal field. It is refused only where memory runs out.
 fn copy_field(alloc: Global, field: &JarField) -> Result<JarField, OutOfMemory>
     ensures { IfOk result (λ copy. copy ≡ field.now) }
 {
@@ -29,7 +29,7 @@ fn copy_field(alloc: Global, field: &JarField) -> Result<JarField, OutOfMemory>
     })
 }
 
-/// Fields like others.
+/// Equal fields in a new vector.
 fn copy_fields(alloc: Global, fields: &[JarField]) -> Result<Vec<JarField>, OutOfMemory>
     ensures { IfOk result (λ copies. copies.items ≡ fields.now) }
 {
@@ -61,6 +61,7 @@ struct Draft {
 }
 
 impl Draft {
+    /// No record so far.
     fn new(alloc: Global) -> Draft
         ensures records { result.records.items ≡ [] }
         ensures lacks { result.lacks ≡ false }
@@ -71,7 +72,7 @@ impl Draft {
         }
     }
 
-    /// Takes the next record. After one for which memory ran out no more are kept.
+    /// Keeps the next record. Once memory runs out for one, no more are kept.
     fn take(&mut self, alloc: Global, fields: &[JarField])
         ensures { Keeps fields.now self.old self.new }
     {
@@ -80,7 +81,7 @@ impl Draft {
         }
     }
 
-    /// Takes the next record of a reader, and tells whether there is one.
+    /// Keeps the next record of a reader, and tells whether there is one.
     fn take_next<R: Read>(
         &mut self,
         alloc: Global,
@@ -99,7 +100,7 @@ impl Draft {
     }
 }
 
-/// The records that a device gives.
+/// The records that a device gives, read to its end.
 #[tactic(auto, using(crate::proofs::KeptLemmas::kept_none))]
 fn read_draft<R: Read>(alloc: Global, device: &mut Device<R>) -> Result<Draft, JarFault>
     ensures { ReadsDraft R.remaining device.old device.new result }

@@ -25,7 +25,7 @@ pub struct Row {
     pub listing: Listing,
 }
 
-/// The bytes of a text from one on, as many of them as there are.
+/// The bytes of a text from the index `start` on, `length` of them or as many as there are.
 pub(crate) fn cut(text: &[u8], start: usize, length: usize) -> &[u8]
     ensures { result.now ≡ take length (drop start text.now) }
 {
@@ -33,7 +33,7 @@ pub(crate) fn cut(text: &[u8], start: usize, length: usize) -> &[u8]
     &rest[..length.min(rest.len())]
 }
 
-/// The row of a part.
+/// The row of a part of a tag, which has this place among its parts. `text` is the text of the tag.
 fn row_of<L: Lookup>(table: &L, tag: &Tag, text: &[u8], place: usize, part: &Part) -> Row
     ensures { result ≡ spec.row_of (L.listed table.now) tag.now text.now place part.now }
 {
@@ -47,7 +47,7 @@ fn row_of<L: Lookup>(table: &L, tag: &Tag, text: &[u8], place: usize, part: &Par
     }
 }
 
-/// The row of a tag that is registered as redundant, if it is.
+/// The row of a whole tag that is registered as redundant, or no row. `text` is the text of the tag.
 fn whole_rows<L: Lookup>(
     alloc: Global,
     table: &L,

@@ -28,7 +28,7 @@ fn append_spaces(told: &mut Vec<u8>, count: usize) -> Result<(), OutOfMemory>
     Ok(())
 }
 
-/// Appends a cell of a column of this width, and two spaces.
+/// Appends a cell with spaces up to the width of its column, and two more.
 fn append_padded(told: &mut Vec<u8>, width: usize, cell: &[u8]) -> Result<(), OutOfMemory>
     ensures { OnOk result (told.new.items ≡ told.old.items ++ padded width cell.now) }
 {
@@ -38,7 +38,7 @@ fn append_padded(told: &mut Vec<u8>, width: usize, cell: &[u8]) -> Result<(), Ou
     Ok(())
 }
 
-/// The byte that is shown for one of a body: a space for a control character.
+/// The byte that stands for one of a field's body: a space for a control character.
 fn shown_byte(byte: u8) -> u8
     ensures { result ≡ spec.shown_byte byte }
 {
@@ -49,7 +49,7 @@ fn shown_byte(byte: u8) -> u8
     }
 }
 
-/// Appends the bytes that are shown for a body.
+/// Appends the body of a field, with a space for each control character.
 fn append_body(told: &mut Vec<u8>, body: &[u8]) -> Result<(), OutOfMemory>
     ensures { OnOk result (told.new.items ≡ told.old.items ++ map spec.shown_byte body.now) }
 {
@@ -59,7 +59,7 @@ fn append_body(told: &mut Vec<u8>, body: &[u8]) -> Result<(), OutOfMemory>
     Ok(())
 }
 
-/// Appends the line of a field.
+/// Appends the line of a field of a record: its name and its body.
 fn append_field(told: &mut Vec<u8>, field: &JarField) -> Result<(), OutOfMemory>
     ensures { OnOk result (told.new.items ≡ told.old.items ++ field_line field.now) }
 {
@@ -70,7 +70,7 @@ fn append_field(told: &mut Vec<u8>, field: &JarField) -> Result<(), OutOfMemory>
     Ok(())
 }
 
-/// Appends the lines of the fields that are shown.
+/// Appends a line for each field of a record that is shown.
 fn append_fields(told: &mut Vec<u8>, fields: &[JarField]) -> Result<(), OutOfMemory>
     ensures { OnOk result (told.new.items ≡ told.old.items ++ fields_text (shown fields.now)) }
 {
@@ -89,7 +89,7 @@ struct Widths {
     text: usize,
 }
 
-/// How wide the columns of these rows of a text are.
+/// How wide the columns are for rows, whose texts are parts of `text`: as wide as their longest cells.
 fn widths_of(text: &[u8], rows: &[Row]) -> Widths
     ensures { result ≡ spec.widths_of text.now rows.now }
 {
@@ -105,7 +105,7 @@ fn widths_of(text: &[u8], rows: &[Row]) -> Widths
     }
 }
 
-/// Appends what a registry has.
+/// Appends what the registry has: the number of a record, that there is none, or nothing of what can't be registered.
 fn append_listing(told: &mut Vec<u8>, alloc: Global, listing: Listing) -> Result<(), OutOfMemory>
     ensures { OnOk result (told.new.items ≡ told.old.items ++ spec.listing_text listing) }
 {
@@ -119,7 +119,7 @@ fn append_listing(told: &mut Vec<u8>, alloc: Global, listing: Listing) -> Result
     Ok(())
 }
 
-/// Appends the line of a row.
+/// Appends the line of a row, of which the text is a part of `text`.
 fn append_row_line(
     told: &mut Vec<u8>,
     alloc: Global,
@@ -144,7 +144,7 @@ fn append_row_line(
     Ok(())
 }
 
-/// Appends a row and its fields.
+/// Appends the line of a row, and one for each shown field of its record.
 fn append_row(
     told: &mut Vec<u8>,
     alloc: Global,
@@ -192,7 +192,7 @@ pub fn append_table<L: Lookup>(
     Ok(())
 }
 
-/// Appends rows of a text, and their fields.
+/// Appends the lines of rows, of which each text is a part of `text`, and of the fields of their records.
 fn append_rows(
     told: &mut Vec<u8>,
     alloc: Global,

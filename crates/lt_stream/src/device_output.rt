@@ -25,7 +25,7 @@ pub fn write_text<W: Write>(text: &[u8], output: &mut Device<W>) -> Result<(), T
     Ok(())
 }
 
-/// Writes the line of a fault.
+/// Writes the number of the line of a fault, as ` line 3`.
 fn write_line<W: Write>(line: u64, output: &mut Device<W>) -> Result<(), ToolFault>
     ensures { WritesText W.contents (line_said line) output.old output.new result }
 {
@@ -33,7 +33,7 @@ fn write_line<W: Write>(line: u64, output: &mut Device<W>) -> Result<(), ToolFau
     write_text(Buffer::new().format(line).as_bytes(), output)
 }
 
-/// Writes what is said of a fault after its name.
+/// Writes what is said of a fault after its name: its line, or nothing if it has none.
 fn write_place<W: Write>(fault: ToolFault, output: &mut Device<W>) -> Result<(), ToolFault>
     ensures { WritesText W.contents (place_said fault) output.old output.new result }
 {

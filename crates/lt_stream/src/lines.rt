@@ -48,7 +48,7 @@ pub(crate) struct Lined<A> {
 }
 
 impl<A: Lines> Lined<A> {
-    /// Keeps more of the line, as far as it is needed.
+    /// Keeps a further part of the line, up to the most bytes that the answers need.
     fn keep(&mut self, part: &[u8]) -> Result<(), AllocError>
         ensures { OnOk result (spec.KeepsMore A.longest part.now self.old self.new) }
     {
@@ -57,7 +57,7 @@ impl<A: Lines> Lined<A> {
         Ok(())
     }
 
-    /// Answers the line that is kept.
+    /// Answers the line of which the front is kept, and keeps nothing of it.
     fn end_line(&mut self, alloc: Global) -> Result<(), OutOfMemory>
         requires { HasLine A.answered self.old.answers }
         ensures { OnOk result (spec.EndsLine A.answered A.longest self.old self.new) }
@@ -67,7 +67,7 @@ impl<A: Lines> Lined<A> {
         Ok(())
     }
 
-    /// Writes what is owed.
+    /// Writes the answers that are owed, and owes none then.
     fn write<W: Write>(&mut self, output: &mut Device<W>) -> Result<(), ToolFault>
         ensures writes { spec.WritesOwed W.contents self.old self.new output.old output.new result }
         ensures emptied { OnOk result (self.new.owed.items ≡ []) }
@@ -77,7 +77,7 @@ impl<A: Lines> Lined<A> {
         Ok(())
     }
 
-    /// Writes what is owed if it is much.
+    /// Writes the answers that are owed if they are `FULL` bytes or more.
     fn write_much<W: Write>(&mut self, output: &mut Device<W>) -> Result<(), ToolFault>
         ensures writes { spec.WritesOwed W.contents self.old self.new output.old output.new result }
         ensures emptied { OnOk result (spec.full ≤ vec_len self.old.owed → self.new.owed.items ≡ []) }
@@ -88,7 +88,7 @@ impl<A: Lines> Lined<A> {
         self.write(output)
     }
 
-    /// Answers a last line that no line feed ended, if there is any.
+    /// Answers a last line that has no line feed, if there is one.
     fn end_last(&mut self, alloc: Global) -> Result<(), OutOfMemory>
         requires { HasLine A.answered self.old.answers }
         ensures { OnOk result (spec.EndsLast A.answered A.longest self.old self.new) }
@@ -99,7 +99,7 @@ impl<A: Lines> Lined<A> {
         self.end_line(alloc)
     }
 
-    /// What answered the lines.
+    /// What has answered the lines, given back at the end.
     fn into_answers(self) -> A
         ensures { result ≡ self.answers }
     {
@@ -121,6 +121,7 @@ impl<A: Lines, W: Write> Pieces<Device<W>> for Lined<A> {
 
     ghost finished = { λ first. spec.Finishes (A.answered first.answers) W.contents };
 
+    /// Answers the lines that the piece ends, and writes the answers. Only a fault ends the run here.
     fn take_piece(
         &mut self,
         alloc: Global,
@@ -139,6 +140,7 @@ impl<A: Lines, W: Write> Pieces<Device<W>> for Lined<A> {
         Ok(None)
     }
 
+    /// Answers what is left, and writes the answers.
     fn finish(&mut self, alloc: Global, output: &mut Device<W>) -> Result<(), ToolFault> {
         self.end_last(alloc)?;
         self.write(output)?;

@@ -29,7 +29,7 @@ pub trait Pieces<O> {
     /// What holds of them where the reader has ended.
     ghost finished: { Self → O → O → List ℕ → Self → Result Self.Answer ToolFault → Type 0 };
 
-    /// Takes the next bytes. An answer, or a fault, ends the run.
+    /// Takes the next bytes. An answer, or a fault, ends the run; with None it goes on.
     fn take_piece(
         &mut self,
         alloc: Global,
@@ -39,17 +39,18 @@ pub trait Pieces<O> {
         requires { HasRoom taken (length piece.now) output.old self.old }
         ensures { TakesPiece taken stopped piece.now output.old output.new self.old self.new result };
 
-    /// Ends the bytes.
+    /// Takes the end of the reader, and gives the answer, or a fault.
     fn finish(&mut self, alloc: Global, output: &mut O) -> Result<Self::Answer, ToolFault>
         requires { HasRoom taken 0 output.old self.old }
         ensures { FinishesPieces taken finished output.old output.new self.old self.new result };
 }
 
-/// Reads a reader until what takes its pieces has an answer, or to its end.
+/// Reads a reader, and hands its bytes to `pieces` until that has an answer, or to the end of the reader. It gives the
+/// answer.
 ///
 /// - `Read`, if a read fails.
 /// - `TooManyTurns`, if all 10,000,000 reads were made and the last gave bytes.
-/// - `OutOfMemory`, if there is no memory for a piece; and what its taker answers.
+/// - `OutOfMemory`, if there is no memory for a piece; and any fault with which `pieces` ends the run.
 pub fn run_pieces<O, P: Pieces<O>, R: Read>(
     alloc: Global,
     pieces: &mut P,

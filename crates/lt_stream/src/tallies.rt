@@ -33,7 +33,7 @@ impl Model for Tallies {
     ghost view = { λ tallies. tallies.faults.items };
 }
 
-/// The first line that is refused by a fault.
+/// The tally of a fault that refuses its first line, which has this number and text.
 fn new_tally(alloc: Global, fault: &[u8], number: u64, text: &[u8]) -> Result<Tally, AllocError>
     ensures fault { IfOk result (λ tally. tally.fault.items ≡ fault.now) }
     ensures numbers { IfOk result (λ tally. (tally.lines ≡ 1) × (tally.first ≡ number)) }
@@ -57,14 +57,14 @@ impl Tallies {
         }
     }
 
-    /// What was refused by each fault, in the order in which the faults came.
+    /// The tallies, one for each fault, in the order in which the faults came.
     pub fn faults(&self) -> &[Tally]
         ensures { result.now ≡ self.now }
     {
         &self.faults
     }
 
-    /// The place of a fault.
+    /// The place of the tally of a fault, or None if it refused no line so far.
     fn place_of(&self, fault: &[u8]) -> Option<usize>
         ensures { result ≡ position (λ tally. bytes_eq fault.now tally.fault.items) self.now }
     {
@@ -73,8 +73,8 @@ impl Tallies {
             .position(|tally| fault == tally.fault.as_slice())
     }
 
-    /// Counts one line more: its number, the name of its fault, and the text that was refused. Where memory runs out,
-    /// nothing is counted.
+    /// Counts a line that was refused: its number, the name of its fault, and the text that was refused. Where memory runs
+    /// out, nothing is counted.
     pub fn count(
         &mut self,
         alloc: Global,

@@ -8,7 +8,7 @@ ghost use Rattle.lt_subtag.specs.Lanes.{padded, first_set};
 use arrayvec::ArrayVec;
 use std::simd::prelude::*;
 
-/// The lowest bit that is set, or this many lanes.
+/// The index of the lowest bit that is set, or `lanes` if none is.
 #[inline(always)]
 fn first_set(mask: u64, lanes: usize) -> usize
     ensures { result ≡ first_set mask lanes }
@@ -20,7 +20,7 @@ fn first_set(mask: u64, lanes: usize) -> usize
     }
 }
 
-/// The bytes, and then zeros up to eight.
+/// The bytes, and zeros after them up to eight.
 #[inline(always)]
 fn pad(bytes: &[u8]) -> [u8; 8]
     requires { length bytes.now ≤ 8 }
@@ -31,7 +31,7 @@ fn pad(bytes: &[u8]) -> [u8; 8]
     letters
 }
 
-/// How many of the first eight bytes are letters and digits before another comes.
+/// How many of the first eight bytes are letters and digits, up to the first that is neither.
 #[inline(always)]
 fn run_of_8(text: &[u8]) -> usize
     requires { 8 ≤ length text.now }
@@ -54,7 +54,7 @@ fn fold_8(text: &[u8]) -> [u8; 8]
     no_capital.select(v, v | u8x8::splat(0x20)).to_array()
 }
 
-/// The bytes in lower case, exactly if they are letters and digits alone.
+/// The bytes with their letters in lower case, or None if one is neither a letter nor a digit.
 #[inline(always)]
 pub(crate) fn fold(bytes: &[u8]) -> Option<ArrayVec<u8, 8>>
     requires { length bytes.now ≤ 8 }

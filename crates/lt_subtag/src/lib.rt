@@ -89,7 +89,7 @@ impl Model for Subtag {
 impl Default for Subtag {
     ghost is_default = { λ subtag. subtag ≡ 120 ∷ [] };
 
-    /// `x`. It is in the unused places of an `ArrayVec`.
+    /// The subtag `x`, which fills the unused places of an `ArrayVec`.
     #[tactic(auto, unfolding(crate::specs::Bytes::is_subtag))]
     fn default() -> Subtag {
         let mut letters = ArrayVec::new();
@@ -103,7 +103,7 @@ impl fmt::Display for Subtag {
 
     ghost styled_output = { λ subtag spec. Some (styled_text spec subtag) };
 
-    /// Its lower-case bytes.
+    /// Writes the lower-case bytes.
     fn fmt<W: fmt::Write>(&self, f: &mut fmt::Formatter<W>) -> fmt::Result {
         let text = str::from_utf8(self.bytes()).map_err(|_| fmt::Error)?;
         f.pad(text)
@@ -261,7 +261,7 @@ fn is_numeric(bytes: &[u8]) -> bool
     bytes.iter().all(|byte| byte.is_ascii_digit())
 }
 
-/// The fault of a piece of more than 8 bytes.
+/// The fault of a piece of more than 8 bytes: `BadByte` if one is no letter or digit, else `TooLong`.
 fn long_fault(bytes: &[u8]) -> SubtagFault
     requires { 8 < length bytes.now }
     ensures { Err result ≡ subtag_of bytes.now }
@@ -273,7 +273,7 @@ fn long_fault(bytes: &[u8]) -> SubtagFault
     }
 }
 
-/// The bytes with the first this many in upper case.
+/// The bytes with the first `capitals` of them in upper case.
 fn capitalised(bytes: &[u8], capitals: usize) -> ArrayVec<u8, 8>
     requires short { length bytes.now ≤ 8 }
     requires within { capitals ≤ length bytes.now }

@@ -30,14 +30,14 @@ fn compare_extensions(left: &[Extension], right: &[Extension]) -> Ordering
     left.cmp(right)
 }
 
-/// The order of two subtags, of which none comes before any.
+/// The order of two subtags, where None comes before any.
 fn compare_options(left: Option<&Subtag>, right: Option<&Subtag>) -> Ordering
     ensures { result ≡ option_cmp subtag_cmp (option_copied left.entry) (option_copied right.entry) }
 {
     left.cmp(&right)
 }
 
-/// The order of two cores, of which none comes before any.
+/// The order of two cores, where None comes before any.
 fn compare_optional_cores(left: Option<&Core>, right: Option<&Core>) -> Ordering
     ensures { result ≡ option_cmp core_cmp (option_copied left.entry) (option_copied right.entry) }
 {

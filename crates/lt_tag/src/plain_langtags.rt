@@ -17,7 +17,7 @@ enum Room {
 }
 
 impl Room {
-    /// What may follow once this subtag is there, if it may.
+    /// What may follow behind this subtag. None if the subtag itself may not be there.
     fn after(self, subtag: &Subtag) -> Option<Room>
         ensures { result ≡ room_after self subtag.now }
     {

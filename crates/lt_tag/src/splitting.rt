@@ -17,21 +17,21 @@ use crate::parts::{Field, Keyword, TParts, UParts};
 use lt_subtag::Subtag;
 use std::alloc::{AllocFailed, Global};
 
-/// Where the first key is.
+/// The index of the first key, or None if there is none.
 fn first_key(subtags: &[Subtag]) -> Option<usize>
     ensures { result ≡ position is_key subtags.now }
 {
     subtags.iter().position(|subtag| subtag.is_key())
 }
 
-/// Where the first separator is.
+/// The index of the first separator of a field, or None if there is none.
 fn first_separator(subtags: &[Subtag]) -> Option<usize>
     ensures { result ≡ position is_separator subtags.now }
 {
     subtags.iter().position(|subtag| subtag.is_separator())
 }
 
-/// The subtags before the first key, and the others.
+/// The subtags before the first key, and those from it on.
 #[tactic(auto, using(crate::proofs::SplitLemmas::place_of, crate::proofs::SplitLemmas::before_is, crate::proofs::SplitLemmas::onward_is))]
 fn before_key(subtags: &[Subtag]) -> (&[Subtag], &[Subtag])
     ensures front { result.0.now ≡ before is_key subtags.now }
@@ -40,7 +40,7 @@ fn before_key(subtags: &[Subtag]) -> (&[Subtag], &[Subtag])
     subtags.split_at(first_key(subtags).unwrap_or(subtags.len()))
 }
 
-/// The subtags before the first separator, and the others.
+/// The subtags before the first separator of a field, and those from it on.
 #[tactic(auto, using(crate::proofs::SplitLemmas::place_of, crate::proofs::SplitLemmas::before_is, crate::proofs::SplitLemmas::onward_is))]
 fn before_separator(subtags: &[Subtag]) -> (&[Subtag], &[Subtag])
     ensures front { result.0.now ≡ before is_separator subtags.now }
@@ -49,7 +49,7 @@ fn before_separator(subtags: &[Subtag]) -> (&[Subtag], &[Subtag])
     subtags.split_at(first_separator(subtags).unwrap_or(subtags.len()))
 }
 
-/// 3 to 8 letters or digits.
+/// Whether a subtag has 3 to 8 letters or digits.
 #[tactic(auto, unfolding(crate::specs::Extensions::is_long))]
 fn is_long(subtag: &Subtag) -> bool
     ensures { result ≡ extensions.is_long subtag.now }
@@ -57,14 +57,14 @@ fn is_long(subtag: &Subtag) -> bool
     3 <= subtag.bytes().len()
 }
 
-/// Whether each has 3 to 8 letters or digits.
+/// Whether each subtag has 3 to 8 letters or digits.
 fn are_long(subtags: &[Subtag]) -> bool
     ensures { result ≡ list_all extensions.is_long subtags.now }
 {
     subtags.iter().all(|subtag| is_long(subtag))
 }
 
-/// Whether there is at least one, and each is of 3 to 8 letters or digits.
+/// Whether subtags are the values of a field: there is at least one, and each has 3 to 8 letters or digits.
 #[tactic(auto, using(crate::proofs::SplitLemmas::some_there))]
 fn are_values(subtags: &[Subtag]) -> bool
     ensures { result ≡ splitting.are_values subtags.now }
@@ -82,7 +82,7 @@ pub(crate) fn append(list: &mut Vec<Subtag>, subtags: &[Subtag]) -> Result<(), O
     Ok(())
 }
 
-/// The keywords from a first key on.
+/// The keywords of a `u` extension, from the first key on.
 #[tactic(auto, using(crate::proofs::SplitLemmas::length_onward))]
 fn read_keywords(alloc: Global, subtags: &[Subtag]) -> Result<Vec<Keyword>, OutOfMemory>
     ensures { IfOk result (λ keywords. keywords.items ≡ keywords_of subtags.now) }
@@ -100,7 +100,7 @@ fn read_keywords(alloc: Global, subtags: &[Subtag]) -> Result<Vec<Keyword>, OutO
     Ok(keywords)
 }
 
-/// The fields from a first separator on, if each has a value.
+/// The fields of a `t` extension, from the first separator on. Refused with `BadTransform` if one has no values.
 #[tactic(auto, using(crate::proofs::SplitLemmas::length_onward))]
 fn read_fields(alloc: Global, subtags: &[Subtag]) -> Result<Vec<Field>, TransformFault>
     ensures fields { IfOk result (λ fields. fields.items ≡ fields_of subtags.now) }
@@ -123,7 +123,7 @@ fn read_fields(alloc: Global, subtags: &[Subtag]) -> Result<Vec<Field>, Transfor
     Ok(fields)
 }
 
-/// Reads subtags as a source. Without a subtag there is none.
+/// The source that subtags are, or None without a subtag. Refused with `BadTransform` if they aren't those of a core.
 fn read_source(alloc: Global, subtags: &[Subtag]) -> Result<Option<Core>, TransformFault>
     requires { length subtags.now ≤ longest_text }
     ensures source { IfOk result (λ source. source_of_list subtags.now ≡ Some source) }

@@ -12,14 +12,15 @@ use std::alloc::AllocError;
 const NAME_MESSAGE: &str =
     "This is a name of a language and not a code: write en for English, de for German.";
 
-/// The codes of three letters that BCP 47 does not register.
+/// The messages for codes of three letters that BCP 47 does not register.
 fn codes() -> &'static [&'static str]
     ensures { map (λ message. message.now) result.now ≡ two_letters }
 {
     &CODES
 }
 
-/// The code of two letters that BCP 47 writes for one of three.
+/// The message that tells the code of two letters that BCP 47 writes for a code of three. None if there is no message for
+/// it.
 #[tactic(auto, unfolding(crate::specs::Advice::code_message))]
 fn code_message(code: &[u8]) -> Option<&'static str>
     ensures { option_map (λ message. message.now) result ≡ spec.code_message code.now }
@@ -27,7 +28,7 @@ fn code_message(code: &[u8]) -> Option<&'static str>
     first_of(codes(), code)
 }
 
-/// What is before the first hyphen.
+/// What is before the first hyphen of a text, or all of it if it has none.
 #[tactic(auto, using(lt_lines::proofs::FaultLemmas::before_found, lt_lines::proofs::FaultLemmas::before_none))]
 fn first_subtag(text: &[u8]) -> &[u8]
     ensures { result.now ≡ spec.first_subtag text.now }
@@ -38,7 +39,7 @@ fn first_subtag(text: &[u8]) -> &[u8]
     }
 }
 
-/// What to do about a language that is unknown.
+/// What to do about a language that is not registered; None if no more can be said.
 fn language_advice(subtag: &[u8]) -> Option<&'static str>
     ensures { option_map (λ advice. advice.now) result ≡ spec.language_advice subtag.now }
 {
@@ -49,7 +50,7 @@ fn language_advice(subtag: &[u8]) -> Option<&'static str>
     }
 }
 
-/// What to do about a region that is unknown.
+/// What to do about a text whose region is not registered; None unless it ends with `UK`.
 fn region_advice(text: &[u8]) -> Option<&'static str>
     ensures { option_map (λ advice. advice.now) result ≡ spec.region_advice text.now }
 {
@@ -60,7 +61,7 @@ fn region_advice(text: &[u8]) -> Option<&'static str>
     }
 }
 
-/// What to do about this text, if more is known of it than the fault.
+/// What to do about `text`, which `fault` refuses. None if there is no advice but that for the fault.
 fn advice_for(fault: &[u8], text: &[u8]) -> Option<&'static str>
     ensures { option_map (λ advice. advice.now) result ≡ spec.advice_for fault.now text.now }
 {
@@ -73,7 +74,7 @@ fn advice_for(fault: &[u8], text: &[u8]) -> Option<&'static str>
     }
 }
 
-/// Appends a line of advice.
+/// Appends a line of advice, after two spaces.
 fn append_line(told: &mut Vec<u8>, advice: &[u8]) -> Result<(), AllocError>
     ensures { OnOk result (told.new.items ≡ told.old.items ++ spec.said advice.now) }
 {
@@ -83,7 +84,8 @@ fn append_line(told: &mut Vec<u8>, advice: &[u8]) -> Result<(), AllocError>
     Ok(())
 }
 
-/// Appends what to do about a fault that refused this text.
+/// Appends a line that says what to do about a fault that refused `text`: advice for that text, or else what the fault
+/// means. Nothing for a fault without a message.
 pub(crate) fn append_advice(told: &mut Vec<u8>, fault: &[u8], text: &[u8]) -> Result<(), AllocError>
     ensures { OnOk result (told.new.items ≡ told.old.items ++ spec.advice_line fault.now text.now) }
 {

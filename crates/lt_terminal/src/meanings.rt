@@ -74,21 +74,21 @@ const MESSAGES: [&str; 68] = [
     "Utf16: The input is in UTF-16: write it in UTF-8, as by iconv -f UTF-16 -t UTF-8.",
 ];
 
-/// The messages.
+/// The messages for all faults, each of which begins with its fault.
 fn messages() -> &'static [&'static str]
     ensures { map (λ message. message.now) result.now ≡ spec.messages }
 {
     &MESSAGES
 }
 
-/// Whether a message is that of the fault that a word names.
+/// Whether a message is for the fault that a word names: the word stands before its colon.
 fn is_of(message: &[u8], word: &[u8]) -> bool
     ensures { result ≡ spec.is_of message.now word.now }
 {
     message.starts_with(word) && message[word.len()..].starts_with(b": ")
 }
 
-/// The first of some messages that is that of the fault that a word names.
+/// The first of some messages that is for the fault that a word names. None if there is none.
 pub(crate) fn first_of(messages: &[&'static str], word: &[u8]) -> Option<&'static str>
     ensures { option_map (λ message. message.now) result ≡ find (λ message. spec.is_of message word.now) (map (λ message. message.now) messages.now) }
 {
@@ -100,8 +100,8 @@ pub(crate) fn first_of(messages: &[&'static str], word: &[u8]) -> Option<&'stati
     None
 }
 
-/// What a person is told of the fault that a word names, as `BadByte` or `C2`: the word, what it means, and
-/// what to do. Nothing of a word that names none.
+/// What a person is told of the fault that a word names, as `BadByte` or `C2`: the word, what it means, and what to do. None
+/// if the word names no fault.
 #[tactic(auto, unfolding(crate::specs::Meanings::message_of))]
 pub fn message_of(word: &[u8]) -> Option<&'static str>
     ensures { option_map (λ message. message.now) result ≡ spec.message_of word.now }

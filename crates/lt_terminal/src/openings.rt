@@ -37,8 +37,8 @@ impl Openings {
         }
     }
 
-    /// Keeps why a file of this name can't be opened, if the answer says so and there is memory for it, and
-    /// hands the answer on.
+    /// Hands an answer of the opener on. If it is that the file of this name can't be opened, the reason is kept, where
+    /// there is memory for it.
     pub fn kept<F>(&self, alloc: Global, name: &str, answer: io::Result<F>) -> io::Result<F>
         ensures { result ≡ answer }
     {
@@ -49,7 +49,8 @@ impl Openings {
         answer
     }
 
-    /// A file that was opened, of which what is read is kept: the first that is given, and then the second.
+    /// The file, which was opened, with what is read of it kept: as that of the first file at the first call, and then of
+    /// the second.
     pub fn traced<'a, F>(&'a self, alloc: Global, file: F) -> Traced<'a, F>
         ensures { result.inner ≡ file }
     {
@@ -64,12 +65,13 @@ impl Openings {
         Traced { inner: file, bytes }
     }
 
-    /// The line that was kept, which is kept no longer.
+    /// The line of the file that can't be opened, which is kept no longer. None if there is none.
     pub(crate) fn take(&self) -> Option<String> {
         self.refusal.take()
     }
 
-    /// What the record is and where it begins that a line names which refuses a registry or an upgrade, if that is known.
+    /// The line that says what the record is that `line` names, and where it begins. `line` refuses a registry or an
+    /// upgrade. None if it names no record, or if that can't be found in what was read of its file.
     pub(crate) fn place(&self, alloc: Global, line: &[u8]) -> Option<String> {
         let named = named_in(std::str::from_utf8(line).ok()?)?;
         let bytes = if named.is_second {
@@ -81,7 +83,7 @@ impl Openings {
     }
 }
 
-/// Appends what was read, if there is room.
+/// Appends what was read. Refused if it is more than is kept of a file, or where memory runs out.
 fn append_traced(bytes: &mut Vec<u8>, more: &[u8]) -> Result<(), AllocError> {
     if bytes.len().saturating_add(more.len()) > MOST_TRACED {
         return Err(AllocError);
@@ -92,7 +94,7 @@ fn append_traced(bytes: &mut Vec<u8>, more: &[u8]) -> Result<(), AllocError> {
 impl<'a, F: Read> Read for Traced<'a, F> {
     ghost remaining = { λ traced. F.remaining traced.inner };
 
-    /// What one call of the file's `read` answers.
+    /// Reads once from the file, and keeps what was read. If there is no room for it, nothing is kept of the file any more.
     fn read(&mut self, buf: &mut [u8]) -> io::Result<usize>
         ensures bound { ReadsAtMost result buf.new }
         ensures bytes { ReadConsumes (F.remaining self.old.inner) (F.remaining self.new.inner) result buf.new }

@@ -28,7 +28,7 @@ pub struct Progress<W, T> {
     lines: u64,
 }
 
-/// Whether another million of lines is full.
+/// Whether a multiple of a million is reached from a count of lines `before` to one `after`.
 fn fills_million(before: u64, after: u64) -> bool
     ensures { result ≡ spec.fills_million before after }
 {
@@ -52,7 +52,8 @@ impl<W, T> Progress<W, T> {
     }
 }
 
-/// Tells a person how many lines there are, if a million more is full since there were fewer.
+/// Tells a person how many lines there are, if a multiple of a million was reached since there were `before`. Nothing unless
+/// `is_told`.
 fn tell_progress<T: Write>(
     alloc: Global,
     is_told: bool,
@@ -72,7 +73,7 @@ fn tell_progress<T: Write>(
 impl<W: Write, T: Write> Write for Progress<W, T> {
     ghost contents = { λ progress. W.contents (inner_of progress.inner) };
 
-    /// What one call of the writer with this slice answers.
+    /// Writes once to the writer, and counts the lines that it took.
     fn write(&mut self, buf: &[u8]) -> io::Result<usize>
         ensures bound { WritesAtMost result buf.now }
         ensures bytes { WriteAppends (W.contents (inner_of self.old.inner)) (W.contents (inner_of self.new.inner)) result buf.now }
@@ -98,7 +99,7 @@ impl<W: Write, T: Write> Write for Progress<W, T> {
         }
     }
 
-    /// What one call of the writer's `flush` answers.
+    /// Flushes the writer.
     fn flush(&mut self) -> io::Result<()>
         ensures bytes { Keeps (W.contents (inner_of self.old.inner)) (W.contents (inner_of self.new.inner)) }
     {

@@ -10,7 +10,7 @@ pub(crate) struct Named {
     pub(crate) is_second: bool,
 }
 
-/// The record that a line names which refuses a registry or an upgrade, if it names one.
+/// The record that a line names, which refuses a registry or an upgrade. None if the line names none.
 pub(crate) fn named_in(line: &str) -> Option<Named> {
     let (front, after) = line.split_once("record ")?;
     let number = after.split(' ').next()?.parse::<u64>().ok()?;
@@ -28,7 +28,7 @@ struct Place<'a> {
     name: &'a str,
 }
 
-/// The name and the body of the field that a line begins.
+/// The name and the body of the field that a line begins. None if it continues one, or has no colon.
 fn field_in(line: &str) -> Option<(&str, &str)> {
     if line.starts_with(' ') || line.starts_with('\t') {
         return None;
@@ -38,7 +38,7 @@ fn field_in(line: &str) -> Option<(&str, &str)> {
 }
 
 impl<'a> Place<'a> {
-    /// Notes what a line says of the record.
+    /// Notes the kind and the name of the record, if a line says them.
     fn note(&mut self, line: &'a str) {
         let Some((name, body)) = field_in(line) else {
             return;
@@ -51,7 +51,8 @@ impl<'a> Place<'a> {
     }
 }
 
-/// Where the record of this number is in the text of a registry.
+/// Where the record of this number, counted from 1, begins in the text of a registry, and what it is. None if there are
+/// fewer.
 fn place_in(text: &str, number: u64) -> Option<Place<'_>> {
     let mut place = None;
     let (mut seen, mut is_within) = (0u64, false);
@@ -77,13 +78,14 @@ fn place_in(text: &str, number: u64) -> Option<Place<'_>> {
     place
 }
 
-/// Which record that is, and where it begins: `record 570: region BU, line 4711`.
+/// The line that says what a record is and where it begins: `record 570: region BU, line 4711`.
 fn place_line(alloc: Global, number: u64, place: &Place<'_>) -> Result<String, AllocError> {
     let Place { line, kind, name } = place;
     format!(in alloc; "record {number}: {kind} {name}, line {line}")
 }
 
-/// The line that tells where a record is in the text of a registry, and what it is of.
+/// The line that tells what the record of this number is and where it begins in the text of a registry. None if there is no
+/// such record, or no memory.
 pub(crate) fn told_place(alloc: Global, text: &str, number: u64) -> Option<String> {
     let place = place_in(text, number)?;
     place_line(alloc, number, &place).ok()

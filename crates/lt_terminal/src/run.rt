@@ -12,11 +12,12 @@ use lt_tool::{Answered, WordsFault, run_program};
 use std::alloc::Global;
 use std::io::{self, Read, Write};
 
-/// Runs the program as [`run_program`] does, and then, at a terminal or where the words ask for a summary, tells a person on
-/// `people` what it came to. Of `canon`, `codes`, `tsv` and `csv`: how many lines or records were answered and how many refused, if all
-/// of them were answered; and for each fault how many it refused, which was the first, and what to do. Of a run with one answer: what the fault means that the
-/// answer tells, and what to do; and the same of the fault on `errors`. Where a record is refused, a line says what it is
-/// and where it begins, and where a file can't be opened, which and why, if `opener` kept that in `openings`.
+/// Runs the program as [`run_program`] does. At a terminal, or where the words ask for a summary, it then tells a person on
+/// `people` what the run came to. Of `canon`, `codes`, `tsv` and `csv` it tells how many lines or records were answered and
+/// how many refused, if all of them were answered; and for each fault how many it refused, which was the first, and what to
+/// do. Of a run with one answer it tells what a fault in the answer means, and what to do; and it tells the same of a fault
+/// on `errors`. Where a record is refused, a line says what it is and where it begins. Where a file can't be opened, a line
+/// says which and why, if `opener` kept that in `openings`.
 pub fn run_for_people<
     F: Read + Drop,
     P: FnMut(&str) -> io::Result<F>,

@@ -7,14 +7,14 @@ use crate::advice::append_advice;
 use lt_lines::{Counts, Tallies, Tally};
 use std::alloc::{AllocError, Global};
 
-/// Appends a number.
+/// Appends a number in decimal.
 fn append_number(told: &mut Vec<u8>, alloc: Global, number: u64) -> Result<(), AllocError>
     ensures { OnOk result (told.new.items ≡ told.old.items ++ decimal number) }
 {
     told.extend_from_slice(format!(in alloc; "{number}")?.as_bytes())
 }
 
-/// Appends a number of units.
+/// Appends a number of units, as `1 line` or `2 lines`.
 fn append_counted(
     told: &mut Vec<u8>,
     alloc: Global,
@@ -32,7 +32,8 @@ fn append_counted(
     Ok(())
 }
 
-/// Appends how many lines were answered and refused, if all of them were answered.
+/// Appends the line that tells how many lines were answered and refused, as `2 lines, 1 refused`. Nothing if it is not
+/// known.
 pub(crate) fn append_counts(
     told: &mut Vec<u8>,
     alloc: Global,
@@ -50,7 +51,7 @@ pub(crate) fn append_counts(
     told.extend_from_slice(b" refused\n")
 }
 
-/// The byte that is shown for one of a text that was refused.
+/// The byte that stands for one of a refused text: a question mark for what is not printable in ASCII.
 fn shown_byte(byte: u8) -> u8
     ensures { result ≡ spec.shown_byte byte }
 {
@@ -61,7 +62,7 @@ fn shown_byte(byte: u8) -> u8
     }
 }
 
-/// Appends the bytes that are shown for a text.
+/// Appends a text with a question mark for each byte that is not printable in ASCII.
 pub(crate) fn append_shown(told: &mut Vec<u8>, text: &[u8]) -> Result<(), AllocError>
     ensures { OnOk result (told.new.items ≡ told.old.items ++ map spec.shown_byte text.now) }
 {
@@ -71,7 +72,7 @@ pub(crate) fn append_shown(told: &mut Vec<u8>, text: &[u8]) -> Result<(), AllocE
     Ok(())
 }
 
-/// Appends a text that was refused, if it is anything.
+/// Appends a colon and the text that was refused. Nothing if it is empty.
 fn append_text(told: &mut Vec<u8>, text: &[u8]) -> Result<(), AllocError>
     ensures { OnOk result (told.new.items ≡ told.old.items ++ spec.shown_text text.now) }
 {
@@ -82,7 +83,7 @@ fn append_text(told: &mut Vec<u8>, text: &[u8]) -> Result<(), AllocError>
     append_shown(told, text)
 }
 
-/// Appends which line or record was the first.
+/// Appends which line or record was the first that a fault refused, as `, first in line 3`.
 fn append_first(told: &mut Vec<u8>, alloc: Global, unit: &str, first: u64) -> Result<(), AllocError>
     ensures { OnOk result (told.new.items ≡ told.old.items ++ spec.first_told unit.now first) }
 {
@@ -92,7 +93,7 @@ fn append_first(told: &mut Vec<u8>, alloc: Global, unit: &str, first: u64) -> Re
     append_number(told, alloc, first)
 }
 
-/// Appends the line of the lines that a fault refused.
+/// Appends the line that tells how many lines a fault refused, which was the first, and its text.
 fn append_tally(
     told: &mut Vec<u8>,
     alloc: Global,
@@ -110,7 +111,7 @@ fn append_tally(
     Ok(())
 }
 
-/// Appends what a person is told of the lines that a fault refused.
+/// Appends what a person is told of the lines that a fault refused: the tally of them, and what to do.
 fn append_told(
     told: &mut Vec<u8>,
     alloc: Global,

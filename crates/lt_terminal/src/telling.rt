@@ -19,7 +19,7 @@ use lt_tool::{Answered, Command, Status, WordsFault, read_words};
 use std::alloc::{AllocError, Global};
 use std::io::{self, Read, Write};
 
-/// What a command answers one by one, if it does.
+/// The name of what a command answers one by one, as `line`. None for a command with one answer.
 pub(crate) fn unit_of(command: &Command) -> Option<&'static str>
     ensures { option_map (λ unit. unit.now) result ≡ spec.unit_of command.now }
 {
@@ -32,15 +32,15 @@ pub(crate) fn unit_of(command: &Command) -> Option<&'static str>
     }
 }
 
-/// Whether a person is told of a run of this command.
+/// Whether a person is told of a run: at a terminal, or if the words ask for a summary.
 fn is_told(at_terminal: bool, command: &Command) -> bool
     ensures { result ≡ spec.is_told at_terminal command.now }
 {
     at_terminal || command.has_summary()
 }
 
-/// What the command that the words name answers one by one, if a person is told of its run. Nothing where none
-/// is, or the words name no command.
+/// Some if a person is told of the run of the command that the words name, with the name of what it answers one by one, if
+/// it does. None if no one is told, or if the words name no command.
 pub(crate) fn asked_by(
     alloc: Global,
     words: &Result<Vec<String>, WordsFault>,
@@ -62,7 +62,7 @@ pub(crate) fn asked_by(
     }
 }
 
-/// The message for the first word of a line that names a fault.
+/// The message for the first word of a line that names a fault. None if no word does.
 #[tactic(auto, using(crate::proofs::WordLemmas::last_word, crate::proofs::WordLemmas::next_word))]
 fn first_message(line: &[u8]) -> Option<&'static str>
     ensures { option_map (λ message. message.now) result ≡ spec.first_message (slice_split (λ byte. byte == 32) line.now) }
@@ -77,7 +77,8 @@ fn first_message(line: &[u8]) -> Option<&'static str>
     message_of(rest)
 }
 
-/// The message for a line: for the whole of it, as for `ok 0`, or for the first of its words that names a fault.
+/// The message for a line: for the whole of it, as for `ok 0`, or for the first of its words that names a fault. None if
+/// there is none.
 fn line_message(line: &[u8]) -> Option<&'static str>
     ensures { option_map (λ message. message.now) result ≡ spec.line_message line.now }
 {
@@ -87,14 +88,14 @@ fn line_message(line: &[u8]) -> Option<&'static str>
     }
 }
 
-/// Where the first line feed is.
+/// Where the first line feed is, or None if there is none.
 fn line_end(front: &[u8]) -> Option<usize>
     ensures { result ≡ position (λ byte. byte == 10) front.now }
 {
     front.iter().position(|byte| *byte == b'\n')
 }
 
-/// The first line of what was written, as far as it is kept.
+/// The first line of `front`, which is the front of what was written, without its line feed.
 #[tactic(auto, using(lt_lines::proofs::FaultLemmas::before_found, lt_lines::proofs::FaultLemmas::before_none))]
 fn first_line(front: &[u8]) -> &[u8]
     ensures { result.now ≡ before_first (λ byte. byte == 10) front.now }
@@ -105,7 +106,8 @@ fn first_line(front: &[u8]) -> &[u8]
     }
 }
 
-/// Appends the message for the first line of what was written, if it tells a fault.
+/// Appends the message for the first line of `front`, which is the front of what was written. Nothing if the line names no
+/// fault.
 fn append_meaning(told: &mut Vec<u8>, front: &[u8]) -> Result<(), AllocError>
     ensures { OnOk result (told.new.items ≡ told.old.items ++ spec.meaning_of front.now) }
 {
@@ -116,7 +118,8 @@ fn append_meaning(told: &mut Vec<u8>, front: &[u8]) -> Result<(), AllocError>
     Ok(())
 }
 
-/// Appends what is said of what was printed.
+/// Appends what a person is told of the output. If the command answers `unit`s one by one and no registry was refused, that
+/// is their counts and tallies; else the message for `shown`, which is the front of the output.
 fn append_output(
     told: &mut Vec<u8>,
     alloc: Global,
@@ -136,7 +139,8 @@ fn append_output(
     }
 }
 
-/// Appends a line that tells where a record is, if a registry or an upgrade was refused and the place is known.
+/// Appends the line that tells where a record is, if a registry or an upgrade was refused. Nothing if `place` is empty, as
+/// it is where that is not known.
 fn append_place(told: &mut Vec<u8>, status: u8, place: &str) -> Result<(), AllocError>
     ensures { OnOk result (told.new.items ≡ told.old.items ++ spec.place_told status place.now) }
 {
@@ -148,7 +152,8 @@ fn append_place(told: &mut Vec<u8>, status: u8, place: &str) -> Result<(), Alloc
     Ok(())
 }
 
-/// Appends what is said of the errors.
+/// Appends what a person is told of `said`, which is the front of what was written to the errors, and of a file that can't
+/// be opened the line `refusal`. Nothing at the status of wrong usage.
 fn append_errors(
     told: &mut Vec<u8>,
     status: u8,
@@ -168,7 +173,7 @@ fn append_errors(
     Ok(())
 }
 
-/// The front of the bytes that a device took.
+/// The front of the bytes that a device took, as far as it is kept.
 fn front_of<W: Write>(alloc: Global, device: &mut Device<Watched<W>>) -> io::Result<Vec<u8>>
     ensures { IfOk result (λ front. IsFront (⟦<Watched<W> as Write>⟧.contents (inner_of device.old)) front.items) }
 {
@@ -177,7 +182,8 @@ fn front_of<W: Write>(alloc: Global, device: &mut Device<Watched<W>>) -> io::Res
     Ok(front)
 }
 
-/// The lines that a person is told by these fronts.
+/// The lines that a person is told of a run. `shown` is the front of the output and `said` that of the errors; `place` and
+/// `refusal` are lines on a record and on a file, or empty.
 fn lines_of(
     alloc: Global,
     unit: Option<&str>,
@@ -197,7 +203,7 @@ fn lines_of(
     Ok(told)
 }
 
-/// The lines that a person is told after a run that wrote to these.
+/// The lines that a person is told of a run that wrote to `output` and `errors`.
 fn told_of_run<O: Write, E: Write>(
     alloc: Global,
     unit: Option<&str>,
@@ -223,10 +229,11 @@ fn told_of_run<O: Write, E: Write>(
 pub(crate) fn say<T: Write>(text: &[u8], people: &mut Device<T>)
     ensures { Says (stream T.contents people.old people.new) text.now }
 {
+    // A write that fails is counted by the device.
     let _ = write_text(text, people);
 }
 
-/// Tells a person what a run that ended so came to, if one is told of it and there is memory for it.
+/// Tells a person what a run that ended with `status` came to. Nothing if `asked` is None, or if there is no memory for it.
 pub(crate) fn tell<O: Write, E: Write, T: Write>(
     alloc: Global,
     asked: Option<Option<&str>>,

@@ -21,7 +21,7 @@ pub struct Watched<W> {
     given: usize,
 }
 
-/// Keeps the first of more bytes.
+/// Keeps the first of the bytes, as many as there is still room for.
 #[tactic(auto, using(crate::proofs::WatchingLemmas::kept_front))]
 fn keep_front(front: &mut ArrayVec<u8, MOST_KEPT>, bytes: &[u8])
     ensures { front.new.items ≡ front_then front.old.items bytes.now }
@@ -49,7 +49,7 @@ impl<W> Watched<W> {
 impl<W: Write> Write for Watched<W> {
     ghost contents = { λ watched. watched_contents (W.contents watched.inner) watched.front.items watched.given };
 
-    /// What one call of the writer with this slice answers.
+    /// Writes once to the writer, and keeps the front of what it took.
     fn write(&mut self, buf: &[u8]) -> io::Result<usize>
         ensures bound { WritesAtMost result buf.now }
         ensures bytes { WriteAppends (watched_contents (W.contents self.old.inner) self.old.front.items self.old.given) (watched_contents (W.contents self.new.inner) self.new.front.items self.new.given) result buf.now }
@@ -64,7 +64,7 @@ impl<W: Write> Write for Watched<W> {
         }
     }
 
-    /// What one call of the writer's `flush` answers.
+    /// Flushes the writer.
     fn flush(&mut self) -> io::Result<()>
         ensures bytes { Keeps (watched_contents (W.contents self.old.inner) self.old.front.items self.old.given) (watched_contents (W.contents self.new.inner) self.new.front.items self.new.given) }
         ensures passes { Keeps (W.contents self.old.inner) (W.contents self.new.inner) }
@@ -76,7 +76,7 @@ impl<W: Write> Write for Watched<W> {
 impl<W> Read for Watched<W> {
     ghost remaining = { λ watched. front_left watched.front.items watched.given };
 
-    /// Gives the next of the bytes that are kept.
+    /// Reads the next of the bytes that are kept.
     fn read(&mut self, buf: &mut [u8]) -> io::Result<usize>
         ensures bound { ReadsAtMost result buf.new }
         ensures same { (self.new.inner ≡ self.old.inner) × (self.new.front ≡ self.old.front) }

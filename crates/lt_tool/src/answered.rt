@@ -14,7 +14,7 @@ pub struct Answered {
 }
 
 impl Answered {
-    /// Of a run that answers no lines.
+    /// The answers of a run that has answered no lines.
     pub fn new(alloc: Global) -> Answered
         ensures counts { result.counts ≡ None }
         ensures tallies { result.tallies ≡ [] }

@@ -32,7 +32,8 @@ pub(crate) enum Lines<'a> {
     Rows(Separator, &'a Rows),
 }
 
-/// Answers the lines of the input by a registry, and by codes if there are any.
+/// Answers the lines of the input by a registry, and by a table of codes if there is one. A fault that ends the run is told
+/// on `errors`.
 pub(crate) fn run_by_registry<L: Lookup, I: Read, O: Write, E: Write>(
     alloc: Global,
     basis: &Basis<'_, L>,
@@ -52,7 +53,7 @@ pub(crate) fn run_by_registry<L: Lookup, I: Read, O: Write, E: Write>(
     end_run(end, errors)
 }
 
-/// Answers the lines of the input as what they are.
+/// Answers the lines of the input, which are tags, or rows with a column of tags.
 fn run_as<L: Lookup, I: Read, O: Write, E: Write>(
     alloc: Global,
     basis: &Basis<'_, L>,
@@ -81,7 +82,7 @@ fn run_as<L: Lookup, I: Read, O: Write, E: Write>(
     }
 }
 
-/// The same by a registry and by codes.
+/// Answers the lines of the input by a registry and a table of codes.
 fn run_by_codes<'a, L: Lookup, I: Read, O: Write, E: Write>(
     alloc: Global,
     checked: &'a Checked<L>,
@@ -100,7 +101,8 @@ fn run_by_codes<'a, L: Lookup, I: Read, O: Write, E: Write>(
     run_as(alloc, &basis, lines, input, output, errors, answered)
 }
 
-/// The same by a registry, and by the table of codes of a file where one is named.
+/// Answers the lines of the input by a registry, and by the codes of the file `table` if `named`. If that file is refused,
+/// it prints why and reads no line.
 fn run_by_table<L: Lookup, G: Read, I: Read, O: Write, E: Write>(
     alloc: Global,
     checked: &Checked<L>,
@@ -134,8 +136,8 @@ fn run_by_table<L: Lookup, G: Read, I: Read, O: Write, E: Write>(
     }
 }
 
-/// Answers the lines of the input by the registry of the first file, and by the table of codes of the second where one is
-/// named. Where a file is refused, no line is read.
+/// Answers the lines of the input by the registry of the first file, and by the table of codes of the second if `named`.
+/// Where a file is refused, it prints why, and no line is read.
 pub(crate) fn answer_lines<F: Read, G: Read, I: Read, O: Write, E: Write>(
     alloc: Global,
     lines: &Lines<'_>,

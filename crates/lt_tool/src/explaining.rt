@@ -20,7 +20,7 @@ use std::io::{Read, Write};
 /// Lines are written once this many bytes of them are there.
 const FULL: usize = 65536;
 
-/// Writes the lines of what is left of an explanation, and keeps no more than some of them.
+/// Writes the lines of what is left of an explanation, and holds few of them in memory at a time.
 fn write_lines<L: Lookup, O: Write>(
     alloc: Global,
     mut left: ExplanationLines<'_, L>,
@@ -39,7 +39,7 @@ fn write_lines<L: Lookup, O: Write>(
     write_text(&lines, output)
 }
 
-/// Prints the explanation of a text by a registry.
+/// Prints the explanation of a text by a registry, or the line of its refusal.
 fn explain_text<L: Lookup, O: Write, E: Write>(
     alloc: Global,
     checked: &Checked<L>,
@@ -63,7 +63,7 @@ fn explain_text<L: Lookup, O: Write, E: Write>(
     }
 }
 
-/// Prints the explanation of a text by the registry of a file.
+/// Prints the explanation of a text by the registry of a file, or the line of the text's or the registry's refusal.
 pub(crate) fn explain<F: Read, O: Write, E: Write>(
     alloc: Global,
     file: &mut Device<F>,

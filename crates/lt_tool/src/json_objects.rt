@@ -16,7 +16,7 @@ use lt_stream::ToolFault;
 use std::alloc::Global;
 use std::io::{Read, Write};
 
-/// Says how a run ended that refused a line, or none.
+/// How a run ends, by whether it refused a line. A fault that ended it is told on `errors`.
 fn end_objects<E: Write>(
     refused: bool,
     end: Result<(), ToolFault>,
@@ -34,7 +34,7 @@ fn end_objects<E: Write>(
     }
 }
 
-/// Answers the lines of the input by objects, by a registry.
+/// Prints a JSON object for each line of the input, by a registry.
 fn write_by_registry<L: Lookup, I: Read, O: Write, E: Write>(
     alloc: Global,
     checked: &Checked<L>,
@@ -49,7 +49,8 @@ fn write_by_registry<L: Lookup, I: Read, O: Write, E: Write>(
     end_objects(ended.0, ended.1, errors)
 }
 
-/// The same by the registry of a file.
+/// Prints a JSON object for each line of the input, by the registry of a file. If that is refused, it prints why and reads
+/// no line.
 pub(crate) fn json<F: Read, I: Read, O: Write, E: Write>(
     alloc: Global,
     file: &mut Device<F>,

@@ -20,7 +20,7 @@ pub struct Answer {
     pub status: Status,
 }
 
-/// The class of a tag, and the tag in conventional case.
+/// The line that `classify` prints for a tag: the name of its class, a space, and the tag in conventional case.
 fn line_of_tag(alloc: Global, tag: &Tag) -> Result<Vec<u8>, OutOfMemory>
     ensures { IfOk result (λ line. line.items ≡ class_line tag.now) }
 {
@@ -33,7 +33,7 @@ fn line_of_tag(alloc: Global, tag: &Tag) -> Result<Vec<u8>, OutOfMemory>
     Ok(line)
 }
 
-/// What is answered where a text is refused.
+/// The answer for a text that is refused: the line of its refusal, and the status of a refused text.
 pub(crate) fn answer_refusal(alloc: Global, refusal: &TextRefusal) -> Result<Answer, OutOfMemory>
     ensures line { IfOk result (λ answer. IsRefusalLine refusal.now answer.line.items) }
     ensures status { IfOk result (λ answer. answer.status ≡ Refused) }

@@ -18,7 +18,7 @@ use lt_tag::OutOfMemory;
 use std::alloc::Global;
 use std::io::{Read, Write};
 
-/// What is printed of what lookup found.
+/// The answer for what lookup found: its line, or nothing and the status of a refusal if it found none.
 fn answer_found(alloc: Global, found: Option<Vec<u8>>) -> Result<Answer, OutOfMemory>
     ensures { IfOk result (λ answer. IsFoundLine found answer.line.items answer.status) }
 {
@@ -35,7 +35,7 @@ fn answer_found(alloc: Global, found: Option<Vec<u8>>) -> Result<Answer, OutOfMe
     })
 }
 
-/// Prints what lookup found, or says what ended the run before.
+/// Prints what lookup found, or tells on `errors` what ended the run before.
 fn end_lookup<O: Write, E: Write>(
     alloc: Global,
     end: Result<Option<Vec<u8>>, ToolFault>,
@@ -54,7 +54,7 @@ fn end_lookup<O: Write, E: Write>(
     }
 }
 
-/// Prints the line of the input that lookup by the ranges finds.
+/// Prints the line of the input that lookup by the ranges finds, if it finds one.
 pub(crate) fn look_up_by<L: Lookup, I: Read, O: Write, E: Write>(
     alloc: Global,
     checked: &Checked<L>,

@@ -32,17 +32,19 @@ use std::io::{Read, Write};
 pub(crate) fn say<E: Write>(text: &[u8], errors: &mut Device<E>)
     ensures { Says (stream E.contents errors.old errors.new) text.now }
 {
+    // A write that fails is counted by the device.
     let _ = write_text(text, errors);
 }
 
-/// Says what ended a run, as [`say`] says a text.
+/// Names what ended a run on `errors`, up to the first write that fails.
 pub(crate) fn say_fault<E: Write>(fault: ToolFault, errors: &mut Device<E>)
     ensures { Says (stream E.contents errors.old errors.new) (fault_said fault) }
 {
+    // A write that fails is counted by the device.
     let _ = write_fault(fault, errors);
 }
 
-/// Prints a text, for a run that ends so.
+/// Prints a text for a run that ends with `end`. If the write fails, it is named on `errors`, and the run fails.
 fn print<O: Write, E: Write>(
     text: &[u8],
     end: Status,
@@ -60,7 +62,7 @@ fn print<O: Write, E: Write>(
     }
 }
 
-/// Says that memory ran out.
+/// Names on `errors` that memory ran out, and gives the status of a failed run.
 pub(crate) fn report_memory<E: Write>(errors: &mut Device<E>) -> Status
     ensures status { result ≡ Failed }
     ensures said { Says (stream E.contents errors.old errors.new) memory_line }
@@ -69,7 +71,7 @@ pub(crate) fn report_memory<E: Write>(errors: &mut Device<E>) -> Status
     Status::Failed
 }
 
-/// Says how a run over lines ended.
+/// How a run over lines ends: refused if any line was. A fault that ended it is named on `errors`.
 pub(crate) fn end_run<E: Write>(end: Result<Counts, ToolFault>, errors: &mut Device<E>) -> Status
     ensures { EndsRun (stream E.contents errors.old errors.new) end (code_of result) }
 {
@@ -83,7 +85,7 @@ pub(crate) fn end_run<E: Write>(end: Result<Counts, ToolFault>, errors: &mut Dev
     }
 }
 
-/// Prints an answer, or says that memory ran out.
+/// Prints an answer and gives its status, or names on `errors` that memory ran out.
 pub(crate) fn print_answer<O: Write, E: Write>(
     answer: Result<Answer, OutOfMemory>,
     output: &mut Device<O>,
@@ -97,7 +99,8 @@ pub(crate) fn print_answer<O: Write, E: Write>(
     }
 }
 
-/// Lets go of the tallies of a run of which it is not known which answers were written.
+/// Empties the tallies if the run ended by a failed write or for lack of memory: it is not known then which answers were
+/// written.
 pub(crate) fn drop_unknown(alloc: Global, end: Result<Counts, ToolFault>, tallies: &mut Tallies)
     ensures { tallies.new ≡ tallies_after end tallies.old }
 {
@@ -106,7 +109,7 @@ pub(crate) fn drop_unknown(alloc: Global, end: Result<Counts, ToolFault>, tallie
     }
 }
 
-/// Does what a command asks for, and tells how the run ended.
+/// Does what a command asks for, by its files and the input, and gives the status with which the run ends.
 fn run<F: Read, G: Read, I: Read, O: Write, E: Write>(
     alloc: Global,
     command: &Command,

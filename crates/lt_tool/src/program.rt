@@ -20,7 +20,7 @@ use std::io::{self, Read, Write};
 /// What is read where a command names no file.
 const NO_FILE: &[u8] = &[];
 
-/// The command that the words name.
+/// The command that the words name. If the words can't be had, the fault is the one that is given.
 fn command_of(alloc: Global, words: Result<Vec<String>, WordsFault>) -> Result<Command, WordsFault>
     ensures names { IfOk result (NamesCommand (texts_of words)) }
     ensures fault { IfErr result (IsProgramFault (texts_of words)) }
@@ -34,7 +34,7 @@ fn command_of(alloc: Global, words: Result<Vec<String>, WordsFault>) -> Result<C
 /// The path of the standard input.
 const INPUT_PATH: &str = "/dev/stdin";
 
-/// The path of the file that a name means: `-` is the standard input, unless that is read otherwise.
+/// The path of the file that a name means. `-` is the standard input, unless `is_taken`: the command reads that for itself.
 fn path_of<'a>(name: &'a str, is_taken: bool) -> &'a str
     ensures { IsPath is_taken name.entry.now result.now }
 {
@@ -45,7 +45,7 @@ fn path_of<'a>(name: &'a str, is_taken: bool) -> &'a str
     }
 }
 
-/// Says why a file can't be opened.
+/// Names on `errors` why a file can't be opened, `! OutOfMemory` or `! File`, and gives the exit status.
 fn refuse_file<E: Write>(error: &io::Error, errors: &mut Device<E>) -> u8
     ensures status { result ≡ code_of Failed }
     ensures said { Says (stream E.contents errors.old errors.new) (open_line (error_kind error.now)) }
@@ -56,7 +56,7 @@ fn refuse_file<E: Write>(error: &io::Error, errors: &mut Device<E>) -> u8
     }
 }
 
-/// Says that the input can't be read.
+/// Names on `errors` that the input can't be read, by `! Read`, and gives the exit status.
 fn refuse_input<E: Write>(errors: &mut Device<E>) -> u8
     ensures status { result ≡ code_of Failed }
     ensures said { Says (stream E.contents errors.old errors.new) input_line }
@@ -65,7 +65,8 @@ fn refuse_input<E: Write>(errors: &mut Device<E>) -> u8
     Status::Failed.code()
 }
 
-/// Opens the file that a command names second, if it names one, and does what the command asks for.
+/// Opens the file that a command names second, if it names one, and does what the command asks for. `first` is its first
+/// file. If the second can't be opened, that is named on `errors`.
 fn run_on_first<F: Read + Drop, P: FnMut(&str) -> io::Result<F>, I: Read, O: Write, E: Write>(
     alloc: Global,
     command: &Command,
@@ -108,7 +109,7 @@ fn run_on_first<F: Read + Drop, P: FnMut(&str) -> io::Result<F>, I: Read, O: Wri
     }
 }
 
-/// Opens the files that a command names, in order, and does what it asks for.
+/// Opens the files that a command names, in order, and does what it asks for. One that can't be opened is named on `errors`.
 fn run_on_files<F: Read + Drop, P: FnMut(&str) -> io::Result<F>, I: Read, O: Write, E: Write>(
     alloc: Global,
     command: &Command,
@@ -144,7 +145,8 @@ fn run_on_files<F: Read + Drop, P: FnMut(&str) -> io::Result<F>, I: Read, O: Wri
     }
 }
 
-/// Does what a command asks for, if the input can be read where the command reads it.
+/// Does what a command asks for. If it reads the input and that can't be read, this is named on `errors` before a file is
+/// opened.
 fn run_command<F: Read + Drop, P: FnMut(&str) -> io::Result<F>, I: Read, O: Write, E: Write>(
     alloc: Global,
     command: &Command,

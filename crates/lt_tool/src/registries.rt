@@ -26,7 +26,7 @@ pub(crate) enum RegistryRefusal {
 }
 
 impl RegistryRefusal {
-    /// How a run ends that has refused a registry so.
+    /// How a run ends that has refused a registry: failed if a read failed or was one too many, else as a refused registry.
     pub(crate) fn status(&self) -> Status
         ensures { result ≡ refused_end self.now }
     {
@@ -59,7 +59,7 @@ impl From<RegistryFault> for RegistryRefusal {
     }
 }
 
-/// The entries, if they pass the check.
+/// The entries, as a table that passed the check, or the first finding of the check.
 pub(crate) fn check_entries(
     alloc: Global,
     registry: Registry,
@@ -78,7 +78,7 @@ pub(crate) fn check_entries(
     }
 }
 
-/// The entries of a file, which pass the check.
+/// The entries of a file, as a table that passed the check, or why the file is refused.
 pub(crate) fn read_registry<F: Read>(
     alloc: Global,
     file: &mut Device<F>,
@@ -91,7 +91,8 @@ pub(crate) fn read_registry<F: Read>(
     }
 }
 
-/// The line for a refused registry.
+/// The line that is printed for a refused registry, as `jar BadLine line 3`. Refused where memory runs out, and for
+/// `RegistryRefusal::OutOfMemory`, which has no line.
 pub(crate) fn line_of_refusal(
     alloc: Global,
     refusal: &RegistryRefusal,
@@ -116,7 +117,7 @@ pub(crate) fn line_of_refusal(
     Ok(line.into_bytes())
 }
 
-/// What is answered where a registry is refused.
+/// The answer for a refused registry: its line and the status.
 pub(crate) fn refuse(alloc: Global, refusal: &RegistryRefusal) -> Result<Answer, OutOfMemory>
     ensures line { IfOk result (λ answer. IsRegistryLine refusal.now answer.line.items) }
     ensures status { IfOk result (λ answer. answer.status ≡ refused_end refusal.now) }
@@ -127,7 +128,7 @@ pub(crate) fn refuse(alloc: Global, refusal: &RegistryRefusal) -> Result<Answer,
     })
 }
 
-/// What `check` answers by a registry that passes.
+/// The answer of `check` for a registry that passes: `ok` and the number of its entries.
 fn count_entries<L: Lookup>(alloc: Global, checked: &Checked<L>) -> Result<Answer, OutOfMemory>
     ensures { IfOk result (λ answer. CountsEntries (L.listed checked.now) answer.line.items answer.status) }
 {
@@ -139,7 +140,7 @@ fn count_entries<L: Lookup>(alloc: Global, checked: &Checked<L>) -> Result<Answe
     })
 }
 
-/// What `check` answers to a file.
+/// The answer of `check` for a file: `ok` and the number of its entries, or the line of the registry's refusal.
 pub(crate) fn check<F: Read>(alloc: Global, file: &mut Device<F>) -> Result<Answer, OutOfMemory>
     ensures { Answers (stream F.remaining file.old file.new) Checks result }
 {

@@ -23,7 +23,7 @@ use lt_words::{Column, Rows};
 use std::alloc::Global;
 use std::io::{Read, Write};
 
-/// What rows are whose words are these, and whose column has this number.
+/// The form of rows whose column has this number, counted from 1, by what the words say of headings and of keeping rows.
 fn row_form(rows: &Rows, number: usize) -> RowForm
     ensures { result ≡ spec.row_form rows.now number }
 {
@@ -34,7 +34,8 @@ fn row_form(rows: &Rows, number: usize) -> RowForm
     }
 }
 
-/// What each line is, if this parts the fields of rows.
+/// The form of each line: a row if a tab parts the fields, and a record of CSV if a delimiter does. `number` is that of the
+/// column, counted from 1.
 fn line_form(separator: Separator, rows: &Rows, number: usize) -> LineForm
     ensures { result ≡ spec.line_form separator rows.now number }
 {
@@ -45,7 +46,7 @@ fn line_form(separator: Separator, rows: &Rows, number: usize) -> LineForm
     }
 }
 
-/// Answers these bytes and then those of the input.
+/// Answers the lines of `front`, which was read from the input, and then of what is left of the input.
 fn answer_after<L: Lookup, I: Read, O: Write, E: Write>(
     alloc: Global,
     basis: &Basis<'_, L>,
@@ -63,7 +64,8 @@ fn answer_after<L: Lookup, I: Read, O: Write, E: Write>(
     run_by_registry(alloc, basis, form, &mut ahead, output, errors, answered)
 }
 
-/// Answers the rows of the input by the column of this name and by a registry.
+/// Answers the rows of the input by the column of this name. If the heading has no such column, or more than one, this is
+/// told on `errors`, and no row is answered.
 fn answer_named<L: Lookup, I: Read, O: Write, E: Write>(
     alloc: Global,
     basis: &Basis<'_, L>,
@@ -103,7 +105,7 @@ fn answer_named<L: Lookup, I: Read, O: Write, E: Write>(
     }
 }
 
-/// Answers the rows of the input by their column.
+/// Answers the rows of the input by the column that the words name, by its number or by its name in the heading.
 pub(crate) fn answer_rows<L: Lookup, I: Read, O: Write, E: Write>(
     alloc: Global,
     basis: &Basis<'_, L>,

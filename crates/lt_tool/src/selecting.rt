@@ -32,7 +32,7 @@ pub(crate) struct RefusedRange {
     refusal: RangeRefusal,
 }
 
-/// Puts a range after the others; it is that of this number.
+/// Puts a range after the others. `number` is named in the refusal, where memory runs out.
 fn push_range(
     ranges: &mut Vec<LanguageRange>,
     number: usize,
@@ -51,7 +51,7 @@ fn push_range(
     }
 }
 
-/// The range of this number by which a text matches.
+/// The canonical range that a text is read as. `number` is named in the refusal.
 fn read_range<L: Lookup>(
     alloc: Global,
     checked: &Checked<L>,
@@ -68,7 +68,7 @@ fn read_range<L: Lookup>(
     }
 }
 
-/// The ranges by which texts match.
+/// The canonical ranges that the texts are read as, or the first that is refused, by its number, counted from 1.
 fn read_ranges<L: Lookup>(
     alloc: Global,
     checked: &Checked<L>,
@@ -87,7 +87,7 @@ fn read_ranges<L: Lookup>(
     Ok(ranges)
 }
 
-/// The scheme of filtering that the words ask for, if it is not lookup.
+/// The scheme of filtering that the words ask for; None is lookup.
 fn scheme_of(matching: Matching) -> Option<Scheme>
     ensures { result ≡ scheme_for matching }
 {
@@ -98,7 +98,7 @@ fn scheme_of(matching: Matching) -> Option<Scheme>
     }
 }
 
-/// Says how a run ended that printed so many lines.
+/// How a run ends that printed so many lines: refused if it printed none. A fault that ended it is named on `errors`.
 fn end_selecting<E: Write>(end: Result<u64, ToolFault>, errors: &mut Device<E>) -> Status
     ensures { EndsSelecting (stream E.contents errors.old errors.new) end (code_of result) }
 {
@@ -112,7 +112,7 @@ fn end_selecting<E: Write>(end: Result<u64, ToolFault>, errors: &mut Device<E>) 
     }
 }
 
-/// Says why a range is refused, where there is memory for it.
+/// Names on `errors` why a range is refused, and its number, or that memory ran out, and gives the status.
 fn say_range<O: Write, E: Write>(
     alloc: Global,
     refused: &RefusedRange,
@@ -135,7 +135,7 @@ fn say_range<O: Write, E: Write>(
     }
 }
 
-/// Prints the lines of the input that one of the ranges matches.
+/// Prints the lines of the input that one of the ranges matches by the scheme, and gives the status.
 fn select_by<L: Lookup, I: Read, O: Write, E: Write>(
     alloc: Global,
     checked: &Checked<L>,
@@ -152,7 +152,7 @@ fn select_by<L: Lookup, I: Read, O: Write, E: Write>(
     end_selecting(end, errors)
 }
 
-/// Prints the lines that a scheme of filtering selects, or where there is none the line that lookup finds.
+/// Prints the lines of the input that filtering by the scheme selects, or, without a scheme, the line that lookup finds.
 fn match_by<L: Lookup, I: Read, O: Write, E: Write>(
     alloc: Global,
     checked: &Checked<L>,
@@ -172,7 +172,8 @@ fn match_by<L: Lookup, I: Read, O: Write, E: Write>(
     }
 }
 
-/// Prints the lines of the input that the ranges match which the words name, by a registry.
+/// Prints the lines of the input that match the ranges of the words, by a registry. If a range is refused, that is named on
+/// `errors`, and no line is read.
 fn select_texts<L: Lookup, I: Read, O: Write, E: Write>(
     alloc: Global,
     checked: &Checked<L>,
@@ -194,7 +195,8 @@ fn select_texts<L: Lookup, I: Read, O: Write, E: Write>(
     }
 }
 
-/// The same by the registry of a file.
+/// Prints the lines of the input that match the ranges of the words, by the registry of a file, or why the registry is
+/// refused.
 pub(crate) fn select<F: Read, I: Read, O: Write, E: Write>(
     alloc: Global,
     ranges: &Ranges,

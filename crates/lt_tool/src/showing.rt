@@ -18,7 +18,7 @@ use lt_words::Tags;
 use std::alloc::Global;
 use std::io::Read;
 
-/// Appends the explanation of a text, or why it is refused, and tells whether it is.
+/// Appends the explanation of a text, or the line of its refusal, and tells whether it is refused.
 fn append_ending<L: Lookup>(
     lines: &mut Vec<u8>,
     alloc: Global,
@@ -39,7 +39,8 @@ fn append_ending<L: Lookup>(
     }
 }
 
-/// Appends what is shown of a text for people, and tells whether it is refused.
+/// Appends what `show` prints of a text for people: the table of its subtags, its explanation or the line of its refusal,
+/// and an empty line. Tells whether it is refused. A text that is no tag has the line of its refusal alone.
 fn append_block<L: Lookup>(
     lines: &mut Vec<u8>,
     alloc: Global,
@@ -64,7 +65,7 @@ fn append_block<L: Lookup>(
     Ok(refused)
 }
 
-/// Appends what is shown of a text, as a line of JSON or for people, and tells whether it is refused.
+/// Appends what `show` prints of a text, as a line of JSON if `json`, or else for people, and tells whether it is refused.
 fn append_shown<L: Lookup>(
     lines: &mut Vec<u8>,
     alloc: Global,
@@ -82,14 +83,14 @@ fn append_shown<L: Lookup>(
     }
 }
 
-/// Whether one of two holds.
+/// Whether one of two is true.
 fn either(one: bool, other: bool) -> bool
     ensures { result ≡ (one || other) }
 {
     one || other
 }
 
-/// What is shown of texts.
+/// The answer of `show` for texts, by a registry and its records: as lines of JSON if `json`, or else for people.
 fn show_texts<L: Lookup>(
     alloc: Global,
     checked: &Checked<L>,
@@ -111,7 +112,7 @@ fn show_texts<L: Lookup>(
     })
 }
 
-/// How a run ends in which a tag was refused, or none.
+/// How a run of `show` ends, by whether a tag was refused.
 fn status_of(refused: bool) -> Status
     ensures { result ≡ spec.status_of refused }
 {
@@ -122,7 +123,7 @@ fn status_of(refused: bool) -> Status
     }
 }
 
-/// The refusal of a registry whose records are kept.
+/// The refusal of a registry whose records were kept while it was read.
 fn refusal_of(fault: RecordsFault) -> RegistryRefusal
     ensures { IsKeptRefusal fault result }
 {
@@ -132,7 +133,7 @@ fn refusal_of(fault: RecordsFault) -> RegistryRefusal
     }
 }
 
-/// What is shown of tags by a registry, if it passes the check, and its records.
+/// The answer of `show` for tags, by a registry and its records, or the line of the refusal if the registry fails the check.
 fn show_kept(alloc: Global, both: (Registry, Jar), tags: &Tags) -> Result<Answer, OutOfMemory>
     ensures { IfOk result (λ answer. ShowsBy tags.now (Ok both) answer.line.items answer.status) }
 {
@@ -143,7 +144,7 @@ fn show_kept(alloc: Global, both: (Registry, Jar), tags: &Tags) -> Result<Answer
     }
 }
 
-/// What `show` answers to a file and tags.
+/// The answer of `show` for tags, by the registry of a file, or the line of the registry's refusal.
 pub(crate) fn show<F: Read>(
     alloc: Global,
     file: &mut Device<F>,

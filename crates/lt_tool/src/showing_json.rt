@@ -17,7 +17,7 @@ use lt_show::append_rows;
 use lt_tag::{OutOfMemory, Tag, TagFaultKind, read_tag, write_tag};
 use std::alloc::{AllocError, Global};
 
-/// Appends a step.
+/// Appends a step as a JSON object: its kind, its place, and the number of its record.
 fn append_step(objects: &mut Vec<u8>, step: &Step) -> Result<(), AllocError>
     ensures { OnOk result (objects.new.items ≡ objects.old.items ++ step_value step.now) }
 {
@@ -31,7 +31,7 @@ fn append_step(objects: &mut Vec<u8>, step: &Step) -> Result<(), AllocError>
     Ok(())
 }
 
-/// Appends the array of steps.
+/// Appends the steps as a JSON array.
 #[tactic(auto, using(lt_json_text::proofs::ValueLemmas::commaed_more))]
 fn append_steps(objects: &mut Vec<u8>, steps: &[Step]) -> Result<(), AllocError>
     ensures { OnOk result (objects.new.items ≡ objects.old.items ++ array step_value steps.now) }
@@ -60,7 +60,8 @@ fn append_explained(objects: &mut Vec<u8>, alloc: Global, trace: &Trace) -> Resu
     Ok(())
 }
 
-/// The name of a refusal, a space, and the place of the fault or the variant.
+/// What the line of a refusal tells: its name, a space, and the place of the fault or the variant, without `! ` and the line
+/// feed.
 fn told_of(alloc: Global, refusal: &TextRefusal) -> Result<Vec<u8>, OutOfMemory>
     ensures { IfOk result (λ told. IsTold refusal.now told.items) }
 {
@@ -71,7 +72,7 @@ fn told_of(alloc: Global, refusal: &TextRefusal) -> Result<Vec<u8>, OutOfMemory>
     Ok(told)
 }
 
-/// Appends the members of a tag that is refused, and the end of its object.
+/// Appends the members of a tag that is refused, and the end of its object. `told` is what its refusal tells.
 fn append_refused(objects: &mut Vec<u8>, told: &[u8]) -> Result<(), OutOfMemory>
     ensures { OnOk result (objects.new.items ≡ objects.old.items ++ ends_of (refused_members told.now)) }
 {
@@ -85,7 +86,7 @@ fn append_refused(objects: &mut Vec<u8>, told: &[u8]) -> Result<(), OutOfMemory>
     Ok(())
 }
 
-/// Appends the last members of a tag, and tells whether it is refused.
+/// Appends the last members of a tag's object, its canonical form and steps or its fault, and tells whether it is refused.
 fn append_answer<L: Lookup>(
     objects: &mut Vec<u8>,
     alloc: Global,
@@ -108,7 +109,7 @@ fn append_answer<L: Lookup>(
     }
 }
 
-/// Appends the object of a text that is no tag.
+/// Appends the object of a text that is no tag, with what its refusal tells.
 fn append_no_tag(
     objects: &mut Vec<u8>,
     alloc: Global,
@@ -125,7 +126,7 @@ fn append_no_tag(
     Ok(())
 }
 
-/// Appends the members of a tag up to its rows.
+/// Appends the members of a tag's object up to its rows: the tag in conventional case, and a row for each subtag.
 fn append_tag_rows<L: Lookup>(
     objects: &mut Vec<u8>,
     alloc: Global,
@@ -143,7 +144,7 @@ fn append_tag_rows<L: Lookup>(
     Ok(())
 }
 
-/// Appends what is shown of a text as a line of JSON, and tells whether it is refused.
+/// Appends what `show` prints of a text as a line of JSON, and tells whether the text is refused.
 pub(crate) fn append_object<L: Lookup>(
     objects: &mut Vec<u8>,
     alloc: Global,

@@ -9,7 +9,7 @@ use lt_codes::{TableFault, TableFaultKind};
 use lt_tag::OutOfMemory;
 use std::alloc::Global;
 
-/// How a run ends on such a fault of a table.
+/// How a run ends that refuses a table of codes: failed if a read failed, else as for a refused registry.
 fn table_end(kind: TableFaultKind) -> Status
     ensures { result ≡ spec.table_end kind }
 {
@@ -19,7 +19,7 @@ fn table_end(kind: TableFaultKind) -> Status
     }
 }
 
-/// What is answered where a table is refused.
+/// The answer for a refused table of codes: the name of its fault and the line, as `codes BadRow line 2`.
 pub(crate) fn refuse_table(alloc: Global, fault: &TableFault) -> Result<Answer, OutOfMemory>
     ensures { IfOk result (λ answer. RefusesCodes fault.now answer.line.items answer.status) }
 {

@@ -16,7 +16,7 @@ use lt_tag::{OutOfMemory, read_tag, write_tag};
 use std::alloc::Global;
 use std::io::Read;
 
-/// The text of the extlang form of the tag that a text is read as.
+/// The text of the extlang form of the tag that a text is read as, or why there is none.
 fn extlang_text<L: Lookup>(
     alloc: Global,
     checked: &Checked<L>,
@@ -30,7 +30,7 @@ fn extlang_text<L: Lookup>(
     Ok(write_tag(alloc, &form)?)
 }
 
-/// Whether the tags that two texts are read as are equivalent.
+/// Whether the tags that two texts are read as are equivalent, or why a text is no tag or a tag is refused.
 fn equality<L: Lookup>(
     alloc: Global,
     checked: &Checked<L>,
@@ -45,7 +45,7 @@ fn equality<L: Lookup>(
     Ok(equivalent(alloc, checked, &tag, &other)?)
 }
 
-/// What `extlang` answers to a text by a registry.
+/// The answer of `extlang` for a text, by a registry: its extlang form, or the line of its refusal.
 fn answer_extlang<L: Lookup>(
     alloc: Global,
     checked: &Checked<L>,
@@ -65,7 +65,7 @@ fn answer_extlang<L: Lookup>(
     }
 }
 
-/// What `equal` answers to two texts by a registry.
+/// The answer of `equal` for two texts, by a registry: `equal`, `different`, or the line of a text's refusal.
 fn answer_equal<L: Lookup>(
     alloc: Global,
     checked: &Checked<L>,
@@ -84,7 +84,7 @@ fn answer_equal<L: Lookup>(
     Ok(Answer { line, status })
 }
 
-/// What `extlang` answers to a file and a text.
+/// The answer of `extlang` for a text, by the registry of a file, or the line of the registry's refusal.
 pub(crate) fn extlang<F: Read>(
     alloc: Global,
     file: &mut Device<F>,
@@ -98,7 +98,7 @@ pub(crate) fn extlang<F: Read>(
     }
 }
 
-/// What `equal` answers to a file and two texts.
+/// The answer of `equal` for two texts, by the registry of a file, or the line of the registry's refusal.
 pub(crate) fn equal<F: Read>(
     alloc: Global,
     file: &mut Device<F>,

@@ -15,7 +15,8 @@ use lt_upgrade::{UpgradeFault, upgrade_check};
 use std::alloc::Global;
 use std::io::Read;
 
-/// What is answered where a registry is refused, after a mark that says which it is.
+/// The answer for one of two registries that is refused: `mark`, which says which of them it is, and the line of the
+/// refusal.
 fn refuse_marked(
     alloc: Global,
     mark: &[u8],
@@ -34,7 +35,8 @@ fn refuse_marked(
     })
 }
 
-/// What `upgrade` answers by two registries that pass the check.
+/// The answer of `upgrade` for two registries that pass the check: `ok`, or the condition that fails and the number of a
+/// record.
 fn answer_upgrade<A: Lookup, B: Lookup>(
     alloc: Global,
     older: &Checked<A>,
@@ -62,7 +64,8 @@ fn answer_upgrade<A: Lookup, B: Lookup>(
     }
 }
 
-/// What `upgrade` answers to the file of a newer registry by an older one that passes.
+/// The answer of `upgrade` for the file of a newer registry, by an older one that passes, or the line of the newer one's
+/// refusal.
 fn judge_newer<A: Lookup, G: Read>(
     alloc: Global,
     older: &Checked<A>,
@@ -76,8 +79,8 @@ fn judge_newer<A: Lookup, G: Read>(
     }
 }
 
-/// What `upgrade` answers to two files. The older one is read and judged first; where it is refused, the newer one
-/// is not read.
+/// The answer of `upgrade` for two files. The older one is read and judged first; where it is refused, the newer one is not
+/// read.
 pub(crate) fn upgrade<F: Read, G: Read>(
     alloc: Global,
     old: &mut Device<F>,

@@ -22,7 +22,7 @@ use lt_verify::{Verdict, verify_lines};
 use std::alloc::Global;
 use std::io::{Read, Write};
 
-/// The valid tag that a text is read as.
+/// The valid tag that a text is read as, or why it is no tag or not valid.
 fn valid_tag<L: Lookup>(
     alloc: Global,
     checked: &Checked<L>,
@@ -41,7 +41,7 @@ fn valid_tag<L: Lookup>(
     }
 }
 
-/// What is answered where this was judged.
+/// The answer of `verify` for a verdict: `ok`, or `! ` and what is wrong, with the number of the step where there is one.
 fn answer_verdict(alloc: Global, verdict: Verdict) -> Result<Answer, OutOfMemory>
     ensures { IfOk result (λ answer. PrintsVerdict verdict answer.line.items answer.status) }
 {
@@ -62,7 +62,7 @@ fn answer_verdict(alloc: Global, verdict: Verdict) -> Result<Answer, OutOfMemory
     })
 }
 
-/// Prints a verdict, or says what ended the run before there was one.
+/// Prints a verdict, or names on `errors` what ended the run before there was one.
 fn end_verifying<O: Write, E: Write>(
     alloc: Global,
     end: Result<Verdict, ToolFault>,
@@ -104,7 +104,8 @@ fn verify_text<L: Lookup, I: Read, O: Write, E: Write>(
     }
 }
 
-/// Judges the lines of the input as an explanation of a text, by the registry of a file.
+/// Judges the lines of the input as an explanation of a text, by the registry of a file, and prints the verdict, or why the
+/// registry or the text is refused.
 pub(crate) fn verify<F: Read, I: Read, O: Write, E: Write>(
     alloc: Global,
     file: &mut Device<F>,

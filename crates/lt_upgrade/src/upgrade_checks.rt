@@ -23,7 +23,7 @@ use lt_subtag::Subtag;
 use lt_tag::{OutOfMemory, Tag};
 use std::alloc::Global;
 
-/// Whether what a record names is registered in the newer registry.
+/// Whether the subtag or the range of a record is registered in the newer registry. True of a record of a whole tag.
 pub(crate) fn stays_registered<L: Lookup>(newer: &L, ranges: &WidestRanges, entry: &Entry) -> bool
     requires { HoldRanges (L.listed newer.now) ranges.now }
     ensures { IsTrue result ↔ StaysRegistered (L.listed newer.now) entry.now }
@@ -35,7 +35,7 @@ pub(crate) fn stays_registered<L: Lookup>(newer: &L, ranges: &WidestRanges, entr
     }
 }
 
-/// Whether the chains of two subtags of a kind, not of extlangs, come to one end.
+/// Whether the chains of values of two subtags have the same end. False if one has none. The kind is not that of extlangs.
 #[tactic(auto, using(crate::proofs::UpgradeChecks::endless_apart))]
 fn have_same_end<L: Lookup>(
     table: &L,
@@ -57,7 +57,7 @@ fn have_same_end<L: Lookup>(
     }
 }
 
-/// Whether the value of a record of a kind is a subtag of that kind.
+/// Whether the preferred value of a record of a kind is a subtag of the same kind, so that it follows in a chain of values.
 fn keeps_kind(kind: Kind, value: &Subtag) -> bool
     ensures { IsTrue result ↔ KeepsKind kind value.now }
 {
@@ -68,7 +68,8 @@ fn keeps_kind(kind: Kind, value: &Subtag) -> bool
     }
 }
 
-/// Whether a subtag and its older value come to one end in the newer registry.
+/// Whether the chains of a subtag and its older preferred value have the same end in the newer registry. True of a record
+/// without a value of its own kind.
 pub(crate) fn keeps_ends<L: Lookup>(newer: &L, shortcuts: &Shortcuts, entry: &Entry) -> bool
     requires { AreShortcuts (L.listed newer.now) shortcuts.now }
     ensures { IsTrue result ↔ KeepsEnds (L.listed newer.now) entry.now }
@@ -88,7 +89,7 @@ fn same_prefixes(left: &[Prefix], right: &[Prefix]) -> bool
     left == right
 }
 
-/// The value of an extlang, or itself.
+/// The preferred value of an extlang, or the extlang itself if it has none.
 fn replacement<'a>(entry: &'a Entry, subtag: &'a Subtag) -> &'a Subtag
     ensures { result.now ≡ unwrap_or (entries.one_of entry.now.value) subtag.now }
 {
@@ -98,7 +99,8 @@ fn replacement<'a>(entry: &'a Entry, subtag: &'a Subtag) -> &'a Subtag
     }
 }
 
-/// Whether an extlang has its Prefixes, and a replacement of the same end, in the newer registry.
+/// Whether an extlang has, in the newer registry, the same Prefixes, and a replacement whose chain of values has the same
+/// end.
 fn is_same_extlang<L: Lookup>(
     newer: &L,
     shortcuts: &Shortcuts,
@@ -116,7 +118,7 @@ fn is_same_extlang<L: Lookup>(
         && have_same_end(newer, shortcuts, Kind::Language, old, new)
 }
 
-/// Whether an extlang keeps its Prefixes and the end of its replacement in the newer registry.
+/// Whether an extlang keeps its Prefixes and the end of its replacement in the newer registry. True of any other record.
 pub(crate) fn keeps_extlang<L: Lookup>(newer: &L, shortcuts: &Shortcuts, entry: &Entry) -> bool
     requires { AreShortcuts (L.listed newer.now) shortcuts.now }
     ensures { IsTrue result ↔ KeepsExtlang (L.listed newer.now) entry.now }
@@ -129,7 +131,7 @@ pub(crate) fn keeps_extlang<L: Lookup>(newer: &L, shortcuts: &Shortcuts, entry: 
     }
 }
 
-/// Whether a Prefix, if it is one subtag, is among those of a record.
+/// Whether a Prefix is among those of a record, if it is one subtag. True of a longer one.
 fn is_among(prefix: &Prefix, entry: &Entry) -> bool
     ensures { result ≡ checks.is_among entry.now.prefixes prefix.now }
 {
@@ -146,15 +148,15 @@ fn are_among(prefixes: &[Prefix], entry: &Entry) -> bool
     prefixes.iter().all(|prefix| is_among(prefix, entry))
 }
 
-/// Whether the Prefixes of two records have the same languages.
+/// Whether the Prefixes of one subtag are the same for two records, in whatever order.
 fn same_languages(left: &Entry, right: &Entry) -> bool
     ensures { IsTrue result ↔ ((l : List ℕ) → entries.has_prefix left.now.prefixes l ≡ entries.has_prefix right.now.prefixes l) }
 {
     are_among(left.prefixes(), right) && are_among(right.prefixes(), left)
 }
 
-/// Whether a variant with a language value keeps one of the same end, and the set of its Prefixes, in the
-/// newer registry.
+/// Whether a variant whose value is a language keeps, in the newer registry, a language of the same end as its value, and
+/// the set of its Prefixes of one subtag. True of any other record.
 pub(crate) fn keeps_variant_language<L: Lookup>(
     newer: &L,
     shortcuts: &Shortcuts,
@@ -171,8 +173,8 @@ pub(crate) fn keeps_variant_language<L: Lookup>(
     }
 }
 
-/// Whether the variant of a record has, in the newer registry, a language value of the same end, and Prefixes
-/// of the same languages: so whether VariantLanguage steps lead to the same end beside the same languages.
+/// Whether a variant has, in the newer registry, a language of the same end as its value, and the same Prefixes of one
+/// subtag: so whether VariantLanguage steps lead to the same end beside the same languages. `value` is its older value.
 fn have_same_variant_language<L: Lookup>(
     newer: &L,
     shortcuts: &Shortcuts,
@@ -195,7 +197,8 @@ fn have_same_variant_language<L: Lookup>(
     }
 }
 
-/// Whether a variant with a language value has one in the older registry, if it is registered there.
+/// Whether a variant whose value is a language has such a value in the older registry too, if it is registered there. True
+/// of any other record.
 #[tactic(auto, using(crate::proofs::UpgradeChecks::had_compared))]
 pub(crate) fn had_variant_language<L: Lookup>(older: &L, entry: &Entry) -> bool
     ensures { IsTrue result ↔ HadVariantLanguage (L.listed older.now) entry.now }
@@ -208,7 +211,7 @@ pub(crate) fn had_variant_language<L: Lookup>(older: &L, entry: &Entry) -> bool
     }
 }
 
-/// Whether two tags that repeat no variant reach one canonical tag.
+/// Whether two tags that repeat no variant have the same canonical form. False if one of them has none.
 #[tactic(auto, using(crate::proofs::UpgradeChecks::forms_compared, crate::proofs::UpgradeChecks::refused_apart))]
 fn meet_in_canonical<L: Lookup>(
     alloc: Global,
@@ -232,7 +235,7 @@ fn meet_in_canonical<L: Lookup>(
     }
 }
 
-/// Whether the newer registry replaces a tag whole by a value.
+/// Whether the newer registry has this preferred value for the whole tag.
 fn replaces<L: Lookup>(newer: &L, tag: &Tag, value: &Tag) -> bool
     ensures { IsTrue result → whole_value (L.listed newer.now) tag.now ≡ Some value.now }
 {
@@ -242,8 +245,8 @@ fn replaces<L: Lookup>(newer: &L, tag: &Tag, value: &Tag) -> bool
     }
 }
 
-/// Whether the tag and the value of a record of the older registry, if it is a whole record with a value,
-/// reach one canonical tag by the newer registry. Where the newer one has the same value for the tag, they do.
+/// Whether the tag and the preferred value of a record of the older registry have the same canonical form by the newer one.
+/// They do if the newer one has the same value for the tag. True of a record that replaces no whole tag.
 pub(crate) fn keeps_whole<A: Lookup, B: Lookup>(
     alloc: Global,
     older: &Checked<A>,

@@ -72,7 +72,7 @@ const IN_ORDER: [UpgradeCondition; 6] = [
     UpgradeCondition::SameWhole,
 ];
 
-/// The records that a condition speaks of.
+/// The records of which a condition speaks: those of the newer registry for `NoNewVariantLanguage`, else those of the older.
 fn records_of<'a, A: Lookup, B: Lookup>(
     older: &'a Checked<A>,
     newer: &'a Checked<B>,
@@ -114,7 +114,7 @@ fn meets<A: Lookup, B: Lookup>(
     }
 }
 
-/// The lowest record at fault by a condition.
+/// The number of the first record that does not meet a condition, or None if each does.
 fn lowest_fault<A: Lookup, B: Lookup>(
     alloc: Global,
     older: &Checked<A>,
@@ -150,6 +150,7 @@ pub fn upgrade_check<A: Lookup, B: Lookup>(
     ensures keeps { OnOk result (UpgradeKeepsTags (A.listed older.now) (B.listed newer.now)) }
     ensures fault { IfErr result (IsUpgradeFault (A.listed older.now) (B.listed newer.now)) }
 {
+    // So that it is known what an upgrade keeps.
     upgrades_keep_tags();
     // So that the table is known to pass the check.
     let _ = older.table();

@@ -22,7 +22,7 @@ pub(crate) struct RangeEnd {
 }
 
 impl RangeEnd {
-    /// The end of a range of a kind.
+    /// The end of a range of this kind, by its subtag.
     fn new(kind: Kind, subtag: &Subtag) -> RangeEnd
         ensures { result ≡ range_end kind subtag.now }
     {
@@ -33,7 +33,7 @@ impl RangeEnd {
         }
     }
 
-    /// Whether the end is the other or is before it.
+    /// Whether the end is `other` or before it.
     fn is_up_to(&self, other: &RangeEnd) -> bool
         ensures { result ≡ is_up_to self.now other.now }
     {
@@ -77,7 +77,8 @@ impl WidestRanges {
         Ok(WidestRanges::of_rows(rows))
     }
 
-    /// The ranges in order, without those that end no later than an earlier one.
+    /// The ranges in order, without those that end no later than an earlier one, so that each that is left ends later than
+    /// the one before it.
     fn of_rows(mut rows: Vec<RangeRow>) -> WidestRanges
         ensures { (a b : RangeEnd) → list_any (contains a b) result ≡ list_any (contains a b) rows.items }
     {
@@ -86,7 +87,8 @@ impl WidestRanges {
         WidestRanges { rows }
     }
 
-    /// Whether a range of a kind among the entries goes from a first to a last subtag of its length at least.
+    /// Whether one of the ranges, of the same kind and length, goes from `first` or a subtag before it to `last` or one
+    /// after it.
     pub(crate) fn cover(&self, kind: Kind, first: &Subtag, last: &Subtag) -> bool
         requires { length first.now ≡ length last.now }
         ensures { (R : List EntryParts) → HoldRanges R self.now → result ≡ some_covers R kind first.now last.now }
@@ -94,8 +96,8 @@ impl WidestRanges {
         self.contain(&RangeEnd::new(kind, first), &RangeEnd::new(kind, last))
     }
 
-    /// Whether one of the ranges begins no later than a first end, and ends no earlier than a last: of those
-    /// that begin no later the last ends last.
+    /// Whether one of the ranges begins no later than `first` and ends no earlier than `last`. Of the ranges that begin no
+    /// later, the last one ends last.
     fn contain(&self, first: &RangeEnd, last: &RangeEnd) -> bool
         ensures { result ≡ list_any (contains first.now last.now) self.now }
     {
@@ -117,7 +119,7 @@ fn range_rows(alloc: Global, entries: &[Entry]) -> Result<Vec<RangeRow>, AllocEr
     Ok(rows)
 }
 
-/// The range that an entry names.
+/// The range that an entry names, or None if it names none.
 fn range_row(entry: &Entry) -> Option<RangeRow>
     ensures { result ≡ range_row entry.now.kind entry.now.name }
 {

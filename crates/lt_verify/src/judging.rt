@@ -22,7 +22,7 @@ pub(crate) enum Flow {
     Settled(Verdict),
 }
 
-/// Whether a text is that of a tag.
+/// Whether a text is that of a tag in conventional case.
 fn is_text_of(alloc: Global, tag: &Tag, text: &[u8]) -> Result<bool, OutOfMemory>
     ensures { IfOk result (λ same. MatchBool same (text.now ≡ text_of tag.now) (text.now ≢ text_of tag.now)) }
 {
@@ -30,7 +30,7 @@ fn is_text_of(alloc: Global, tag: &Tag, text: &[u8]) -> Result<bool, OutOfMemory
     Ok(text == written.as_slice())
 }
 
-/// Whether a text is longer than that of a tag.
+/// Whether a text is longer than that of a tag in conventional case.
 fn is_longer(alloc: Global, tag: &Tag, text: &[u8]) -> Result<bool, OutOfMemory>
     ensures { IfOk result (λ longer. MatchBool longer (length (text_of tag.now) < length text.now) (length text.now ≤ length (text_of tag.now))) }
 {
@@ -38,7 +38,7 @@ fn is_longer(alloc: Global, tag: &Tag, text: &[u8]) -> Result<bool, OutOfMemory>
     Ok(written.len() < text.len())
 }
 
-/// Judges the line of an end.
+/// Judges the line that says that the explanation ends with `text`: it does if that is the text of `here`.
 fn judge_end(alloc: Global, here: &Tag, text: &[u8]) -> Result<Flow, OutOfMemory>
     ensures { IfOk result (EndFlow here.now text.now) }
 {
@@ -49,7 +49,7 @@ fn judge_end(alloc: Global, here: &Tag, text: &[u8]) -> Result<Flow, OutOfMemory
     }
 }
 
-/// Judges a line after those that lead to this tag.
+/// Judges a line of an explanation, whose lines before it lead to the tag `here`. `number` is the number of the step.
 pub(crate) fn judge_line<L: Lookup>(
     alloc: Global,
     table: &L,
@@ -82,7 +82,8 @@ pub(crate) fn judge_line<L: Lookup>(
 /// The most bytes of the kind, the place and the number of a step, with a space after each.
 const LONGEST_LABEL: usize = 38;
 
-/// Judges the front of a line that goes on, if it is longer than the right line could be, whatever follows.
+/// Judges the front of a line that goes on. None if the line may still become right; a verdict if it can't, since it is
+/// longer than the right line or names a wrong step.
 pub(crate) fn judge_front<L: Lookup>(
     alloc: Global,
     table: &L,

@@ -11,10 +11,11 @@ use lt_registry::Lookup;
 pub fn lines_have_one_verdict()
     ensures { (R : List EntryParts) → HaveOneVerdict R }
 {
+    // By the law of traces, which lines tell.
     traces_have_one_end();
 }
 
-/// Changes nothing: by its clause the number of each record of a table has 32 bits, as that of an entry.
+/// Changes nothing: by its clause the number of each record of a table has at most 32 bits, as entries give it.
 fn numbers_fit<L: Lookup>(table: &L)
     ensures { NumbersFit (L.listed table.now) }
 {
@@ -28,5 +29,6 @@ fn numbers_fit<L: Lookup>(table: &L)
 pub fn explanations_are_right<L: Lookup>(table: &L)
     ensures { ExplanationsAreRight (L.listed table.now) }
 {
+    // So that the number of each record is known to have 32 bits.
     numbers_fit(table);
 }

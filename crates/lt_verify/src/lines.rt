@@ -26,7 +26,7 @@ pub(crate) struct Following {
 }
 
 impl Following {
-    /// The beginning, at this tag.
+    /// The beginning of an explanation, at its tag, before step 1.
     fn new(alloc: Global, tag: &Tag) -> Result<Following, OutOfMemory>
         ensures { IfOk result (spec.Begins tag.now) }
     {
@@ -37,7 +37,7 @@ impl Following {
         })
     }
 
-    /// Keeps more of the line.
+    /// Keeps a further part of the line.
     fn keep(&mut self, part: &[u8]) -> Result<(), OutOfMemory>
         ensures { OnOk result (spec.KeepsMore part.now self.old self.new) }
     {
@@ -45,7 +45,7 @@ impl Following {
         Ok(())
     }
 
-    /// Goes on after the line that is kept, at this tag, or after the end.
+    /// Goes on to the next line, at the tag `here`, or at None if the line was the end of the explanation.
     fn go_on(&mut self, here: Option<Tag>)
         requires { self.old.number + 1 < 2 ^ 64 }
         ensures { spec.GoesTo here self.old self.new }
@@ -55,7 +55,7 @@ impl Following {
         self.here = here;
     }
 
-    /// Judges the line that is kept, and goes on after it.
+    /// Judges the line that is kept, and goes on to the next one. None if no verdict is settled yet.
     #[tactic(auto, using(crate::proofs::FollowingLemmas::ends_on, crate::proofs::FollowingLemmas::leads_on))]
     fn judge_kept<L: Lookup>(
         &mut self,
@@ -82,7 +82,7 @@ impl Following {
         }
     }
 
-    /// Judges a line of which the front is kept, where it can't be the right one however it goes on.
+    /// Judges the line of which the front is kept: a verdict if it can't be right however it goes on, else None.
     fn judge_rest<L: Lookup>(
         &self,
         alloc: Global,
@@ -100,7 +100,7 @@ impl Following {
         judge_front(alloc, table, self.number, here, &self.kept)
     }
 
-    /// Takes the next bytes, and judges the lines that they end.
+    /// Takes the next bytes, and judges the lines that they end. None if no verdict is settled yet.
     #[tactic(auto, using(crate::proofs::FollowingLemmas::first_turn, crate::proofs::FollowingLemmas::turn_proper, crate::proofs::FollowingLemmas::next_turn, crate::proofs::FollowingLemmas::turn_room))]
     fn take_piece<L: Lookup>(
         &mut self,
@@ -124,7 +124,7 @@ impl Following {
         self.judge_rest(alloc, table)
     }
 
-    /// What is judged where the lines end.
+    /// The verdict where the lines end: right if the explanation has ended, else a bad step.
     fn at_end(&self) -> Verdict
         ensures { result ≡ end_verdict self.now.number self.now.here }
     {
@@ -134,7 +134,7 @@ impl Following {
         }
     }
 
-    /// What is judged where no more bytes come.
+    /// Judges a last line without a line feed, and gives the verdict where no more bytes come.
     fn finish<L: Lookup>(&mut self, alloc: Global, table: &L) -> Result<Verdict, OutOfMemory>
         requires proper { IsProperIf (L.listed table.now) self.old.here }
         requires room { self.old.number + 1 < 2 ^ 64 }
@@ -166,6 +166,7 @@ impl<'a, L: Lookup> Pieces<()> for Verifying<'a, L> {
 
     ghost finished = { λ first _ _ read _ result. spec.JudgesAll (L.listed first.table.now) first.following read result };
 
+    /// Judges the lines that the piece ends; the first that settles the verdict ends the run.
     fn take_piece(
         &mut self,
         alloc: Global,
@@ -175,6 +176,7 @@ impl<'a, L: Lookup> Pieces<()> for Verifying<'a, L> {
         Ok(self.following.take_piece(alloc, self.table, piece)?)
     }
 
+    /// Judges what is left, and gives the verdict.
     fn finish(&mut self, alloc: Global, _output: &mut ()) -> Result<Verdict, ToolFault> {
         Ok(self.following.finish(alloc, self.table)?)
     }
@@ -183,8 +185,8 @@ impl<'a, L: Lookup> Pieces<()> for Verifying<'a, L> {
 /// Judges the lines of a reader as an explanation of a proper tag (RFC 5646, 4.5). The lines `Language 1 4
 /// he-IL` and `= he-IL` explain `iw-IL` where record 4 has the value `he` for `iw`.
 ///
-/// They are read up to the first that settles the verdict, or to the end. Of the line that goes on no more is
-/// kept than a right one has, besides what one read gives, and nothing of what is after the end.
+/// They are read up to the first that settles the verdict, or to the end. Of a line that goes on, no more is kept than the
+/// right line has, besides what one read gives; after the end of the explanation nothing is kept.
 ///
 /// - `Read`, if a read fails.
 /// - `TooManyTurns`, if all 10,000,000 reads were made and the last gave bytes.

@@ -99,7 +99,7 @@ pub enum Command {
     Json(String),
 }
 
-/// The file of a table of codes that rows name, if they name one.
+/// The file of a table of codes that the words name for rows, or None if they name none.
 fn codes_file(rows: &Rows) -> Option<&str>
     ensures { option_map (λ file. file.now) result ≡ option_map string_bytes rows.now.codes }
 {
@@ -110,7 +110,7 @@ fn codes_file(rows: &Rows) -> Option<&str>
 }
 
 impl Command {
-    /// The file that is read first, if the command names one: that of the registry, or of the older one.
+    /// The file that is read first: that of the registry, or of the older one. None if the command names no file.
     pub fn first_file(&self) -> Option<&str>
         ensures { option_map (λ file. file.now) result ≡ first_file_of self.now }
     {
@@ -141,7 +141,7 @@ impl Command {
         }
     }
 
-    /// Whether the command is to tell a summary of the lines that were refused, also where no terminal is there.
+    /// Whether the words ask for a summary of the lines that were refused, which is then told without a terminal too.
     pub fn has_summary(&self) -> bool
         ensures { result ≡ has_summary self.now }
     {
@@ -152,7 +152,8 @@ impl Command {
         }
     }
 
-    /// The file that is read after it, if the command names one: that of the newer registry, or of the table of codes.
+    /// The file that is read second: that of the newer registry, or of the table of codes. None if the command names no
+    /// second file.
     pub fn second_file(&self) -> Option<&str>
         ensures { option_map (λ file. file.now) result ≡ second_file_of self.now }
     {

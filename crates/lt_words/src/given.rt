@@ -6,7 +6,7 @@ ghost use Rattle.lt_words.specs.Given.{IsNoText};
 use crate::faults::WordsFault;
 use std::alloc::{AllocError, Global};
 
-/// Whether a byte is shown as it is.
+/// Whether a byte is shown as it is: it is printable ASCII, and no backslash.
 fn is_shown(byte: u8) -> bool
     ensures { result ≡ spec.is_shown byte }
 {
@@ -25,7 +25,7 @@ fn hex_digit(number: u8) -> char
     }
 }
 
-/// Appends a byte as it is, or as `\x` and two digits.
+/// Appends a byte as it is shown: as it is, or as `\x` and two digits to the base 16.
 fn append_escaped(said: &mut String, byte: u8) -> Result<(), AllocError>
     ensures { OnOk result (string_bytes said.new ≡ string_bytes said.old ++ spec.escaped_byte byte) }
 {
@@ -37,7 +37,7 @@ fn append_escaped(said: &mut String, byte: u8) -> Result<(), AllocError>
     said.push(hex_digit(byte))
 }
 
-/// Bytes as they are said: each that is printable ASCII and no backslash as it is, and any other as `\x` and two digits to
+/// Bytes as they are shown: each that is printable ASCII and no backslash as it is, and any other as `\x` and two digits to
 /// the base 16.
 pub fn escaped(alloc: Global, bytes: &[u8]) -> Result<String, AllocError>
     ensures { IfOk result (λ text. string_bytes text ≡ spec.escaped bytes.now) }
@@ -49,7 +49,7 @@ pub fn escaped(alloc: Global, bytes: &[u8]) -> Result<String, AllocError>
     Ok(said)
 }
 
-/// What is said of the word of this number that is no text, by its bytes as they are shown.
+/// The message for the word of this number, which is not UTF-8. `shown` is the word with its bytes as they are shown.
 fn word_line(alloc: Global, number: usize, shown: &str) -> Result<String, AllocError>
     ensures { IfOk result (λ text. string_bytes text ≡ spec.word_line number shown.now) }
 {

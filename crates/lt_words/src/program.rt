@@ -141,7 +141,7 @@ Status:
 /// The version, and the kits that prove and build the program, by their logic.
 const VERSION: &str = "1.1.0 (rattle-kit-13 logic dac8208d650f15bf)";
 
-/// An argument.
+/// The argument that is wanted: a positional, which is required and may be repeated, an option with a value, or a flag.
 fn new_argument<'a>(alloc: Global, wanted: &Argument) -> Arg<'a>
     ensures rule { rule_of result ≡ rule_for wanted.now.form wanted.now.name.now }
     ensures local { result.global ≡ false }
@@ -155,7 +155,7 @@ fn new_argument<'a>(alloc: Global, wanted: &Argument) -> Arg<'a>
     }
 }
 
-/// A subcommand with these arguments.
+/// A subcommand with this name, help and arguments.
 fn new_subcommand<'a>(
     alloc: Global,
     name: &'a str,
@@ -172,7 +172,7 @@ fn new_subcommand<'a>(
     Ok(command)
 }
 
-/// The program without its subcommands.
+/// The program with its help and version, without its subcommands.
 fn new_program<'a>(alloc: Global) -> Command<'a>
     ensures { app_of result ≡ program }
 {
@@ -183,7 +183,7 @@ fn new_program<'a>(alloc: Global) -> Command<'a>
         .subcommand_required(true)
 }
 
-/// The program with one more subcommand.
+/// The program with a further subcommand, which has this name, help and arguments.
 fn with_new<'a>(
     alloc: Global,
     program: Command<'a>,
@@ -197,7 +197,7 @@ fn with_new<'a>(
     program.subcommand(new_subcommand(alloc, name, about, arguments)?)
 }
 
-/// The program with its subcommands.
+/// The program with all its subcommands, their help and their arguments.
 pub(crate) fn new_langtag<'a>(alloc: Global) -> Result<Command<'a>, AllocError>
     ensures { IfOk result (λ r. app_of r ≡ langtag) }
 {

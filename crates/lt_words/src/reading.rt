@@ -19,7 +19,7 @@ use clap::error::ErrorKind;
 use std::alloc::Global;
 use std::fmt::Display;
 
-/// The command for lines that are tags.
+/// The command `canon`, by the values of its arguments.
 fn read_canon(alloc: Global, values: &ArgMatches<'_>) -> Result<Command, WordsFault>
     ensures named { IfOk result (IsNamed (Some (name_of Subcommand.Canon, rows_of (found_of values.now)))) }
     ensures unnamed { IfErr result (NamesNone (Some (name_of Subcommand.Canon, rows_of (found_of values.now)))) }
@@ -29,7 +29,7 @@ fn read_canon(alloc: Global, values: &ArgMatches<'_>) -> Result<Command, WordsFa
     Ok(Command::Canon(Run { registry, summary }))
 }
 
-/// The command for lines that are tags, of which the first subtag may be a code.
+/// The command `codes`, by the values of its arguments.
 fn read_codes(alloc: Global, values: &ArgMatches<'_>) -> Result<Command, WordsFault>
     ensures named { IfOk result (IsNamed (Some (name_of Subcommand.Codes, rows_of (found_of values.now)))) }
     ensures unnamed { IfErr result (NamesNone (Some (name_of Subcommand.Codes, rows_of (found_of values.now)))) }
@@ -39,7 +39,7 @@ fn read_codes(alloc: Global, values: &ArgMatches<'_>) -> Result<Command, WordsFa
     Ok(Command::Codes(Run { registry, summary }, table))
 }
 
-/// The command for rows of fields with tabs between them.
+/// The command `tsv`, by the values of its arguments. Refused with `Usage` if they name no column.
 fn read_tsv(alloc: Global, values: &ArgMatches<'_>) -> Result<Command, WordsFault>
     ensures named { IfOk result (IsNamed (Some (name_of Subcommand.Tsv, rows_of (found_of values.now)))) }
     ensures unnamed { IfErr result (NamesNone (Some (name_of Subcommand.Tsv, rows_of (found_of values.now)))) }
@@ -56,7 +56,7 @@ fn read_tsv(alloc: Global, values: &ArgMatches<'_>) -> Result<Command, WordsFaul
     Ok(Command::Tsv(Run { registry, summary }, rows))
 }
 
-/// The command for records of CSV.
+/// The command `csv`, by the values of its arguments. Refused with `Usage` if they name no column, or no delimiter.
 fn read_csv(alloc: Global, values: &ArgMatches<'_>) -> Result<Command, WordsFault>
     ensures named { IfOk result (IsNamed (Some (name_of Subcommand.Csv, rows_of (found_of values.now)))) }
     ensures unnamed { IfErr result (NamesNone (Some (name_of Subcommand.Csv, rows_of (found_of values.now)))) }
@@ -73,7 +73,7 @@ fn read_csv(alloc: Global, values: &ArgMatches<'_>) -> Result<Command, WordsFaul
     Ok(Command::Csv(Run { registry, summary }, rows, delimiter))
 }
 
-/// The command for lines that ranges match.
+/// The command `match`, by the values of its arguments. Refused with `Usage` if they name two ways to match.
 fn read_match(alloc: Global, values: &ArgMatches<'_>) -> Result<Command, WordsFault>
     ensures named { IfOk result (IsNamed (Some (name_of Subcommand.Match, rows_of (found_of values.now)))) }
     ensures unnamed { IfErr result (NamesNone (Some (name_of Subcommand.Match, rows_of (found_of values.now)))) }
@@ -86,7 +86,7 @@ fn read_match(alloc: Global, values: &ArgMatches<'_>) -> Result<Command, WordsFa
     Ok(Command::Match(registry, ranges))
 }
 
-/// The command that shows tags.
+/// The command `show`, by the values of its arguments.
 fn read_show(alloc: Global, values: &ArgMatches<'_>) -> Result<Command, WordsFault>
     ensures named { IfOk result (IsNamed (Some (name_of Subcommand.Show, rows_of (found_of values.now)))) }
     ensures unnamed { IfErr result (NamesNone (Some (name_of Subcommand.Show, rows_of (found_of values.now)))) }
@@ -99,7 +99,7 @@ fn read_show(alloc: Global, values: &ArgMatches<'_>) -> Result<Command, WordsFau
     Ok(Command::Show(registry, tags))
 }
 
-/// The command that compares two tags.
+/// The command `equal`, by the values of its arguments.
 fn read_equal(alloc: Global, values: &ArgMatches<'_>) -> Result<Command, WordsFault>
     ensures named { IfOk result (IsNamed (Some (name_of Subcommand.Equal, rows_of (found_of values.now)))) }
     ensures unnamed { IfErr result (NamesNone (Some (name_of Subcommand.Equal, rows_of (found_of values.now)))) }
@@ -109,7 +109,7 @@ fn read_equal(alloc: Global, values: &ArgMatches<'_>) -> Result<Command, WordsFa
     Ok(Command::Equal(file, tag, other))
 }
 
-/// The command that a subcommand asks for with these values.
+/// The command that a subcommand asks for, by the values of its arguments. Refused with `Usage` if they fit none.
 fn read_command(
     alloc: Global,
     subcommand: Subcommand,
@@ -148,7 +148,7 @@ fn read_command(
     }
 }
 
-/// The command that the matches name.
+/// The command that the matches of the words name. Refused with `Usage` if they name none.
 fn command_of(alloc: Global, matches: &ArgMatches<'_>) -> Result<Command, WordsFault>
     ensures named { IfOk result (IsNamed (subcommand_rows_of matches.now)) }
     ensures unnamed { IfErr result (NamesNone (subcommand_rows_of matches.now)) }
@@ -162,7 +162,8 @@ fn command_of(alloc: Global, matches: &ArgMatches<'_>) -> Result<Command, WordsF
     }
 }
 
-/// What a parse that failed for such a reason, which prints this, says of the words.
+/// The fault of words that could not be parsed, by the kind of the parser's error and by its text: `Help` and `Version`
+/// where these are asked for, else `Usage`, or `OutOfMemory`.
 fn fault_of<D: Display>(alloc: Global, kind: ErrorKind, error: &D) -> WordsFault
     ensures { IsFaultOf kind (D.output error.now) result }
 {

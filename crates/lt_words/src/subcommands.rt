@@ -22,7 +22,7 @@ pub(crate) enum Subcommand {
     Json,
 }
 
-/// The subcommand of this name.
+/// The subcommand of this name, or None if none has it.
 pub(crate) fn subcommand_named(name: &str) -> Option<Subcommand>
     ensures { MatchOption result ((s : Subcommand) → name_of s ≡ name.now → ⊥) (λ s. name_of s ≡ name.now) }
 {

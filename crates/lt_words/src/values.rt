@@ -11,7 +11,7 @@ use crate::program::{Argument, DELIMITER, EXTENDED, LOOKUP};
 use clap::ArgMatches;
 use std::alloc::{AllocError, Global};
 
-/// The value of a positional.
+/// The value of a positional. Refused with `Usage` if it has none.
 pub(crate) fn value_of(
     alloc: Global,
     matches: &ArgMatches<'_>,
@@ -27,7 +27,7 @@ pub(crate) fn value_of(
     }
 }
 
-/// The values of two positionals.
+/// The values of two positionals. Refused with `Usage` if one has none.
 pub(crate) fn two_values(
     alloc: Global,
     matches: &ArgMatches<'_>,
@@ -54,7 +54,7 @@ fn copies_of(alloc: Global, texts: &[&str]) -> Result<Vec<String>, AllocError>
     Ok(copies)
 }
 
-/// The values of a positional that is repeated.
+/// The values of a positional that may be repeated, in their order.
 pub(crate) fn values_of(
     alloc: Global,
     matches: &ArgMatches<'_>,
@@ -68,7 +68,7 @@ pub(crate) fn values_of(
     }
 }
 
-/// The value of an option, if it is given.
+/// The value of an option, or None if it is not given.
 pub(crate) fn option_of(
     alloc: Global,
     matches: &ArgMatches<'_>,
@@ -102,7 +102,7 @@ fn without_plus(text: &[u8]) -> &[u8]
     }
 }
 
-/// Whether each byte is a digit.
+/// Whether a text has digits alone.
 #[tactic(auto, using(crate::proofs::ValueLemmas::digits_next, crate::proofs::ValueLemmas::no_digit))]
 fn are_digits(bytes: &[u8]) -> bool
     ensures { IsTrue result ↔ AllDigits 10 bytes.now }
@@ -125,7 +125,7 @@ fn is_decimal(text: &str) -> bool
     !digits.is_empty() && are_digits(digits)
 }
 
-/// The number of a column, counted from 1.
+/// The number of a column, counted from 1. Refused with `Usage` if the text is no such number.
 fn number_of(alloc: Global, text: &str) -> Result<usize, WordsFault>
     ensures number { IfOk result (IsNumber text.now) }
     ensures none { IfErr result (IsNoNumber text.now) }
@@ -138,7 +138,8 @@ fn number_of(alloc: Global, text: &str) -> Result<usize, WordsFault>
     }
 }
 
-/// The column that a text names, by its number, or where there is a heading by its name.
+/// The column that a text names: by its number, or, if there is a heading, by its name. Refused with `Usage` if it names
+/// none.
 #[tactic(auto, using(crate::proofs::ValueLemmas::no_number, crate::proofs::ValueLemmas::no_name))]
 pub(crate) fn column_of(alloc: Global, text: &str, heading: bool) -> Result<Column, WordsFault>
     ensures column { IfOk result (IsColumn text.now) }
@@ -156,14 +157,14 @@ pub(crate) fn column_of(alloc: Global, text: &str, heading: bool) -> Result<Colu
     Ok(Column::Name(String::from_str(alloc, text)?))
 }
 
-/// Whether a byte may stand between fields.
+/// Whether a byte may be the delimiter between fields: ASCII, but no quote, line feed or carriage return.
 fn is_delimiter(byte: u8) -> bool
     ensures { result ≡ spec.is_delimiter byte }
 {
     byte.is_ascii() && byte != b'"' && byte != b'\n' && byte != b'\r'
 }
 
-/// The byte that a text names.
+/// The delimiter that a text names, a byte or the word `tab`. None if it names none.
 fn delimiter_named(text: &str) -> Option<u8>
     ensures { result ≡ spec.delimiter_named text.now }
 {
@@ -174,7 +175,7 @@ fn delimiter_named(text: &str) -> Option<u8>
     }
 }
 
-/// The byte between fields, which is a comma where no option names one.
+/// The delimiter between fields that an option names, or a comma without one. Refused with `Usage` if it names none.
 pub(crate) fn delimiter_of(alloc: Global, matches: &ArgMatches<'_>) -> Result<u8, WordsFault>
     ensures given { IfOk result (λ byte. delimiter_given (rows_of (found_of matches.now)) ≡ Some byte) }
     ensures none { IfErr result (LacksDelimiter (rows_of (found_of matches.now))) }
@@ -190,7 +191,7 @@ pub(crate) fn delimiter_of(alloc: Global, matches: &ArgMatches<'_>) -> Result<u8
     }
 }
 
-/// How ranges match by the flags that are given.
+/// How ranges match, by the flags that are given: basic filtering without any. Refused with `Usage` if both are given.
 pub(crate) fn matching_of(alloc: Global, matches: &ArgMatches<'_>) -> Result<Matching, WordsFault>
     ensures given { IfOk result (λ matching. matching_given (rows_of (found_of matches.now)) ≡ Some matching) }
     ensures none { IfErr result (LacksMatching (rows_of (found_of matches.now))) }
