@@ -27,9 +27,9 @@ def source(path):
 
 def code(messages):
     lines = "".join(f'    "{message}",\n' for message in messages)
-    return f"""//! The codes of three letters that BCP 47 does not register. tools/language_codes.py writes this file.
+    return f"""//! The codes of three letters of ISO 639-2 that BCP 47 does not register. tools/language_codes.py writes this file.
 
-/// The code of two letters beside each.
+/// What is said of each: the code, and that of two letters that BCP 47 has for the language.
 pub(crate) static CODES: [&str; {len(messages)}] = [
 {lines}];
 """
@@ -37,7 +37,7 @@ pub(crate) static CODES: [&str; {len(messages)}] = [
 
 def definition(messages):
     lines = "".join(f'    codes "{message}" ∷\n' for message in messages)
-    return f"""-- The codes of three letters that BCP 47 does not register (RFC 5646, 2.2.1), since the language has one of two letters.
+    return f"""-- The codes of three letters of ISO 639-2 that BCP 47 does not register (RFC 5646, 2.2.1), since the language has one of two.
 -- tools/language_codes.py writes this file.
 use Rattle.std.specs.Prelude.{{ℕ, List, [], ◌∷◌, codes}}
 

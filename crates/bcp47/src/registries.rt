@@ -220,8 +220,8 @@ impl Registry {
     }
 
     /// The extlang form of a tag (RFC 5646, 4.5): its canonical form and, if the language of that is registered as an
-    /// extlang too, the Prefix of that extlang in front of it. `cmn-Hans` gives `zh-cmn-Hans`. It is refused as `canonical`
-    /// refuses.
+    /// extlang too, the Prefix of that extlang in front of it, unless that has 4 to 8 letters. `cmn-Hans` gives
+    /// `zh-cmn-Hans`. It is refused as `canonical` refuses.
     pub fn extlang_form(&self, alloc: Global, tag: &Tag) -> Result<Tag, Refusal>
         ensures form { IfOk result (λ form. IsExtlangFormOf self.now tag.now form) }
         ensures refusal { IfErr result (λ refusal. IsRefusedWith self.now tag.now refusal) }

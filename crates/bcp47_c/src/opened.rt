@@ -205,7 +205,8 @@ impl Opened {
         }
     }
 
-    /// Writes what the registry has for the parts of the tag that a text is read as, or answers why it is no tag.
+    /// Writes, as an array of JSON, what the registry and the records that are kept with it have for the parts of the tag that
+    /// a text is read as, or answers why it is no tag.
     pub(crate) fn show(&self, alloc: Global, text: &[u8], buffer: &mut [u8]) -> Outcome
         ensures { Answers (AreRowsOf self.now text.now) (IsReadingRefusal text.now) buffer.old buffer.new result }
     {

@@ -14,7 +14,8 @@ const LONGEST_FRONT: usize = 12;
 const LONGEST: usize = LONGEST_FRONT + 32;
 
 /// What is before the first one-character subtag, and the end that begins with the hyphen before it: `ar` and
-/// `-u-nu-latn` of `ar-u-nu-latn`. None where there is no such subtag within the first bytes, or it is the last one.
+/// `-u-nu-latn` of `ar-u-nu-latn`. None where there is no such subtag within the first bytes, it is the last one, or the text
+/// is too long.
 #[inline(always)]
 pub(crate) fn split_end(text: &[u8]) -> Option<(&[u8], &[u8])>
     ensures whole { IfSome result (λ parts. parts.0.now ++ parts.1.now ≡ text.now) }
@@ -76,8 +77,9 @@ fn after_singleton(end: &[u8]) -> Option<&[u8]>
     None
 }
 
-/// The source of a `t` extension and its fields, which end the text: `it` and `-m0-names` of `-t-it-m0-names`. None if the
-/// text is no such extension, or if a singleton follows.
+/// What is between `-t-` and the first separator of a field, and the fields, which end the text: `it` and `-m0-names` of
+/// `-t-it-m0-names`. Of the source nothing else is asked. None if the text does not begin so, if no separator with a hyphen
+/// after it is within the first bytes, or if a singleton follows.
 #[inline(always)]
 #[tactic(auto, using(crate::proofs::SourceLemmas::transformed))]
 pub(crate) fn split_source(end: &[u8]) -> Option<(&[u8], &[u8])>

@@ -20,8 +20,9 @@ const LONGEST_TEXT: usize = 1024;
 /// The most bytes of a front: a language of three letters, a script and a region of three digits.
 const LONGEST_FRONT: usize = 12;
 
-/// What is before the first one-character subtag, and the end that begins with the hyphen before it: `ar` and
-/// `-u-nu-latn` of `ar-u-nu-latn`. None where there is no such subtag within the first bytes, or the text is too long.
+/// What is before the first one-character subtag, which is looked for from the third byte on, and the end that begins with
+/// the hyphen before it: `ar` and `-u-nu-latn` of `ar-u-nu-latn`. None where there is no such subtag within the first bytes,
+/// it is the last one, or the text is too long.
 #[inline(always)]
 fn split_end(text: &[u8]) -> Option<(&[u8], &[u8])>
     ensures whole { IfSome result (λ parts. parts.0.now ++ parts.1.now ≡ text.now) }

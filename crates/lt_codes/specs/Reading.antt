@@ -54,7 +54,7 @@ pub record ReadsTable {I : Type 0} (remaining : I → Option (List ℕ)) (before
   pub bounded : reads ≤ most_reads
   pub ends : EndsTable remaining before after read result
 
--- ---- the steps
+-- ---- within a reading
 
 -- the fault of a table for what ended the reading of it
 abbrev pub kind_of : ToolFault → TableFaultKind

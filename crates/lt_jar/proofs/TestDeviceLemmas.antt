@@ -1,4 +1,5 @@
--- A read of the reader for tests gives a front of what remains of it.
+-- A read of the reader for tests gives a front of what remains of it, and no bytes, where there is room for some, only if
+-- nothing remains.
 use Rattle.std.proofs.Common.{◌≡◌, ℕ, zero, suc, ◌+◌, ◌-◌, ◌<◌, ◌≤◌, ◌⊎◌, inl, inr, min, Bool, true, false, ◌&&◌, List, [], ◌++◌, length, take, drop, Option, Some, None, refl, sym, ap, ◌∙◌, arith, take_at, length-take-le, take-append-drop, drop-drop, drop_of_length-le}
 use Rattle.std.proofs.lemmas.List.{length-drop, take_all}
 use Rattle.std.specs.Borrow.{Bor}
@@ -14,7 +15,7 @@ given_in-front rest old new (suc more) n count copied long =
     let front : take n new ≡ take n rest = ap (take n) copied ∙ take_at (take n rest) (drop n old) n (length-take-le n rest (omega arith)) in
     (sym (take-append-drop n rest) ∙ ap (λ l. l ++ drop n rest) (sym front), λ none room. drop_of_length-le rest (omega arith))
 
--- whether the reader has an end or not
+-- the same of what remains of a reader, whether it has an end or not
 pub remaining-moves : (endless endless' : Bool) (bytes bytes' left old new : List ℕ) (at at' piece piece' place n : ℕ)
     → endless' ≡ endless → bytes' ≡ bytes → piece' ≡ piece → at' ≡ place + n
     → place ≡ (if endless && nat_le (length bytes) at then 0 else at)

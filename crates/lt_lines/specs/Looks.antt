@@ -1,5 +1,5 @@
--- What is found out of the line of a row before it is answered: whether it is whole, and where its field is. No public
--- contract cites this.
+-- What a look (lt_rows) finds out of the line of a row before it is answered: whether it ends within quotes, so that its
+-- record goes on, and where the text of its field is. No public contract cites this.
 use Rattle.std.specs.Prelude.{◌≡◌, ℕ, IsTrue, List, [], Option, None, MatchOption}
 use Rattle.lt_jar.specs.Lines.{content_of}
 use Rattle.lt_rows.specs.Looks.{IsLookAt}

@@ -127,7 +127,8 @@ fn append_kept<L: Lookup>(
 }
 
 /// Appends the answer to a row whose tag stands at `place`, and tells whether the tag is refused. The row's line is the
-/// first `count` bytes of `text`.
+/// first `count` bytes of `text`, with no carriage return outside of quotes but one that ends it. The clauses suppose that
+/// all that `recent` has is right, and then it stays so; what is kept of fields is the same of rows and of CSV.
 #[inline(always)]
 fn append_found<L: Lookup>(
     lines: &mut Vec<u8>,

@@ -15,7 +15,7 @@ use Rattle.lt_registry.specs.declared.entries.EntryName.TheVariants as names
 use Rattle.lt_registry.specs.declared.entries.EntryValue.{EntryValue}
 use Rattle.lt_registry.specs.declared.entries.EntryValue.TheVariants as values
 
--- whether a subtag has the form of its kind; none has that of a kind of whole tags (RFC 5646, 3.1.4)
+-- whether a subtag has the form of a kind; none has that of a kind of whole tags (RFC 5646, 3.1.4)
 abbrev pub has_form : Kind → List ℕ → Bool
 has_form kinds.Language s = is_language s
 has_form kinds.Extlang s = is_extlang s
@@ -102,8 +102,8 @@ abbrev pub holds : List ℕ → EntryName → Bool
 holds s (names.Range a b) = (length s == length a) && (is_alphabetic s && (letters_le a s && letters_le s b))
 holds s _ = false
 
--- the entry of a subtag: the first record that names it alone, or, without such a record, the first whose range holds
--- it (RFC 5646, 3.1.4)
+-- the entry of a subtag under a kind: the first record of the kind that names it alone, or, without such a record, the
+-- first of the kind whose range holds it (RFC 5646, 3.1.4)
 abbrev pub entry : List EntryParts → Kind → List ℕ → Option EntryParts
 entry R k s =
     option_or (find (λ (e : EntryParts). same_kind e.kind k && is_named s e.name) R)

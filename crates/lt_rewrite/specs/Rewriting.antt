@@ -20,6 +20,6 @@ pub data Equivalent {A : Type 0} (Step : A → A → Type 0) : A → A → Type 
   forth : {a b c : A} → Step a b → Equivalent Step b c → Equivalent Step a c
   back : {a b c : A} → Step b a → Equivalent Step b c → Equivalent Step a c
 
--- of any two values that steps reach from one of which `P` is true, steps reach a common third
+-- from any two values that steps reach from a value of which `P` is true, steps reach a common third
 abbrev pub IsConfluent : {A : Type 0} → (A → Type 0) → (A → A → Type 0) → Type 0
 IsConfluent {A} P Step = (a b c : A) → P a → Star Step a b → Star Step a c → (d : A) × Star Step b d × Star Step c d

@@ -26,13 +26,13 @@ abbrev pub IsShortcut : List EntryParts → ℕ → ℕ → ℕ → Type 0
 IsShortcut R n i j =
     (e : EntryParts) (v : List ℕ) → slice_get R i ≡ Some e → following e.kind e ≡ Some v → LeadsTo R e.kind n v j
 
--- each record has a shortcut to another, onward by `n` values
+-- each record has a shortcut to a record, which may be itself, onward by `n` values
 pub record LeadOn (R : List EntryParts) (n : ℕ) (places : List ℕ) : Type 0 where
   pub one_each : length places ≡ length R
   pub within : (i j : ℕ) → slice_get places i ≡ Some j → j < length R
   pub shortcut : (i j : ℕ) → slice_get places i ≡ Some j → IsShortcut R n i j
 
--- the shortcuts that are kept of a registry: for each record, the place of another
+-- the shortcuts that are kept of a registry: for each record, the place of one, which may be its own
 pub record ShortcutParts : Type 0 where
   pub places : List ℕ
 

@@ -100,7 +100,8 @@ fn read_keywords(alloc: Global, subtags: &[Subtag]) -> Result<Vec<Keyword>, OutO
     Ok(keywords)
 }
 
-/// The fields of a `t` extension, from the first separator on. Refused with `BadTransform` if one has no values.
+/// The fields of a `t` extension, from the first separator on. Refused with `BadTransform` if one has no values, or a value
+/// that doesn't have 3 to 8 letters or digits.
 #[tactic(auto, using(crate::proofs::SplitLemmas::length_onward))]
 fn read_fields(alloc: Global, subtags: &[Subtag]) -> Result<Vec<Field>, TransformFault>
     ensures fields { IfOk result (λ fields. fields.items ≡ fields_of subtags.now) }

@@ -77,8 +77,8 @@ place_line (byte ∷ place) = map shown_byte (byte ∷ place) ++ 10 ∷ []
 abbrev pub place_told : (result : ℕ) → (place : List ℕ) → List ℕ
 place_told result place = if result == 2 then place_line place else []
 
--- What a person is told of the errors: the message on them. It is nothing on wrong usage (status 3), where the errors
--- may list names of columns, which are not searched for faults.
+-- What a person is told of the errors: the message on them, and, if that is on a file that could not be opened, why. It
+-- is nothing on wrong usage (status 3), where the errors may list names of columns, which are not searched for faults.
 abbrev pub errors_told : (result : ℕ) → (refusal said : List ℕ) → List ℕ
 errors_told result refusal said = if result == 3 then [] else meaning_of said ++ refusal_of refusal (meaning_of said)
 

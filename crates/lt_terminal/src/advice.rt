@@ -50,7 +50,7 @@ fn language_advice(subtag: &[u8]) -> Option<&'static str>
     }
 }
 
-/// What to do about a text whose region is not registered; None unless it ends with `UK`.
+/// What to do about a text whose region is not registered; None unless it ends with `-UK` or `-uk`.
 fn region_advice(text: &[u8]) -> Option<&'static str>
     ensures { option_map (λ advice. advice.now) result ≡ spec.region_advice text.now }
 {

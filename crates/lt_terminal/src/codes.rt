@@ -1,6 +1,6 @@
-//! The codes of three letters that BCP 47 does not register. tools/language_codes.py writes this file.
+//! The codes of three letters of ISO 639-2 that BCP 47 does not register. tools/language_codes.py writes this file.
 
-/// The code of two letters beside each.
+/// What is said of each: the code, and that of two letters that BCP 47 has for the language.
 pub(crate) static CODES: [&str; 204] = [
     "aar: BCP 47 writes aa.",
     "abk: BCP 47 writes ab.",

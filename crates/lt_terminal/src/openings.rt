@@ -65,7 +65,8 @@ impl Openings {
         Traced { inner: file, bytes }
     }
 
-    /// The line of the file that can't be opened, which is kept no longer. None if there is none.
+    /// The line that says which file could not be opened and why, of several the last; it is kept no longer. None if there is
+    /// none.
     pub(crate) fn take(&self) -> Option<String> {
         self.refusal.take()
     }

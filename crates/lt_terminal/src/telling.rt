@@ -19,7 +19,7 @@ use lt_tool::{Answered, Command, Status, WordsFault, read_words};
 use std::alloc::{AllocError, Global};
 use std::io::{self, Read, Write};
 
-/// The name of what a command answers one by one, as `line`. None for a command with one answer.
+/// The name of what a command answers one by one, as `line`. None for any other command.
 pub(crate) fn unit_of(command: &Command) -> Option<&'static str>
     ensures { option_map (λ unit. unit.now) result ≡ spec.unit_of command.now }
 {

@@ -40,7 +40,7 @@ fn append_ending<L: Lookup>(
 }
 
 /// Appends what `show` prints of a text for people: the table of its subtags, its explanation or the line of its refusal,
-/// and an empty line. Tells whether it is refused. A text that is no tag has the line of its refusal alone.
+/// and an empty line. Tells whether it is refused. A text that is no tag has the line of its refusal and an empty line alone.
 fn append_block<L: Lookup>(
     lines: &mut Vec<u8>,
     alloc: Global,

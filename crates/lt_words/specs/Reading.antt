@@ -40,7 +40,7 @@ subcommand_for (command.Json file) = sub.Json
 abbrev pub IsDecimal : Text → Type 0
 IsDecimal text = IsNumeral 10 (without_leading_plus text)
 
--- the text is a decimal number of at least 1, and `column` is that
+-- the text is a decimal number of at least 1 and below 2 to the 64, and `column` is that
 pub record IsNumber (text : Text) (column : ℕ) : Type 0 where
   pub digits : IsDecimal text
   pub number : column ≡ digits_value 10 (without_leading_plus text)
