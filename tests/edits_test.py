@@ -294,7 +294,7 @@ class Pooled(unittest.TestCase):
         return Made("made", [MadeEdit(it) for it in names], self.folder)
 
     def test_rounds_hold_each_edit_once(self):
-        tried = [MadeEdit(name) for name in [*("f%d" % it for it in range(70)), "f1_2", "", "g", "g2", ""]]
+        tried = [MadeEdit(name) for name in [*("f%d" % it for it in range(140)), "f1_2", "", "g", "g2", ""]]
         rounds = edits.rounds_of(tried)
         self.assertEqual(sorted(map(id, tried)), sorted(id(it) for found in rounds for it in found.edits))
         self.assertEqual([len(it.edits) for it in rounds[-2:]], [1, 1])
