@@ -9,8 +9,9 @@ with less priority, from when the crate is proved, over what its proof has check
 part of the memory. --anew tries also those that were refused before.
 
 `rt ci` is run as the kit has it, but for three things. Its libraries keep their checked proofs, where it would leave their
-statements alone. While edits are tried, a proof has one job, since more jobs read what each other checks, but two jobs on the longest
-chain of crates that stand on each other, which the others have to wait for; and proofs plan with a part of the memory. What `rt ci` makes comes to crates/*/out, where rt and the scripts look for it; the checked proofs too, so that
+statements alone. While edits are tried, a proof has one job, since more jobs read what each other checks, but two jobs, and
+priority, on the longest chain of crates that stand on each other, for which the others have to wait; and proofs plan with a part of
+the memory. What `rt ci` makes comes to crates/*/out, where rt and the scripts look for it; the checked proofs too, so that
 `rt check` and `rt lib` there take what is proved. A library that rt has built there stays, if nothing has changed since.
 
 COMMAND is run beside, as soon as all programs, static libraries and the crates of tests in GROWN are there.
@@ -19,6 +20,7 @@ Prints what `rt ci` prints and a line for each edit, what COMMAND printed, and l
 status 1 unless all pass.
 """
 
+import concurrent.futures
 import contextlib
 import functools
 import importlib.util
@@ -39,6 +41,8 @@ CI, CI_ONE_JOB = "--ci", "--ci-one-job"
 MANY, PROOFS = 100, 0.8
 # A crate is on the longest chain if one through it has at least this part of that one's lines.
 LONG = 0.95
+# By how much nicer is what is not on that chain; the edits are by more.
+BEHIND = 5
 # What rattle is told to leave a static library's checked proof in, as it does in the rlib of a library.
 CHECKED = "out/checked"
 # The crates of tests whose programs the scripts run.
@@ -93,7 +97,20 @@ def ci(one_job):
         self.cuts_libraries = False
         return proves(self, flags, tests)
 
-    crate.ci = keeps
+    def keeps_behind(self, flags, tests):
+        """The same, with less priority than the longest chain. (A process takes that of the thread that begins it.)"""
+        if not one_job or self.name in chain:
+            return keeps(self, flags, tests)
+
+        def run():
+            own = threading.get_native_id()
+            os.setpriority(os.PRIO_PROCESS, own, os.getpriority(os.PRIO_PROCESS, own) + BEHIND)
+            return keeps(self, flags, tests)
+
+        with concurrent.futures.ThreadPoolExecutor(1) as thread:
+            return thread.submit(run).result()
+
+    crate.ci = keeps_behind
     free = rt.free
     rt.free = lambda: free() * (PROOFS if one_job else 1)
     return rt.main(["ci"])
