@@ -347,10 +347,12 @@ pub extern "C" fn bcp47_handle_equal(
 /// does not. Both are matched by their canonical forms (RFC 5646, 4.5), so that `zh-yue` matches `yue-HK`; a range that is
 /// no valid tag, as `zh-*`, is taken as it is written.
 ///
-/// - 1, and 1 as the text: the range is neither a valid tag nor a range (RFC 4647, 2.2), with the number of the fault of
-///   its leftmost piece at fault; 3, and 1 as the text: steps can repeat a variant of it, which is written.
-/// - 1, 2 or 3, and 2 as the text: else the tag is refused as by `bcp47_handle_canonical`.
-/// - 4: memory ran out. 14: the number is that of no scheme.
+/// Where one of the two is refused, the outcome's `text` says which, 1 for the range and 2 for the tag:
+///
+/// - Status 1 with 1: the range is neither a valid tag nor a range (RFC 4647, 2.2), with the number of the fault of its
+///   leftmost piece at fault. Status 3 with 1: steps can repeat a variant of it, which is written.
+/// - Status 1, 2 or 3 with 2: else the tag is refused as by `bcp47_handle_canonical`.
+/// - Status 4: memory ran out. Status 14: the number is that of no scheme.
 #[unsafe(no_mangle)]
 pub extern "C" fn bcp47_handle_match(
     alloc: Global,

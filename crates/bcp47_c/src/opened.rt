@@ -178,7 +178,8 @@ impl Opened {
         }
     }
 
-    /// Tells whether a language range matches a tag, by the scheme of a number, or that the number is that of no scheme.
+    /// Tells whether a language range matches a tag, by the scheme of a number; or why one of them is refused, or that the
+    /// number is that of no scheme.
     pub(crate) fn matches(
         &self,
         alloc: Global,

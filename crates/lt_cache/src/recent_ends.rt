@@ -141,8 +141,8 @@ impl RecentEnds {
         }
     }
 
-    /// Appends the canonical form of an end that is a `t` extension, if what follows its source is kept for its fields.
-    /// Tells whether it did.
+    /// Appends the canonical form of an end that is a `t` extension, if its source stays as it is and what follows one is kept for
+    /// its fields. Tells whether it did, and else appends nothing.
     #[inline(always)]
     #[tactic(auto, using(crate::proofs::KeptEnds::transformed_appended))]
     fn append_by_fields<L: Lookup>(
@@ -159,7 +159,8 @@ impl RecentEnds {
         }
     }
 
-    /// Appends the canonical form of an end, if it is kept for the end or for its fields. Tells whether it did.
+    /// Appends the canonical form of an end, if it is kept for the end, or for its fields after a source that stays as it is.
+    /// Tells whether it did, and else appends nothing.
     #[inline(always)]
     #[tactic(auto, using(crate::proofs::KeptEnds::kept_appended_after))]
     fn append_end<L: Lookup>(

@@ -65,7 +65,7 @@ pub(crate) fn has_registered_value<L: Lookup>(table: &L, entry: &Entry) -> bool
     }
 }
 
-/// Whether an extlang is one subtag with one Prefix, which is one subtag, a language without a value; and whether it and its
+/// Whether an extlang is one subtag with one Prefix, which is one subtag, a registered language without a value; and whether it and its
 /// replacement are registered as languages too, whose chains of values have the same end. True of any other kind.
 pub(crate) fn fits_as_extlang<L: Lookup>(table: &L, shortcuts: &Shortcuts, entry: &Entry) -> bool
     requires { AreShortcuts (L.listed table.now) shortcuts.now }
@@ -104,7 +104,7 @@ pub(crate) fn has_fitting_variant_value<L: Lookup>(table: &L, entry: &Entry) -> 
     }
 }
 
-/// Whether a variant whose value is a language has Prefixes, each of them one subtag, a language without a value. True of
+/// Whether a variant whose value is a language has Prefixes, each of them one subtag, a registered language without a value. True of
 /// any other record.
 pub(crate) fn stands_beside_final_languages<L: Lookup>(table: &L, entry: &Entry) -> bool
     ensures { IsTrue result ↔ HasFinalPrefixes (L.listed table.now) entry.now }

@@ -1,4 +1,4 @@
--- The table that a text is, and why it is none.
+-- The table of codes of languages (ISO 639-2) that a text is, line by line, and why it is none.
 use Rattle.std.specs.Prelude.{◌≡◌, ◌≤◌, ◌<◌, ◌+◌, ◌⊎◌, ◌==◌, ℕ, List, [], ◌∷◌, ◌++◌, Option, Some, None, Result, Ok, Err, IfSome, length}
 use Rattle.std.specs.List.{All, count_by}
 use Rattle.std.specs.Str.{IsUtf8}
@@ -11,7 +11,7 @@ use Rattle.lt_codes.specs.declared.faults.TableFault.{TableFault}
 use Rattle.lt_codes.specs.declared.faults.TableFaultKind.{TableFaultKind}
 use Rattle.lt_codes.specs.declared.faults.TableFaultKind.TheVariants as kinds
 
--- a line in UTF-8, of five fields, which add these codes, if each field has its form
+-- a line in UTF-8, of five fields, and the codes that it adds; None if a field lacks its form
 pub record IsRow (line : List ℕ) (codes : Option (List Code)) : Type 0 where
   pub utf8 : IsUtf8 line
   pub bibliographic : List ℕ
@@ -20,7 +20,7 @@ pub record IsRow (line : List ℕ) (codes : Option (List Code)) : Type 0 where
   pub fields : HasFields line bibliographic terminologic two_letters
   pub codes_are : codes_of bibliographic terminologic two_letters ≡ codes
 
--- what the codes before have for a code is registered for it here too
+-- if a code is among those before, the same is registered for it there
 abbrev pub Agrees : List Code → Code → Type 0
 Agrees before c = IfSome (found_in before c.code) (λ other. other.registered ≡ c.registered)
 

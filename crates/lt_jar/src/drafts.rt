@@ -132,7 +132,7 @@ impl Draft {
         }
     }
 
-    /// Takes a line that is of this kind, and tells whether it ends the record. Refused if it is a bad line.
+    /// Takes a line that is of this kind, and tells whether it ends the record. Refused if it is a bad line, or can't stand here.
     fn take_kind(
         &mut self,
         alloc: Global,

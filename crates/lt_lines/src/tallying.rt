@@ -64,7 +64,8 @@ fn field_text(separator: Separator, before: usize, row: &[u8]) -> &[u8]
     }
 }
 
-/// The part of a line that is read as a tag: all of it, or the text of a row's field. No bytes if the row has no such field.
+/// The part of a line that is read as a tag: all of it but a carriage return at its end, or the text of a row's field. No bytes
+/// if the row has no such field.
 fn tag_in(form: LineForm, line: &[u8]) -> &[u8]
     ensures { IsTagIn form line.now result.now }
 {

@@ -1,4 +1,5 @@
--- A walk along a chain of values, value by value.
+-- A walk along a chain of values, value by value. After as many values as there are records it has ended or never will; and
+-- it may stop at a record that is before its own in an order, since the chain of that one is judged too (`first_cycle`).
 use Rattle.std.proofs.Common.{◌≡◌, ◌≢◌, ℕ, zero, suc, ◌≤◌, ◌<◌, inl, inr, Bool, true, false, cond, eqb, List, [], ◌∷◌, Option, Some, None, refl, sym, ap, ◌∙◌, subst, length, slice_get, arith, ◌+◌, Result, IfOk, OnErr, not, get_or, All, MatchBool, Bor, is_some, Contains}
 use Rattle.std.specs.List.{AllByRecursion, list_any, IsDistinct}
 use Rattle.std.proofs.lemmas.Map.Steps.{length-le_from_distinct_below}

@@ -26,7 +26,7 @@ language_advice subtag =
 abbrev pub ends_in_uk : List ℕ → Bool
 ends_in_uk text = ends_with nat_eq text (codes "-UK") || ends_with nat_eq text (codes "-uk")
 
--- the advice for an unknown region: GB, where a text has UK
+-- the advice for an unknown region: GB, where a text ends in UK
 abbrev pub region_advice : List ℕ → Option (List ℕ)
 region_advice text = if ends_in_uk text then Some (codes "UK: BCP 47 writes GB.") else None
 

@@ -2,7 +2,8 @@
 ghost use Rattle.std.specs.Prelude.{◌≡◌, find, map, option_map};
 ghost use Rattle.lt_terminal.specs.Meanings as spec;
 
-/// A message for each name that is printed: the name, a colon, a space, what it means, and what to do.
+/// The messages that a person may be told: a name that is printed, a colon, a space, what it means, and what to do. A range that
+/// is refused is wrong usage and needs none, so Empty and BadFirst have none.
 const MESSAGES: [&str; 68] = [
     "BadByte: A byte that is no ASCII letter, digit or hyphen: write zh-Hant for zh_Hant; remove quotes, spaces, a byte order mark.",
     "EmptySubtag: Nothing between two hyphens, or an empty text: remove a hyphen too many, or the empty line.",
@@ -74,7 +75,7 @@ const MESSAGES: [&str; 68] = [
     "Utf16: The input is in UTF-16: write it in UTF-8, as by iconv -f UTF-16 -t UTF-8.",
 ];
 
-/// The messages for all faults, each of which begins with its fault.
+/// These messages, each of which begins with its name.
 fn messages() -> &'static [&'static str]
     ensures { map (λ message. message.now) result.now ≡ spec.messages }
 {
