@@ -9,8 +9,8 @@ with less priority, from when the crate is proved, over what its proof has check
 part of the memory. --anew tries also those that were refused before.
 
 `rt ci` is run as the kit has it, but for three things. Its libraries keep their checked proofs, where it would leave their
-statements alone. While edits are tried, a proof has one job, since more jobs read what each other checks, but two jobs, and
-priority, on the longest chain of crates that stand on each other, for which the others have to wait; and proofs plan with a part of
+statements alone. While edits are tried, a proof has one job, since more jobs read what each other checks, and the
+longest chain of crates that stand on each other, for which the others have to wait, goes before them; and proofs plan with a part of
 the memory. What `rt ci` makes comes to crates/*/out, where rt and the scripts look for it; the checked proofs too, so that
 `rt check` and `rt lib` there take what is proved. A library that rt has built there stays, if nothing has changed since.
 
@@ -90,8 +90,8 @@ def ci(one_job):
     proves, chain = crate.ci, on_longest_chain(edits.rtlib.crates_below(os.getcwd()))
 
     def keeps(self, flags, tests):
-        # (lt_tag's proof takes 4.1 minutes with one job, and 2.6 with two, of 5.1 of the processors)
-        flags = ["--jobs", "2" if self.name in chain else "1"] if one_job else flags
+        # (with two, in a full gate, a crate's proof takes twice the processors, and its tests more)
+        flags = ["--jobs", "1"] if one_job else flags
         if self.is_static and not tests:
             return self.prove(["check", *self.words(flags, keeps=False), "-o", CHECKED])
         self.cuts_libraries = False
