@@ -487,9 +487,9 @@ class Crate:
 class Pool:
     """Tries rounds of many crates side by side: one a processor, and as many as memory holds."""
 
-    def __init__(self, ended, busy=lambda: 0, is_last=lambda: True, share=1.0):
+    def __init__(self, ended, busy=lambda: 0, is_last=lambda: True, share=lambda: 1.0):
         """ended: what to call with each crate whose edits are all judged. busy: how many processors something else uses. is_last:
-        whether nothing else will need them. share: the part of the memory to plan with until then."""
+        whether nothing else will need them. share: which part of the memory to plan with until then."""
         number = os.environ.get("RT_JOBS", "")
         self.is_fixed = number.isdigit() and int(number) > 0
         self.lanes, self.memory = int(number) if self.is_fixed else rt.processors(), 0.85 * rt.free()
@@ -513,7 +513,7 @@ class Pool:
         """Takes the next round that memory has room for, or None: first what waited for other rounds, then the dearest."""
         idle = self.lanes - len(self.running) - self.busy()
         is_last = self.is_last()
-        room = self.memory * (1 if is_last else self.share) - sum(it.need() for it in self.running)
+        room = self.memory * (1 if is_last else self.share()) - sum(it.need() for it in self.running)
         if idle <= 0 or any(it.was_killed for it in self.running):
             return None
         # (what was killed waits until nothing runs beside it, since its memory was needed there)

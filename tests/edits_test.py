@@ -390,7 +390,7 @@ class Pooled(unittest.TestCase):
             time.sleep(0.1)
             return self.fails(names)
 
-        pool = self.pool(2, text, is_last=lambda: not alone or alone.pop() is None, share=0.5)
+        pool = self.pool(2, text, is_last=lambda: not alone or alone.pop() is None, share=lambda: 0.5)
         made = [self.crate(it, it + "2") for it in "abc"]
         for it in made:
             it.need = 700
@@ -436,15 +436,19 @@ class Chained(unittest.TestCase):
         gate = importlib.util.module_from_spec(spec)
         spec.loader.exec_module(gate)
 
-        def crate(name, lines, *below):
+        def crate(name, lines, *below, is_program=False):
             all_below = {other.name: other for it in below for other in (it, *it.below())}
-            return types.SimpleNamespace(name=name, count=lambda _: lines, below=lambda: [*all_below.values()])
+            return types.SimpleNamespace(name=name, count=lambda _: lines, below=lambda: [*all_below.values()],
+                                         is_program=is_program, is_static=False)
 
         base = crate("base", 50)
         short, long = crate("short", 10, base), crate("long", 100, base)
         top, tests, alone = crate("top", 30, short, long), crate("tests", 27, long), crate("alone", 90)
         self.assertEqual(gate.on_longest_chain([alone, tests, top, long, short, base]), {"base", "long", "top", "tests"})
         self.assertEqual(gate.on_longest_chain([]), set())
+        # (scripts wait for a program, so that it counts for more than its lines)
+        program = crate("program", 1, short, is_program=True)
+        self.assertEqual(gate.on_longest_chain([program, top, long, short, base]), {"base", "short", "program"})
 
 
 if __name__ == "__main__":

@@ -8,10 +8,10 @@ another where they stand on each other, so that processors are left for the edit
 with less priority, from when the crate is proved, over what its proof has checked, on the processors that no proof uses, and in a
 part of the memory. --anew tries also those that were refused before.
 
-`rt ci` is run as the kit has it, but for three things. Its libraries keep their checked proofs, where it would leave their
-statements alone. While edits are tried, a proof has one job, since more jobs read what each other checks, and the
-longest chain of crates that stand on each other, for which the others have to wait, goes before them; and proofs plan with a part of
-the memory. What `rt ci` makes comes to crates/*/out, where rt and the scripts look for it; the checked proofs too, so that
+`rt ci` is run as the kit has it, but for four things. Its libraries keep their checked proofs, where it would leave their
+statements alone. What COMMAND waits for, and what that stands on, goes first. While edits are tried, a proof has one job, since more
+jobs read what each other checks, and the longest chain of crates that stand on each other, for which the others have to wait, goes
+before them; and proofs plan with a part of the memory. What `rt ci` makes comes to crates/*/out, where rt and the scripts look for it; the checked proofs too, so that
 `rt check` and `rt lib` there take what is proved. A library that rt has built there stays, if nothing has changed since.
 
 COMMAND is run beside, as soon as all programs, static libraries and the crates of tests in GROWN are there.
@@ -39,8 +39,9 @@ COPY = os.path.join(ROOT, "build", "gate")
 CI, CI_ONE_JOB = "--ci", "--ci-one-job"
 # How many edits fill the processors that proofs leave, and which part of the memory proofs may plan with then.
 MANY, PROOFS = 100, 0.8
-# A crate is on the longest chain if one through it has at least this part of that one's lines.
-LONG = 0.95
+# A crate is on the longest chain if one through it has at least this part of that one's lines. A crate that COMMAND waits for counts as if
+# it had so many more, since COMMAND comes after it.
+LONG, BEFORE_COMMAND = 0.95, 4000
 # By how much nicer is what is not on that chain; the edits are by more.
 BEHIND = 5
 # What rattle is told to leave a static library's checked proof in, as it does in the rlib of a library.
@@ -70,9 +71,14 @@ def copied():
     os.mkdir(os.path.join(COPY, ".git"))
 
 
+def needed(crates):
+    """The proofs and tests that COMMAND waits for, as rt names them."""
+    return {(it.name, "proof") for it in crates if it.is_program or it.is_static} | {(it, "tests") for it in GROWN}
+
+
 def on_longest_chain(crates):
     """The names of the crates on the longest chain of crates that stand on each other, by their lines."""
-    lines = {it.name: it.count(rb"\n") for it in crates}
+    lines = {it.name: it.count(rb"\n") + BEFORE_COMMAND * ((it.name, "proof") in needed(crates)) for it in crates}
     below, above = dict(lines), dict(lines)
     in_order = sorted(crates, key=lambda it: len(it.below()))
     for it in in_order:
@@ -86,8 +92,8 @@ def on_longest_chain(crates):
 
 def ci(one_job):
     """Runs `rt ci` so that libraries keep their checked proofs."""
-    rt, crate = edits.rt, edits.rt.Crate
-    proves, chain = crate.ci, on_longest_chain(edits.rtlib.crates_below(os.getcwd()))
+    rt, crate, crates = edits.rt, edits.rt.Crate, edits.rtlib.crates_below(os.getcwd())
+    proves, chain, lanes = crate.ci, on_longest_chain(crates), rt.in_lanes
 
     def keeps(self, flags, tests):
         # (with two, in a full gate, a crate's proof takes twice the processors, and its tests more)
@@ -110,7 +116,12 @@ def ci(one_job):
         with concurrent.futures.ThreadPoolExecutor(1) as thread:
             return thread.submit(run).result()
 
-    crate.ci = keeps_behind
+    def needed_first(tasks):
+        """Runs rt's tasks: what has most lines behind it goes first, and those that COMMAND waits for count for more."""
+        more = needed(crates)
+        return lanes({it: (after, lines + BEFORE_COMMAND * (it in more), *rest) for it, (after, lines, *rest) in tasks.items()})
+
+    crate.ci, rt.in_lanes = keeps_behind, needed_first
     free = rt.free
     rt.free = lambda: free() * (PROOFS if one_job else 1)
     return rt.main(["ci"])
@@ -152,6 +163,7 @@ class Gate:
         it could not be followed, if any."""
         self.crates, self.proved, self.status = {it.name: it for it in crates}, set(), None
         self.proves, self.ended = proves, ended
+        self.needs, self.memory = {it.name: edits.rt.need(it) for it in crates}, 0.85 * edits.rt.free()
         self.changed = threading.Condition()
         word = CI_ONE_JOB if one_job else CI
         self.run = subprocess.Popen([sys.executable, "-u", __file__, word], cwd=COPY, stdin=subprocess.DEVNULL,
@@ -226,6 +238,14 @@ class Gate:
             name = parents[name]
         return name == str(self.run.pid)
 
+    def spare(self):
+        """The part of the memory that no proof or test of a crate will need any more, by those that are left."""
+        with self.changed:
+            left = {it.name: 2 - (it.name in self.proved) - (it.name + " tests" in self.proved or not it.has_tests())
+                    for it in self.crates.values()}
+        needs = sorted((need for name, number in left.items() for need in [self.needs[name]] * number), reverse=True)
+        return max(1 - PROOFS, 1 - sum(needs[: edits.rt.processors()]) / self.memory)
+
     def waits_for(self, names):
         """Waits until these are proved, and returns whether they are."""
         with self.changed:
@@ -242,10 +262,10 @@ class Command(threading.Thread):
         self.start()
 
     def run(self):
-        needs = {it.name for it in self.gate.crates.values() if it.is_program or it.is_static}
+        needs = {name + " tests" * (kind == "tests") for name, kind in needed(self.gate.crates.values())}
         if not self.words:
             self.status = 0
-        elif self.gate.waits_for(needs | {it + " tests" for it in GROWN}):
+        elif self.gate.waits_for(needs):
             # (make gives its recipes an open list of jobs, which is not meant for this command)
             free = {name: value for name, value in os.environ.items() if not name.startswith("MAKE")}
             ran = subprocess.run(self.words, cwd=ROOT, env=free, stdin=subprocess.DEVNULL, stdout=subprocess.PIPE,
@@ -277,7 +297,7 @@ def main():
     for it in tried:
         if it.edits and it.crate.name not in todo:
             ended(it)
-    pool = edits.Pool(ended, busy=lambda: gate.busy(), is_last=lambda: gate.status is not None, share=1 - PROOFS)
+    pool = edits.Pool(ended, busy=lambda: gate.busy(), is_last=lambda: gate.status is not None, share=lambda: gate.spare())
 
     def proves(name, is_current):
         """Has the edits of a crate tried, now that it and those below it are proved."""
