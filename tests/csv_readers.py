@@ -318,7 +318,7 @@ def compare_all(kind, short, made):
         compare_python(f"made files{kind}", text)
     with tempfile.TemporaryDirectory() as folder:
         compare_sqlite(f"short texts{kind}", short, folder)
-        compare_sqlite(f"made files{kind}", made[:5000], folder)
+        compare_sqlite(f"made files{kind}", made, folder)
 
 
 def main():

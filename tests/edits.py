@@ -235,9 +235,9 @@ class Round:
 
     def need(self):
         """The memory that it is likely to take, in bytes."""
-        # (a check of some functions alone was seen to take at most half of what one of the crate from nothing is reckoned to)
+        # (a check of some functions alone was seen to take at most a third of what one of the crate from nothing is reckoned to)
         is_of_some = self.edits and not any(it.is_of_others for it in self.edits)
-        return self.crate.need * (0.6 if is_of_some else 1)
+        return self.crate.need * (0.4 if is_of_some else 0.7)
 
     def cut(self, number):
         """As many rounds that hold these edits."""

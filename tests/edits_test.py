@@ -353,7 +353,7 @@ class Pooled(unittest.TestCase):
             return self.fails(names)
 
         it, pool = self.crate("f", "f2", "g", "g2"), self.pool(4, text)
-        it.need = 1000
+        it.need = 1500
         self.tried(pool, it)
         self.assertEqual(len(it.told), 4)
 
@@ -393,7 +393,7 @@ class Pooled(unittest.TestCase):
         pool = self.pool(2, text, is_last=lambda: not alone or alone.pop() is None, share=lambda: 0.5)
         made = [self.crate(it, it + "2") for it in "abc"]
         for it in made:
-            it.need = 700
+            it.need = 1000
         self.tried(pool, *made)
         self.assertEqual(at_once[0], 1)
         self.assertEqual(at_once[-2], 2)
@@ -428,13 +428,30 @@ class Pooled(unittest.TestCase):
             self.tried(self.pool(2, text), self.crate("f", "f2", "g"))
 
 
-class Chained(unittest.TestCase):
-    """The crates of which tests/gate.py takes it that the others wait for them."""
+class Ordered(unittest.TestCase):
+    """Which crates tests/gate.py proves first, and which memory it leaves to edits."""
+
+    def setUp(self):
+        spec = importlib.util.spec_from_file_location("gate", FOLDER / "gate.py")
+        self.gate = importlib.util.module_from_spec(spec)
+        spec.loader.exec_module(self.gate)
+
+    def test_the_memory_that_proofs_leave(self):
+        run = self.gate.Gate.__new__(self.gate.Gate)
+        base = types.SimpleNamespace(name="base", below=lambda: [])
+        top = types.SimpleNamespace(name="top", below=lambda: [base])
+        run.crates, run.needs, run.memory = {"base": base, "top": top}, {"base": 500, "top": 600}, 1000
+        run.tested, run.proved, run.changed = {"top"}, set(), threading.Condition()
+        self.assertAlmostEqual(run.spare(), 1 - 0.5 * self.gate.PROOF)
+        run.proved = {"base"}
+        self.assertAlmostEqual(run.spare(), 1 - self.gate.PROOFS)
+        run.proved = {"base", "top"}
+        self.assertAlmostEqual(run.spare(), 0.4)
+        run.proved = {"base", "top", "top tests"}
+        self.assertAlmostEqual(run.spare(), 1)
 
     def test_the_longest_chain(self):
-        spec = importlib.util.spec_from_file_location("gate", FOLDER / "gate.py")
-        gate = importlib.util.module_from_spec(spec)
-        spec.loader.exec_module(gate)
+        gate = self.gate
 
         def crate(name, lines, *below, is_program=False):
             all_below = {other.name: other for it in below for other in (it, *it.below())}

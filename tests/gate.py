@@ -37,8 +37,9 @@ ROOT = os.path.dirname(os.path.dirname(os.path.abspath(__file__)))
 COPY = os.path.join(ROOT, "build", "gate")
 # The words by which this script runs `rt ci` in the copy, the second so that each proof has one job.
 CI, CI_ONE_JOB = "--ci", "--ci-one-job"
-# How many edits fill the processors that proofs leave, and which part of the memory proofs may plan with then.
-MANY, PROOFS = 100, 0.8
+# How many edits fill the processors that proofs leave, which part of the memory proofs may plan with then, and what that of a crate was
+# seen to take at most of what rt reckons; that of tests takes as much.
+MANY, PROOFS, PROOF = 100, 0.8, 0.7
 # A crate is on the longest chain if one through it has at least this part of that one's lines. A crate that COMMAND waits for counts as if
 # it had so many more, since COMMAND comes after it.
 LONG, BEFORE_COMMAND = 0.95, 4000
@@ -164,6 +165,7 @@ class Gate:
         self.crates, self.proved, self.status = {it.name: it for it in crates}, set(), None
         self.proves, self.ended = proves, ended
         self.needs, self.memory = {it.name: edits.rt.need(it) for it in crates}, 0.85 * edits.rt.free()
+        self.tested = {it.name for it in crates if it.has_tests()}
         self.changed = threading.Condition()
         word = CI_ONE_JOB if one_job else CI
         self.run = subprocess.Popen([sys.executable, "-u", __file__, word], cwd=COPY, stdin=subprocess.DEVNULL,
@@ -239,12 +241,12 @@ class Gate:
         return name == str(self.run.pid)
 
     def spare(self):
-        """The part of the memory that no proof or test of a crate will need any more, by those that are left."""
+        """The part of the memory that is left by the proofs that can run now, of crates and of tests."""
         with self.changed:
-            left = {it.name: 2 - (it.name in self.proved) - (it.name + " tests" in self.proved or not it.has_tests())
-                    for it in self.crates.values()}
-        needs = sorted((need for name, number in left.items() for need in [self.needs[name]] * number), reverse=True)
-        return max(1 - PROOFS, 1 - sum(needs[: edits.rt.processors()]) / self.memory)
+            ready = [it.name for it in self.crates.values() if all(below.name in self.proved for below in it.below())]
+            needs = [PROOF * self.needs[it] for it in ready if it not in self.proved]
+            needs += [self.needs[it] for it in ready if it in self.tested and it + " tests" not in self.proved]
+        return max(1 - PROOFS, 1 - sum(sorted(needs)[-edits.rt.processors() :]) / self.memory)
 
     def waits_for(self, names):
         """Waits until these are proved, and returns whether they are."""

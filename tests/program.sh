@@ -248,9 +248,9 @@ printf 'id,tag\r\n"a\n,b",zh-yue\r\n2,"en_US"\n3\n' > records
 "$program" csv "$sample" 2 < records > out 2> err; is 'csv refuses two' 1 'id,tag,langtag_fault\r\n"a\n,b",yue,\r\n2,"en_US",BadByte 1\n3,NoColumn\n' ''
 printf 'id,tag\n1,"DE"' | "$program" csv "$sample" 2 > out 2> err; is csv 0 'id,tag,langtag_fault\n1,"de",\n' ''
 printf 'id,tag\n1,iw\n"2' | "$program" csv "$sample" 2 > out 2> err; is 'csv: an open quote' 4 'id,tag,langtag_fault\n1,he,\n' '! BadCsv line 3\n'
-printf 'id,title,tag\n1,12" LP,zh-yue\n2,7" EP,I-KLINGON\n3,"5"" d",iw\n' > inches
-"$program" csv "$sample" 3 < inches > out 2> err; is 'csv: quotes in plain fields' 0 'id,title,tag,langtag_fault\n1,12" LP,yue,\n2,7" EP,tlh,\n3,"5"" d",he,\n' ''
-dd bs=1 status=none < inches | "$program" csv "$sample" 3 > out 2> err; is 'csv: the same byte by byte' 0 'id,title,tag,langtag_fault\n1,12" LP,yue,\n2,7" EP,tlh,\n3,"5"" d",he,\n' ''
+printf 'id,title,tag\n1,Abbey Road 12" LP,zh-yue\n2,Help! 7" EP,I-KLINGON\n3,"5"" d",iw\n' > inches
+"$program" csv "$sample" 3 < inches > out 2> err; is 'csv: quotes in plain fields' 0 'id,title,tag,langtag_fault\n1,Abbey Road 12" LP,yue,\n2,Help! 7" EP,tlh,\n3,"5"" d",he,\n' ''
+dd bs=1 status=none < inches | "$program" csv "$sample" 3 > out 2> err; is 'csv: the same byte by byte' 0 'id,title,tag,langtag_fault\n1,Abbey Road 12" LP,yue,\n2,Help! 7" EP,tlh,\n3,"5"" d",he,\n' ''
 printf 'id,tag\n"a"b,iw\nx, "q,iw\n' | "$program" csv "$sample" 2 > out 2> err; is 'csv: text after a quote, and a space before one' 1 'id,tag,langtag_fault\n"a"b,he,\nx, "q,iw,BadByte 1\n' ''
 printf 'id,tag\n1\rx,iw\n2,"a\rb"\r\n3,iw\r\r\n4,iw\r' | "$program" csv "$sample" 2 > out 2> err; is 'csv: a carriage return alone' 1 'id,tag,langtag_fault\n1\rx,iw,BadReturn\n2,"a\rb",BadByte 1\r\n3,iw\r,BadReturn\r\n4,he,\r\n' ''
 printf 'id,tag\r1,iw\r2,iw\r' | "$program" csv "$sample" 2 > out 2> err; is 'csv: carriage returns alone' 1 'id,tag\r1,iw\r2,iw,BadReturn\r\n' ''
@@ -410,7 +410,7 @@ with open("err", "wb") as err:
 sys.exit(run.wait())
 END
 }
-faults() { printf '%s' "1 UnknownLanguage, first in $1 2: xx\n  The registry lacks the language: correct it, or get a newer registry.\n1 BadByte, first in $1 3: en_US\n  A byte that is no ASCII letter, digit or hyphen: write zh-Hant for zh_Hant; remove quotes, spaces, a byte order mark.\n"; }
+faults() { printf '%s' "1 UnknownLanguage, first in $1 2: xx\n  The registry lacks the language: correct it (en for eng or English), or get a newer registry.\n1 BadByte, first in $1 3: en_US\n  A byte that is no ASCII letter, digit or hyphen: write zh-Hant for zh_Hant; remove quotes, spaces, a byte order mark.\n"; }
 of_lines=$(faults line)
 of_records=$(faults record)
 printf 'zh-yue\nxx\nen_US\n' > input

@@ -47,7 +47,7 @@ passes "LICENSE names its licence" test "$(head -n 1 LICENSE)" = "SPDX-License-I
 passes "LICENSE-MIT is of the holder" grep -qx 'Copyright (c) 2026 Tiugasem maintainers' LICENSE-MIT
 passes "LICENSE-APACHE is whole" test "$(sha256sum < LICENSE-APACHE)" = \
     'cfc7749b96f63bd31c3c42b5c471bf756814053e847c10f3eb003417bc523d30  -'
-for file in bindings/c/bcp47.h bindings/c/bcp47.pc.in bindings/python/pyproject.toml bindings/postgresql/bcp47.control; do
+for file in bindings/c/bcp47.h bindings/c/bcp47.pc.in bindings/python/pyproject.toml bindings/postgresql/bcp47.control packaging/debian/control; do
     passes "$file has the licence" grep -q "SPDX-License-Identifier: $licence" "$file"
 done
 

@@ -1,13 +1,16 @@
 -- What a person is advised to do about a fault that refused a text.
-use Rattle.std.specs.Prelude.{ℕ, ◌+◌, ◌==◌, ◌||◌, ◌++◌, Bool, List, [], ◌∷◌, Option, Some, None, if◌then◌else◌, bytes_eq, codes, drop, find, length, nat_eq, nat_lt, option_map}
+use Rattle.std.specs.Prelude.{ℕ, ◌+◌, ◌==◌, ◌||◌, ◌++◌, Bool, List, [], ◌∷◌, Option, Some, None, if◌then◌else◌, bytes_eq, codes, drop, find, length, map, nat_eq, nat_lt, option_map}
+use Rattle.std.specs.Char.{to_ascii_lowercase}
 use Rattle.std.specs.List.{before_first, ends_with}
 use Rattle.std.specs.Option.{option_or}
 use Rattle.lt_terminal.specs.Codes.{two_letters}
 use Rattle.lt_terminal.specs.Meanings.{is_of, message_of}
 
--- the message with the two-letter code that BCP 47 writes for a three-letter one (RFC 5646, 2.2.1), if there is one
+-- the message with the two-letter code that BCP 47 writes for a three-letter one in any letter case (RFC 5646, 2.2.1), if
+-- there is one
 unfoldable pub code_message : List ℕ → Option (List ℕ)
-code_message code = find (λ message. is_of message code) two_letters
+code_message (a ∷ b ∷ c ∷ []) = find (λ message. is_of message (map to_ascii_lowercase (a ∷ b ∷ c ∷ []))) two_letters
+code_message _ = None
 
 -- what is before a text's first hyphen (45)
 abbrev pub first_subtag : List ℕ → List ℕ
@@ -22,9 +25,11 @@ abbrev pub language_advice : List ℕ → Option (List ℕ)
 language_advice subtag =
     option_or (code_message subtag) (if nat_lt 4 (length subtag) then Some name_message else None)
 
--- whether a text ends in UK, for which ISO 3166 has GB
+-- whether a text ends in UK, in any letter case, for which ISO 3166 has GB
 abbrev pub ends_in_uk : List ℕ → Bool
-ends_in_uk text = ends_with nat_eq text (codes "-UK") || ends_with nat_eq text (codes "-uk")
+ends_in_uk text =
+    ends_with nat_eq text (codes "-UK") || ends_with nat_eq text (codes "-uk")
+    || ends_with nat_eq text (codes "-Uk") || ends_with nat_eq text (codes "-uK")
 
 -- the advice for an unknown region: GB, where a text ends in UK
 abbrev pub region_advice : List ℕ → Option (List ℕ)

@@ -12,10 +12,10 @@ tag_faults =
     codes "BadLanguage: The first subtag is no language: begin with a language of 2 to 8 letters, or with x." ∷
     codes "Misplaced: A subtag that can't stand where it does: order them: language, extlang, script, region, variants, extensions, x." ∷
     codes "Unfinished: The text ends after a singleton or x: add what follows it, or remove it." ∷
-    codes "UnknownLanguage: The registry lacks the language: correct it, or get a newer registry." ∷
+    codes "UnknownLanguage: The registry lacks the language: correct it (en for eng or English), or get a newer registry." ∷
     codes "UnknownExtlang: The registry lacks the extlang: correct it, or get a newer registry." ∷
     codes "UnknownScript: The registry lacks the script: correct it, or get a newer registry." ∷
-    codes "UnknownRegion: The registry lacks the region: correct it, or get a newer registry." ∷
+    codes "UnknownRegion: The registry lacks the region: correct it (GB for UK), or get a newer registry." ∷
     codes "UnknownVariant: The registry lacks the variant: correct it, or get a newer registry." ∷
     codes "ExtlangPrefix: The extlang belongs to another language: put it after its own (zh-yue), or write it alone (yue)." ∷
     codes "TooManyExtlangs: A second extlang: keep one, or write it alone." ∷

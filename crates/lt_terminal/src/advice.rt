@@ -19,13 +19,19 @@ fn codes() -> &'static [&'static str]
     &CODES
 }
 
-/// The message that tells the code of two letters that BCP 47 writes for a code of three. None if there is no message for
-/// it.
+/// The message that tells the code of two letters that BCP 47 writes for a code of three, in any letter case. None if there is
+/// no message for it.
 #[tactic(auto, unfolding(crate::specs::Advice::code_message))]
 fn code_message(code: &[u8]) -> Option<&'static str>
     ensures { option_map (λ message. message.now) result ≡ spec.code_message code.now }
 {
-    first_of(codes(), code)
+    match code {
+        [first, second, third] => {
+            let lower = [first.to_ascii_lowercase(), second.to_ascii_lowercase(), third.to_ascii_lowercase()];
+            first_of(codes(), &lower)
+        }
+        _ => None,
+    }
 }
 
 /// What is before the first hyphen of a text, or all of it if it has none.
@@ -50,11 +56,11 @@ fn language_advice(subtag: &[u8]) -> Option<&'static str>
     }
 }
 
-/// What to do about a text whose region is not registered; None unless it ends with `-UK` or `-uk`.
+/// What to do about a text whose region is not registered; None unless it ends with `-UK`, in any letter case.
 fn region_advice(text: &[u8]) -> Option<&'static str>
     ensures { option_map (λ advice. advice.now) result ≡ spec.region_advice text.now }
 {
-    if text.ends_with(b"-UK") || text.ends_with(b"-uk") {
+    if text.ends_with(b"-UK") || text.ends_with(b"-uk") || text.ends_with(b"-Uk") || text.ends_with(b"-uK") {
         Some("UK: BCP 47 writes GB.")
     } else {
         None

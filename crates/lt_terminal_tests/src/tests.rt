@@ -138,7 +138,7 @@ fn told_of(alloc: Global, words: &[&str]) -> (Vec<u8>, Vec<u8>) {
 }
 
 /// Runs over lines, rows and records.
-const COUNTED: [Run; 16] = [
+const COUNTED: [Run; 17] = [
     (
         &["canon", "new"],
         "EN\nen\n",
@@ -160,7 +160,7 @@ const COUNTED: [Run; 16] = [
         "EN\nen_US\nde\n\n",
         "en\n! BadByte 1\n! UnknownLanguage 1\n! EmptySubtag 1\n",
         "",
-        "4 lines, 3 refused\n1 BadByte, first in line 2: en_US\n  A byte that is no ASCII letter, digit or hyphen: write zh-Hant for zh_Hant; remove quotes, spaces, a byte order mark.\n1 UnknownLanguage, first in line 3: de\n  The registry lacks the language: correct it, or get a newer registry.\n1 EmptySubtag, first in line 4\n  Nothing between two hyphens, or an empty text: remove a hyphen too many, or the empty line.\n",
+        "4 lines, 3 refused\n1 BadByte, first in line 2: en_US\n  A byte that is no ASCII letter, digit or hyphen: write zh-Hant for zh_Hant; remove quotes, spaces, a byte order mark.\n1 UnknownLanguage, first in line 3: de\n  The registry lacks the language: correct it (en for eng or English), or get a newer registry.\n1 EmptySubtag, first in line 4\n  Nothing between two hyphens, or an empty text: remove a hyphen too many, or the empty line.\n",
         Status::Refused,
     ),
     (
@@ -168,7 +168,7 @@ const COUNTED: [Run; 16] = [
         "BadByte 1\ten\nok 0\tde\r\n1\n",
         "BadByte 1\ten\t\nok 0\tde\tUnknownLanguage 1\r\n1\tNoColumn\n",
         "",
-        "3 lines, 2 refused\n1 UnknownLanguage, first in line 2: de\n  The registry lacks the language: correct it, or get a newer registry.\n1 NoColumn, first in line 3\n  The row has too few fields (tsv, csv): name another column, or mend the row.\n",
+        "3 lines, 2 refused\n1 UnknownLanguage, first in line 2: de\n  The registry lacks the language: correct it (en for eng or English), or get a newer registry.\n1 NoColumn, first in line 3\n  The row has too few fields (tsv, csv): name another column, or mend the row.\n",
         Status::Refused,
     ),
     (
@@ -184,7 +184,7 @@ const COUNTED: [Run; 16] = [
         "ok 0,tag\nBadByte 1,\"de\"\r\n1\n",
         "ok 0,tag,langtag_fault\nBadByte 1,\"de\",UnknownLanguage 1\r\n1,NoColumn\n",
         "",
-        "3 records, 2 refused\n1 UnknownLanguage, first in record 2: de\n  The registry lacks the language: correct it, or get a newer registry.\n1 NoColumn, first in record 3\n  The row has too few fields (tsv, csv): name another column, or mend the row.\n",
+        "3 records, 2 refused\n1 UnknownLanguage, first in record 2: de\n  The registry lacks the language: correct it (en for eng or English), or get a newer registry.\n1 NoColumn, first in record 3\n  The row has too few fields (tsv, csv): name another column, or mend the row.\n",
         Status::Refused,
     ),
     (
@@ -216,7 +216,7 @@ const COUNTED: [Run; 16] = [
         "tag\nde\n\"en",
         "tag,langtag_fault\nde,UnknownLanguage 1\n",
         "! BadCsv line 3\n",
-        "1 UnknownLanguage, first in record 2: de\n  The registry lacks the language: correct it, or get a newer registry.\nBadCsv: The record that begins in the line that is named (csv) is within quotes where the input ends, or longer than 16 MiB: close its quotes, or double a quote that stands for itself.\n",
+        "1 UnknownLanguage, first in record 2: de\n  The registry lacks the language: correct it (en for eng or English), or get a newer registry.\nBadCsv: The record that begins in the line that is named (csv) is within quotes where the input ends, or longer than 16 MiB: close its quotes, or double a quote that stands for itself.\n",
         Status::Failed,
     ),
     (
@@ -225,6 +225,14 @@ const COUNTED: [Run; 16] = [
         "! UnknownLanguage 1\n! UnknownLanguage 1\n! UnknownRegion 2\n",
         "",
         "3 lines, 3 refused\n2 UnknownLanguage, first in line 1: eng\n  eng: BCP 47 writes en.\n1 UnknownRegion, first in line 3: en-UK\n  UK: BCP 47 writes GB.\n",
+        Status::Refused,
+    ),
+    (
+        &["canon", "new"],
+        "GER-DE\nen-Uk\n",
+        "! UnknownLanguage 1\n! UnknownRegion 2\n",
+        "",
+        "2 lines, 2 refused\n1 UnknownLanguage, first in line 1: GER-DE\n  ger: BCP 47 writes de.\n1 UnknownRegion, first in line 2: en-Uk\n  UK: BCP 47 writes GB.\n",
         Status::Refused,
     ),
     (
