@@ -46,7 +46,8 @@ side-by-side:
 	+$(MAKE) --jobs=4 --output-sync=target --no-print-directory scripts
 scripts: packaging.sh edits_test.py csv_readers.py iso_codes.py program.sh messages.sh fresh.sh growths
 packaging.sh: bindings.sh
-bindings.sh: trusted.py
+bindings.sh: trusted.py packages.sh
+iso_codes.py: packages.sh
 %.sh:
 	tests/$@
 %.py:

@@ -83,6 +83,8 @@ COMMANDS = [
     (["json", SAMPLE], LINES + b"\nen-\xff\nde-a-bc-x-a"),
     (["explain", SAMPLE, "en-u-foo-bar-foo-nu-latn-ca-buddhist-NU-arab"], b""),
     (["match", SAMPLE, "zh-yue", "de"], b"yue\nfr\nde-DE\n"),
+    (["match", "--extended", SAMPLE, "de-*-DE", "zh-yue"], b"de-Latn-DE\r\nen_US\nYUE\nhe"),
+    (["match", "--lookup", SAMPLE, "hy-x-a", "zh-yue-Hans-DE"], b"zh\nyue-x-a\r\nen_US\nyue\r\nYUE"),
     (["verify", SAMPLE, "sgn-dd"], b"Region 2 27 sgn-DE\nWhole 1 44 gsg\n= gsg\n"),
     (["verify", SAMPLE, "sgn-dd"], b"Region 2 27 sgn-DE" + b" " * 40),
     (["upgrade", SAMPLE, SAMPLE], b""),

@@ -215,11 +215,7 @@ passes "what was run" $python -m coverage combine "$folder/counted"
 passes "each line and branch of the report and the page is run" $python -m coverage report --fail-under=100 --show-missing \
     --omit='*/__init__.py'
 unset COVERAGE_FILE
-if command -v chromium > /dev/null; then
-    passes "Python: the look of both" $python -B bindings/python/tests/look.py "$registry" "$folder"
-else
-    echo "skipped: the look of the report and the page, for which chromium is not here"
-fi
+passes "Python: the look of both" $python -B bindings/python/tests/look.py "$registry" "$folder"
 passes "Python: the wheel" $python -B bindings/python/tests/test_wheel.py
 passes "Python: types of the package" env -C "$folder/python" MYPYPATH=. mypy --strict --cache-dir="$folder/mypy" -p bcp47
 passes "Python: types of a program" env MYPYPATH="$folder/python" mypy --strict --cache-dir="$folder/mypy" "$folder/examples/example.py"

@@ -1,8 +1,8 @@
 #!/usr/bin/env python3
-"""Compares `langtag codes`, and `tsv` and `csv` with `--codes`, with the facts of Debian's package iso-codes, if that is here: for
-each code of ISO 639-2, bibliographic and terminologic, in lower and upper case, alone and with subtags after it, the answer is
-that of `canon` to the code of two letters, or where there is none to the terminologic code; and codes of two letters, those of
-ISO 639-3 alone and texts that are no codes are answered as by `canon`.
+"""Compares `langtag codes`, and `tsv` and `csv` with `--codes`, with the facts of Debian's package iso-codes: for each code of
+ISO 639-2, bibliographic and terminologic, in lower and upper case, alone and with subtags after it, the answer is that of `canon`
+to the code of two letters, or where there is none to the terminologic code; and codes of two letters, those of ISO 639-3 alone and
+texts that are no codes are answered as by `canon`.
 
 Argument: the program (build/langtag, if there is none). The last line counts; the status is 1 if anything differs.
 """
@@ -30,8 +30,7 @@ def run(words, lines):
 
 def main():
     if not os.path.exists(FACTS % 2):
-        print("iso-codes is not here")
-        return 0
+        sys.exit("iso-codes is not here: tests/packages.sh installs it")
     rows, facts = [], {}
     for entry in json.load(open(FACTS % 2, encoding="utf-8"))["639-2"]:
         code, two, other = entry["alpha_3"], entry.get("alpha_2", ""), entry.get("bibliographic")

@@ -17,7 +17,8 @@ STYLE = """
 @media screen and (prefers-color-scheme: dark) {:root {--ink: #e8e8e8; --page: #161616; --line: #777; --bar: #6ea8e0}}
 body {background: var(--page); color: var(--ink); font: 1rem/1.5 system-ui, sans-serif; margin: 2rem auto; max-width: 60rem;
   padding: 0 1rem}
-h1, h2, h3, h4 {line-height: 1.2; break-after: avoid}
+h1, h2, h3, h4 {line-height: 1.2; margin: 1.5rem 0 .5rem; break-after: avoid}
+h2 {margin-top: 2rem}
 h1, h3, dd {overflow-wrap: anywhere}
 dl {display: grid; grid-template-columns: max-content 1fr; gap: 0 1rem}
 dt {grid-column: 1}
@@ -25,7 +26,8 @@ dd {grid-column: 2; margin: 0}
 .wide {overflow-x: auto}
 table {border-collapse: collapse; width: 100%}
 caption {max-width: calc(100vw - 2rem); padding: .5rem 0; text-align: left}
-th, td {border-top: 1px solid var(--line); padding: .3rem .8rem .3rem 0; text-align: left; vertical-align: top}
+th, td {border-top: 1px solid var(--line); padding: .3rem 1rem .3rem 0; text-align: left; vertical-align: top}
+th:last-child, td:last-child {padding-right: 0}
 tr {break-inside: avoid}
 bdi {border: 1px dotted var(--line); font-family: ui-monospace, monospace; overflow-wrap: anywhere; white-space: break-spaces}
 .text {min-width: 8rem}
@@ -36,9 +38,9 @@ td.number {white-space: nowrap}
 .share div {border-top: .8rem solid var(--bar); min-width: 1px}
 :focus-visible {outline: 3px solid var(--bar); outline-offset: 2px}
 @media screen and (max-width: 60rem) {.wide {background:
-  linear-gradient(to left, var(--page) 50%, transparent) right / 2rem 100% no-repeat local,
+  linear-gradient(to left, var(--page) 50%, transparent) right / 2rem calc(100% + 1px) no-repeat local,
   linear-gradient(to left, var(--line), transparent) right / .5rem 100% no-repeat}}
-@media (max-width: 30rem) {th, td {padding-right: .4rem} .text {min-width: 5.5rem}}
+@media (max-width: 30rem) {th, td {padding-right: .6rem} .text {min-width: 5rem}}
 @media print {body {margin: 0; max-width: none} .wide {overflow: visible}}
 """
 _NUMBER = ' class="number"'

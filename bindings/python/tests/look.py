@@ -40,6 +40,17 @@ CONTRAST = """(() => {
     return bad;
 })()"""
 
+# Cells whose text is not apart from that of the next one.
+CLOSE = """(() => {
+    const of = cell => {
+        const range = document.createRange();
+        range.selectNodeContents(cell);
+        return range.getBoundingClientRect();
+    };
+    return [...document.querySelectorAll("th, td")].filter(it => it.nextElementSibling && of(it.nextElementSibling).left - of(it).right < 8)
+        .map(it => it.outerHTML);
+})()"""
+
 
 class Browser:
     """A Chromium without a window, by its protocol over a pipe."""
@@ -60,6 +71,7 @@ class Browser:
         self.session = self.call("Target.attachToTarget", targetId=target, flatten=True)["sessionId"]
         for domain in ("Page", "Runtime", "Log", "Network", "Accessibility"):
             self.call(domain + ".enable")
+        self.call("Emulation.setScrollbarsHidden", hidden=True)
 
     def message(self):
         text = b""
@@ -163,6 +175,7 @@ class Looks(unittest.TestCase):
                     self.browser.keep(Path(SHOTS) / f"{name}-{width}-{scheme}.png")
                     self.assertEqual(self.browser.value("document.documentElement.scrollWidth"), width)
                     self.assertEqual(self.browser.value(CONTRAST), [])
+                    self.assertEqual(self.browser.value(CLOSE), [])
 
     def test_the_report(self):
         self.browser.go(self.report)
