@@ -222,6 +222,8 @@ passes "Python: types of a program" env MYPYPATH="$folder/python" mypy --strict 
 writes "Python answers as the program" "$folder/wanted" $python bindings/python/tests/answers.py "$registry" "$folder/tags"
 writes "Python explains as the program" "$folder/explained" $python bindings/python/tests/answers.py "$registry" "$folder/explained-tags" explain
 writes "Python shows as the program" "$folder/shown" $python bindings/python/tests/answers.py "$registry" "$folder/shown-tags" show
+passes "a report about 1,000,000 rows" $python -B bindings/python/tests/catalogue.py "$registry" "$program" "$folder"
+cat "$folder/out"
 # Under sanitizers, which see the extension and what it frees; what the interpreter keeps to its end is no leak of it.
 CFLAGS="-O1 -g -fsanitize=address,undefined -fno-sanitize-recover=all" passes "pip install, for sanitizers" $python -m pip install -q \
     --no-index --root-user-action=ignore --target "$folder/python-memory" bindings/python

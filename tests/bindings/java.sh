@@ -1,6 +1,6 @@
 #!/bin/bash
-# Tests the package for Java. Arguments: the folder of tests/bindings.sh, which has tags and what the program answers;
-# the program.
+# Tests the package for Java, and matching beside that of java.util.Locale. Arguments: the folder of tests/bindings.sh, which has
+# tags and what the program answers; the program.
 shared=$1
 folder=$1/java
 # shellcheck source=tests/bindings/counting.sh
@@ -52,6 +52,10 @@ if command -v javac > /dev/null; then
     else
         echo "no Lucene here: its filter is not tested"
     fi
+    passes "java.util.Locale: the package for Python" $python -m pip install -q --no-index --root-user-action=ignore \
+        --target "$folder/package" bindings/python
+    passes "java.util.Locale matches alike but for known causes" env PYTHONPATH="$folder/package" $python -B bench/peers/matching.py "$registry"
+    cat "$folder/out"
 else
     echo "no JDK here: the package for Java is not tested"
 fi

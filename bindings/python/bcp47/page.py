@@ -22,7 +22,8 @@ input, textarea {box-sizing: border-box; display: block; font-family: ui-monospa
 input, textarea, button {background: var(--page); border: 1px solid var(--ink); border-radius: .25rem; color: var(--ink);
   font-size: 1rem; margin: .5rem 0; padding: .5rem .8rem}
 button {font-weight: bold}
-mark {background: var(--mark); border: 1px solid var(--ink); border-radius: .2rem; color: var(--ink); padding: 0 .15em .2em}
+mark {background: var(--mark); border: 1px solid var(--ink); border-radius: .2rem; color: var(--ink); padding: 0 .15em .2em;
+  -webkit-box-decoration-break: clone; box-decoration-break: clone}
 ol, ul {padding-left: 2rem}
 li {margin: .5rem 0}
 """

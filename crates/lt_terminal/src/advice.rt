@@ -27,7 +27,11 @@ fn code_message(code: &[u8]) -> Option<&'static str>
 {
     match code {
         [first, second, third] => {
-            let lower = [first.to_ascii_lowercase(), second.to_ascii_lowercase(), third.to_ascii_lowercase()];
+            let lower = [
+                first.to_ascii_lowercase(),
+                second.to_ascii_lowercase(),
+                third.to_ascii_lowercase(),
+            ];
             first_of(codes(), &lower)
         }
         _ => None,
@@ -60,7 +64,11 @@ fn language_advice(subtag: &[u8]) -> Option<&'static str>
 fn region_advice(text: &[u8]) -> Option<&'static str>
     ensures { option_map (λ advice. advice.now) result ≡ spec.region_advice text.now }
 {
-    if text.ends_with(b"-UK") || text.ends_with(b"-uk") || text.ends_with(b"-Uk") || text.ends_with(b"-uK") {
+    if text.ends_with(b"-UK")
+        || text.ends_with(b"-uk")
+        || text.ends_with(b"-Uk")
+        || text.ends_with(b"-uK")
+    {
         Some("UK: BCP 47 writes GB.")
     } else {
         None
