@@ -214,6 +214,11 @@ class Gate:
         if not crate.is_built() and os.path.isdir(os.path.join(copied, "rlib")):
             shutil.rmtree(os.path.join(out, "rlib"), ignore_errors=True)
             shutil.copytree(os.path.join(copied, "rlib"), os.path.join(out, "rlib"), copy_function=edits.linked)
+            stamp = os.path.join(out, "rlib", "stamp")
+            if not os.path.exists(stamp):
+                # (rt gives what an earlier run proved without one, and a script would build the library anew, under the edits)
+                with open(stamp, "w", encoding="utf-8") as it:
+                    it.write(crate.stamp())
         kept = os.path.join(crate.folder, edits.rtlib.KEPT[1], kept_folder())
         if os.path.isdir(os.path.join(crate.folder, "must-fail")) and not os.path.isdir(kept):
             for it in (crate.rlib, os.path.join(COPY, "crates", crate.name, CHECKED)):
