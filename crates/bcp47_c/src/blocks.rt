@@ -1,4 +1,5 @@
-//! A value on the heap, as the parts of its box.
+//! A value on the heap, as the parts of its box, so that a handle of C can hold them: a handle is let go without a drop.
+//! `Block::of` gives a box up, and `into_box` makes it again.
 ghost use Rattle.std.specs.Prelude.{◌≡◌};
 ghost use Rattle.std.specs.Box.Ownership.{box_owns};
 

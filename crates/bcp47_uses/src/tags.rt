@@ -42,7 +42,7 @@ fn refuses(alloc: Global, registry: &Registry, text: &[u8], line: &mut Vec<u8>) 
     registry.append_canonical_text(alloc, text, line).is_err()
 }
 
-/// What `append_canonical_text` gives by it.
+/// By the small registry, canonical texts are appended; a text that is refused leaves the line as it was.
 fn expect_appended_texts(rt: &impl Abort, alloc: Global, registry: &Registry) -> Result<(), Fail> {
     let mut line = pair_of(alloc, registry, b"zh-cmn-hans", b"iw")?;
     assert_eq!(rt; line.as_slice(), b"cmn-Hans he".as_slice());
@@ -69,7 +69,7 @@ fn extlang_form_of(alloc: Global, registry: &Registry, tag: &Tag) -> Result<Tag,
     Ok(registry.extlang_form(alloc, &canonical)?)
 }
 
-/// The canonical and the extlang form of a tag by it.
+/// The canonical and the extlang form of a tag by the small registry.
 fn expect_forms(rt: &impl Abort, alloc: Global, registry: &Registry) -> Result<(), Fail> {
     let tag = tag_of(alloc, "zh-cmn")?;
     let text = text_of_canonical(alloc, registry, &tag)?;
@@ -101,7 +101,7 @@ fn fault_of(
     }
 }
 
-/// A tag that is valid by it, and one that is not.
+/// A tag that is valid by the small registry, and one that is not.
 fn expect_validity(rt: &impl Abort, alloc: Global, registry: &Registry) -> Result<(), Fail> {
     assert!(rt; fault_of(alloc, registry, b"he-IL")?.is_none());
     let Some((name, kind, place)) = fault_of(alloc, registry, b"he-Latn")? else {
@@ -126,7 +126,7 @@ fn is_one_language_step(trace: &Trace) -> bool {
     is_language && step.place == 1 && step.number == 4 && trace.steps.len() == 1
 }
 
-/// An explanation by it, which is judged for its tag and for another one.
+/// An explanation by the small registry, which is judged for its tag and for another one.
 fn expect_explanation(rt: &impl Abort, alloc: Global, registry: &Registry) -> Result<(), Fail> {
     let tag = tag_of(alloc, "iw-IL")?;
     let trace = explained(alloc, registry, &tag)?;
@@ -164,7 +164,7 @@ fn lines_of(alloc: Global, registry: &Registry, text: &[u8]) -> Result<Vec<u8>, 
     Ok(registry.explanation_text(alloc, text)?)
 }
 
-/// The lines of an explanation by it.
+/// The lines of an explanation by the small registry.
 fn expect_explanation_text(
     rt: &impl Abort,
     alloc: Global,

@@ -10,7 +10,7 @@ use Rattle.lt_range.specs.declared.faults.RangeFault.{RangeFault}
 use Rattle.lt_accept.specs.Words.{is_blank, is_word_byte, front, rest}
 use Rattle.lt_accept.specs.Weights.{weight_of}
 use Rattle.lt_accept.specs.Elements.{ElementParts, is_basic, fault_by, range_fault, element_with, element_at, element_of}
-use Rattle.lt_accept.specs.Headers.{pieces, with_element, elements_from, elements_of}
+use Rattle.lt_accept.specs.Headers.{comma_pieces, with_element, elements_from, elements_of}
 use Rattle.lt_accept.specs.Grammar.{IsWhiteSpace, IsBasicRange, HasWeight, MayBeElement, IsPiece, ArePieces, IsAcceptLanguage}
 use Rattle.lt_accept.specs.declared.faults.AcceptFault.{AcceptFault}
 use Rattle.lt_accept.specs.declared.faults.AcceptFaultKind.{AcceptFaultKind}
@@ -133,4 +133,4 @@ pieces_read place (p ∷ ps) elements h =
     ∙ ap (λ (l : List ElementParts). Ok l) (sym h.3)
 
 pub read_by_grammar : (text : List ℕ) (elements : List ElementParts) → (elements_of text ≡ Ok elements) ↔ IsAcceptLanguage text elements
-read_by_grammar text elements = (read_pieces 1 (pieces text) elements, pieces_read 1 (pieces text) elements)
+read_by_grammar text elements = (read_pieces 1 (comma_pieces text) elements, pieces_read 1 (comma_pieces text) elements)

@@ -7,8 +7,8 @@ use Rattle.lt_accept.specs.declared.faults.AcceptFaultKind.{AcceptFaultKind}
 use Rattle.lt_accept.specs.declared.faults.AcceptFaultKind.TheVariants as kinds
 
 -- what is between the commas (44) of a text
-abbrev pub pieces : List ℕ → List (List ℕ)
-pieces text = slice_split (λ b. b == 44) text
+abbrev pub comma_pieces : List ℕ → List (List ℕ)
+comma_pieces text = slice_split (λ b. b == 44) text
 
 -- an element in front of those that are read after it, or the first fault
 abbrev pub with_element : ℕ → Result (Option ElementParts) AcceptFaultKind → Result (List ElementParts) AcceptFault
@@ -24,7 +24,7 @@ elements_from place (p ∷ ps) = with_element place (element_of p) (elements_fro
 
 -- the elements of the header, or the first fault; they are numbered from 1, the empty ones too
 abbrev pub elements_of : List ℕ → Result (List ElementParts) AcceptFault
-elements_of text = elements_from 1 (pieces text)
+elements_of text = elements_from 1 (comma_pieces text)
 
 -- elements in front of what else was read, or its fault
 abbrev pub with_front : List ElementParts → Result (List ElementParts) AcceptFault

@@ -2,7 +2,7 @@
 ghost use Rattle.std.specs.Prelude.{◌≡◌, map, Ok, IfOk, IfErr};
 ghost use Rattle.std.specs.Option.{option_map};
 ghost use Rattle.lt_accept.specs.Elements.{parts_of, element_of, IsRefused};
-ghost use Rattle.lt_accept.specs.Headers.{pieces, elements_from, IsFault, IsFaultAt};
+ghost use Rattle.lt_accept.specs.Headers.{comma_pieces, elements_from, IsFault, IsFaultAt};
 
 use crate::faults::{AcceptFault, AcceptFaultKind};
 use crate::ranges::check_range;
@@ -21,7 +21,7 @@ pub struct WeightedRange<'a> {
 
 /// What is before, between and after the commas of a text.
 pub(crate) fn cut_at_commas(alloc: Global, text: &[u8]) -> Result<Vec<&[u8]>, AllocError>
-    ensures { IfOk result (λ found. map (λ piece. piece.now) found.items ≡ pieces text.now) }
+    ensures { IfOk result (λ found. map (λ piece. piece.now) found.items ≡ comma_pieces text.now) }
 {
     text.split(|byte| *byte == b',').collect(alloc)
 }

@@ -99,7 +99,7 @@ pub appended : (R : List EntryParts) (text : List ℕ) (tag form : TagForm) (old
     → new ≡ old ++ conventional (spell form) → AppendsCanonicalText R text old new
 appended R text tag form old new read is grown = search rules
 
--- its conventional text is its canonical text
+-- the canonical text of a text that stays as it is: its own, in conventional case
 pub stays_appended : (R : List EntryParts) → IsChecked R → (text old new : List ℕ) → IsStaying R text → new ≡ old ++ conventional (list_of text) → AppendsCanonicalText R text old new
 stays_appended R C text old new stay grown =
     appended R text (core_alone stay.0) (core_alone stay.0) old new stay.1.read (stays_canonical R text stay.0 stay.1 C) (grown ∙ ap (λ l. old ++ conventional l) (sym stay.1.read.spelled))

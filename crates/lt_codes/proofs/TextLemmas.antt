@@ -6,7 +6,7 @@ use Rattle.std.proofs.lemmas.List.{length-map}
 use Rattle.std.proofs.lemmas.Slice.Eq.{bytes_eq-Decides}
 use Rattle.std.specs.Char.{to_ascii_lowercase}
 use Rattle.lt_subtag.specs.Bytes.{folded}
-use Rattle.lt_codes.specs.Codes.{first_subtag, found_in, registered_for, replaced}
+use Rattle.lt_codes.specs.Codes.{first_subtag, found_in, registered_for, registered_text}
 use Rattle.lt_codes.specs.Index.{IsCode}
 use Rattle.lt_codes.specs.declared.codes.Code.{Code}
 use Rattle.lt_codes.proofs.FindLemmas.{find_holds, find_passes}
@@ -25,7 +25,7 @@ registered_long codes subtag each = by_found (found_in codes subtag) refl
         rw is (omega (arith, long, code.long, code_long c code))
 
 -- so has the text
-pub replaced_long : (codes : List Code) (text : List ℕ) → All IsCode codes → length text ≤ length (replaced codes text) + 1
+pub replaced_long : (codes : List Code) (text : List ℕ) → All IsCode codes → length text ≤ length (registered_text codes text) + 1
 replaced_long codes text each =
     let first = first_subtag text in
     omega (arith, registered_long codes first each, length-append (registered_for codes first) (drop (length first) text), length-drop (length first) text)

@@ -18,5 +18,5 @@ abbrev pub first_subtag : List ℕ → List ℕ
 first_subtag text = before_first (λ byte. byte == 45) text
 
 -- the text, with what is registered for its first subtag in the place of that
-abbrev pub replaced : List Code → List ℕ → List ℕ
-replaced codes text = registered_for codes (first_subtag text) ++ drop (length (first_subtag text)) text
+abbrev pub registered_text : List Code → List ℕ → List ℕ
+registered_text codes text = registered_for codes (first_subtag text) ++ drop (length (first_subtag text)) text

@@ -69,7 +69,7 @@ fn number_of(text: &[u8]) -> Option<usize>
 }
 
 impl CodeTable {
-    ghost use Rattle.lt_codes.specs.Codes.{found_in, replaced};
+    ghost use Rattle.lt_codes.specs.Codes.{found_in, registered_text};
     ghost use Rattle.lt_codes.specs.Index.{IsCode, number_of};
 
     /// A table without codes.

@@ -1,6 +1,6 @@
 //! Texts whose first subtag is replaced.
 ghost use Rattle.std.specs.Prelude.{◌≡◌, IfOk, MatchBool, length};
-ghost use Rattle.lt_codes.specs.Codes.{first_subtag, replaced};
+ghost use Rattle.lt_codes.specs.Codes.{first_subtag, registered_text};
 
 use crate::codes::CodeTable;
 use lt_rows::split_first;
@@ -21,7 +21,7 @@ impl CodeTable {
     /// puts `en-US`. Tells whether the table has that first subtag as a code, whatever the case of its letters. If not, the
     /// buffer stays as it is. Refused only where memory runs out.
     pub fn replace(&self, text: &[u8], buffer: &mut Vec<u8>) -> Result<bool, AllocError>
-        ensures { IfOk result (λ done. MatchBool done (buffer.new.items ≡ replaced self.now text.now) (replaced self.now text.now ≡ text.now)) }
+        ensures { IfOk result (λ done. MatchBool done (buffer.new.items ≡ registered_text self.now text.now) (registered_text self.now text.now ≡ text.now)) }
     {
         let (first, rest) = text.split_at(first_end(text));
         let Some(registered) = self.registered(first) else {

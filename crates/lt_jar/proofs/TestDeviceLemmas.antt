@@ -16,6 +16,7 @@ given_in-front rest old new (suc more) n count copied long =
     (sym (take-append-drop n rest) ∙ ap (λ l. l ++ drop n rest) (sym front), λ none room. drop_of_length-le rest (omega arith))
 
 -- the same of what remains of a reader, whether it has an end or not
+-- a read moves the place by the bytes that it gave: what is left then is what was left without them
 pub remaining-moves : (endless endless' : Bool) (bytes bytes' left old new : List ℕ) (at at' piece piece' place n : ℕ)
     → endless' ≡ endless → bytes' ≡ bytes → piece' ≡ piece → at' ≡ place + n
     → place ≡ (if endless && nat_le (length bytes) at then 0 else at)

@@ -2,7 +2,7 @@
 use Rattle.std.proofs.Common.{refl, ◌≡◌, ◌≤◌, ◌-◌, ◌++◌, ◌∷◌, ◌∙◌, [], ℕ, Bool, false, true, List, inl, inr, ap, arith, append_assoc, codes, drop, length, subst, sym, take, take-append-drop}
 use Rattle.std.proofs.lemmas.List.{drop-drop, drop-take, take_rest, take-take}
 use Rattle.lt_jar.specs.Lines.{content_of}
-use Rattle.lt_codes.specs.Codes.{replaced}
+use Rattle.lt_codes.specs.Codes.{registered_text}
 use Rattle.lt_canon.specs.Texts.{AppendsCanonicalText, IsTextRefusal}
 use Rattle.lt_canon.specs.declared.refusals.TextRefusal.{TextRefusal}
 use Rattle.lt_lines.specs.Answering.{AppendsKept, AppendsRowReply, EndsRefused}
@@ -17,7 +17,7 @@ use Rattle.lt_rows.specs.declared.rows.Separator.{Separator}
 module _ (S : Separator) (G : Ground) (row : RowForm) (line front field after quotes text old fronted filled new : List ℕ) (at : HasField S row.before (content_of line) front field after)
     (is_text : IsTextIn S field quotes text) (none : HasReturn S (content_of line) → ⊥) (changed : row.is_kept ≡ false) (first : fronted ≡ old ++ (front ++ quotes)) where
   -- the row was answered
-  pub row_answered : AppendsCanonicalText G.entries (replaced G.codes text) fronted filled → new ≡ filled ++ row_line S (quotes ++ after) [] line → AppendsRowReply S G row line old new false
+  pub row_answered : AppendsCanonicalText G.entries (registered_text G.codes text) fronted filled → new ≡ filled ++ row_line S (quotes ++ after) [] line → AppendsRowReply S G row line old new false
   row_answered a last = record {
     bytes = row_line S ((front ++ quotes) ++ a.canonical ++ (quotes ++ after)) [] line;
     grown = rw (last, a.grown, first) (simp append_assoc);
@@ -42,7 +42,7 @@ module _ (S : Separator) (G : Ground) (row : RowForm) (line front field after qu
   }
 
   -- the row was refused
-  pub row_refused : (refusal : TextRefusal) → IsTextRefusal G.entries (replaced G.codes text) refusal → filled ≡ fronted → EndsRefused S refusal (text ++ (quotes ++ after)) line filled new → AppendsRowReply S G row line old new true
+  pub row_refused : (refusal : TextRefusal) → IsTextRefusal G.entries (registered_text G.codes text) refusal → filled ≡ fronted → EndsRefused S refusal (text ++ (quotes ++ after)) line filled new → AppendsRowReply S G row line old new true
   row_refused refusal is same e = record {
     bytes = row_line S (content_of line) e.told line;
     grown = rw (e.grown, same, first, at.row_is, is_text.field_is) (simp append_assoc);
@@ -115,7 +115,7 @@ row_kept S G row line front field after quotes text old new refused at is_text n
 
 -- a row that is kept was answered, or refused
 module _ (S : Separator) (G : Ground) (line text old fronted filled new : List ℕ) (first : fronted ≡ (old ++ content_of line) ++ separator S ∷ []) where
-  pub kept_answered : AppendsCanonicalText G.entries (replaced G.codes text) fronted filled → new ≡ filled ++ row_line S [] [] line → AppendsKept S G text line old new false
+  pub kept_answered : AppendsCanonicalText G.entries (registered_text G.codes text) fronted filled → new ≡ filled ++ row_line S [] [] line → AppendsKept S G text line old new false
   kept_answered a last = record {
     canonical = a.canonical;
     told = [];
@@ -123,7 +123,7 @@ module _ (S : Separator) (G : Ground) (line text old fronted filled new : List �
     owed = inl (a.is_canonical, refl, refl);
   }
 
-  pub kept_refused : (refusal : TextRefusal) → IsTextRefusal G.entries (replaced G.codes text) refusal → filled ≡ fronted → EndsRefused S refusal [] line filled new → AppendsKept S G text line old new true
+  pub kept_refused : (refusal : TextRefusal) → IsTextRefusal G.entries (registered_text G.codes text) refusal → filled ≡ fronted → EndsRefused S refusal [] line filled new → AppendsKept S G text line old new true
   kept_refused refusal is same e = record {
     canonical = [];
     told = e.told;
@@ -157,18 +157,18 @@ module _ (S : Separator) (G : Ground) (row : RowForm) (line old fronted filled n
   abbrev text : List ℕ
   text = take (place.end - place.start) (drop place.start (content_of line))
 
-  pub found_answered : row.is_kept ≡ false → fronted ≡ old ++ take place.start (content_of line) → AppendsCanonicalText G.entries (replaced G.codes text) fronted filled
+  pub found_answered : row.is_kept ≡ false → fronted ≡ old ++ take place.start (content_of line) → AppendsCanonicalText G.entries (registered_text G.codes text) fronted filled
       → new ≡ filled ++ row_line S (drop place.end (content_of line)) [] line → AppendsRowReply S G row line old new false
   found_answered changed first a last =
       row_answered S G row line h.front h.field h.after h.quotes h.text old fronted filled new h.at h.is_text none changed (first ∙ ap (λ l. old ++ l) h.front_is)
-      (subst (λ t. AppendsCanonicalText G.entries (replaced G.codes t) fronted filled) h.text_is a) (last ∙ ap (λ l. filled ++ row_line S l [] line) h.after_is)
+      (subst (λ t. AppendsCanonicalText G.entries (registered_text G.codes t) fronted filled) h.text_is a) (last ∙ ap (λ l. filled ++ row_line S l [] line) h.after_is)
 
-  pub found_refused : row.is_kept ≡ false → fronted ≡ old ++ take place.start (content_of line) → (refusal : TextRefusal) → IsTextRefusal G.entries (replaced G.codes text) refusal → filled ≡ fronted
+  pub found_refused : row.is_kept ≡ false → fronted ≡ old ++ take place.start (content_of line) → (refusal : TextRefusal) → IsTextRefusal G.entries (registered_text G.codes text) refusal → filled ≡ fronted
       → EndsRefused S refusal (drop place.start (content_of line)) line filled new → AppendsRowReply S G row line old new true
   found_refused changed first refusal is same e =
       let rest = text_and_rest (content_of line) h.text (h.quotes ++ h.after) place h.ordered h.text_is h.after_is in
       row_refused S G row line h.front h.field h.after h.quotes h.text old fronted filled new h.at h.is_text none changed (first ∙ ap (λ l. old ++ l) h.front_is) refusal
-      (subst (λ t. IsTextRefusal G.entries (replaced G.codes t) refusal) h.text_is is) same
+      (subst (λ t. IsTextRefusal G.entries (registered_text G.codes t) refusal) h.text_is is) same
       (record { told = e.told; is_told = e.is_told; grown = e.grown ∙ ap (λ l. filled ++ row_line S l e.told line) rest })
 
   pub found_kept : (refused : Bool) → row.is_kept ≡ true → AppendsKept S G text line old new refused → AppendsRowReply S G row line old new refused

@@ -14,7 +14,7 @@ use Rattle.lt_tag.proofs.FaultLemmas.{one_fault}
 use Rattle.lt_tag.proofs.OneTagLemmas.{text_of_tag}
 use Rattle.lt_jar.specs.Lines.{content_of}
 use Rattle.lt_registry.specs.Parts.{EntryParts}
-use Rattle.lt_codes.specs.Codes.{replaced}
+use Rattle.lt_codes.specs.Codes.{registered_text}
 use Rattle.lt_codes.specs.Index.{IsCode}
 use Rattle.lt_codes.proofs.TextLemmas.{replaced_long}
 use Rattle.lt_canon.specs.Texts.{AppendsCanonicalText, IsTextRefusal}
@@ -67,10 +67,10 @@ content-length line = elim (ends_with_byte 13 line) as (λ t. length line ≤ le
 -- what is owed for the front of a line, as far as it is kept, is owed for the line
 pub reply_for_kept : (G : Ground) (form : LineForm) (first : Bool) (line : List ℕ) (r : Reply) → All IsCode G.codes → IsReplyIn G form first (kept_of form line) r → IsReplyIn G form first line r
 reply_for_kept G forms.Tag first line r each owed = elim (leb_tells (length line) longest_kept) [
-  | inl short ↦ subst (λ (l : List ℕ). IsTextReply G.entries (replaced G.codes (content_of l)) r) (take_all longest_kept line short.1) owed
+  | inl short ↦ subst (λ (l : List ℕ). IsTextReply G.entries (registered_text G.codes (content_of l)) r) (take_all longest_kept line short.1) owed
   | inr long ↦
       let front = take longest_kept line in
-      reply_for_long G.entries (replaced G.codes (content_of front)) (replaced G.codes (content_of line)) r
+      reply_for_long G.entries (registered_text G.codes (content_of front)) (registered_text G.codes (content_of line)) r
       (omega (arith, length-take-le longest_kept line (omega (arith, long.1)), content-length front, replaced_long G.codes (content_of front) each))
       (omega (arith, content-length line, long.1, replaced_long G.codes (content_of line) each)) owed
 ]
@@ -110,7 +110,7 @@ canonical_reply R text old new ended a last = record {
 }
 
 -- without codes a text stays as it is
-pub replaced_none : (text : List ℕ) → replaced [] text ≡ text
+pub replaced_none : (text : List ℕ) → registered_text [] text ≡ text
 replaced_none text = front_rest (position_or_len (λ byte. byte == 45) text) text
   where
     front_rest : (n : ℕ) (l : List ℕ) → take n l ++ drop (length (take n l)) l ≡ l

@@ -8,7 +8,7 @@ use Rattle.lt_jar.specs.Lines.{IsOneLine, content_of}
 use Rattle.lt_registry.specs.Parts.{EntryParts}
 use Rattle.lt_canon.specs.Texts.{AppendsCanonicalText, IsCanonicalTextOf, IsTextRefusal}
 use Rattle.lt_canon.specs.declared.refusals.TextRefusal.{TextRefusal}
-use Rattle.lt_codes.specs.Codes.{replaced}
+use Rattle.lt_codes.specs.Codes.{registered_text}
 use Rattle.lt_lines.specs.Refusals.{IsTold}
 use Rattle.lt_rows.specs.Quotes.{is_quoted, place_at}
 use Rattle.lt_rows.specs.declared.quotes.Place.{Place}
@@ -16,6 +16,7 @@ use Rattle.lt_rows.specs.declared.quotes.Place.TheVariants as places
 use Rattle.lt_lines.specs.Owed.{AreReplies, Ground, IsBegun, IsHeadingReply, IsReplyAmong, IsReplyTo, IsRowReply, IsShort, IsTextReply, IsUnit, IsWhole, Reply, Terms, bytes_in, ended, feeds_in, is_open, long_fault, place_of, refused_in, reply, row_line, units_of, with_canonical}
 use Rattle.lt_stream.specs.Running.{longest_row}
 use Rattle.lt_stream.specs.DeviceOutput.{IsFrontOf}
+use Rattle.lt_stream.specs.Lined.{full}
 use Rattle.lt_lines.specs.Tallied.{AreTalliesOf, OwesAll, TalliesInQuotes, TalliesTooLong}
 use Rattle.lt_cache.specs.declared.recent.Kept.{Kept}
 use Rattle.lt_cache.specs.Ends.{AreEnds}
@@ -33,10 +34,6 @@ use Rattle.lt_stream.specs.declared.faults.ToolFault.TheVariants as faults
 -- less with the registered code, and a carriage return (13)
 abbrev pub longest_kept : ℕ
 longest_kept = 1027
-
--- answers are written once this many bytes of them wait, and at the latest before the next read
-abbrev pub full : ℕ
-full = 65536
 
 -- 1 if the test is true, else 0
 abbrev pub one_if : Bool → ℕ
@@ -97,8 +94,8 @@ pub record AppendsKept (S : Separator) (G : Ground) (text line old new : List �
   pub canonical : List ℕ
   pub told : List ℕ
   pub grown : new ≡ old ++ row_line S (with_canonical true S (content_of line) canonical) told line
-  pub owed : (IsCanonicalTextOf G.entries (replaced G.codes text) canonical × (told ≡ []) × (refused ≡ false))
-      ⊎ ((refusal : TextRefusal) × IsTextRefusal G.entries (replaced G.codes text) refusal × IsTold refusal told
+  pub owed : (IsCanonicalTextOf G.entries (registered_text G.codes text) canonical × (told ≡ []) × (refused ≡ false))
+      ⊎ ((refusal : TextRefusal) × IsTextRefusal G.entries (registered_text G.codes text) refusal × IsTold refusal told
       × (canonical ≡ []) × (refused ≡ true))
 
 -- the answer to a row was appended

@@ -8,7 +8,7 @@ use Rattle.lt_jar.specs.Lines.{IsOneLine, content_of, lines_of}
 use Rattle.lt_registry.specs.Parts.{EntryParts}
 use Rattle.lt_canon.specs.Texts.{IsCanonicalTextOf, IsTextRefusal}
 use Rattle.lt_canon.specs.declared.refusals.TextRefusal.{TextRefusal}
-use Rattle.lt_codes.specs.Codes.{replaced}
+use Rattle.lt_codes.specs.Codes.{registered_text}
 use Rattle.lt_codes.specs.declared.codes.Code.{Code}
 use Rattle.lt_lines.specs.Refusals.{IsRefusalLine, IsTold}
 use Rattle.lt_rows.specs.Quotes.{IsFreeOutside, is_quoted, place_at, records_from}
@@ -116,7 +116,7 @@ pub record AnswersRow (S : Separator) (G : Ground) (before : ℕ) (line bytes : 
   pub text : List ℕ
   pub is_text : IsTextIn S field quotes text
   pub canonical : List ℕ
-  pub is_canonical : IsCanonicalTextOf G.entries (replaced G.codes text) canonical
+  pub is_canonical : IsCanonicalTextOf G.entries (registered_text G.codes text) canonical
   pub line_is : bytes ≡ row_line S ((front ++ quotes) ++ canonical ++ (quotes ++ after)) [] line
 
 -- the answer to a row that is kept, whose field has a canonical text: two fields are added, that text and an empty one
@@ -129,7 +129,7 @@ pub record KeepsRow (S : Separator) (G : Ground) (before : ℕ) (line bytes : Li
   pub text : List ℕ
   pub is_text : IsTextIn S field quotes text
   pub canonical : List ℕ
-  pub is_canonical : IsCanonicalTextOf G.entries (replaced G.codes text) canonical
+  pub is_canonical : IsCanonicalTextOf G.entries (registered_text G.codes text) canonical
   pub line_is : bytes ≡ row_line S (with_canonical true S (content_of line) canonical) [] line
 
 -- the answer to a row whose field has a canonical text: the text is replaced, or, where rows are kept, added
@@ -147,7 +147,7 @@ pub record RefusesRow (kept : Bool) (S : Separator) (G : Ground) (before : ℕ) 
   pub text : List ℕ
   pub is_text : IsTextIn S field quotes text
   pub refusal : TextRefusal
-  pub is_refusal : IsTextRefusal G.entries (replaced G.codes text) refusal
+  pub is_refusal : IsTextRefusal G.entries (registered_text G.codes text) refusal
   pub told : List ℕ
   pub is_told : IsTold refusal told
   pub line_is : bytes ≡ refused_line kept S line told
@@ -200,7 +200,7 @@ IsReplyAmong S G row false line r = IsRowReply S G row line r
 -- the answer that is owed for a line; the first may be a heading, and a carriage return that ends a tag is no part of
 -- it
 abbrev pub IsReplyIn : Ground → LineForm → Bool → List ℕ → Reply → Type 0
-IsReplyIn G forms.Tag first line r = IsTextReply G.entries (replaced G.codes (content_of line)) r
+IsReplyIn G forms.Tag first line r = IsTextReply G.entries (registered_text G.codes (content_of line)) r
 IsReplyIn G (forms.Row row) first line r = IsReplyAmong separators.Tab G row (row.has_heading && first) line r
 IsReplyIn G (forms.Csv row delimiter) first line r =
     IsReplyAmong (separators.Delimiter delimiter) G row (row.has_heading && first) line r

@@ -7,6 +7,7 @@ ghost use Rattle.lt_rows.specs.Looks.{LacksIn};
 ghost use Rattle.lt_rows.specs.Quotes.{is_quoted};
 ghost use Rattle.lt_lines.specs.Tallied.{line_at as at_line};
 ghost use Rattle.lt_lines.specs.Looks.{IsAhead, IsLook};
+ghost use Rattle.lt_stream.specs.Lined.{full};
 ghost use Rattle.lt_lines.specs.Answering as spec;
 ghost use Rattle.lt_lines.specs.Owed as owed;
 
@@ -334,7 +335,7 @@ impl Answering {
     /// Writes the lines that are owed if they are `FULL` bytes or more.
     fn write_much<W: Write>(&mut self, output: &mut Device<W>) -> Result<(), ToolFault>
         ensures writes { spec.WritesOwed W.contents self.old self.new output.old output.new result }
-        ensures emptied { OnOk result (spec.full ≤ vec_len self.old.owed → self.new.owed.items ≡ []) }
+        ensures emptied { OnOk result (full ≤ vec_len self.old.owed → self.new.owed.items ≡ []) }
     {
         if self.owed.len() < FULL {
             return Ok(());

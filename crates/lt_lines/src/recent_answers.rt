@@ -1,7 +1,7 @@
 //! Answers that were given lately, which are given again.
 ghost use Rattle.std.specs.Prelude.{◌≡◌, ◌≤◌, false, IfOk, IsTrue, List, MatchOption, OnOk, length, take};
 ghost use Rattle.lt_registry.specs.Parts.{EntryParts};
-ghost use Rattle.lt_codes.specs.Codes.{replaced};
+ghost use Rattle.lt_codes.specs.Codes.{registered_text};
 ghost use Rattle.lt_lines.specs.Answering.{AppendsTextReply, AreRecent, FieldReply};
 ghost use Rattle.lt_lines.specs.Owed.{codes_in};
 
@@ -41,7 +41,7 @@ fn replaced_text(
     codes: &CodeTable,
     text: &[u8],
 ) -> Result<Option<Vec<u8>>, AllocError>
-    ensures { IfOk result (λ found. MatchOption found (replaced codes.now text.now ≡ text.now) (λ other. other.items ≡ replaced codes.now text.now)) }
+    ensures { IfOk result (λ found. MatchOption found (registered_text codes.now text.now ≡ text.now) (λ other. other.items ≡ registered_text codes.now text.now)) }
 {
     let mut other = Vec::new(alloc);
     if codes.replace(text, &mut other)? {
@@ -63,7 +63,7 @@ pub(crate) fn append_again<L: Lookup>(
 ) -> Result<bool, OutOfMemory>
     requires { count ≤ length text.now }
     ensures owed { IfOk result (λ refused. AreRecent (L.listed basis.now.checked.now) LineForm.Tag recent.old
-        → AppendsTextReply (L.listed basis.now.checked.now) (replaced (codes_in basis.now.codes) (take count text.now)) lines.old.items lines.new.items refused) }
+        → AppendsTextReply (L.listed basis.now.checked.now) (registered_text (codes_in basis.now.codes) (take count text.now)) lines.old.items lines.new.items refused) }
     ensures recent { OnOk result (AreRecent (L.listed basis.now.checked.now) LineForm.Tag recent.old
         → AreRecent (L.listed basis.now.checked.now) LineForm.Tag recent.new) }
 {
@@ -87,7 +87,7 @@ fn append_replaced<L: Lookup>(
 ) -> Result<bool, OutOfMemory>
     requires { count ≤ length text.now }
     ensures owed { IfOk result (λ refused. AreRecent (L.listed checked.now) LineForm.Tag recent.old
-        → AppendsTextReply (L.listed checked.now) (replaced codes.now (take count text.now)) lines.old.items lines.new.items refused) }
+        → AppendsTextReply (L.listed checked.now) (registered_text codes.now (take count text.now)) lines.old.items lines.new.items refused) }
     ensures recent { OnOk result (AreRecent (L.listed checked.now) LineForm.Tag recent.old
         → AreRecent (L.listed checked.now) LineForm.Tag recent.new) }
 {
@@ -181,7 +181,7 @@ pub(crate) fn append_field<L: Lookup>(
 ) -> Result<Option<TextRefusal>, OutOfMemory>
     requires { count ≤ length rest.now }
     ensures owed { IfOk result (λ refusal. AreRecent (L.listed basis.now.checked.now) (LineForm.Row row) recent.old
-        → FieldReply (L.listed basis.now.checked.now) (replaced (codes_in basis.now.codes) (take count rest.now)) lines.old.items lines.new.items refusal) }
+        → FieldReply (L.listed basis.now.checked.now) (registered_text (codes_in basis.now.codes) (take count rest.now)) lines.old.items lines.new.items refusal) }
     ensures recent { OnOk result (AreRecent (L.listed basis.now.checked.now) (LineForm.Row row) recent.old
         → AreRecent (L.listed basis.now.checked.now) (LineForm.Row row) recent.new) }
 {
@@ -208,7 +208,7 @@ fn append_replaced_field<L: Lookup>(
 ) -> Result<Option<TextRefusal>, OutOfMemory>
     requires { count ≤ length rest.now }
     ensures owed { IfOk result (λ refusal. AreRecent (L.listed checked.now) (LineForm.Row row) recent.old
-        → FieldReply (L.listed checked.now) (replaced codes.now (take count rest.now)) lines.old.items lines.new.items refusal) }
+        → FieldReply (L.listed checked.now) (registered_text codes.now (take count rest.now)) lines.old.items lines.new.items refusal) }
     ensures recent { OnOk result (AreRecent (L.listed checked.now) (LineForm.Row row) recent.old
         → AreRecent (L.listed checked.now) (LineForm.Row row) recent.new) }
 {

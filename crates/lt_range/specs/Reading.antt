@@ -38,7 +38,8 @@ with_piece (Err fault) read = Err fault
 with_piece (Ok s) (Err fault) = Err fault
 with_piece (Ok s) (Ok named) = Ok (option_to_list s ++ named)
 
--- the subtags other than `*` of pieces after the first, or the first fault
+-- the subtags other than `*` of pieces after the first, or the first fault: there a `*` changes nothing that a range
+-- matches (RFC 4647, 3.2)
 unfoldable pub later_pieces : List (List ℕ) → Result (List (List ℕ)) RangeFault
 later_pieces [] = Ok []
 later_pieces (p ∷ ps) = with_piece (later_piece p) (later_pieces ps)

@@ -73,6 +73,7 @@ placed_at place make p at _ _ w h = cc
 
 -- What the indexes of a sorted table find.
 
+-- what stands at a place of a list of entries is an entry
 pub entry_at : (R : List EntryParts) → All IsEntry R → (p : ℕ) (e : EntryParts) → slice_get R p ≡ Some e → IsEntry e
 entry_at R forms p e there = subst IsEntry (get_or_from_slice_get R p e e there) (forms p e (slice_get_within R p e there))
 
@@ -82,6 +83,7 @@ and_false false = refl
 
 -- single records
 
+-- the row of a single record has the place of its entry
 pub single_placed : (kind : Kind) (p : ℕ) (e : EntryParts) (w : Row) → single_row kind p e ≡ Some w → w.place ≡ p
 single_placed kind p e w h = placed_at (λ (r : Row). r.place) (λ (n : ℕ). record { number = n; place = p }) p (λ n. refl) (same_kind e.kind kind) (single_number e.name) w h
 
@@ -89,6 +91,7 @@ module _ (R : List EntryParts) (kind : Kind) (rows : List Row) (s : List ℕ) (i
   abbrev is_it : EntryParts → Bool
   is_it e = same_kind e.kind kind && is_named s e.name
 
+  -- an entry is named by the subtag exactly if its row has the number of the subtag
   name_agrees : (p : ℕ) (k : Kind) (b : Bool) (name : EntryName) → FitsName k name
       → (b && is_named s name) ≡ matches nat_cmp (λ (w : Row). w.number) (number s) (cond b (option_map (λ (n : ℕ). record { number = n; place = p }) (single_number name)) None)
   name_agrees p k true (names.Single n) fits = sym (nats_equal (number n) (number s) ∙ numbers_equal n s (form_few k n fits) few)
@@ -114,12 +117,14 @@ module _ (R : List EntryParts) (kind : Kind) (rows : List Row) (s : List ℕ) (i
 
 -- whole records
 
+-- the row of a record with a whole tag has the place of its entry
 pub whole_placed : (p : ℕ) (e : EntryParts) (w : Row) → whole_row p e ≡ Some w → w.place ≡ p
 whole_placed p e w h = placed_at (λ (r : Row). r.place) (λ (t : TagForm). record { number = language_number t; place = p }) p (λ t. refl) true (tag_in e.name) w h
 
 pub key_total : IsTotalOrder whole_key_cmp
 key_total = then_total (on_total (λ (k : ℕ × Option TagForm). k.0) nat_cmp_total) (on_total (λ (k : ℕ × Option TagForm). k.1) (options_total tag_total))
 
+-- the keys of two tags are equal exactly if the tags are the same
 keys_equal : (u t : TagForm) → is_eq (whole_key_cmp (language_number u, Some u) (language_number t, Some t)) ≡ same_tag u t
 keys_equal u t =
     same_test (is_eq (whole_key_cmp (language_number u, Some u) (language_number t, Some t))) (same_tag u t)

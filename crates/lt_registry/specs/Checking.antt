@@ -57,7 +57,8 @@ part_check R kind fault place (Some s) = unless (is_registered R kind s) fault p
 abbrev pub stands_in : List (List ℕ) → List ℕ → Bool
 stands_in before v = list_any (λ u. bytes_eq u v) before
 
--- the check of a variant that comes after others
+-- the check of a variant that comes after others: it isn't among them, unless variants may repeat, as they may in a tag
+-- that is asked to be proper and not to be valid
 abbrev pub variant_check : List EntryParts → Bool → ℕ → List (List ℕ) → List ℕ → Check
 variant_check R may_repeat place before v =
     and_then (unless (is_registered R kinds.Variant v) faults.UnknownVariant place)
@@ -101,7 +102,7 @@ ListFault R here before (e ∷ after) kind place =
     HeadFault R here before e kind place
     ⊎ ListFault R (here + (1 + length e.subtags)) (before ++ e ∷ []) after kind place
 
--- a fault, other than that a variant occurs twice if variants may repeat
+-- a fault that counts: each does, but if variants may repeat, DuplicateVariant doesn't
 abbrev pub Counted : Bool → (ValidFaultKind → ℕ → Type 0) → ValidFaultKind → ℕ → Type 0
 Counted may_repeat F kind place = F kind place × (may_repeat ≡ true → kind ≢ faults.DuplicateVariant)
 

@@ -19,10 +19,11 @@ pub fn one_core_normal_form()
     ensures kept { (R : List EntryParts) → MeetsCoreConditions R → StepsKeepNormalForm R }
 {}
 
-/// A core step on a proper core gives a proper core. Where the registry makes no grandfathered tag valid as a langtag,
-/// no proper core spells one; and a core step on a proper tag gives a proper tag, on its core or on a source, as does
-/// any step on its extensions.
-pub fn core_steps_stay_proper()
+/// By a registry that meets the conditions on core steps, a core step leads from a proper core to a proper core
+/// (`proper`). If it also makes no grandfathered tag valid as a langtag, each step on the core or the extensions of a
+/// proper tag leads to a proper tag (`tags`). For no proper core to spell a grandfathered tag, that last condition alone
+/// is enough (`spelled`).
+pub fn steps_keep_proper()
     ensures proper { (R : List EntryParts) → IsRegistry R → MeetsCoreConditions R → StepsKeepProper R }
     ensures tags { (R : List EntryParts) → IsRegistry R → MeetsCoreConditions R → All (HasFittingGrandfathered R) R → StepsKeepTagsProper R }
     ensures spelled { (R : List EntryParts) → All (HasFittingGrandfathered R) R → ProperCoresSpellNone R }

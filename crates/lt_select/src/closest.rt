@@ -73,8 +73,8 @@ fn take_subtags(
     Ok(())
 }
 
-/// Takes a line, if it is a tag that is closer than what is found so far. Of a long line, so much is given as tells its
-/// subtags.
+/// Keeps a line if it is a tag whose canonical form is found by an earlier range than the line so far, or by the same range
+/// and has more subtags. The caller cuts a long line to LONGEST_KEPT bytes: what follows them changes nothing.
 pub(crate) fn take_line<L: Lookup>(
     alloc: Global,
     checked: &Checked<L>,

@@ -19,10 +19,10 @@ is_shown name =
     || str_eq_ignore_ascii_case name (codes "Comments"))))))
 
 -- the fields of a record that are shown, in the order of the file
-abbrev pub shown : List Field → List Field
-shown fields = filter (λ (f : Field). is_shown f.0) fields
+abbrev pub shown_fields : List Field → List Field
+shown_fields fields = filter (λ (f : Field). is_shown f.0) fields
 
 -- the fields that are shown for a part of a tag: those of its record, if it has one
 abbrev pub fields_listed : List (List Field) → Listing → List Field
-fields_listed records (listings.Record number) = shown (fields_of records number)
+fields_listed records (listings.Record number) = shown_fields (fields_of records number)
 fields_listed records listing = []

@@ -9,12 +9,12 @@ use Rattle.lt_show.specs.declared.reading.RecordsFault.{RecordsFault}
 use Rattle.lt_show.specs.declared.reading.RecordsFault.TheVariants as faults
 
 -- the answer of a reading: the entries and the records, or why there are none
-abbrev pub Reading : Type 0
-Reading = Result (List EntryParts × List (List Field)) RecordsFault
+abbrev pub RecordsReading : Type 0
+RecordsReading = Result (List EntryParts × List (List Field)) RecordsFault
 
 -- The bytes have these records, of which these are the entries; or they are refused as where the entries are read alone;
 -- or memory ran out.
-abbrev pub AnswersWith : {R : Type 0} → (R → Option (List ℕ)) → Reading → (before after : Device R)
+abbrev pub AnswersWith : {R : Type 0} → (R → Option (List ℕ)) → RecordsReading → (before after : Device R)
     → List ℕ → ℕ → Type 0
 AnswersWith remaining (Ok both) before after bytes reads =
     IsReadWhole remaining before after bytes both.1 × HasEntries both.1 both.0
@@ -23,12 +23,12 @@ AnswersWith remaining (Err (faults.Registry fault)) before after bytes reads =
 AnswersWith remaining (Err faults.OutOfMemory) before after bytes reads = Unit {0}
 
 -- the answer is the fault that a read failed
-abbrev pub IsFailure : Reading → Type 0
+abbrev pub IsFailure : RecordsReading → Type 0
 IsFailure (Ok both) = ⊥
 IsFailure (Err (faults.Registry fault)) = IsReadFailure (Err fault)
 IsFailure (Err faults.OutOfMemory) = ⊥
 
 -- a registry was read with its records from a device, with this answer
-unfoldable pub ReadsRecords : {R : Type 0} → (R → Option (List ℕ)) → (before after : Device R) → Reading → Type 0
+unfoldable pub ReadsRecords : {R : Type 0} → (R → Option (List ℕ)) → (before after : Device R) → RecordsReading → Type 0
 ReadsRecords remaining before after result =
     Reads remaining before after (AnswersWith remaining result) (IsFailure result)

@@ -2,7 +2,7 @@
 ghost use Rattle.std.specs.Prelude.{◌≡◌, ◌++◌, OnOk};
 ghost use Rattle.std.specs.Fmt.{decimal};
 ghost use Rattle.lt_json_text.specs.Values.{array};
-ghost use Rattle.lt_show.specs.Fields.{fields_listed, shown};
+ghost use Rattle.lt_show.specs.Fields.{fields_listed, shown_fields};
 ghost use Rattle.lt_show.specs.Json.{field_value, listing_name, record_value, row_end, row_front, row_value, rows_value};
 
 use crate::fields::{fields_of, is_shown};
@@ -32,7 +32,7 @@ fn append_field(objects: &mut Vec<u8>, field: &JarField) -> Result<(), AllocErro
 /// Appends the array of those fields of a record that are shown.
 #[tactic(auto, using(lt_json_text::proofs::ValueLemmas::commaed_more))]
 fn append_fields(objects: &mut Vec<u8>, fields: &[JarField]) -> Result<(), AllocError>
-    ensures { OnOk result (objects.new.items ≡ objects.old.items ++ array field_value (shown fields.now)) }
+    ensures { OnOk result (objects.new.items ≡ objects.old.items ++ array field_value (shown_fields fields.now)) }
 {
     objects.push(b'[')?;
     let mut count = 0;

@@ -2,7 +2,7 @@
 ghost use Rattle.std.specs.Prelude.{◌≡◌, ◌++◌, OnOk, map, replicate};
 ghost use Rattle.lt_show.specs.Tables as spec;
 ghost use Rattle.lt_show.specs.Tables.{field_line, fields_text, padded, row_line, row_text, rows_text, table_of};
-ghost use Rattle.lt_show.specs.Fields.{shown};
+ghost use Rattle.lt_show.specs.Fields.{shown_fields};
 
 use crate::fields::{fields_of, is_shown};
 use crate::listings::Listing;
@@ -72,7 +72,7 @@ fn append_field(told: &mut Vec<u8>, field: &JarField) -> Result<(), OutOfMemory>
 
 /// Appends a line for each field of a record that is shown.
 fn append_fields(told: &mut Vec<u8>, fields: &[JarField]) -> Result<(), OutOfMemory>
-    ensures { OnOk result (told.new.items ≡ told.old.items ++ fields_text (shown fields.now)) }
+    ensures { OnOk result (told.new.items ≡ told.old.items ++ fields_text (shown_fields fields.now)) }
 {
     for field in fields {
         if is_shown(field.name()) {

@@ -1,8 +1,9 @@
 -- What a person is advised to do about a fault that refused a text.
 use Rattle.std.specs.Prelude.{ℕ, ◌+◌, ◌==◌, ◌||◌, ◌++◌, Bool, List, [], ◌∷◌, Option, Some, None, if◌then◌else◌, bytes_eq, codes, drop, find, length, map, nat_eq, nat_lt, option_map}
 use Rattle.std.specs.Char.{to_ascii_lowercase}
-use Rattle.std.specs.List.{before_first, ends_with}
+use Rattle.std.specs.List.{ends_with}
 use Rattle.std.specs.Option.{option_or}
+use Rattle.lt_codes.specs.Codes.{first_subtag}
 use Rattle.lt_terminal.specs.Codes.{two_letters}
 use Rattle.lt_terminal.specs.Meanings.{is_of, message_of}
 
@@ -11,10 +12,6 @@ use Rattle.lt_terminal.specs.Meanings.{is_of, message_of}
 unfoldable pub code_message : List ℕ → Option (List ℕ)
 code_message (a ∷ b ∷ c ∷ []) = find (λ message. is_of message (map to_ascii_lowercase (a ∷ b ∷ c ∷ []))) two_letters
 code_message _ = None
-
--- what is before a text's first hyphen (45)
-abbrev pub first_subtag : List ℕ → List ℕ
-first_subtag text = before_first (λ byte. byte == 45) text
 
 -- the advice for a language that looks like a name and not like a code
 abbrev pub name_message : List ℕ

@@ -1,5 +1,6 @@
 //! What to do about a fault that refused a text.
 ghost use Rattle.std.specs.Prelude.{◌≡◌, ◌++◌, OnOk, map, option_map};
+ghost use Rattle.lt_codes.specs.Codes.{first_subtag};
 ghost use Rattle.lt_terminal.specs.Advice as spec;
 ghost use Rattle.lt_terminal.specs.Codes.{two_letters};
 
@@ -41,7 +42,7 @@ fn code_message(code: &[u8]) -> Option<&'static str>
 /// What is before the first hyphen of a text, or all of it if it has none.
 #[tactic(auto, using(lt_lines::proofs::FaultLemmas::before_found, lt_lines::proofs::FaultLemmas::before_none))]
 fn first_subtag(text: &[u8]) -> &[u8]
-    ensures { result.now ≡ spec.first_subtag text.now }
+    ensures { result.now ≡ first_subtag text.now }
 {
     match first_hyphen(text) {
         Some(end) => &text[..end],

@@ -166,15 +166,15 @@ IsKeptRefusal kept_faults.OutOfMemory refusal = refusal ≡ registry_refusals.Ou
 
 -- what `show` prints once its registry file was read: its tags, by a registry that passes the check; or why that is
 -- refused
-abbrev pub ShowsBy : Tags → kept.Reading → (bytes : List ℕ) → Status → Type 0
+abbrev pub ShowsBy : Tags → kept.RecordsReading → (bytes : List ℕ) → Status → Type 0
 ShowsBy tags (Ok both) bytes end =
     (IsChecked both.0 × ShowsAll tags both.0 both.1 bytes end) ⊎ RefusesRegistry (Ok both.0) bytes end
 ShowsBy tags (Err (kept_faults.Registry fault)) bytes end = RefusesRegistry (Err fault) bytes end
 ShowsBy tags (Err kept_faults.OutOfMemory) bytes end = ⊥
 
 -- a file was read with its records, and `Holds` is true of what the reading gave
-pub record ReadsKept {F : Type 0} (file : Stream F) (Holds : kept.Reading → Type 0) : Type 0 where
-  pub reading : kept.Reading
+pub record ReadsKept {F : Type 0} (file : Stream F) (Holds : kept.RecordsReading → Type 0) : Type 0 where
+  pub reading : kept.RecordsReading
   pub reads : ReadsRecords file.bytes file.before file.after reading
   pub holds : Holds reading
 

@@ -50,7 +50,7 @@ fn write_by_registry<L: Lookup, I: Read, O: Write, E: Write>(
 }
 
 /// Prints a JSON object for each line of the input, by the registry of a file. If that is refused, it prints why and reads
-/// no line.
+/// no line: in the clause, `PrintsOrLacks` is that line, or that memory for it ran out.
 pub(crate) fn json<F: Read, I: Read, O: Write, E: Write>(
     alloc: Global,
     file: &mut Device<F>,

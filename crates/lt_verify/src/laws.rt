@@ -6,7 +6,8 @@ ghost use Rattle.lt_verify.specs.Laws.{ExplanationsAreRight, HaveOneVerdict, Num
 use lt_canon::laws::traces_have_one_end;
 use lt_registry::Lookup;
 
-/// Lines have one verdict. Nothing is computed here: the contract is the law.
+/// The same lines, judged as an explanation of the same tag, have no two verdicts, by any list of entries. Nothing is
+/// computed here: the contract is the law.
 #[tactic(auto, using(crate::proofs::JudgingLemmas::one_verdict))]
 pub fn lines_have_one_verdict()
     ensures { (R : List EntryParts) → HaveOneVerdict R }

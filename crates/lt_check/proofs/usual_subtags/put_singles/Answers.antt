@@ -3,6 +3,7 @@ use Rattle.std.proofs.Math.Seq.{drop-length}
 use Rattle.lt_registry.proofs.ListLemmas.{drop_turn}
 use Rattle.lt_check.proofs.usual_subtags.put_singles.Goals as goal
 
+-- At the index i the last i entries are marked. At the start none is, and a turn takes the entry before them.
 pub loop-index-init : goal.loop-index-init
 loop-index-init c =
     let all : length c.args.entries.now - 0 ≡ length c.args.entries.now = omega arith in rw (all, drop-length c.args.entries.now) c.requires.clear

@@ -2,7 +2,7 @@ use Rattle.std.proofs.Common.{◌≡◌, ◌-◌, ◌++◌, [], ◌∙◌, ℕ, 
 use Rattle.std.proofs.lemmas.List.{take_rest}
 use Rattle.std.proofs.lemmas.Result.{IfOk-weaker}
 use Rattle.lt_jar.specs.Lines.{content_of}
-use Rattle.lt_codes.specs.Codes.{replaced}
+use Rattle.lt_codes.specs.Codes.{registered_text}
 use Rattle.lt_canon.specs.Texts.{AppendsCanonicalText, IsTextRefusal}
 use Rattle.lt_lines.specs.Answering.{AppendsKept, EndsRefused}
 use Rattle.lt_lines.specs.Owed.{ground_of, row_line}
@@ -31,7 +31,7 @@ returns-in_ok-end_answered-in-None-clause-owed g c = λ recent.
     let made = rw c.in-None.is at (c.in_ok-append_field.ensures.owed recent) in
     found_answered c.args.separator G c.args.form line c.args.lines.now.items c.extend_from_slice.new.self.items c.append_field.new.lines.items c.end_answered.new.lines.items
     c.args.place c.requires.place c.requires.none c.if-form.false (front_is g at.After-append_field)
-    (subst (λ (t : List ℕ). AppendsCanonicalText G.entries (replaced G.codes t) c.extend_from_slice.new.self.items c.append_field.new.lines.items) (text_is g at.After-without_return-row) made)
+    (subst (λ (t : List ℕ). AppendsCanonicalText G.entries (registered_text G.codes t) c.extend_from_slice.new.self.items c.append_field.new.lines.items) (text_is g at.After-without_return-row) made)
     (c.in_ok-end_answered-in-None.ensures ∙ ap (λ (l : List ℕ). c.append_field.new.lines.items ++ row_line c.args.separator l [] line) (rest_is g at.After-without_return-row c.args.place.end))
 
 pub returns-in_ok-end_refused-in-Some-clause-owed : goal.returns-in_ok-end_refused-in-Some-clause-owed
@@ -43,7 +43,7 @@ returns-in_ok-end_refused-in-Some-clause-owed g c = λ recent.
     let made = rw c.in-Some.is at (c.in_ok-append_field.ensures.owed recent) in
     found_refused c.args.separator G c.args.form line c.args.lines.now.items c.extend_from_slice.new.self.items c.append_field.new.lines.items c.end_refused.new.lines.items
     c.args.place c.requires.place c.requires.none c.if-form.false (front_is g at.After-append_field) refusal
-    (subst (λ (t : List ℕ). IsTextRefusal G.entries (replaced G.codes t) refusal) (text_is g at.After-without_return-row) made.0) made.1
+    (subst (λ (t : List ℕ). IsTextRefusal G.entries (registered_text G.codes t) refusal) (text_is g at.After-without_return-row) made.0) made.1
     (subst (λ (l : List ℕ). EndsRefused c.args.separator refusal l line c.append_field.new.lines.items c.end_refused.new.lines.items) (rest_is g at.After-without_return-row c.args.place.start) c.in_ok-end_refused-in-Some.ensures)
 
 -- a row that is kept

@@ -1,4 +1,5 @@
--- The two fields are moved, and what is owned at the place goes with them.
+-- Handle::of_block meets its contract, shown of its code step by step, since no clause can speak of what is owned at a
+-- place: the two fields are moved, and what is owned there goes with them.
 use mathlib.Core.Path.{refl}
 use mathlib.Core.List.{List, [], ◌∷◌, ◌++◌}
 use mir.Val.{Val}

@@ -8,7 +8,8 @@ use Rattle.lt_upgrade.proofs.RangeCoverage.{last_holds, search_finds}
 use Rattle.lt_upgrade.proofs.widest_ranges.WidestRanges.contain.Goals as goal
 use Rattle.lt_upgrade.proofs.widest_ranges.WidestRanges.contain.Goals.{After-partition_point-count}
 
--- what the search finds
+-- Some range of the rows contains the one that is asked for exactly if the last row up to its first name does: the search
+-- finds that row, one before the partition point.
 held : (c : After-partition_point-count) (d : RangeRow) → list_any (contains c.args.first.now c.args.last.now) c.args.self.now ≡ last_holds c.args.last.now c.self.inside.rows.items c.partition_point-count.result d
 held c d =
     ap (list_any (contains c.args.first.now c.args.last.now)) (sym c.self.view_is)

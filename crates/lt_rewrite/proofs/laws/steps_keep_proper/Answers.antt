@@ -1,6 +1,6 @@
 use Rattle.lt_rewrite.proofs.CoreLaws.{steps_keep_proper, proper_spells_none}
 use Rattle.lt_rewrite.proofs.ProperTags.{steps_keep_tags_proper}
-use Rattle.lt_rewrite.proofs.laws.core_steps_stay_proper.Goals as goal
+use Rattle.lt_rewrite.proofs.laws.steps_keep_proper.Goals as goal
 
 pub returns : goal.returns
 returns c = record { proper = steps_keep_proper; tags = steps_keep_tags_proper; spelled = proper_spells_none }
