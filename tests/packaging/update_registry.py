@@ -223,9 +223,9 @@ class Update(unittest.TestCase):
         self.alone()
 
     def test_by_hand(self):
-        """The recipe of the manual and of the page on updates, with this server in the place of IANA's."""
+        """The recipe of README, of the manual and of the page on updates, with this server in the place of IANA's."""
         pages = {}
-        for page in ["docs/langtag.1", "docs/updates.md"]:
+        for page in ["README.md", "docs/langtag.1", "docs/updates.md"]:
             text = (ROOT / page).read_text(encoding="utf-8").replace("\\-", "-").replace("\\e", "\\")
             found = re.search(r"^ *curl -f.*\n(?: *(?:langtag|mv) .*\n)*", text, re.M)
             self.assertIsNotNone(found, page)
