@@ -18,7 +18,7 @@ use Rattle.lt_show.specs.declared.tables.Widths.{Widths}
 abbrev pub padded : ℕ → List ℕ → List ℕ
 padded width cell = cell ++ (replicate (width - length cell) 32 ++ 32 ∷ 32 ∷ [])
 
--- a byte of a field's body as it is shown: as a space (32) if it is a control character of ASCII
+-- a byte of a text as it is shown: as a space (32) if it is a control character of ASCII
 abbrev pub shown_byte : ℕ → ℕ
 shown_byte byte = if nat_lt byte 32 || (byte == 127) then 32 else byte
 

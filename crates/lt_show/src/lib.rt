@@ -14,4 +14,4 @@ pub use json::append_rows;
 pub use listings::{Listing, Subject};
 pub use reading::{RecordsFault, read_records};
 pub use rows::{Row, rows_of};
-pub use tables::append_table;
+pub use tables::{append_printable, append_table};

@@ -38,7 +38,7 @@ fn append_padded(told: &mut Vec<u8>, width: usize, cell: &[u8]) -> Result<(), Ou
     Ok(())
 }
 
-/// The byte that stands for one of a field's body: a space for a control character.
+/// The byte that stands for one of a text that is shown: a space for a control character of ASCII.
 fn shown_byte(byte: u8) -> u8
     ensures { result ≡ spec.shown_byte byte }
 {
@@ -49,11 +49,12 @@ fn shown_byte(byte: u8) -> u8
     }
 }
 
-/// Appends the body of a field, with a space for each control character.
-fn append_body(told: &mut Vec<u8>, body: &[u8]) -> Result<(), OutOfMemory>
-    ensures { OnOk result (told.new.items ≡ told.old.items ++ map spec.shown_byte body.now) }
+/// Appends a text with a space for each control character of ASCII, so that a line feed or an escape in it does nothing at a
+/// terminal. Refused where memory runs out; a part may then have been appended.
+pub fn append_printable(told: &mut Vec<u8>, text: &[u8]) -> Result<(), OutOfMemory>
+    ensures { OnOk result (told.new.items ≡ told.old.items ++ map spec.shown_byte text.now) }
 {
-    for byte in body {
+    for byte in text {
         told.push(shown_byte(*byte))?;
     }
     Ok(())
@@ -65,7 +66,7 @@ fn append_field(told: &mut Vec<u8>, field: &JarField) -> Result<(), OutOfMemory>
 {
     told.extend_from_slice(b"     ")?;
     append_padded(told, NAME, field.name().as_bytes())?;
-    append_body(told, field.body().as_bytes())?;
+    append_printable(told, field.body().as_bytes())?;
     told.push(b'\n')?;
     Ok(())
 }

@@ -1,7 +1,10 @@
 //! Rows, tables and objects by the file.
 use super::{table_of_file, tag_of};
 use lt_parts::PartKind;
-use lt_show::{Listing, Row, Subject, append_rows, append_table, fields_of, is_shown, rows_of};
+use lt_show::{
+    Listing, Row, Subject, append_printable, append_rows, append_table, fields_of, is_shown,
+    rows_of,
+};
 use std::test::Fail;
 
 #[test]
@@ -73,6 +76,14 @@ fn a_table_is_aligned(rt: HostRuntime) -> Result<(), Fail> {
      Macrolanguage    zh
 ";
     assert_eq!(rt; told.as_slice(), wanted.as_slice());
+    Ok(())
+}
+
+#[test]
+fn controls_are_spaces(rt: HostRuntime) -> Result<(), Fail> {
+    let mut told = Vec::new(rt.alloc());
+    append_printable(&mut told, b"en\t\x1b[1m\n\xc3\xa9\x7f")?;
+    assert_eq!(rt; told.as_slice(), b"en  [1m \xc3\xa9 ".as_slice());
     Ok(())
 }
 
