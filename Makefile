@@ -72,6 +72,7 @@ statement:
 # minutes, where valgrind counts.
 bench:
 	bench/run.sh build/langtag examples/iana-2025-05-15.txt $(REGISTRIES)
+	bench/rows.py build/langtag examples/iana-2025-05-15.txt
 
 # Measures the program on registries and lines that are made against it; it takes a quarter of an hour.
 hostile:

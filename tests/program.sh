@@ -104,7 +104,7 @@ de='record 2\n     Description      German\n     Suppress-Script  Latn\n'
 run show described de-t-zh-hk-m0-und-x-a
 is 'show: a source, and what no registry lists' 0 "de-t-zh-hk-m0-und-x-a\n1    Language             de   ${de}2    Singleton            t\n3    SourceLanguage       zh   ${zh}4    SourceRegion         hk   record 9\n     Description      Hong Kong\n5    Separator            m0\n6    Value                und\n7    PrivateUseSingleton  x\n8    PrivateUse           a\n= de-t-zh-hk-m0-und-x-a\n\n" ''
 run show described de-foobar en_US i-klingon
-is 'show: refused tags, and more' 1 "de-foobar\n1    Language  de      ${de}2    Variant   foobar  not registered\n! UnknownVariant 2\n\n! BadByte 1\n\n$klingon" ''
+is 'show: refused tags, and more' 1 "de-foobar\n1    Language  de      ${de}2    Variant   foobar  not registered\n! UnknownVariant 2\n\nen_US\n! BadByte 1\n\n$klingon" ''
 run show described ja-heploc-alalc97
 is 'show: a variant would repeat' 1 'ja-heploc-alalc97\n1    Language  ja       record 6\n     Description      Japanese\n2    Variant   heploc   record 10\n     Description      Hepburn romanization, Library of Congress method\n     Deprecated       2010-02-07\n     Preferred-Value  alalc97\n     Comments         Preferred tag is ja-Latn-alalc97\n3    Variant   alalc97  record 11\n     description      ALA-LC romanization, 1997 edition\n! ReplacementRepeats alalc97\n\n' ''
 cat described | "$program" show - i-klingon > out 2> err; is 'show: a registry that comes through a pipe' 0 "$klingon" ''
@@ -113,8 +113,8 @@ run show described; ended=$?; head -c 7 err > out; : > err; (exit "$ended"); is 
 : > out
 "$program" show described de > /dev/full 2> err; is 'show: full output' 4 '' '! Write\n'
 # as JSON
-run show --json described de-foobar en_US zh-yue
-is 'show --json' 1 '{"tag":"de-foobar","rows":[{"place":1,"kind":"Language","text":"de","listing":"Record","record":2,"fields":[{"name":"Description","body":"German"},{"name":"Suppress-Script","body":"Latn"}]},{"place":2,"kind":"Variant","text":"foobar","listing":"Unregistered","record":null,"fields":[]}],"canonical":null,"steps":[],"fault":"UnknownVariant 2"}\n{"tag":null,"rows":[],"canonical":null,"steps":[],"fault":"BadByte 1"}\n{"tag":"zh-yue","rows":[{"place":1,"kind":"Language","text":"zh","listing":"Record","record":3,"fields":[{"name":"Description","body":"Chinese"},{"name":"Scope","body":"macrolanguage"}]},{"place":2,"kind":"Extlang","text":"yue","listing":"Record","record":7,"fields":[{"name":"Description","body":"Yue Chinese"},{"name":"Description","body":"Cantonese"},{"name":"Preferred-Value","body":"yue"},{"name":"Macrolanguage","body":"zh"}]}],"canonical":"yue","steps":[{"kind":"Extlang","place":2,"record":7}],"fault":null}\n' ''
+run show --json described de-foobar en_US zh-YUE
+is 'show --json' 1 '{"input":"de-foobar","tag":"de-foobar","rows":[{"place":1,"kind":"Language","text":"de","listing":"Record","record":2,"fields":[{"name":"Description","body":"German"},{"name":"Suppress-Script","body":"Latn"}]},{"place":2,"kind":"Variant","text":"foobar","listing":"Unregistered","record":null,"fields":[]}],"canonical":null,"steps":[],"fault":"UnknownVariant 2"}\n{"input":"en_US","tag":null,"rows":[],"canonical":null,"steps":[],"fault":"BadByte 1"}\n{"input":"zh-YUE","tag":"zh-yue","rows":[{"place":1,"kind":"Language","text":"zh","listing":"Record","record":3,"fields":[{"name":"Description","body":"Chinese"},{"name":"Scope","body":"macrolanguage"}]},{"place":2,"kind":"Extlang","text":"yue","listing":"Record","record":7,"fields":[{"name":"Description","body":"Yue Chinese"},{"name":"Description","body":"Cantonese"},{"name":"Preferred-Value","body":"yue"},{"name":"Macrolanguage","body":"zh"}]}],"canonical":"yue","steps":[{"kind":"Extlang","place":2,"record":7}],"fault":null}\n' ''
 run show described de-x-a --json; python3 -c 'import json, sys; rows = json.load(sys.stdin)["rows"]; print([(r["listing"], r["record"], len(r["fields"])) for r in rows])' < out > read; mv read out
 is 'show --json: private use' 0 "[('Record', 2, 2), ('Unlisted', None, 0), ('Unlisted', None, 0)]\n" ''
 # what canonical tags leave alone
@@ -258,6 +258,7 @@ printf '\357\273\277"Title\n(German)",tag\nx,iw\n' > marked
 "$program" csv "$sample" 2 < marked > out 2> err; is 'csv: a mark before the heading' 0 '\357\273\277"Title\n(German)",tag,langtag_fault\nx,he,\n' ''
 dd bs=1 status=none < marked | "$program" csv "$sample" 2 > out 2> err; is 'csv: a mark, byte by byte' 0 '\357\273\277"Title\n(German)",tag,langtag_fault\nx,he,\n' ''
 printf '\357\273\277iw\tx\n' | "$program" tsv "$sample" 1 > out 2> err; is 'tsv: a mark before the first row' 0 '\357\273\277he\tx\t\n' ''
+printf '\357\273\277tag\tx\niw\t1\n' | "$program" tsv --heading "$sample" tag > out 2> err; is 'tsv --heading: a name after a mark' 0 '\357\273\277tag\tx\tlangtag_fault\nhe\t1\t\n' ''
 printf '\357\273' | "$program" tsv "$sample" 2 > out 2> err; is 'tsv: a part of a mark' 1 '\357\273\tNoColumn\n' ''
 for order in LE BE; do
     { test $order = LE && printf '\377\376' || printf '\376\377'; printf 'id,tag\n1,iw\n' | iconv -t UTF-16$order; } > wide

@@ -1,9 +1,9 @@
 -- What is answered at the end of the bytes, or where a row or a record is too long.
-use Rattle.std.proofs.Common.{Result, Ok, Err, OnOk, ◌≡◌, ◌≤◌, ◌<◌, ◌+◌, ◌++◌, ◌∷◌, ◌∙◌, ℕ, List, [], true, false, length, sym, ap, refl, arith, append_assoc, append-nil, length-append, ◌==◌, ◌-◌}
+use Rattle.std.proofs.Common.{Result, Ok, Err, OnOk, ◌≡◌, ◌≤◌, ◌<◌, ◌+◌, ◌++◌, ◌∷◌, ◌∙◌, ℕ, List, [], true, false, length, sym, ap, refl, arith, append_assoc, append-nil, inl, inr, length-append, ◌==◌, ◌-◌}
 use Rattle.std.proofs.lemmas.List.Sums.{count_by-le-length}
 use Rattle.lt_jar.specs.Lines.{IsOneLine}
 use Rattle.lt_lines.specs.Answering.{kept_of, place_then, IsAnswered, IsLongBy, IsTaken, IsWholeAfter, KeepsLine, line_of}
-use Rattle.lt_lines.specs.Owed.{Reply, Terms, ended, feeds_in, is_open, place_of, units_of, EndsInQuotes, EndsTooLong, IsBegun, IsOwedToLastFeed}
+use Rattle.lt_lines.specs.Owed.{AreLinesIn, Reply, Terms, ended, feeds_in, is_open, place_of, units_of, EndsInQuotes, EndsTooLong, IsBegun, IsOwedToLastFeed}
 use Rattle.lt_rows.specs.Quotes.{is_quoted}
 use Rattle.lt_lines.specs.Tallied.{AreTalliesOf, OwesAll, TalliesTooLong}
 use Rattle.lt_rows.specs.declared.quotes.Place.{Place}
@@ -12,7 +12,7 @@ use Rattle.lt_stream.specs.DeviceOutput.{IsFrontOf}
 use Rattle.lt_lines.specs.declared.answering.Answering.{Answering}
 use Rattle.lt_lines.specs.declared.forms.LineForm.TheVariants as forms
 use Rattle.lt_lines.proofs.FormLemmas.{ended-length, ended_first, feeds_in-append, of_none, place_of_ended, unit-append, units-ended, units-last}
-use Rattle.lt_lines.proofs.PartLemmas.{all_short, kept_long, kept_open, long_by, nothing_kept, short_kept}
+use Rattle.lt_lines.proofs.PartLemmas.{all_of_grammar, all_short, kept_long, kept_open, long_by, nothing_kept, short_kept}
 use Rattle.lt_lines.proofs.TakenLemmas.{replies-length}
 
 -- whether a quote is open at the end
@@ -24,10 +24,17 @@ units_taken : (T : Terms) (bytes out : List ℕ) (state : Answering) (t : IsTake
 units_taken T bytes out state t none =
     rw (t.cut, ended_first T.form t.lines t.last t.each_one, nothing_kept T.form state.kept.items t.last t.kept none, (of_none T.form).units, append-nil t.lines) refl
 
+-- the bytes are the lines that were taken, where nothing is kept
+lines_taken : (T : Terms) (bytes out : List ℕ) (state : Answering) (t : IsTaken T bytes out state) → state.kept.items ≡ [] → bytes ≡ ended t.lines
+lines_taken T bytes out state t none =
+    t.cut ∙ ap (λ (l : List ℕ). ended t.lines ++ l) (nothing_kept T.form state.kept.items t.last t.kept none) ∙ append-nil (ended t.lines)
+
 -- what was taken of other bytes answers these, if they have the same lines
-answered_by : (T : Terms) (bytes others out : List ℕ) (state : Answering) (t : IsTaken T others out state) → is_open T.form bytes ≡ false → units_of T.form bytes ≡ t.lines → IsAnswered T bytes out state
-answered_by T bytes others out state t closed all = record {
+answered_by : (T : Terms) (bytes others out : List ℕ) (state : Answering) (t : IsTaken T others out state) → is_open T.form bytes ≡ false → AreLinesIn bytes t.lines → units_of T.form bytes ≡ t.lines → IsAnswered T bytes out state
+answered_by T bytes others out state t closed are all = record {
   closed = closed;
+  lines_are = rw all are;
+  grammar = rw all (all_of_grammar T.form t.lines t.each_one);
   short = rw all (all_short T.form t.lines t.each_one);
   owed = t.owed;
   each = rw all t.each;
@@ -41,7 +48,7 @@ answered_by T bytes others out state t closed all = record {
 pub answered_none : (T : Terms) (bytes out : List ℕ) (state : Answering) → IsTaken T bytes out state → state.kept.items ≡ [] → IsAnswered T bytes out state
 answered_none T bytes out state t none =
     let last = nothing_kept T.form state.kept.items t.last t.kept none in
-    answered_by T bytes bytes out state t (ap is_quoted (taken_open T bytes out state t ∙ ap (place_of T.form) last ∙ (of_none T.form).closed)) (units_taken T bytes out state t none)
+    answered_by T bytes bytes out state t (ap is_quoted (taken_open T bytes out state t ∙ ap (place_of T.form) last ∙ (of_none T.form).closed)) (inl (lines_taken T bytes out state t none)) (units_taken T bytes out state t none)
 
 -- a line feed after a last line ends no further line
 last_ended : (T : Terms) (bytes out : List ℕ) (state : Answering) → IsTaken T bytes out state → (state.kept.items ≡ [] → ⊥) → is_quoted state.place ≡ false
@@ -65,7 +72,7 @@ pub last_answered : {E : Type 0} (T : Terms) (old new : Answering) (r : Result (
     → OnOk r ((bytes out : List ℕ) → IsTaken T bytes out old → IsAnswered T bytes out new)
 last_answered T old new (Ok _) some closed taken none =
     λ bytes out t. let after = taken bytes out (record { one = λ k d lt. absurd (omega (arith, lt)); closed = nothing_after T.form old.place closed; short = short_kept T.form old.kept.items t.last t.kept (t.short closed) }) t in
-    answered_by T bytes (bytes ++ 10 ∷ []) out new after (ap is_quoted (taken_open T bytes out old t ∙ sym t.goes_on) ∙ closed) (sym (last_ended T bytes out old t some closed) ∙ units_taken T (bytes ++ 10 ∷ []) out new after none)
+    answered_by T bytes (bytes ++ 10 ∷ []) out new after (ap is_quoted (taken_open T bytes out old t ∙ sym t.goes_on) ∙ closed) (inr (lines_taken T (bytes ++ 10 ∷ []) out new after none)) (sym (last_ended T bytes out old t some closed) ∙ units_taken T (bytes ++ 10 ∷ []) out new after none)
 last_answered T old new (Err _) some closed taken none = tt
 
 -- all that is owed was written
@@ -74,6 +81,8 @@ pub owed_all : (T : Terms) (bytes out part : List ℕ) (state new : Answering) �
 owed_all T bytes out part state new a same wrote none = record {
   all = record {
     closed = a.closed;
+    lines_are = a.lines_are;
+    grammar = a.grammar;
     short = a.short;
     owed = a.owed;
     each = a.each;

@@ -2,7 +2,8 @@
 use Rattle.std.proofs.Common.{◌≡◌, ◌++◌, ◌∷◌, ◌∙◌, ℕ, List, [], true, false, length, sym, ap, subst, arith, append-nil, length-append, inl, inr}
 use Rattle.std.specs.List.{AllByRecursion}
 use Rattle.lt_lines.specs.Answering.{kept_of, IsLongBy, longest_kept, part_kept}
-use Rattle.lt_lines.specs.Owed.{IsWhole, is_open, IsShort}
+use Rattle.lt_lines.specs.Owed.{IsOfGrammar, IsWhole, is_open, IsShort}
+use Rattle.lt_rows.proofs.GrammarLemmas.{closed_is_record}
 use Rattle.lt_stream.specs.Running.{longest_row}
 use Rattle.lt_lines.specs.declared.forms.LineForm.{LineForm}
 use Rattle.lt_stream.proofs.PartLemmas.{kept_front, nothing_kept as none_kept}
@@ -58,6 +59,16 @@ long_by (forms.Csv row delimiter) kept last part is long short = omega (arith, l
 pub kept_long : (form : LineForm) (kept last : List ℕ) (count : ℕ) → kept ≡ kept_of form last → IsLongBy form (length kept) count → kept ≡ last
 kept_long forms.Tag kept last count is long = absurd long
 kept_long form kept last count is long = is
+
+-- lines that are ended are those of the grammar
+of_grammar : (form : LineForm) (line : List ℕ) → IsWhole form line → IsOfGrammar form line
+of_grammar forms.Tag line w = tt
+of_grammar (forms.Row row) line w = tt
+of_grammar (forms.Csv row delimiter) line w = λ unquoted fed. closed_is_record delimiter unquoted line (record { free = w.unit; closed = w.closed })
+
+pub all_of_grammar : (form : LineForm) (lines : List (List ℕ)) → AllByRecursion (IsWhole form) lines → AllByRecursion (IsOfGrammar form) lines
+all_of_grammar form [] h = tt
+all_of_grammar form (line ∷ lines) h = (of_grammar form line h.0, all_of_grammar form lines h.1)
 
 -- lines that are ended are short
 pub all_short : (form : LineForm) (lines : List (List ℕ)) → AllByRecursion (IsWhole form) lines → AllByRecursion (IsShort form) lines

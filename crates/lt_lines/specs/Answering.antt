@@ -13,7 +13,7 @@ use Rattle.lt_lines.specs.Refusals.{IsTold}
 use Rattle.lt_rows.specs.Quotes.{is_quoted, place_at}
 use Rattle.lt_rows.specs.declared.quotes.Place.{Place}
 use Rattle.lt_rows.specs.declared.quotes.Place.TheVariants as places
-use Rattle.lt_lines.specs.Owed.{AreReplies, Ground, IsBegun, IsHeadingReply, IsReplyAmong, IsReplyTo, IsRowReply, IsShort, IsTextReply, IsUnit, IsWhole, Reply, Terms, bytes_in, ended, feeds_in, is_open, long_fault, place_of, refused_in, reply, row_line, units_of, with_canonical}
+use Rattle.lt_lines.specs.Owed.{AreLinesIn, AreReplies, Ground, IsBegun, IsHeadingReply, IsOfGrammar, IsReplyAmong, IsReplyTo, IsRowReply, IsShort, IsTextReply, IsUnit, IsWhole, Reply, Terms, bytes_in, ended, feeds_in, is_open, long_fault, place_of, refused_in, reply, row_line, units_of, with_canonical}
 use Rattle.lt_stream.specs.Running.{longest_row}
 use Rattle.lt_stream.specs.DeviceOutput.{IsFrontOf}
 use Rattle.lt_stream.specs.Lined.{full}
@@ -180,6 +180,8 @@ pub record IsTaken (T : Terms) (bytes written : List ℕ) (state : Answering) : 
 -- these bytes were read to their end: each of their lines is answered, and each answer is written or waits to be
 pub record IsAnswered (T : Terms) (bytes written : List ℕ) (state : Answering) : Type 0 where
   pub closed : is_open T.form bytes ≡ false
+  pub lines_are : AreLinesIn bytes (units_of T.form bytes)
+  pub grammar : AllByRecursion (IsOfGrammar T.form) (units_of T.form bytes)
   pub short : AllByRecursion (IsShort T.form) (units_of T.form bytes)
   pub owed : List Reply
   pub each : AreReplies T (units_of T.form bytes) owed

@@ -1,6 +1,6 @@
 -- What is owed for a text: which answer to each of its lines a run has to write, be they tags, rows of TSV or records
 -- of CSV.
-use Rattle.std.specs.Prelude.{◌≡◌, ◌≤◌, ◌⊎◌, ◌+◌, ◌==◌, ◌&&◌, ℕ, Bool, true, false, List, [], ◌∷◌, ◌++◌, if◌then◌else◌, length, codes, Option, Some, None}
+use Rattle.std.specs.Prelude.{◌≡◌, ◌≢◌, ◌≤◌, ◌⊎◌, ◌+◌, ◌==◌, ◌&&◌, ℕ, Bool, true, false, List, [], ◌∷◌, ◌++◌, if◌then◌else◌, length, codes, Option, Some, None}
 use Rattle.std.specs.Borrow.{Bor}
 use Rattle.std.specs.List.{AllByRecursion, count_by}
 use Rattle.std.specs.Io.BufRead.{ends_with_byte}
@@ -15,6 +15,7 @@ use Rattle.lt_rows.specs.Quotes.{IsFreeOutside, is_quoted, place_at, records_fro
 use Rattle.lt_rows.specs.declared.quotes.Place.{Place}
 use Rattle.lt_rows.specs.declared.quotes.Place.TheVariants as places
 use Rattle.lt_rows.specs.Marks.{Begins, IsWide, SplitsMark}
+use Rattle.lt_rows.specs.Records.{IsCsvRecord}
 use Rattle.lt_rows.specs.Rows.{HasFewer, HasField, HasReturn, IsTextIn, separator}
 use Rattle.lt_lines.specs.declared.bases.Basis.{Basis}
 use Rattle.lt_lines.specs.declared.forms.LineForm.{LineForm}
@@ -268,6 +269,17 @@ abbrev pub ended : List (List ℕ) → List ℕ
 ended [] = []
 ended (line ∷ lines) = line ++ 10 ∷ ended lines
 
+-- the text is these lines, each ended by a line feed (10), which the last may lack
+abbrev pub AreLinesIn : (text : List ℕ) → List (List ℕ) → Type 0
+AreLinesIn text lines = (text ≡ ended lines) ⊎ (text ++ 10 ∷ [] ≡ ended lines)
+
+-- a line of this form is one of the grammar: in CSV a record in the words of RFC 4180 (2), unless the delimiter is a quote
+-- (34) or a line feed; in other forms each line is
+abbrev pub IsOfGrammar : LineForm → List ℕ → Type 0
+IsOfGrammar forms.Tag line = Unit {0}
+IsOfGrammar (forms.Row row) line = Unit {0}
+IsOfGrammar (forms.Csv row delimiter) line = delimiter ≢ 34 → delimiter ≢ 10 → IsCsvRecord delimiter line
+
 -- how many line feeds (10) there are
 abbrev pub feeds_in : List ℕ → ℕ
 feeds_in text = count_by (λ byte. byte == 10) text
@@ -275,6 +287,8 @@ feeds_in text = count_by (λ byte. byte == 10) text
 -- all that is owed for the bytes was written and counted, and the bytes end outside of quotes
 pub record IsOwed (T : Terms) (bytes written : List ℕ) (counts : Counts) : Type 0 where
   pub closed : is_open T.form bytes ≡ false
+  pub lines_are : AreLinesIn bytes (units_of T.form bytes)
+  pub grammar : AllByRecursion (IsOfGrammar T.form) (units_of T.form bytes)
   pub short : AllByRecursion (IsShort T.form) (units_of T.form bytes)
   pub owed : List Reply
   pub each : AreReplies T (units_of T.form bytes) owed

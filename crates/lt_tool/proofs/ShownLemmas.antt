@@ -112,17 +112,17 @@ members_refused R tag refusal told shown old new is is_told same grown = record 
   grown = grown ∙ ap (λ (t : List ℕ). old ++ ends_of (refused_members t)) same;
 }
 
-pub object_told : (R : List EntryParts) (records : List (List Field)) (text old one new : List ℕ) (tag : TagForm) (refused : Bool) → HasTag text tag → one ≡ old ++ rows_front R records tag → AppendsMembers R tag one new refused
+pub object_told : (R : List EntryParts) (records : List (List Field)) (text old one new : List ℕ) (tag : TagForm) (refused : Bool) → HasTag text tag → one ≡ old ++ rows_front R records text tag → AppendsMembers R tag one new refused
     → AppendsShown true R records text old new refused
 object_told R records text old one new tag refused read first a = record {
-  block = rows_front R records tag ++ a.ending;
+  block = rows_front R records text tag ++ a.ending;
   shows = inl (record { tag = tag; read = read; ending = a.ending; ends = a.ends; block_is = refl });
-  grown = after_that old one new (rows_front R records tag) a.ending first a.grown;
+  grown = after_that old one new (rows_front R records text tag) a.ending first a.grown;
 }
 
-pub object_refused : (R : List EntryParts) (records : List (List Field)) (text old new : List ℕ) (fault : TagFault) → HasFault text fault.kind fault.place → AppendsNoTag (refusals.NotATag fault) old new → AppendsShown true R records text old new true
+pub object_refused : (R : List EntryParts) (records : List (List Field)) (text old new : List ℕ) (fault : TagFault) → HasFault text fault.kind fault.place → AppendsNoTag text (refusals.NotATag fault) old new → AppendsShown true R records text old new true
 object_refused R records text old new fault is a = record {
-  block = no_rows ++ ends_of (refused_members a.told);
+  block = no_rows text ++ ends_of (refused_members a.told);
   shows = inr (record { fault = fault; is_fault = is; told = a.told; is_told = a.is_told; block_is = refl; refused_is = refl });
   grown = a.grown;
 }

@@ -18,7 +18,7 @@ use Rattle.lt_lines.specs.Owed.{RefusesText}
 use Rattle.lt_lines.specs.Refusals.{IsRefusalLine, IsTold}
 use Rattle.lt_show.specs.Reading as kept
 use Rattle.lt_show.specs.Reading.{ReadsRecords}
-use Rattle.lt_show.specs.Tables.{table_of}
+use Rattle.lt_show.specs.Tables.{shown_byte, table_of}
 use Rattle.lt_show.specs.declared.reading.RecordsFault.{RecordsFault}
 use Rattle.lt_show.specs.declared.reading.RecordsFault.TheVariants as kept_faults
 use Rattle.lt_words.specs.declared.commands.Tags.{Tags}
@@ -52,13 +52,13 @@ pub record ShowsTag (R : List EntryParts) (records : List (List Field)) (text bl
   pub ends : EndsShown R text ending refused
   pub block_is : block ≡ table_of R records tag ++ (ending ++ 10 ∷ [])
 
--- what is shown of a text that is no tag: the line that says why, and an empty line
+-- what is shown of a text that is no tag: the text, the line that says why, and an empty line
 pub record ShowsFault (text block : List ℕ) (refused : Bool) : Type 0 where
   pub fault : TagFault
   pub is_fault : HasFault text fault.kind fault.place
   pub line : List ℕ
   pub line_is : IsRefusalLine (refusals.NotATag fault) line
-  pub block_is : block ≡ line ++ 10 ∷ []
+  pub block_is : block ≡ map shown_byte text ++ 10 ∷ (line ++ 10 ∷ [])
   pub refused_is : refused ≡ true
 
 -- ---- as JSON
@@ -95,13 +95,13 @@ pub record ShowsObject (R : List EntryParts) (records : List (List Field)) (text
   pub read : HasTag text tag
   pub ending : List ℕ
   pub ends : EndsMembers R tag ending refused
-  pub block_is : block ≡ rows_front R records tag ++ ending
+  pub block_is : block ≡ rows_front R records text tag ++ ending
 
 -- the JSON object of a text that is no tag was appended
-pub record AppendsNoTag (refusal : TextRefusal) (old new : List ℕ) : Type 0 where
+pub record AppendsNoTag (text : List ℕ) (refusal : TextRefusal) (old new : List ℕ) : Type 0 where
   pub told : List ℕ
   pub is_told : IsTold refusal told
-  pub grown : new ≡ old ++ (no_rows ++ ends_of (refused_members told))
+  pub grown : new ≡ old ++ (no_rows text ++ ends_of (refused_members told))
 
 -- the JSON object of a text that is no tag: it has no rows, and names the fault
 pub record ShowsNoTag (text block : List ℕ) (refused : Bool) : Type 0 where
@@ -109,7 +109,7 @@ pub record ShowsNoTag (text block : List ℕ) (refused : Bool) : Type 0 where
   pub is_fault : HasFault text fault.kind fault.place
   pub told : List ℕ
   pub is_told : IsTold (refusals.NotATag fault) told
-  pub block_is : block ≡ no_rows ++ ends_of (refused_members told)
+  pub block_is : block ≡ no_rows text ++ ends_of (refused_members told)
   pub refused_is : refused ≡ true
 
 -- ---- all of them

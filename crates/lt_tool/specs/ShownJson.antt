@@ -36,12 +36,18 @@ refused_members told =
 abbrev pub ends_of : List Member → List ℕ
 ends_of members = after_commas member_text members ++ 125 ∷ 10 ∷ []
 
--- the beginning of a tag's object: the opening brace (123), the member `tag`, a comma (44), the member `rows`
-abbrev pub rows_front : List EntryParts → List (List Field) → TagForm → List ℕ
-rows_front R records tag =
-    123 ∷ member_text (member (codes "tag") (string (text_of tag)))
-    ++ 44 ∷ member_text (member (codes "rows") (rows_value R records tag))
+-- the beginning of an object: the opening brace (123), and the member `input`, the text as it was given
+abbrev pub input_front : (text : List ℕ) → List ℕ
+input_front text = 123 ∷ member_text (member (codes "input") (string text))
+
+-- the beginning of a tag's object: the text, and after commas (44) the members `tag` and `rows`
+abbrev pub rows_front : List EntryParts → List (List Field) → (text : List ℕ) → TagForm → List ℕ
+rows_front R records text tag =
+    input_front text ++ (44 ∷ member_text (member (codes "tag") (string (text_of tag)))
+    ++ 44 ∷ member_text (member (codes "rows") (rows_value R records tag)))
 
 -- the beginning of the object of a text that is no tag, where `tag` is null and `rows` empty
-abbrev pub no_rows : List ℕ
-no_rows = 123 ∷ member_text (member (codes "tag") null) ++ 44 ∷ member_text (member (codes "rows") (array string []))
+abbrev pub no_rows : (text : List ℕ) → List ℕ
+no_rows text =
+    input_front text ++ (44 ∷ member_text (member (codes "tag") null)
+    ++ 44 ∷ member_text (member (codes "rows") (array string [])))

@@ -12,7 +12,7 @@ use lt_canon::{Checked, TextRefusal, explanation_text};
 use lt_jar::{Device, Jar, Record};
 use lt_lines::append_refusal;
 use lt_registry::{Lookup, Registry};
-use lt_show::{RecordsFault, append_table, read_records};
+use lt_show::{RecordsFault, append_printable, append_table, read_records};
 use lt_tag::{OutOfMemory, TagFaultKind, read_tag};
 use lt_words::Tags;
 use std::alloc::Global;
@@ -40,7 +40,7 @@ fn append_ending<L: Lookup>(
 }
 
 /// Appends what `show` prints of a text for people: the table of its subtags, its explanation or the line of its refusal,
-/// and an empty line. Tells whether it is refused. A text that is no tag has the line of its refusal and an empty line alone.
+/// and an empty line. Tells whether it is refused. Of a text that is no tag it prints the text in place of the table.
 fn append_block<L: Lookup>(
     lines: &mut Vec<u8>,
     alloc: Global,
@@ -54,6 +54,8 @@ fn append_block<L: Lookup>(
         Ok(tag) => tag,
         Err(fault) if fault.kind == TagFaultKind::OutOfMemory => return Err(OutOfMemory),
         Err(fault) => {
+            append_printable(lines, text)?;
+            lines.push(b'\n')?;
             append_refusal(lines, &TextRefusal::NotATag(fault))?;
             lines.push(b'\n')?;
             return Ok(true);

@@ -3,7 +3,7 @@ ghost use Rattle.std.specs.Prelude.{◌≡◌, ◌++◌, IfOk, OnOk, true};
 ghost use Rattle.lt_json_text.specs.Values.{array};
 ghost use Rattle.lt_lines.specs.Refusals.{IsTold};
 ghost use Rattle.lt_tool.specs.Shown.{AppendsMembers, AppendsNoTag, AppendsShown};
-ghost use Rattle.lt_tool.specs.ShownJson.{ends_of, explained_members, refused_members, rows_front, step_value};
+ghost use Rattle.lt_tool.specs.ShownJson.{ends_of, explained_members, input_front, refused_members, rows_front, step_value};
 
 use lt_canon::{Checked, Refusal, TextRefusal, Trace, explain};
 use lt_jar::Record;
@@ -109,16 +109,27 @@ fn append_answer<L: Lookup>(
     }
 }
 
+/// Appends the beginning of an object, with the text as it was given.
+fn append_input(objects: &mut Vec<u8>, text: &[u8]) -> Result<(), OutOfMemory>
+    ensures { OnOk result (objects.new.items ≡ objects.old.items ++ input_front text.now) }
+{
+    append_first_name(objects, b"input")?;
+    append_string(objects, text)?;
+    Ok(())
+}
+
 /// Appends the object of a text that is no tag, with what its refusal tells.
 fn append_no_tag(
     objects: &mut Vec<u8>,
     alloc: Global,
+    text: &[u8],
     refusal: &TextRefusal,
 ) -> Result<(), OutOfMemory>
-    ensures { OnOk result (AppendsNoTag refusal.now objects.old.items objects.new.items) }
+    ensures { OnOk result (AppendsNoTag text.now refusal.now objects.old.items objects.new.items) }
 {
     let told = told_of(alloc, refusal)?;
-    append_first_name(objects, b"tag")?;
+    append_input(objects, text)?;
+    append_name(objects, b"tag")?;
     append_null(objects)?;
     append_name(objects, b"rows")?;
     objects.extend_from_slice(b"[]")?;
@@ -126,18 +137,21 @@ fn append_no_tag(
     Ok(())
 }
 
-/// Appends the members of a tag's object up to its rows: the tag in conventional case, and a row for each subtag.
+/// Appends the members of a tag's object up to its rows: the text as it was given, the tag in conventional case, and a row for
+/// each subtag.
 fn append_tag_rows<L: Lookup>(
     objects: &mut Vec<u8>,
     alloc: Global,
     checked: &Checked<L>,
     records: &[Record],
+    text: &[u8],
     tag: &Tag,
 ) -> Result<(), OutOfMemory>
-    ensures { OnOk result (objects.new.items ≡ objects.old.items ++ rows_front (L.listed checked.now) records.now tag.now) }
+    ensures { OnOk result (objects.new.items ≡ objects.old.items ++ rows_front (L.listed checked.now) records.now text.now tag.now) }
 {
     let spelled = write_tag(alloc, tag)?;
-    append_first_name(objects, b"tag")?;
+    append_input(objects, text)?;
+    append_name(objects, b"tag")?;
     append_string(objects, &spelled)?;
     append_name(objects, b"rows")?;
     append_rows(objects, alloc, checked.table(), records, tag)?;
@@ -158,10 +172,10 @@ pub(crate) fn append_object<L: Lookup>(
         Ok(tag) => tag,
         Err(fault) if fault.kind == TagFaultKind::OutOfMemory => return Err(OutOfMemory),
         Err(fault) => {
-            append_no_tag(objects, alloc, &TextRefusal::NotATag(fault))?;
+            append_no_tag(objects, alloc, text, &TextRefusal::NotATag(fault))?;
             return Ok(true);
         }
     };
-    append_tag_rows(objects, alloc, checked, records, &tag)?;
+    append_tag_rows(objects, alloc, checked, records, text, &tag)?;
     append_answer(objects, alloc, checked, &tag)
 }
