@@ -3,6 +3,7 @@
 from __future__ import annotations
 
 import re
+import urllib.parse
 from typing import Dict, List, Mapping, Optional, Tuple
 
 from . import RefusedTag, Registry, Row, Tag, __version__
@@ -13,6 +14,7 @@ _MOST_ROWS = 1000
 _MOST_STEPS = 200
 _LONGEST_BODY = 2000
 _LONGEST_TAG = 2048  # of a tag that is canonical
+_LONGEST_TEXT = 1024  # of a text that can be a tag
 PAGE_STYLE = STYLE + """
 :root {--mark: #ffdf80}
 @media screen and (prefers-color-scheme: dark) {:root {--mark: #6b4a00}}
@@ -24,6 +26,7 @@ input, textarea, button {background: var(--page); border: 1px solid var(--ink); 
 button {font-weight: bold}
 mark {background: var(--mark); border: 1px solid var(--ink); border-radius: .2rem; color: var(--ink); padding: 0 .15em .2em;
   -webkit-box-decoration-break: clone; box-decoration-break: clone}
+a {color: inherit}
 ol, ul {padding-left: 2rem}
 li {margin: .5rem 0}
 """
@@ -104,6 +107,13 @@ def _record(record: Record) -> str:
             bodies.setdefault(name, []).append(f"<dd>{escaped(body[:_LONGEST_BODY])}{more}</dd>")
     fields = "".join(f"<dt>{escaped(name[:LONGEST])}</dt>{''.join(them)}" for name, them in bodies.items())
     return f"record {record.number}, {record.kind} {shown(record.name)}" + (f"<dl>{fields}</dl>" if fields else "")
+
+
+def _linked(text: str, content: str) -> str:
+    """What is shown of a text as a link to the answer for it alone, if it isn't empty and no longer than a tag."""
+    if not 0 < len(text) <= _LONGEST_TEXT:
+        return content
+    return f'<a href="/?tag={urllib.parse.quote(text, safe="")}#answer">{content}</a>'
 
 
 def _lines(text: str) -> List[str]:
@@ -229,7 +239,8 @@ class Page:
                 before, after = shown(line, _LONGEST_TAG), shown(answers.canonical[line], _LONGEST_TAG)
             else:
                 before, after = _marked(line, answers.why[line]), _fault(answers.why[line])
-            return f'<tr><th scope="row" class="number">{place}</th><td class="text">{before}</td><td class="text">{after}</td></tr>'
+            return (f'<tr><th scope="row" class="number">{place}</th><td class="text">{_linked(line, before)}</td>'
+                    f'<td class="text">{after}</td></tr>')
 
         tables = Tables(rows, firsts, answers, "line", 4, _MOST_ROWS)
         return (_answer("The list") + tables.summary("What became of the lines") + tables.faults()

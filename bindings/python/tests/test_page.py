@@ -308,6 +308,8 @@ class Pages(unittest.TestCase):
             ["7", "\\tde", "BadByte at subtag 1"],
             ["8", "de-unothing follows", "Unfinished at subtag 3"], ["9", "ja-heploc-alalc97", "ReplacementRepeats of alalc97"]])
         self.assertEqual(seen.marks, ["nothing", "_", "\\t", "nothing follows"])
+        self.assertEqual([link.get("href") for table in seen.root.iter("table") for link in table.iter("a")], [
+            f"/?tag={text}#answer" for text in ("zh-yue", "YUE", "yue", "en_US", "zh-yue", "%09de", "de-u", "ja-heploc-alalc97")])
         self.assertEqual(next(seen.root.iter("textarea")).text, "\n" + tags.replace("\r", ""))
         self.assertEqual(next(seen.root.iter("input")).get("value"), "")
         for table in seen.root.iter("table"):
@@ -325,6 +327,7 @@ class Pages(unittest.TestCase):
         seen = Seen(self.sample.of({"tags": "de\n" * 1000 + "DE\n" * 500}))
         self.assertEqual(len(seen.tables["Each line with its canonical tag or its fault"]), 1001)
         self.assertIn("500 more are not shown.", seen.said)
+        self.assertEqual(len(list(Seen(self.sample.of({"tags": "a" * 1024 + "\n" + "a" * 1025})).root.iter("a"))), 1)
         self.assertEqual(seen.tables["Canonical tags that two or more texts became"][1:], [["de", "1,500", "de", "1,000"], ["DE", "500"]])
 
     def test_escapes(self):
