@@ -47,7 +47,8 @@ pub struct Registry {
     checked: Checked<SortedTable>,
 }
 
-// By hand: a caller that lets a registry go then owes this one call, and not a drop for each of its vectors.
+// By hand: the proof of a function that lets one go then has this one call to go through, and not the drop of each of its
+// vectors.
 impl Drop for Registry {
     fn drop(self) {
         let Registry { checked } = self;

@@ -15,7 +15,7 @@ use Rattle.bcp47_c.specs.declared.matching.Scheme.{Scheme}
 use Rattle.bcp47_c.specs.declared.outcomes.Outcome.{Outcome}
 use Rattle.bcp47_c.specs.declared.outcomes.Said.{Said}
 
--- a text matches by one range, and a tag by one list
+-- a range and a tag have one canonical form each: if they match by any forms, they match by these
 by_parts : (R : List EntryParts) → IsChecked R → (scheme : Scheme) (range : List ℕ) (parts : RangeParts) (tag : TagForm)
     (list : List (List ℕ)) → IsCanonicalRange R range parts → HasCanonicalList R tag list
     → MatchesTag R (matching scheme) range tag → MatchesBy (matching scheme) parts list
@@ -25,6 +25,7 @@ by_parts R C scheme range parts tag list p l m =
     (D.list tag m.list list m.canonical l) m.matches in
     subst (λ (x : RangeParts). MatchesBy (matching scheme) x list) (D.range range m.range parts m.is_range p) listed
 
+-- if the answer tells whether the two forms match, it tells whether the range matches the tag
 pub told_by_parts : (R : List EntryParts) → IsChecked R → (scheme : Scheme) (range text : List ℕ) (parts : RangeParts)
     (list : List (List ℕ)) (answer : Bool) → IsCanonicalRange R range parts
     → ReadsAs text (λ tag. HasCanonicalList R tag list) → IsTrue answer ↔ MatchesBy (matching scheme) parts list

@@ -1,4 +1,4 @@
--- The names of the statuses and faults of the C library, in the order of their numbers from 0.
+-- The names of the statuses 0 to 12 and of all faults of the C library, in the order of their numbers from 0.
 use Rattle.std.specs.Prelude.{ℕ, List, [], ◌∷◌, codes}
 
 -- the names of the statuses 0 to 12

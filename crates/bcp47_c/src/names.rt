@@ -7,7 +7,7 @@ ghost use Rattle.bcp47_c.specs.Numbers as number_of;
 
 use crate::numbers::step_kind;
 
-/// The greatest number of a status.
+/// The greatest number of a status that has its name here: `bindings/c/names.c` names the greater ones too.
 pub(crate) const LAST_STATUS: u8 = 12;
 
 /// The greatest number of a fault.

@@ -60,7 +60,7 @@ const IN_ORDER: [&str; 14] = [
     "zh-cmn",
 ];
 
-/// Whether the letter case of a text makes no other tag, and none of another hash.
+/// Whether a text and the same in capitals are read as equal tags, with equal hashes.
 fn is_one_in_capitals(alloc: Global, text: &str) -> Result<bool, Fail> {
     let tag = tag_of(alloc, text)?;
     let again = tag_of(alloc, text.to_ascii_uppercase(alloc)?.as_str())?;

@@ -47,7 +47,8 @@ pub struct ExplanationLines<'t, L: Lookup> {
     taken: usize,
 }
 
-// By hand: who lets it go then owes this one call, and not a drop for each of its vectors.
+// By hand: the proof of a function that lets one go then has this one call to go through, and not the drop of each of its
+// vectors.
 impl<L: Lookup> Drop for ExplanationLines<'_, L> {
     fn drop(self) {
         let ExplanationLines {

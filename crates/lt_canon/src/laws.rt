@@ -1,5 +1,5 @@
-//! The laws of canonical tags, for every registry that passes the check. Nothing is computed here: each contract is
-//! a law.
+//! The laws of canonical tags, for every registry that passes the check; the last three hold of every list of entries.
+//! Nothing is computed here: each contract is a law.
 ghost use Rattle.std.specs.Prelude.{List};
 ghost use Rattle.lt_registry.specs.Parts.{EntryParts};
 ghost use Rattle.lt_check.specs.Conditions.{IsChecked};

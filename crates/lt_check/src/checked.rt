@@ -22,7 +22,8 @@ pub struct Checked<L: Lookup> {
     usual: UsualSubtags,
 }
 
-// By hand: who lets a checked table go then owes this one call, and not a drop for each of its vectors.
+// By hand: the proof of a function that lets one go then has this one call to go through, and not the drop of each of its
+// vectors.
 impl<L: Lookup + Drop> Drop for Checked<L> {
     /// Drops the three parts.
     fn drop(self) {

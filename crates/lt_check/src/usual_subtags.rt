@@ -1,4 +1,4 @@
-//! A table of flags, one for each subtag that stays as it is.
+//! A table of flags, one for each place that a subtag can have, set where the subtag stays as it is.
 ghost use Rattle.std.specs.Prelude.{◌≡◌, ◌<◌, ◌++◌, ◌∷◌, [], ◌==◌, ◌↔◌, Bool, true, false, if◌then◌else◌, ℕ, List, All, IfOk, OnErr, IsTrue, IfSome, MatchOption, length, bytes_eq};
 ghost use Rattle.lt_subtag.specs.Shapes.{is_language};
 ghost use Rattle.lt_tag.specs.Lists.{list_of};

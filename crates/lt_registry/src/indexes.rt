@@ -20,7 +20,8 @@ pub(crate) struct Indexes {
     pub(crate) wholes: WholeIndex,
 }
 
-// By hand: who lets the indexes go then owes this one call, and not a drop for each of their vectors.
+// By hand: the proof of a function that lets them go then has this one call to go through, and not the drop of each of their
+// vectors.
 impl Drop for Indexes {
     fn drop(self) {
         let Indexes {

@@ -19,7 +19,8 @@ pub struct SortedTable {
     indexes: Indexes,
 }
 
-// By hand: who lets a table go then owes this one call, and not a drop for each of its vectors.
+// By hand: the proof of a function that lets one go then has this one call to go through, and not the drop of each of its
+// vectors.
 impl Drop for SortedTable {
     fn drop(self) {
         let SortedTable { registry, indexes } = self;

@@ -25,11 +25,9 @@ use Rattle.std.proofs.lemmas.Bool.{cases_eq}
 use Rattle.lt_registry.specs.declared.entries.Kind.TheVariants as kinds
 use Rattle.lt_rewrite.specs.declared.steps.StepKind.TheVariants as steps
 
--- What a step of a kind is on a core.
-
 -- What the spot of a core step determines: its kind, its place and their ranges; and what determines the spot.
 
--- a step of a kind of steps on a core, where it is a source
+-- the rank of a step on a core is 1 to 6, and 13 more where the core is the source of a `t` extension
 pub record OnSource (step : Step) : Type 0 where
   pub some : 0 < kind_rank step
   pub most : kind_rank step ≤ 6

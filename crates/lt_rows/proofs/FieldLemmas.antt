@@ -66,7 +66,7 @@ line_end d row (Some i) first line p = (
   p.2,
 )
 
--- by a front of a longer text
+-- the same where the row is the first `count` bytes of a text, and `quoted` tells whether it begins with a quote
 pub line_end_of : (d : ℕ) (text : List ℕ) (count : ℕ) (quoted : Bool) (end : Option ℕ) → count ≤ length text → IsTrue quoted ↔ ((0 < count) × (get_or text 0 0 ≡ 34)) → quoted ≡ false
     → IsFreeOf 10 (take count text) → IsPlaceOf d (take count text) end → EndsField (separators.Delimiter d) (take count text) end
 line_end_of d text count quoted end within tells is line p = line_end d (take count text) end (first count tells) line p

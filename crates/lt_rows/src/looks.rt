@@ -80,7 +80,7 @@ pub fn lacks_of(text: &[u8]) -> Lacks
 }
 
 /// Whether the first `count` bytes of a text are a record of CSV without line feeds and carriage returns. If `lacks` says
-/// that there are no carriage returns, they are not looked at.
+/// that there are no carriage returns, there are no line feeds either, and nothing is looked at.
 #[inline(always)]
 fn is_plain_line(separator: Separator, lacks: Lacks, text: &[u8], count: usize) -> bool
     requires count { count ≤ length text.now }

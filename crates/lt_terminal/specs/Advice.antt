@@ -22,13 +22,13 @@ abbrev pub language_advice : List ℕ → Option (List ℕ)
 language_advice subtag =
     option_or (code_message subtag) (if nat_lt 4 (length subtag) then Some name_message else None)
 
--- whether a text ends in UK, in any letter case, for which ISO 3166 has GB
+-- whether the last subtag of a text, after a hyphen, is UK in any letter case, for which ISO 3166 has GB
 abbrev pub ends_in_uk : List ℕ → Bool
 ends_in_uk text =
     ends_with nat_eq text (codes "-UK") || ends_with nat_eq text (codes "-uk")
     || ends_with nat_eq text (codes "-Uk") || ends_with nat_eq text (codes "-uK")
 
--- the advice for an unknown region: GB, where a text ends in UK
+-- the advice for an unknown region: GB, where a text ends in -UK
 abbrev pub region_advice : List ℕ → Option (List ℕ)
 region_advice text = if ends_in_uk text then Some (codes "UK: BCP 47 writes GB.") else None
 

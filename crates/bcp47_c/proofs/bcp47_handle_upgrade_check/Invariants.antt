@@ -1,4 +1,4 @@
--- The registries that are held.
+-- The call of `take` is given the older of the registries that the handles hold before the call, and the other one the newer.
 use Rattle.bcp47_c.proofs.bcp47_handle_upgrade_check.Given as goal
 
 abbrev pub ghost-take : goal.ghost-take

@@ -1,4 +1,4 @@
--- The registry that is held.
+-- The call of `into_block` is given the registry that the handle holds before the call.
 use Rattle.bcp47_c.proofs.handle.take.Given as goal
 
 abbrev pub ghost-into_block : goal.ghost-into_block
