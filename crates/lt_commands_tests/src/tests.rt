@@ -2,6 +2,8 @@
 mod coded;
 mod hostile;
 mod matched;
+mod objects;
 mod registries;
+mod shown;
 mod tags;
 mod upgrades;

@@ -97,7 +97,7 @@ fn words_that_ask_for_the_version(rt: HostRuntime) {
 }
 
 /// Words, and the file that their command names first.
-const FILES: [(&[&str], Option<&str>); 12] = [
+const FILES: [(&[&str], Option<&str>); 15] = [
     (&["classify", "en"], None),
     (&["check", "registry"], Some("registry")),
     (&["canon", "registry"], Some("registry")),
@@ -110,6 +110,9 @@ const FILES: [(&[&str], Option<&str>); 12] = [
     (&["explain", "registry", "en"], Some("registry")),
     (&["verify", "registry", "en"], Some("registry")),
     (&["upgrade", "registry", "newer"], Some("registry")),
+    (&["show", "registry", "en", "fr"], Some("registry")),
+    (&["show", "--json", "registry", "en"], Some("registry")),
+    (&["json", "registry"], Some("registry")),
 ];
 
 /// Whether the words name a command whose first file is this one.
@@ -137,6 +140,9 @@ fn commands_that_read_the_input(rt: HostRuntime) {
     assert!(rt; reads_input(&read(rt.alloc(), &["csv", "registry", "1"])));
     assert!(rt; reads_input(&read(rt.alloc(), &["match", "registry", "en"])));
     assert!(rt; reads_input(&read(rt.alloc(), &["verify", "registry", "en"])));
+    assert!(rt; reads_input(&read(rt.alloc(), &["json", "registry"])));
+    assert!(rt; !reads_input(&read(rt.alloc(), &["show", "registry", "en"])));
+    assert!(rt; !reads_input(&read(rt.alloc(), &["show", "--json", "registry", "en"])));
     assert!(rt; !reads_input(&read(rt.alloc(), &["check", "registry"])));
 }
 

@@ -212,7 +212,18 @@ pub fn prints_of_reader(
     shown: &str,
     status: u8,
 ) -> bool {
-    let Ok(command) = read(alloc, &[name, "registry"]) else {
+    leaves_input(alloc, &[name, "registry"], registry, shown, status)
+}
+
+/// Whether the command of these words prints this of the registry of a reader, ends so, and leaves the input alone.
+pub fn leaves_input(
+    alloc: Global,
+    words: &[&str],
+    registry: Pieces,
+    shown: &str,
+    status: u8,
+) -> bool {
+    let Ok(command) = read(alloc, words) else {
         return false;
     };
     let (mut output, mut errors) = (Vec::new(alloc), Vec::new(alloc));
@@ -250,6 +261,33 @@ fn names_read(alloc: Global, registry: &[u8], front: &[u8], call: u64) -> Result
         prints_of_reader(alloc, "check", reader(), &line, 4)
             && prints_of_reader(alloc, "canon", reader(), &line, 4),
     )
+}
+
+/// Whether the command of these words names the line that was being read where the reads after so many pieces of a
+/// registry fail.
+fn names_piece(
+    alloc: Global,
+    words: &[&str],
+    registry: &[u8],
+    pieces: usize,
+) -> Result<bool, AllocError> {
+    let front = registry
+        .get(..pieces.saturating_mul(PIECE))
+        .unwrap_or(registry);
+    let line = read_line(alloc, front)?;
+    let call = (pieces as u64).saturating_add(1);
+    let reader = Pieces::once(registry, PIECE).failing_at(call);
+    Ok(leaves_input(alloc, words, reader, &line, 4))
+}
+
+/// Whether the command of these words does so for each read of a registry.
+pub fn names_each_read(alloc: Global, words: &[&str], registry: &[u8]) -> Result<bool, AllocError> {
+    for pieces in 0..=registry.len().div_ceil(PIECE) {
+        if !names_piece(alloc, words, registry, pieces)? {
+            return Ok(false);
+        }
+    }
+    Ok(true)
 }
 
 #[test]

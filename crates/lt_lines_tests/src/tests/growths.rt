@@ -15,11 +15,11 @@ use std::io::Cursor;
 use std::test::Fail;
 
 /// Room for what a run writes, which then takes no memory for it.
-type Page = Cursor<[u8; 128]>;
+type Page = Cursor<[u8; 1024]>;
 
 /// Room with nothing written.
 fn empty_page() -> Page {
-    Cursor::new([0; 128])
+    Cursor::new([0; 1024])
 }
 
 /// What was written.
@@ -285,8 +285,54 @@ fn upgrades_are_judged(rt: HostRuntime) -> Result<(), Fail> {
     Ok(())
 }
 
+/// What `show` prints of `zh-yue` and of a text that is no tag.
+const SHOWN: &str = "zh-yue
+1    Language  zh   record 17
+2    Extlang   yue  record 23
+     Preferred-Value  yue
+Extlang 2 23 yue
+= yue
+
+! BadByte 1
+
+";
+
+#[test]
+fn tags_are_shown(rt: HostRuntime) -> Result<(), Fail> {
+    let words = ["show", "registry", "zh-yue", "en_US"];
+    assert!(rt; prints_of_sample(rt.alloc(), &words, SHOWN, 1)?);
+    Ok(())
+}
+
+/// What `show --json` prints of them.
+const SHOWN_OBJECTS: &str =
+    r#"{"tag":"zh-yue","rows":[{"place":1,"kind":"Language","text":"zh","listing":"Record","record":17,"fields":[]},{"place":2,"kind":"Extlang","text":"yue","listing":"Record","record":23,"fields":[{"name":"Preferred-Value","body":"yue"}]}],"canonical":"yue","steps":[{"kind":"Extlang","place":2,"record":23}],"fault":null}
+{"tag":null,"rows":[],"canonical":null,"steps":[],"fault":"BadByte 1"}
+"#;
+
+#[test]
+fn tags_are_shown_as_objects(rt: HostRuntime) -> Result<(), Fail> {
+    let words = ["show", "--json", "registry", "zh-yue", "en_US"];
+    assert!(rt; prints_of_sample(rt.alloc(), &words, SHOWN_OBJECTS, 1)?);
+    Ok(())
+}
+
+/// What `json` prints of the lines.
+const OBJECTS: &str =
+    r#"{"input":"zh-yue","bytes":null,"canonical":"yue","fault":null,"place":null,"variant":null,"class":"langtag","language":"zh","extlangs":["yue"],"script":null,"region":null,"variants":[],"extensions":[],"private":[]}
+{"input":"fr","bytes":null,"canonical":null,"fault":"UnknownLanguage","place":1,"variant":null,"class":"langtag","language":"fr","extlangs":[],"script":null,"region":null,"variants":[],"extensions":[],"private":[]}
+{"input":"","bytes":null,"canonical":null,"fault":"EmptySubtag","place":1,"variant":null,"class":null,"language":null,"extlangs":[],"script":null,"region":null,"variants":[],"extensions":[],"private":[]}
+{"input":"sgn-dd","bytes":null,"canonical":"gsg","fault":null,"place":null,"variant":null,"class":"langtag","language":"sgn","extlangs":[],"script":null,"region":"DD","variants":[],"extensions":[],"private":[]}
+"#;
+
+#[test]
+fn lines_are_objects(rt: HostRuntime) -> Result<(), Fail> {
+    assert!(rt; prints_of_sample(rt.alloc(), &["json", "registry"], OBJECTS, 1)?);
+    Ok(())
+}
+
 /// Words, and what the answer to them begins with as text.
-const WORDS: [(&[&str], &str); 15] = [
+const WORDS: [(&[&str], &str); 19] = [
     (&["classify", "en"], "Ok(Classify(\"en\"))"),
     (&["check", "registry"], "Ok(Check(\"registry\"))"),
     (
@@ -329,6 +375,19 @@ const WORDS: [(&[&str], &str); 15] = [
         &["upgrade", "older", "newer"],
         "Ok(Upgrade(\"older\", \"newer\"))",
     ),
+    (
+        &["verify", "registry", "en"],
+        "Ok(Verify(\"registry\", \"en\"))",
+    ),
+    (
+        &["show", "registry", "en", "de"],
+        "Ok(Show(\"registry\", Tags { texts: [\"en\", \"de\"], json: false }))",
+    ),
+    (
+        &["show", "registry", "en", "--json"],
+        "Ok(Show(\"registry\", Tags { texts: [\"en\"], json: true }))",
+    ),
+    (&["json", "registry"], "Ok(Json(\"registry\"))"),
     (&["upgrade", "older"], "Err(Usage(\"error: "),
     (&["--help"], "Err(Help(\"BCP 47 language tags"),
     (&["canon", "--help"], "Err(Help(\"Prints the canonical form"),

@@ -1,6 +1,8 @@
 //! What a run does where a growth of memory is refused.
+use super::looked_up::{has_found, look_up};
 use super::{checked_table, ranges_of, select};
 use lt_check::Checked;
+use lt_jar::Pieces;
 use lt_match::LanguageRange;
 use lt_registry::SortedTable;
 use lt_select::Scheme;
@@ -46,5 +48,25 @@ fn lines_are_selected(rt: HostRuntime) -> Result<(), Fail> {
         |(end, page)| { *end == Err(ToolFault::OutOfMemory) && OWED.starts_with(text_of(page)) },
     );
     assert!(rt; are_selected?);
+    Ok(())
+}
+
+#[test]
+fn a_line_is_looked_up(rt: HostRuntime) -> Result<(), Fail> {
+    let checked = checked_table(rt.alloc())?;
+    let ranges = ranges_of(rt.alloc(), &checked, &["fr", "zh-yue-Hans"])?;
+    let are_found = answers(
+        rt.alloc(),
+        &ranges,
+        || look_up(
+            rt.alloc(),
+            &checked,
+            &ranges,
+            Pieces::once(b"zh\nyue\r\nde\n", 4),
+        ),
+        |end| has_found(end, Some("yue\r")),
+        |end| matches!(end, Err(ToolFault::OutOfMemory)),
+    );
+    assert!(rt; are_found?);
     Ok(())
 }

@@ -6,7 +6,6 @@ use lt_match::LanguageRange;
 use lt_registry::SortedTable;
 use lt_select::look_up_line;
 use lt_stream::ToolFault;
-use lt_testing::answers;
 use std::alloc::Global;
 use std::test::Fail;
 
@@ -69,7 +68,7 @@ const ROWS: [(&[&str], &str, Option<&str>); 19] = [
 ];
 
 /// How a lookup over a reader ends.
-fn look_up(
+pub fn look_up(
     alloc: Global,
     checked: &Checked<SortedTable>,
     ranges: &[LanguageRange],
@@ -79,7 +78,7 @@ fn look_up(
 }
 
 /// Whether a lookup found this line, if any.
-fn has_found(end: &Result<Option<Vec<u8>>, ToolFault>, wanted: Option<&str>) -> bool {
+pub fn has_found(end: &Result<Option<Vec<u8>>, ToolFault>, wanted: Option<&str>) -> bool {
     match (end, wanted) {
         (Ok(Some(line)), Some(text)) => line.as_slice() == text.as_bytes(),
         (Ok(None), None) => true,
@@ -154,25 +153,5 @@ fn a_reader_without_end(rt: HostRuntime) -> Result<(), Fail> {
     let ranges = ranges_of(rt.alloc(), &checked, &["de"])?;
     let end = look_up(rt.alloc(), &checked, &ranges, Pieces::for_ever(b"x", 1));
     assert!(rt; matches!(end, Err(ToolFault::TooManyTurns)));
-    Ok(())
-}
-
-#[test]
-fn growths_that_are_refused(rt: HostRuntime) -> Result<(), Fail> {
-    let checked = checked_table(rt.alloc())?;
-    let ranges = ranges_of(rt.alloc(), &checked, &["fr", "zh-yue-Hans"])?;
-    let are_found = answers(
-        rt.alloc(),
-        &ranges,
-        || look_up(
-            rt.alloc(),
-            &checked,
-            &ranges,
-            Pieces::once(b"zh\nyue\r\nde\n", 4),
-        ),
-        |end| has_found(end, Some("yue\r")),
-        |end| matches!(end, Err(ToolFault::OutOfMemory)),
-    );
-    assert!(rt; are_found?);
     Ok(())
 }
