@@ -73,6 +73,7 @@ Whole 1 40 tlh
 2    Variant   foobar  not registered
 ! UnknownVariant 2
 
+en_US
 ! BadByte 1
 
 zh-Hans
@@ -107,8 +108,8 @@ ja-heploc-alalc97
 const OBJECTS: [(&[&str], &str, u8); 3] = [
     (
         &["show", "--json", "registry", "SGN-dd", "x-a"],
-        r#"{"tag":"sgn-DD","rows":[{"place":1,"kind":"Language","text":"sgn","listing":"Record","record":14,"fields":[]},{"place":2,"kind":"Region","text":"DD","listing":"Record","record":27,"fields":[{"name":"Preferred-Value","body":"DE"}]}],"canonical":"gsg","steps":[{"kind":"Region","place":2,"record":27},{"kind":"Whole","place":1,"record":44}],"fault":null}
-{"tag":"x-a","rows":[{"place":1,"kind":"PrivateUseSingleton","text":"x","listing":"Unlisted","record":null,"fields":[]},{"place":2,"kind":"PrivateUse","text":"a","listing":"Unlisted","record":null,"fields":[]}],"canonical":"x-a","steps":[],"fault":null}
+        r#"{"input":"SGN-dd","tag":"sgn-DD","rows":[{"place":1,"kind":"Language","text":"sgn","listing":"Record","record":14,"fields":[]},{"place":2,"kind":"Region","text":"DD","listing":"Record","record":27,"fields":[{"name":"Preferred-Value","body":"DE"}]}],"canonical":"gsg","steps":[{"kind":"Region","place":2,"record":27},{"kind":"Whole","place":1,"record":44}],"fault":null}
+{"input":"x-a","tag":"x-a","rows":[{"place":1,"kind":"PrivateUseSingleton","text":"x","listing":"Unlisted","record":null,"fields":[]},{"place":2,"kind":"PrivateUse","text":"a","listing":"Unlisted","record":null,"fields":[]}],"canonical":"x-a","steps":[],"fault":null}
 "#,
         0,
     ),
@@ -121,15 +122,15 @@ const OBJECTS: [(&[&str], &str, u8); 3] = [
             "zh-hans",
             "--json",
         ],
-        r#"{"tag":"de-foobar","rows":[{"place":1,"kind":"Language","text":"de","listing":"Record","record":2,"fields":[]},{"place":2,"kind":"Variant","text":"foobar","listing":"Unregistered","record":null,"fields":[]}],"canonical":null,"steps":[],"fault":"UnknownVariant 2"}
-{"tag":null,"rows":[],"canonical":null,"steps":[],"fault":"BadByte 1"}
-{"tag":"zh-Hans","rows":[{"place":1,"kind":"Whole","text":"zh-Hans","listing":"Record","record":47,"fields":[]},{"place":1,"kind":"Language","text":"zh","listing":"Record","record":17,"fields":[]},{"place":2,"kind":"Script","text":"Hans","listing":"Record","record":24,"fields":[]}],"canonical":"zh-Hans","steps":[],"fault":null}
+        r#"{"input":"de-foobar","tag":"de-foobar","rows":[{"place":1,"kind":"Language","text":"de","listing":"Record","record":2,"fields":[]},{"place":2,"kind":"Variant","text":"foobar","listing":"Unregistered","record":null,"fields":[]}],"canonical":null,"steps":[],"fault":"UnknownVariant 2"}
+{"input":"en_US","tag":null,"rows":[],"canonical":null,"steps":[],"fault":"BadByte 1"}
+{"input":"zh-hans","tag":"zh-Hans","rows":[{"place":1,"kind":"Whole","text":"zh-Hans","listing":"Record","record":47,"fields":[]},{"place":1,"kind":"Language","text":"zh","listing":"Record","record":17,"fields":[]},{"place":2,"kind":"Script","text":"Hans","listing":"Record","record":24,"fields":[]}],"canonical":"zh-Hans","steps":[],"fault":null}
 "#,
         1,
     ),
     (
         &["show", "--json", "registry", "ja-heploc-alalc97"],
-        r#"{"tag":"ja-heploc-alalc97","rows":[{"place":1,"kind":"Language","text":"ja","listing":"Record","record":10,"fields":[]},{"place":2,"kind":"Variant","text":"heploc","listing":"Record","record":37,"fields":[{"name":"Preferred-Value","body":"alalc97"}]},{"place":3,"kind":"Variant","text":"alalc97","listing":"Record","record":33,"fields":[]}],"canonical":null,"steps":[],"fault":"ReplacementRepeats alalc97"}
+        r#"{"input":"ja-heploc-alalc97","tag":"ja-heploc-alalc97","rows":[{"place":1,"kind":"Language","text":"ja","listing":"Record","record":10,"fields":[]},{"place":2,"kind":"Variant","text":"heploc","listing":"Record","record":37,"fields":[{"name":"Preferred-Value","body":"alalc97"}]},{"place":3,"kind":"Variant","text":"alalc97","listing":"Record","record":33,"fields":[]}],"canonical":null,"steps":[],"fault":"ReplacementRepeats alalc97"}
 "#,
         1,
     ),
@@ -172,7 +173,7 @@ const DESCRIBED: [(&[&str], &str); 2] = [
     ),
     (
         &["show", "--json", "registry", "he"],
-        r#"{"tag":"he","rows":[{"place":1,"kind":"Language","text":"he","listing":"Record","record":6,"fields":[{"name":"Description","body":"Modern Hebrew"}]}],"canonical":"he","steps":[],"fault":null}
+        r#"{"input":"he","tag":"he","rows":[{"place":1,"kind":"Language","text":"he","listing":"Record","record":6,"fields":[{"name":"Description","body":"Modern Hebrew"}]}],"canonical":"he","steps":[],"fault":null}
 "#,
     ),
 ];
@@ -197,7 +198,7 @@ const FORMS: [(&[&str], &str); 2] = [
     ),
     (
         &["show", "--json", "registry", "de"],
-        r#"{"tag":"de","rows":[{"place":1,"kind":"Language","text":"de","listing":"Record","record":2,"fields":[]}],"canonical":"de","steps":[],"fault":null}
+        r#"{"input":"de","tag":"de","rows":[{"place":1,"kind":"Language","text":"de","listing":"Record","record":2,"fields":[]}],"canonical":"de","steps":[],"fault":null}
 "#,
     ),
 ];
@@ -280,12 +281,12 @@ const WRITES: [(&[&str], u64, &str); 6] = [
     (
         &["show", "--json", "registry", "de"],
         2,
-        r#"{"tag":"de","row"#,
+        r#"{"input":"de","t"#,
     ),
     (
         &["show", "--json", "registry", "de"],
         3,
-        r#"{"tag":"de","rows":[{"place":1,""#,
+        r#"{"input":"de","tag":"de","rows":"#,
     ),
 ];
 

@@ -293,6 +293,7 @@ const SHOWN: &str = "zh-yue
 Extlang 2 23 yue
 = yue
 
+en_US
 ! BadByte 1
 
 ";
@@ -306,8 +307,8 @@ fn tags_are_shown(rt: HostRuntime) -> Result<(), Fail> {
 
 /// What `show --json` prints of them.
 const SHOWN_OBJECTS: &str =
-    r#"{"tag":"zh-yue","rows":[{"place":1,"kind":"Language","text":"zh","listing":"Record","record":17,"fields":[]},{"place":2,"kind":"Extlang","text":"yue","listing":"Record","record":23,"fields":[{"name":"Preferred-Value","body":"yue"}]}],"canonical":"yue","steps":[{"kind":"Extlang","place":2,"record":23}],"fault":null}
-{"tag":null,"rows":[],"canonical":null,"steps":[],"fault":"BadByte 1"}
+    r#"{"input":"zh-yue","tag":"zh-yue","rows":[{"place":1,"kind":"Language","text":"zh","listing":"Record","record":17,"fields":[]},{"place":2,"kind":"Extlang","text":"yue","listing":"Record","record":23,"fields":[{"name":"Preferred-Value","body":"yue"}]}],"canonical":"yue","steps":[{"kind":"Extlang","place":2,"record":23}],"fault":null}
+{"input":"en_US","tag":null,"rows":[],"canonical":null,"steps":[],"fault":"BadByte 1"}
 "#;
 
 #[test]
