@@ -5,7 +5,7 @@ use Rattle.lt_range.specs.Reading.{range_of}
 use Rattle.lt_accept.specs.Words.{is_blank}
 use Rattle.lt_accept.specs.Weights.{is_q, qvalue_of}
 use Rattle.lt_accept.specs.Elements.{ElementParts, is_basic}
-use Rattle.lt_accept.specs.Headers.{pieces}
+use Rattle.lt_accept.specs.Headers.{comma_pieces}
 
 -- OWS = *( SP / HTAB ) (RFC 9110, 5.6.3)
 abbrev pub IsWhiteSpace : List ℕ → Type 0
@@ -64,4 +64,4 @@ ArePieces (p ∷ ps) elements = (element : Option ElementParts) × (others : Lis
 
 -- #element => [ element ] *( OWS "," OWS [ element ] ) (RFC 9110, 5.6.1.2)
 abbrev pub IsAcceptLanguage : List ℕ → List ElementParts → Type 0
-IsAcceptLanguage text elements = ArePieces (pieces text) elements
+IsAcceptLanguage text elements = ArePieces (comma_pieces text) elements

@@ -16,7 +16,6 @@ use Rattle.lt_rows.specs.declared.quotes.Place.TheVariants as places
 use Rattle.lt_lines.specs.Owed.{AreLinesIn, AreReplies, Ground, IsBegun, IsHeadingReply, IsOfGrammar, IsReplyAmong, IsReplyTo, IsRowReply, IsShort, IsTextReply, IsUnit, IsWhole, Reply, Terms, bytes_in, ended, feeds_in, is_open, long_fault, place_of, refused_in, reply, row_line, units_of, with_canonical}
 use Rattle.lt_stream.specs.Running.{longest_row}
 use Rattle.lt_stream.specs.DeviceOutput.{IsFrontOf}
-use Rattle.lt_stream.specs.Lined.{full}
 use Rattle.lt_lines.specs.Tallied.{AreTalliesOf, OwesAll, TalliesInQuotes, TalliesTooLong}
 use Rattle.lt_cache.specs.declared.recent.Kept.{Kept}
 use Rattle.lt_cache.specs.Ends.{AreEnds}
