@@ -1,11 +1,13 @@
 -- The conditions in their order, and which of them a look at one record after another decides.
-use Rattle.std.proofs.Common.{◌≡◌, ℕ, zero, suc, ◌≤◌, ◌<◌, ◌+◌, eqb, true, List, Option, Some, None, Result, Ok, Err, IfOk, All, refl, sym, subst, arith, rules}
+use Rattle.std.proofs.Common.{◌≡◌, ℕ, zero, suc, ◌≤◌, ◌<◌, ◌+◌, eqb, true, List, Option, Some, None, Result, Ok, Err, IfOk, All, ap, inl, inr, refl, sym, subst, ◌∙◌, false, arith, rules}
 use Rattle.std.specs.Prelude.{slice_index_or}
 use Rattle.std.proofs.lemmas.Bool.{eqb-true, agree_below_at}
 use Rattle.std.proofs.lemmas.List.Elements.{All-contains}
 use Rattle.lt_registry.specs.Parts.{EntryParts}
+use Rattle.lt_registry.specs.Entries.{one_of}
+use Rattle.lt_registry.specs.declared.entries.Kind.TheVariants as kinds
 use Rattle.lt_check.specs.Conditions.{Meets, rank_of, Passes, IsAtFault, IsFinding}
-use Rattle.lt_check.specs.Checking.{is_by_record, next_of, IsLowestFault, IsVerdictBelow}
+use Rattle.lt_check.specs.Checking.{is_by_record, next_of, IsBare, IsLowestFault, IsVerdictBelow, MeetsByRecord}
 use Rattle.lt_check.specs.WholeChecks.{MeetsBelow}
 use Rattle.lt_check.specs.declared.conditions.Condition.{Condition}
 use Rattle.lt_check.specs.declared.conditions.Condition.TheVariants as conditions
@@ -74,3 +76,40 @@ not_by_record _ h a z b c d p e f = grind arith
 -- where the conditions so far are met, those below the next are
 pub lower_at : (R : List EntryParts) (i : ℕ) → i < 11 → MeetsBelow (rank_at i) R → MeetsBelow (rank_of (slice_index_or IN_ORDER i conditions.OwnName)) R
 lower_at R i n h other l = h other (omega (arith, ranked i n, l))
+
+-- a bare record meets each condition that a look at one record after another decides
+pub bare_meets : (R : List EntryParts) (e : EntryParts) → IsBare e → MeetsByRecord R e
+bare_meets R e b =
+    let none : one_of e.value ≡ None = ap one_of b.none in
+    record {
+      fitting_value = record {
+        registered_value = λ own v some. absurd (none_some (sym none ∙ some));
+        ending_chain = λ v some. absurd (none_some (sym none ∙ some));
+        fitting_extlang = λ kind. absurd (no_extlang kind);
+        fitting_variant_value = λ kind. absurd (no_variant kind);
+      };
+      fitting_prefixes = record { final_prefixes = λ kind. absurd (no_variant kind); langtag_prefixes = λ kind. absurd (no_variant kind) };
+      valid_whole = λ t u whole value. let single = b.single in cc;
+      no_range_value = λ first last range. b.none;
+    }
+  where
+    none_some : {A : Type 0} {x : A} → None ≡ Some x → ⊥
+    none_some h = cc
+
+    no_extlang : e.kind ≡ kinds.Extlang → ⊥
+    no_extlang kind = elim b.kind [ inl l ↦ cc (l, kind) | inr o ↦ elim o [ inl l ↦ cc (l, kind) | inr l ↦ cc (l, kind) ] ]
+
+    no_variant : e.kind ≡ kinds.Variant → ⊥
+    no_variant kind = elim b.kind [ inl l ↦ cc (l, kind) | inr o ↦ elim o [ inl l ↦ cc (l, kind) | inr l ↦ cc (l, kind) ] ]
+
+-- so does a record that meets them one by one
+pub meets_by_record : (R : List EntryParts) (e : EntryParts) → MeetsByRecord R e → (condition : Condition) → is_by_record condition ≡ true → Meets condition R e
+meets_by_record R e m conditions.RegisteredValue is = m.fitting_value.registered_value
+meets_by_record R e m conditions.EndingChain is = m.fitting_value.ending_chain
+meets_by_record R e m conditions.FittingExtlang is = m.fitting_value.fitting_extlang
+meets_by_record R e m conditions.FittingVariantValue is = m.fitting_value.fitting_variant_value
+meets_by_record R e m conditions.FinalPrefixes is = m.fitting_prefixes.final_prefixes
+meets_by_record R e m conditions.LangtagPrefixes is = m.fitting_prefixes.langtag_prefixes
+meets_by_record R e m conditions.ValidWhole is = m.valid_whole
+meets_by_record R e m conditions.NoRangeValue is = m.no_range_value
+meets_by_record R e m _ is = let bad : false ≡ true = is in cc

@@ -1,8 +1,8 @@
 -- Whether a record has its name alone: what a look-up of the name finds, and which ranges are before.
-use Rattle.std.proofs.Common.{◌≡◌, ◌↔◌, ◌⊎◌, inl, inr, ℕ, zero, suc, ◌+◌, ◌<◌, ◌≤◌, Bool, true, cond, ◌&&◌, List, [], ◌∷◌, length, Option, Some, None, refl, sym, ap, ◌∙◌, arith, IsTrue, Contains, Result, Ok, Err, IfOk, OnOk, find}
+use Rattle.std.proofs.Common.{◌≡◌, ◌↔◌, ◌⊎◌, inl, inr, ℕ, zero, suc, ◌+◌, ◌<◌, ◌≤◌, Bool, true, false, ◌==◌, if◌then◌else◌, cond, ◌&&◌, List, [], ◌∷◌, length, Option, Some, None, refl, sym, ap, ◌∙◌, subst, arith, IsTrue, Contains, Result, Ok, Err, IfOk, OnOk, find}
 use Rattle.std.specs.Prelude.{slice_index_or}
 use Rattle.std.specs.Bool.{Decides}
-use Rattle.std.proofs.lemmas.Bool.{cases_Bool}
+use Rattle.std.proofs.lemmas.Bool.{cases_Bool, eq-eqb}
 use Rattle.std.proofs.lemmas.Bool.Decides.{Decides-like}
 use Rattle.std.proofs.lemmas.List.{get_or_default}
 use Rattle.std.proofs.lemmas.List.Elements.{All-contains_itself, All-from_recursion}
@@ -18,7 +18,9 @@ use Rattle.lt_registry.specs.declared.entries.EntryName.{EntryName}
 use Rattle.lt_registry.specs.declared.entries.EntryName.TheVariants as names
 use Rattle.lt_rewrite.specs.Conditions.{Clash, HasOwnName}
 use Rattle.lt_rewrite.proofs.Entries.{find_has, same_kind_is, same_kind_itself}
-use Rattle.lt_check.specs.NameChecks.{kind_number, range_name, range_at, range_of, IsNew, SeesRange}
+use Rattle.lt_check.specs.Flags.{flag}
+use Rattle.lt_check.specs.Places.{place}
+use Rattle.lt_check.specs.NameChecks.{kind_number, range_name, range_at, range_of, AreMarked, IsMarked, IsNew, MarksMore, SeesRange, WasClear}
 use Rattle.lt_check.specs.declared.range_names.RangeName.{RangeName}
 use Rattle.lt_check.proofs.CheckedRegistry.{whole_name}
 use Rattle.lt_check.proofs.Deciding.{same_tag_itself}
@@ -94,6 +96,9 @@ module _ (R : List EntryParts) (seen : List RangeName) (e : EntryParts) where
   pub own_new : range_of e ≡ None → (found : Option EntryParts) → Finds found e ↔ HasOwnName R e → (b : Bool) → IsTrue b ↔ Finds found e → IsTrue b ↔ IsNew R seen e
   own_new o found g b h = rw o (Decides-like b g.0 g.1 h)
 
+  pub is_own_new : range_of e ≡ None → HasOwnName R e → (b : Bool) → b ≡ true → IsTrue b ↔ IsNew R seen e
+  is_own_new o own b is = rw o ((λ _. own), (λ _. is))
+
   pub range_new : {E : Type 0} (r : RangeName) → range_of e ≡ Some r → (a : Result Bool E) → IfOk a (λ new. IsTrue new ↔ (Contains seen r → ⊥)) → IfOk a (λ new. IsTrue new ↔ IsNew R seen e)
   range_new r n a h = rw n h
 
@@ -140,3 +145,41 @@ module _ (R : List EntryParts) (i : ℕ) (e : EntryParts) (a : IsAt R i e) where
       | inr m ↦ inr (let s : p.0 ≡ i = omega (arith, p.2, m) in let one = get_or_default R i e p.1 a.within in let x = p.3.there in let y = a.there in cc)
     ])),
   )
+
+-- ---- flags of the subtags that were seen
+
+pub flag_set : (words old : List ℕ) (place n : ℕ) → ((m : ℕ) → flag words m ≡ (if m == place then true else flag old m)) → n ≡ place → flag words n ≡ true
+flag_set words old place n put is = put n ∙ rw (eq-eqb n place is) refl
+
+pub flag_kept : (words old : List ℕ) (place n : ℕ) → ((m : ℕ) → flag words m ≡ (if m == place then true else flag old m)) → flag old n ≡ true → flag words n ≡ true
+flag_kept words old place n put set = put n ∙ either (n == place)
+  where
+    either : (b : Bool) → (if b then true else flag old n) ≡ true
+    either true = refl
+    either false = set
+
+-- a record whose flag was clear has its name alone
+pub clear_own : (R : List EntryParts) (e : EntryParts) (s words : List ℕ) → e.name ≡ names.Single s → AreMarked R e words → WasClear words e.kind s → HasOwnName R e
+clear_own R e s words single marked w f there low clash = elim clash [
+  | inl both ↦
+      let set = marked f there low s w.number (both.1 ∙ single) (ap (λ k. place k s) both.0 ∙ w.is_place) in
+      let bad : true ≡ false = sym set ∙ w.clear in cc
+  | inr tags ↦ let bad = sym single ∙ tags.2 in cc
+]
+
+-- the subtags of the records before a place are marked
+abbrev pub MarkedBefore : List EntryParts → ℕ → List ℕ → Type 0
+MarkedBefore R i words = (k : ℕ) (f : EntryParts) → k < i → IsAt R k f → IsMarked words f
+
+pub marked_at : (R : List EntryParts) → NumbersRise R → (i : ℕ) (e : EntryParts) (words : List ℕ) → IsAt R i e → MarkedBefore R i words → AreMarked R e words
+marked_at R rising i e words a before f there low =
+    let at : IsAt R there.0 f = record { within = there.1; there = there.2 } in
+    before there.0 f (lower_before R rising i there.0 e f a at low) at
+
+pub marked_next : (R : List EntryParts) (i : ℕ) (e : EntryParts) (old new : List ℕ) → IsAt R i e → MarkedBefore R i old → MarksMore e old new → MarkedBefore R (i + 1) new
+marked_next R i e old new a before more k f low at = elim (below_or_not k i) [
+  | inl l ↦ λ s n single is. more.kept n (before k f l at s n single is)
+  | inr m ↦
+      let same : i ≡ k = omega (arith, low, m) in
+      subst (IsMarked new) (sym a.there ∙ get_or_default R i e f a.within ∙ ap (λ j. slice_index_or R j f) same ∙ at.there) more.own
+]

@@ -1,9 +1,12 @@
 -- What the check of a registry computes as it walks over the records.
-use Rattle.std.specs.Prelude.{ℕ, ◌≡◌, ◌+◌, ◌≤◌, Bool, true, false, List, Option, Some, None, All}
+use Rattle.std.specs.Prelude.{ℕ, ◌≡◌, ◌+◌, ◌≤◌, ◌⊎◌, Bool, true, false, List, Option, Some, None, All}
 use Rattle.lt_registry.specs.Parts.{EntryParts}
+use Rattle.lt_registry.specs.declared.entries.EntryName.TheVariants as names
+use Rattle.lt_registry.specs.declared.entries.Kind.TheVariants as kinds
 use Rattle.lt_rewrite.specs.Shortcuts.{ShortcutParts, AreShortcuts}
 use Rattle.lt_check.specs.Flags.{AreFlags}
-use Rattle.lt_check.specs.Conditions.{Meets, rank_of, IsAtFault, Passes, IsFinding, IsChecked}
+use Rattle.lt_rewrite.specs.Conditions.{HasEndingChain, HasFinalPrefixes, HasFittingExtlang, HasFittingVariantValue, HasLangtagPrefixes, HasNoRangeValue, HasRegisteredValue}
+use Rattle.lt_check.specs.Conditions.{HasValidWhole, Meets, rank_of, IsAtFault, Passes, IsFinding, IsChecked}
 use Rattle.lt_check.specs.WholeChecks.{MeetsBelow}
 use Rattle.lt_check.specs.declared.conditions.Condition.{Condition}
 use Rattle.lt_check.specs.declared.conditions.Condition.TheVariants as conditions
@@ -28,6 +31,36 @@ is_by_record conditions.FittingGrandfathered = false
 is_by_record conditions.RestingWhole = false
 is_by_record conditions.AgreeingWhole = false
 is_by_record _ = true
+
+-- a record meets the conditions on the values of records that name subtags
+pub record HasFittingValue (R : List EntryParts) (e : EntryParts) : Type 0 where
+  pub registered_value : HasRegisteredValue R e
+  pub ending_chain : HasEndingChain R e
+  pub fitting_extlang : HasFittingExtlang R e
+  pub fitting_variant_value : HasFittingVariantValue R e
+
+-- a record meets the conditions on the Prefixes of variants
+pub record HasFittingPrefixes (R : List EntryParts) (e : EntryParts) : Type 0 where
+  pub final_prefixes : HasFinalPrefixes R e
+  pub langtag_prefixes : HasLangtagPrefixes R e
+
+-- a record meets each condition that a look at one record after another decides
+pub record MeetsByRecord (R : List EntryParts) (e : EntryParts) : Type 0 where
+  pub fitting_value : HasFittingValue R e
+  pub fitting_prefixes : HasFittingPrefixes R e
+  pub valid_whole : HasValidWhole R e
+  pub no_range_value : HasNoRangeValue e
+
+-- all records meet each such condition
+abbrev pub MeetByRecord : List EntryParts → Type 0
+MeetByRecord R = (condition : Condition) → is_by_record condition ≡ true → All (Meets condition R) R
+
+-- the record is of a language, a script or a region, of one subtag, and has no value
+pub record IsBare (e : EntryParts) : Type 0 where
+  pub kind : (e.kind ≡ kinds.Language) ⊎ ((e.kind ≡ kinds.Script) ⊎ (e.kind ≡ kinds.Region))
+  pub none : e.value ≡ None
+  pub subtag : List ℕ
+  pub single : e.name ≡ names.Single subtag
 
 -- each record meets each condition, or this is what the check finds
 abbrev pub IsVerdict : List EntryParts → Option Finding → Type 0

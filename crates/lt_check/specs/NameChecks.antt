@@ -1,11 +1,13 @@
 -- Which names of records are ranges, and whether a name is new, as the condition C1 asks.
-use Rattle.std.specs.Prelude.{ℕ, ◌≡◌, ◌↔◌, ◌⊎◌, List, Option, Some, None, Contains, MatchOption}
+use Rattle.std.specs.Prelude.{ℕ, ◌≡◌, ◌<◌, ◌↔◌, ◌⊎◌, true, false, List, Option, Some, None, Contains, MatchOption}
 use Rattle.lt_registry.specs.Parts.{EntryParts}
 use Rattle.lt_registry.specs.declared.entries.Kind.{Kind}
 use Rattle.lt_registry.specs.declared.entries.Kind.TheVariants as kinds
 use Rattle.lt_registry.specs.declared.entries.EntryName.{EntryName}
 use Rattle.lt_registry.specs.declared.entries.EntryName.TheVariants as names
 use Rattle.lt_rewrite.specs.Conditions.{HasOwnName}
+use Rattle.lt_check.specs.Flags.{flag}
+use Rattle.lt_check.specs.Places.{place}
 use Rattle.lt_check.specs.declared.range_names.RangeName.{RangeName}
 
 -- a number for each kind of record
@@ -41,3 +43,22 @@ abbrev pub SeesRange : EntryParts → List RangeName → List RangeName → Type
 SeesRange e old new =
     MatchOption (range_of e) (new ≡ old)
     (λ range. (name : RangeName) → Contains new name ↔ (Contains old name ⊎ (range ≡ name)))
+
+-- the subtag has a place, whose flag is clear
+pub record WasClear (words : List ℕ) (kind : Kind) (s : List ℕ) : Type 0 where
+  pub number : ℕ
+  pub is_place : place kind s ≡ Some number
+  pub clear : flag words number ≡ false
+
+-- the flag of the record's subtag is set, if that has a place
+abbrev pub IsMarked : List ℕ → EntryParts → Type 0
+IsMarked words e = (s : List ℕ) (n : ℕ) → e.name ≡ names.Single s → place e.kind s ≡ Some n → flag words n ≡ true
+
+-- the flags of the subtags of the records with lower numbers are set
+abbrev pub AreMarked : List EntryParts → EntryParts → List ℕ → Type 0
+AreMarked R e words = (f : EntryParts) → Contains R f → f.number < e.number → IsMarked words f
+
+-- no flag was cleared, and that of the record's subtag was set
+pub record MarksMore (e : EntryParts) (old new : List ℕ) : Type 0 where
+  pub kept : (n : ℕ) → flag old n ≡ true → flag new n ≡ true
+  pub own : IsMarked new e

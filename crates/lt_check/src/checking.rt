@@ -3,7 +3,7 @@ ghost use Rattle.std.specs.Prelude.{◌≡◌, ◌↔◌, true, IsTrue, IfOk};
 ghost use Rattle.lt_rewrite.specs.Shortcuts.{AreShortcuts};
 ghost use Rattle.lt_check.specs.Conditions.{Meets, rank_of};
 ghost use Rattle.lt_check.specs.WholeChecks.{MeetsBelow};
-ghost use Rattle.lt_check.specs.Checking.{is_by_record, next_of, IsLowestFault, IsVerdict, IsVerdictBelow};
+ghost use Rattle.lt_check.specs.Checking.{is_by_record, next_of, HasFittingPrefixes, HasFittingValue, IsBare, IsLowestFault, IsVerdict, IsVerdictBelow, MeetByRecord, MeetsByRecord};
 
 use crate::conditions::Condition;
 use crate::grandfathered_checks::{fits_grandfathered, validating_records};
@@ -14,7 +14,7 @@ use crate::record_checks::{
 };
 use crate::rejections::Finding;
 use crate::whole_checks::{has_valid_whole, judge_whole};
-use lt_registry::{Entry, Lookup};
+use lt_registry::{Entry, EntryName, Kind, Lookup};
 use lt_rewrite::Shortcuts;
 use lt_tag::OutOfMemory;
 use std::alloc::Global;
@@ -58,6 +58,58 @@ fn meets<L: Lookup>(
         Condition::NoRangeValue => has_no_range_value(entry),
         _ => unreachable!(),
     }
+}
+
+/// Whether a record is one of a language, a script or a region that is one subtag without a value, as most are.
+#[inline(always)]
+fn is_bare(entry: &Entry) -> bool
+    ensures { IsTrue result → IsBare entry.now }
+{
+    matches!(entry.kind(), Kind::Language | Kind::Script | Kind::Region)
+        && entry.value().is_none()
+        && matches!(entry.name(), EntryName::Single(_))
+}
+
+/// Whether a record meets the conditions on the values of records that name subtags.
+fn has_fitting_value<L: Lookup>(table: &L, shortcuts: &Shortcuts, entry: &Entry) -> bool
+    requires { AreShortcuts (L.listed table.now) shortcuts.now }
+    ensures { IsTrue result → HasFittingValue (L.listed table.now) entry.now }
+{
+    has_registered_value(table, entry)
+        && shortcuts.has_end(table, entry)
+        && fits_as_extlang(table, shortcuts, entry)
+        && has_fitting_variant_value(table, entry)
+}
+
+/// Whether a record meets the conditions on the Prefixes of variants.
+fn has_fitting_prefixes<L: Lookup>(table: &L, entry: &Entry) -> bool
+    ensures { IsTrue result → HasFittingPrefixes (L.listed table.now) entry.now }
+{
+    stands_beside_final_languages(table, entry) && has_langtag_prefixes(entry)
+}
+
+/// Whether a record meets each condition that is decided by a look at one record after another.
+fn meets_each<L: Lookup>(alloc: Global, table: &L, shortcuts: &Shortcuts, entry: &Entry) -> bool
+    requires { AreShortcuts (L.listed table.now) shortcuts.now }
+    ensures { IsTrue result → MeetsByRecord (L.listed table.now) entry.now }
+{
+    has_fitting_value(table, shortcuts, entry)
+        && has_fitting_prefixes(table, entry)
+        && has_valid_whole(alloc, table, entry)
+        && has_no_range_value(entry)
+}
+
+/// Whether all records meet each condition that is decided by a look at one record after another.
+fn all_meet<L: Lookup>(alloc: Global, table: &L, shortcuts: &Shortcuts) -> bool
+    requires { AreShortcuts (L.listed table.now) shortcuts.now }
+    ensures { IsTrue result → MeetByRecord (L.listed table.now) }
+{
+    for entry in table.entries() {
+        if !is_bare(entry) && !meets_each(alloc, table, shortcuts, entry) {
+            return false;
+        }
+    }
+    true
 }
 
 /// The first record that does not meet a condition that is decided by a look at one record after another, or None if each
@@ -124,13 +176,16 @@ fn first_whole_fault<L: Lookup>(
 }
 
 /// What the check finds by a condition, where all records meet the conditions before it. None if all meet this one too.
+/// `all_meet` tells whether all meet each condition that is decided by a look at one record after another.
 fn lowest_fault<L: Lookup>(
     alloc: Global,
     table: &L,
     shortcuts: &Shortcuts,
     condition: Condition,
+    all_meet: bool,
 ) -> Result<Option<Finding>, OutOfMemory>
     requires shortcuts { AreShortcuts (L.listed table.now) shortcuts.now }
+    requires all { IsTrue all_meet → MeetByRecord (L.listed table.now) }
     requires lower { MeetsBelow (rank_of condition) (L.listed table.now) }
     ensures { IfOk result (IsVerdictBelow (next_of condition) (L.listed table.now)) }
 {
@@ -140,6 +195,7 @@ fn lowest_fault<L: Lookup>(
         Condition::RestingWhole | Condition::AgreeingWhole => {
             first_whole_fault(alloc, table, shortcuts)
         }
+        _ if all_meet => Ok(None),
         _ => Ok(first_failing(alloc, table, shortcuts, condition)),
     }
 }
@@ -154,8 +210,9 @@ pub(crate) fn find_fault<L: Lookup>(
     requires { AreShortcuts (L.listed table.now) shortcuts.now }
     ensures { IfOk result (IsVerdict (L.listed table.now)) }
 {
+    let all_meet = all_meet(alloc, table, shortcuts);
     for condition in IN_ORDER {
-        if let Some(finding) = lowest_fault(alloc, table, shortcuts, condition)? {
+        if let Some(finding) = lowest_fault(alloc, table, shortcuts, condition, all_meet)? {
             return Ok(Some(finding));
         }
     }

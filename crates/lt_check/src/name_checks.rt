@@ -1,14 +1,15 @@
 //! Whether records have names of their own.
-ghost use Rattle.std.specs.Prelude.{◌≡◌, ◌↔◌, Contains, IsTrue, IfOk, Some};
+ghost use Rattle.std.specs.Prelude.{◌≡◌, ◌↔◌, length, Contains, IsTrue, IfOk, Some};
 ghost use Rattle.std.specs.Option.{option_copied};
 ghost use Rattle.lt_registry.specs.Parts.{EntryParts};
 ghost use Rattle.lt_registry.specs.Entries.{NumbersRise};
-ghost use Rattle.lt_check.specs.NameChecks.{IsNew, SeesRange};
+ghost use Rattle.lt_check.specs.NameChecks.{AreMarked, IsNew, MarksMore, SeesRange};
 ghost use Rattle.lt_check.specs.Checking.{IsLowestFault};
 
 use crate::conditions::Condition;
 use crate::range_names::RangeNames;
 use crate::rejections::Finding;
+use crate::usual_subtags::{WORDS, mark};
 use lt_registry::{Entry, EntryName, Lookup};
 use lt_tag::OutOfMemory;
 use std::alloc::Global;
@@ -23,16 +24,28 @@ fn is_entry(found: Option<&Entry>, entry: &Entry) -> bool
     }
 }
 
-/// Whether a record's name is new: a look-up of its subtag or its tag finds the record itself, or its range is not among
-/// those seen before, to which it is then added.
-fn is_new<L: Lookup>(table: &L, seen: &mut RangeNames, entry: &Entry) -> Result<bool, OutOfMemory>
+/// Whether a record's name is new: the flag of its subtag was clear, or a look-up of its subtag or its tag finds the record
+/// itself, or its range is not among those seen before, to which it is then added. The flags of the subtags of the records
+/// before it are set, and its own is then.
+fn is_new<L: Lookup>(
+    table: &L,
+    flags: &mut [u64],
+    seen: &mut RangeNames,
+    entry: &Entry,
+) -> Result<bool, OutOfMemory>
     requires rising { NumbersRise (L.listed table.now) }
     requires there { Contains (L.listed table.now) entry.now }
+    requires room { length flags.old ≡ 8655 }
+    requires flags { AreMarked (L.listed table.now) entry.now flags.old }
     ensures new { IfOk result (λ new. IsTrue new ↔ IsNew (L.listed table.now) seen.old entry.now) }
     ensures seen { IfOk result (λ _. SeesRange entry.now seen.old seen.new) }
+    ensures flags { MarksMore entry.now flags.old flags.new }
 {
     match entry.name() {
-        EntryName::Single(subtag) => Ok(is_entry(table.entry(entry.kind(), subtag), entry)),
+        EntryName::Single(subtag) => {
+            let kind = entry.kind();
+            Ok(mark(flags, kind, subtag) || is_entry(table.entry(kind, subtag), entry))
+        }
         EntryName::Range(first, last) => seen.add(entry.kind(), first, last),
         EntryName::Whole(whole) => Ok(is_entry(table.whole(whole.tag()), entry)),
     }
@@ -45,9 +58,11 @@ pub(crate) fn first_taken_name<L: Lookup>(
 ) -> Result<Option<Finding>, OutOfMemory>
     ensures { IfOk result (IsLowestFault (L.listed table.now) Condition.OwnName) }
 {
+    let mut words = vec![in alloc; 0; WORDS]?;
+    let flags = words.as_mut_slice();
     let mut seen = RangeNames::new(alloc);
     for entry in table.entries() {
-        if !is_new(table, &mut seen, entry)? {
+        if !is_new(table, flags, &mut seen, entry)? {
             let condition = Condition::OwnName;
             let number = entry.number();
             return Ok(Some(Finding { condition, number }));

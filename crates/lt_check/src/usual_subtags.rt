@@ -1,11 +1,13 @@
 //! A table of flags, one for each place that a subtag can have, set where the subtag stays as it is.
-ghost use Rattle.std.specs.Prelude.{◌≡◌, ◌<◌, ◌++◌, ◌∷◌, [], ◌==◌, ◌↔◌, Bool, true, false, if◌then◌else◌, ℕ, List, All, IfOk, OnErr, IsTrue, IfSome, MatchOption, length, bytes_eq};
+ghost use Rattle.std.specs.Prelude.{◌≡◌, ◌<◌, ◌++◌, ◌∷◌, [], ◌==◌, ◌↔◌, Bool, true, false, if◌then◌else◌, ℕ, List, All, IfOk, OnErr, IsTrue, IfSome, MatchOption, Some, length, bytes_eq};
 ghost use Rattle.lt_subtag.specs.Shapes.{is_language};
 ghost use Rattle.lt_tag.specs.Lists.{list_of};
 ghost use Rattle.lt_tag.specs.Conventional.{conventional};
 ghost use Rattle.lt_registry.specs.Parts.{EntryParts};
 ghost use Rattle.lt_registry.specs.Entries.{has_form};
 ghost use Rattle.lt_check.specs.Flags.{flag, AreFlags, Tell, TellSingles, stays_beside, with_subtag};
+ghost use Rattle.lt_check.specs.NameChecks.{WasClear};
+ghost use Rattle.lt_check.specs.Places as places;
 ghost use Rattle.lt_check.specs.Staying.{IsStaying, replaces_plain_of, stays};
 
 use crate::places::place;
@@ -16,7 +18,7 @@ use std::alloc::{AllocError, Global};
 use std::marker::Model;
 
 /// How many words the flags take: one for each 64 places.
-const WORDS: usize = 8655;
+pub(crate) const WORDS: usize = 8655;
 
 /// The languages of 2 or 3 letters, the scripts and the regions of a registry that stay as they are.
 #[derive(Debug, Drop)]
@@ -55,7 +57,7 @@ impl UsualSubtags {
         requires { place < 553913 }
         ensures { result ≡ flag self.now place }
     {
-        self.words[place / 64] >> (place % 64) & 1 == 1
+        has(&self.words, place)
     }
 
     /// Appends a text in conventional case if, by the registry of these flags, it is read as a langtag of a language of 2 or
@@ -76,6 +78,32 @@ impl UsualSubtags {
         texts.truncate(end);
         Ok(true)
     }
+}
+
+/// Whether the flag of a place is set.
+#[inline(always)]
+fn has(words: &[u64], place: usize) -> bool
+    requires room { length words.now ≡ 8655 }
+    requires within { place < 553913 }
+    ensures { result ≡ flag words.now place }
+{
+    words[place / 64] >> (place % 64) & 1 == 1
+}
+
+/// Sets the flag of a subtag, and tells whether it was clear before. False of a subtag without a place.
+#[tactic(auto, using(crate::proofs::OwnNames::flag_kept, crate::proofs::OwnNames::flag_set))]
+pub(crate) fn mark(words: &mut [u64], kind: Kind, subtag: &Subtag) -> bool
+    requires { length words.old ≡ 8655 }
+    ensures first { IsTrue result → WasClear words.old kind subtag.now }
+    ensures kept { (n : ℕ) → flag words.old n ≡ true → flag words.new n ≡ true }
+    ensures marked { (n : ℕ) → places.place kind subtag.now ≡ Some n → flag words.new n ≡ true }
+{
+    let Some(place) = place(kind, subtag.bytes()) else {
+        return false;
+    };
+    let was_set = has(words, place);
+    put(words, place, true);
+    !was_set
 }
 
 /// Sets the flag of a place, or clears it unless `set`.

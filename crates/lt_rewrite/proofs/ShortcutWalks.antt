@@ -1,7 +1,8 @@
 -- Walks along a chain of values that pass over a part of it.
-use Rattle.std.proofs.Common.{rules, ◌≡◌, ℕ, zero, suc, ◌≤◌, ◌<◌, inl, inr, true, false, List, [], ◌∷◌, Option, Some, None, refl, sym, ap, ◌∙◌, subst, length, slice_get, arith, ◌+◌, get_or, take, All, Bor, is_some, set, Contains, ltb, ltb-true, ltb-false, length-take}
+use Rattle.std.proofs.Common.{rules, ◌≡◌, ℕ, zero, suc, ◌≤◌, ◌<◌, inl, inr, true, false, List, [], ◌∷◌, Option, Some, None, refl, sym, ap, ◌∙◌, subst, length, slice_get, arith, ◌+◌, get_or, take, All, Bor, is_some, set, Contains, ltb, ltb-true, ltb-false, length-take, Bool, ◌==◌}
 use Rattle.std.specs.List.{AllWithin}
-use Rattle.std.proofs.lemmas.Bool.{cases_lt}
+use Rattle.std.proofs.lemmas.Bool.{cases_lt, eqb-true, not-false}
+use Rattle.std.specs.Prelude.{◌||◌, not}
 use Rattle.std.specs.Option.{option_copied}
 use Rattle.lt_registry.specs.Parts.{EntryParts}
 use Rattle.lt_registry.specs.Entries.{entry, has_form, IsRegistry, NumbersRise}
@@ -212,3 +213,8 @@ first_there R i e rise h is all endless =
     let there : Contains R e = (i, h, sym is) in
     let lower = lower_are_before (HasEndingChain R) R i e rise h is all in
     search rules
+
+-- where no shortcut led elsewhere so far and the next doesn't, none did
+pub unmoved : (grew : Bool) (next place : ℕ) → (grew || not (next == place)) ≡ false → (grew ≡ false) × (next ≡ place)
+unmoved true next place h = let bad : true ≡ false = h in cc
+unmoved false next place h = (refl, eqb-true next place (not-false (next == place) h))

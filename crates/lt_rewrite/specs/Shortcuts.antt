@@ -1,6 +1,6 @@
 -- Shortcuts along the chains of values of a registry's records (RFC 5646, 3.1.7), so that a chain's end is found at
 -- once.
-use Rattle.std.specs.Prelude.{ℕ, ◌≡◌, ◌≤◌, ◌<◌, List, Option, Some, length}
+use Rattle.std.specs.Prelude.{ℕ, ◌≡◌, ◌+◌, ◌≤◌, ◌<◌, List, Option, Some, length}
 use Rattle.std.specs.List.{slice_get}
 use Rattle.lt_registry.specs.Parts.{EntryParts}
 use Rattle.lt_registry.specs.declared.entries.Kind.{Kind}
@@ -31,6 +31,10 @@ pub record LeadOn (R : List EntryParts) (n : ℕ) (places : List ℕ) : Type 0 w
   pub one_each : length places ≡ length R
   pub within : (i j : ℕ) → slice_get places i ≡ Some j → j < length R
   pub shortcut : (i j : ℕ) → slice_get places i ≡ Some j → IsShortcut R n i j
+
+-- shortcuts that are twice as long already
+abbrev pub GrowNoMore : List ℕ → Type 0
+GrowNoMore places = (R : List EntryParts) (n : ℕ) → LeadOn R n places → LeadOn R (n + n) places
 
 -- the shortcuts that are kept of a registry: for each record, the place of one, which may be its own
 pub record ShortcutParts : Type 0 where

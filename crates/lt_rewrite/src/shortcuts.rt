@@ -1,7 +1,7 @@
 //! Shortcuts along the chains of values of a table's records (RFC 5646, 3.1.7): where each ends, by the place of a record.
 //! They are doubled in as many rounds as the number of records has binary digits, so that a cycle is found as fast as
 //! an end, however long the chains are.
-ghost use Rattle.std.specs.Prelude.{◌≡◌, ◌+◌, ◌≤◌, ◌<◌, true, false, Some, ℕ, List, All, IfOk, OnErr, Contains, length, map, IsTrue, ◌↔◌};
+ghost use Rattle.std.specs.Prelude.{◌≡◌, ◌+◌, ◌≤◌, ◌<◌, ◌||◌, true, false, Some, ℕ, List, All, IfOk, OnErr, Contains, length, map, IsTrue, ◌↔◌};
 ghost use Rattle.std.specs.List.{slice_get, AllByRecursion, AllWithin};
 ghost use Rattle.std.specs.List.Sorted.{IsNonDecreasingBy};
 ghost use Rattle.lt_tag.specs.Parts.{ExtensionParts, TForm};
@@ -15,7 +15,7 @@ ghost use Rattle.lt_rewrite.specs.CoreSteps.{Ends, EndsIn, IsCoreNormalForm};
 ghost use Rattle.lt_rewrite.specs.Conditions as conditions;
 ghost use Rattle.lt_rewrite.specs.Conditions.{HasEndingChain};
 ghost use Rattle.lt_rewrite.specs.ChainEnds.{ChainEnds, ChainEndsIn};
-ghost use Rattle.lt_rewrite.specs.Shortcuts.{IsOnward, IsShortcut, LeadOn, AreShortcuts};
+ghost use Rattle.lt_rewrite.specs.Shortcuts.{IsOnward, IsShortcut, LeadOn, AreShortcuts, GrowNoMore};
 
 use crate::chain_ends::{Cycle, following, next_value, replacement};
 use crate::core_settling::settle_along;
@@ -216,19 +216,42 @@ fn last_places<L: Lookup>(alloc: Global, table: &L) -> Result<Vec<usize>, AllocE
 {
     let mut places = first_places(alloc, table)?;
     let mut steps = 1;
+    let mut grows = true;
     while steps < places.len() {
-        lengthen(&mut places);
+        grows = lengthen_while(grows, &mut places);
         steps *= 2;
     }
     Ok(places)
 }
 
-/// Makes each shortcut twice as long: it leads on from where it led.
-fn lengthen(places: &mut [usize])
-    requires { (i j : ℕ) → slice_get places.old i ≡ Some j → j < length places.old }
-    ensures { (R : List EntryParts) (n : ℕ) → LeadOn R n places.old → LeadOn R (n + n) places.new }
+/// Makes each shortcut twice as long, but if none of them grows any more, and tells whether one grew.
+fn lengthen_while(grows: bool, places: &mut [usize]) -> bool
+    requires within { (i j : ℕ) → slice_get places.old i ≡ Some j → j < length places.old }
+    requires rest { grows ≡ false → GrowNoMore places.old }
+    ensures doubled { (R : List EntryParts) (n : ℕ) → LeadOn R n places.old → LeadOn R (n + n) places.new }
+    ensures rest { result ≡ false → GrowNoMore places.new }
 {
+    grows && lengthen(places)
+}
+
+/// Whether one of two is true.
+fn either(one: bool, other: bool) -> bool
+    ensures { result ≡ (one || other) }
+{
+    one || other
+}
+
+/// Makes each shortcut twice as long: it leads on from where it led. Tells whether one leads elsewhere than before.
+fn lengthen(places: &mut [usize]) -> bool
+    requires { (i j : ℕ) → slice_get places.old i ≡ Some j → j < length places.old }
+    ensures doubled { (R : List EntryParts) (n : ℕ) → LeadOn R n places.old → LeadOn R (n + n) places.new }
+    ensures same { result ≡ false → places.new ≡ places.old }
+{
+    let mut grew = false;
     for index in 0..places.len() {
-        places[index] = places[places[index]];
+        let next = places[places[index]];
+        grew = either(grew, next != places[index]);
+        places[index] = next;
     }
+    grew
 }

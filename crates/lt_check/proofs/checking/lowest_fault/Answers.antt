@@ -1,4 +1,4 @@
-use Rattle.std.proofs.Common.{Ok}
+use Rattle.std.proofs.Common.{None, Ok}
 use Rattle.lt_check.proofs.Judging.{by_record, judged}
 use Rattle.lt_check.proofs.checking.lowest_fault.Goals as goal
 
@@ -15,4 +15,9 @@ returns-in-FittingGrandfathered g c =
 
 pub returns-in_default : goal.returns-in_default
 returns-in_default g c =
+    judged {E = Unit {0}} _ c.args.condition c.requires.lower c.in_default.not-RestingWhole (Ok None)
+    (c.requires.all c.if-all_meet.true c.args.condition (by_record c.args.condition c.in_default.not-OwnName c.in_default.not-FittingGrandfathered c.in_default.not-RestingWhole c.in_default.not-AgreeingWhole))
+
+pub returns-in_default-2 : goal.returns-in_default-2
+returns-in_default-2 g c =
     judged {E = Unit {0}} _ c.args.condition c.requires.lower c.in_default.not-RestingWhole (Ok c.first_failing.result) c.first_failing.ensures

@@ -1,8 +1,12 @@
 use Rattle.std.proofs.Common.{refl}
 use Rattle.lt_check.specs.declared.conditions.Condition.TheVariants as conditions
 use Rattle.lt_check.proofs.FirstFaults.{item_at, before_more, all_met, found_fault}
-use Rattle.lt_check.proofs.OwnNames.{new_own, seen_more}
+use Rattle.lt_check.proofs.OwnNames.{marked_at, marked_next, new_own, seen_more}
 use Rattle.lt_check.proofs.name_checks.first_taken_name.Goals as goal
+
+pub is_new-requires-clause-flags : goal.is_new-requires-clause-flags
+is_new-requires-clause-flags g c =
+    marked_at _ c.entries-entry-items.ensures.rising _ _ _ (item_at _ _ _ _ c.entries-entry-items.ensures.value c.loop-entry-test.true c.entry-item.is) c.loop-entry.invariant.flags
 
 pub returns-then-not-branch : goal.returns-then-not-branch
 returns-then-not-branch g c =
@@ -17,6 +21,7 @@ loop-entry-preserved g c =
     let at = item_at _ _ _ _ c.entries-entry-items.ensures.value c.loop-entry-test.true c.entry-item.is in
     record {
       before = before_more _ conditions.OwnName _ _ at c.loop-entry.invariant.before ((new_own _ _ _ at rising c.loop-entry.seen c.loop-entry.invariant.seen _ refl).0 (c.in_ok-is_new.ensures.new.0 c.if-not-branch.false));
+      flags = marked_next _ _ _ _ _ at c.loop-entry.invariant.flags c.in_ok-is_new.ensures.flags;
       seen = seen_more _ _ _ at c.loop-entry.seen c.is_new.new.seen c.loop-entry.invariant.seen c.in_ok-is_new.ensures.seen;
     }
 

@@ -1,12 +1,18 @@
 use Rattle.std.proofs.Common.{sym, ◌∙◌, arith}
-use Rattle.lt_check.proofs.OwnNames.{single_own, whole_own, own_new, range_new, range_sees}
+use Rattle.lt_check.proofs.OwnNames.{clear_own, is_own_new, single_own, whole_own, own_new, range_new, range_sees}
 use Rattle.lt_check.proofs.name_checks.is_new.Goals as goal
 
-pub returns-in-Single-clause-new : goal.returns-in-Single-clause-new
-returns-in-Single-clause-new g c =
+pub returns-then-mark-clause-new : goal.returns-then-mark-clause-new
+returns-then-mark-clause-new g c =
+    let R = g.L.Lookup.listed c.args.table.now in
+    let own = clear_own R c.args.entry.now c.in-Single.subtag c.args.flags.now (sym c.name.ensures.value ∙ c.in-Single.is) c.requires.flags (rw c.kind-kind.ensures.value at (c.mark.ensures.first c.if-mark.true)) in
+    is_own_new R c.args.seen.now c.args.entry.now (grind arith) own c.mark.result c.if-mark.true
+
+pub returns-else-mark-clause-new : goal.returns-else-mark-clause-new
+returns-else-mark-clause-new g c =
     let R = g.L.Lookup.listed c.args.table.now in
     let own = single_own R c.requires.rising c.args.entry.now c.requires.there c.in-Single.subtag (sym c.name.ensures.value ∙ c.in-Single.is) in
-    own_new R c.args.seen.now c.args.entry.now (grind arith) _ own c.is_entry.result (rw (c.entry.ensures, c.kind.ensures.value) at c.is_entry.ensures)
+    own_new R c.args.seen.now c.args.entry.now (grind arith) _ own c.is_entry.result (rw (c.entry.ensures, c.kind-kind.ensures.value) at c.is_entry.ensures)
 
 pub returns-in-Range-clause-new : goal.returns-in-Range-clause-new
 returns-in-Range-clause-new g c = range_new (g.L.Lookup.listed c.args.table.now) c.args.seen.now c.args.entry.now _ (grind arith) c.add.result c.add.ensures.added

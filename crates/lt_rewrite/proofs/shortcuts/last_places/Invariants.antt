@@ -1,11 +1,12 @@
-use Rattle.std.proofs.Common.{◌<◌, ◌-◌, length}
-use Rattle.lt_rewrite.specs.Shortcuts.{LeadOn}
+use Rattle.std.proofs.Common.{false, ◌≡◌, ◌<◌, ◌-◌, length}
+use Rattle.lt_rewrite.specs.Shortcuts.{GrowNoMore, LeadOn}
 use Rattle.lt_rewrite.proofs.shortcuts.last_places.Given as goal
 
 -- each shortcut leads at least as many values on as the steps, or to the end of the chain, and the steps are not zero
 abbrev pub invariant-loop-steps : goal.invariant-loop-steps
 invariant-loop-steps g l = record {
   some : 0 < l.steps;
+  rest : l.grows ≡ false → GrowNoMore l.places.items;
   lead : LeadOn (g.L.Lookup.listed l.table) l.steps l.places.items;
 }
 
