@@ -13,10 +13,10 @@ blank_is (suc n) = All-cons (λ (place : Option Kept). place ≡ None) None (rep
 -- they hold nothing
 pub places_blank : IsBlank blank_places
 unfolding blank_places
-places_blank = blank_is 16384
+places_blank = blank_is 8192
 
 -- as many as there are
-pub places_blank_are : (n : ℕ) → n ≡ 16384 → replicate n None ≡ blank_places
+pub places_blank_are : (n : ℕ) → n ≡ 8192 → replicate n None ≡ blank_places
 unfolding blank_places
 places_blank_are n e = ap (λ k. replicate k None) e
 

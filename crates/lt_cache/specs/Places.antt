@@ -4,7 +4,7 @@ use Rattle.lt_cache.specs.declared.recent.Kept.{Kept}
 
 -- the 16,384 places of a cache, all empty
 unfoldable pub blank_places : List (Option Kept)
-blank_places = replicate 16384 None
+blank_places = replicate 8192 None
 
 -- the places of a cache, which are empty where none were made yet
 abbrev pub made : List (Option Kept) → List (Option Kept)

@@ -9,7 +9,7 @@ use std::alloc::{AllocError, Global};
 use std::marker::Model;
 
 /// How many pairs of places the table has. A place takes 67 bytes.
-const PAIRS: usize = 8192;
+const PAIRS: usize = 4096;
 
 /// An answer, the line that it was given to, and whether it is a refusal.
 #[derive(Drop)]

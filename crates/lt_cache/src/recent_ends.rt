@@ -8,6 +8,7 @@ ghost use Rattle.lt_cache.specs.Appending.{AppendsEnd, AppendsFront, AppendsKept
 
 use crate::recent::Recent;
 use crate::splitting::{split_end, split_source};
+use crate::texts::append_other_text;
 use lt_canon::{Checked, TextRefusal, append_canonical_text};
 use lt_registry::Lookup;
 use lt_tag::OutOfMemory;
@@ -222,7 +223,7 @@ impl RecentEnds {
         let start = texts.len();
         // So that the table is known to pass the check.
         checked.table();
-        append_canonical_text(alloc, checked, text, texts)?;
+        append_other_text(alloc, checked, text, texts)?;
         self.keep(checked, end, start + count, texts);
         Ok(())
     }

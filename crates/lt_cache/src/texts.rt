@@ -96,7 +96,7 @@ fn append_settled_text<L: Lookup>(checked: &Checked<L>, text: &[u8], texts: &mut
 /// Appends the canonical text of a text whose subtags don't all stay as they are. It is no part of its caller, so that the
 /// other texts pay nothing for it.
 #[inline(never)]
-fn append_other_text<L: Lookup>(
+pub(crate) fn append_other_text<L: Lookup>(
     alloc: Global,
     checked: &Checked<L>,
     text: &[u8],

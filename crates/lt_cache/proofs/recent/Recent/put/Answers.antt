@@ -9,7 +9,7 @@ pub returns-then-first-len : goal.returns-then-first-len
 returns-then-first-len c =
     let line = c.args.line.now in
     let answer = c.args.answer.now in
-    let first = 2 * (c.hash.result % 8192) in
+    let first = 2 * (c.hash.result % 4096) in
     let places = c.self.inside.places in
     let room : 0 < length places.items = omega (arith, c.if-first-len.true, c.len.ensures, places.ok.0) in
     let same = sym (made_some places.items room) ∙ c.self.view_is ∙ c.make_places.ensures in
