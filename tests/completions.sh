@@ -53,6 +53,7 @@ is 'bash: the table and the registry' 'registry.txt registry.txt registry.txt' <
 is 'bash: options of csv' '--delimiter' < <(by_bash langtag csv --d)
 is 'bash: the file of json' 'json registry.txt' < <({ by_bash langtag js; by_bash langtag json reg; })
 is 'bash: options of tsv' '--codes --heading --help --keep --summary' < <(by_bash langtag tsv registry.txt -)
+is 'bash: show, its file and its options' '--help --json registry.txt show' < <({ by_bash langtag sh; by_bash langtag show reg; by_bash langtag show registry.txt -; })
 is 'bash: options of match' '--extended --help --lookup' < <(by_bash langtag match registry.txt -)
 is 'bash: a tag is not completed' '' < <(by_bash langtag classify reg)
 if command -v fish > /dev/null; then
@@ -61,6 +62,7 @@ if command -v fish > /dev/null; then
     is 'fish: the table' 'registry.txt' < <(by_fish 'langtag csv registry.txt 2 --codes reg')
     is 'fish: an option' '--delimiter' < <(by_fish 'langtag csv --d')
     is 'fish: options of rows' '--heading --keep' < <({ by_fish 'langtag tsv --hea'; by_fish 'langtag csv --k'; })
+    is 'fish: show, its file and an option' '--json registry.txt show' < <({ by_fish 'langtag sh'; by_fish 'langtag show reg'; by_fish 'langtag show --j'; })
     is 'fish: help' 'upgrade' < <(by_fish 'langtag help up')
 else
     echo 'fish is not here'
@@ -68,6 +70,7 @@ fi
 if command -v zsh > /dev/null; then
     is 'zsh: a command' 'canon check classify codes csv' < <(by_zsh 'langtag c' | grep -ao 'canon \|check \|classify \|codes \|csv ' | tr -d ' ' | sort -u)
     is 'zsh: an option' '--summary' < <(by_zsh 'langtag tsv --s' | grep -ao -e '--summary' | sort -u)
+    is 'zsh: an option of show' '--json' < <(by_zsh 'langtag show --j' | grep -ao -e '--json' | sort -u)
     is 'zsh: the table' 'registry.txt' < <(by_zsh 'langtag tsv r 2 --codes reg' | grep -ao 'registry.txt' | sort -u)
     is 'zsh: a file' 'registry.txt' < <(by_zsh 'langtag check reg' | grep -ao 'registry.txt' | sort -u)
 else
