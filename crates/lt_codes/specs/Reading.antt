@@ -61,8 +61,8 @@ abbrev pub kind_of : ToolFault → TableFaultKind
 kind_of faults.OutOfMemory = kinds.OutOfMemory
 kind_of fault = kinds.Read
 
--- What Whole keeps of the pieces that run_pieces (lt_stream) hands to it: IsWhole after each piece that it takes, IsCutOff
--- after one that ends the run, EndsBytes where the reader has no more.
+-- What Whole keeps of the pieces that run_pieces (lt_stream) hands to it: IsWhole after each piece that it takes,
+-- IsCutOff after one that ends the run, EndsBytes where the reader has no more.
 
 -- all bytes that were read are kept, and they are not more than a table may have
 pub record IsWhole (read : List ℕ) (here : Whole) : Type 0 where

@@ -3,7 +3,7 @@
 ghost use Rattle.std.specs.Prelude.{◌≡◌, ◌≤◌, ◌<◌, [], IfSome, OnOk, get_or, string_bytes, take, vec_len};
 ghost use Rattle.lt_jar.specs.LineKinds as lines;
 ghost use Rattle.lt_jar.specs.Reading as reading;
-ghost use Rattle.lt_jar.specs.Views.{IsTaken, line_in};
+ghost use Rattle.lt_jar.specs.Views.{IsTaken, line_in, taken_in};
 
 use crate::faults::JarFaultKind;
 use crate::jars::{JarField, Record};
@@ -103,8 +103,9 @@ impl Draft {
         self.take_short_line(alloc, line, ended)
     }
 
-    /// Takes the next line, which is UTF-8 and not too long, and tells whether it ends the record. Most lines begin a field
-    /// that has the name of the field in its place in the record before: then the name is neither looked for nor written.
+    /// Takes the next line, which is UTF-8 and not too long, and tells whether it ends the record. Most lines separate records,
+    /// or begin a field that has the name of the field in its place in the record before: then the name is neither looked for
+    /// nor written.
     fn take_short_line(
         &mut self,
         alloc: Global,
@@ -114,14 +115,43 @@ impl Draft {
         ensures { IsTaken result (reading.take_kind ended (take self.old.count self.old.fields.items) (lines.line_of line.now))
             (take self.new.count self.new.fields.items) }
     {
+        if let b"%%" = line.as_bytes() {
+            return Ok(self.separate());
+        }
         match self.body_again(line) {
             Some(body) => self.put_body(body, ended),
-            None => self.take_kind(alloc, kind_of(line), ended),
+            None => self.take_any_line(alloc, line, ended),
         }
+    }
+
+    /// What a line that separates records does to this one.
+    fn separate(&self) -> Progress
+        ensures { taken_in result (take self.now.count self.now.fields.items) ≡ reading.separated (take self.now.count self.now.fields.items) }
+    {
+        if self.is_empty() {
+            Progress::GoesOn
+        } else {
+            Progress::Ends
+        }
+    }
+
+    /// Takes the next line as `take_short_line` does, whatever its kind.
+    #[inline(never)]
+    fn take_any_line(
+        &mut self,
+        alloc: Global,
+        line: &str,
+        ended: usize,
+    ) -> Result<Progress, JarFaultKind>
+        ensures { IsTaken result (reading.take_kind ended (take self.old.count self.old.fields.items) (lines.line_of line.now))
+            (take self.new.count self.new.fields.items) }
+    {
+        self.take_kind(alloc, kind_of(line), ended)
     }
 
     /// What the body begins with, if the line begins a field with the name that the field in its place had in the record
     /// before. None of any other line.
+    #[inline(always)]
     fn body_again<'l>(&self, line: &'l str) -> Option<&'l str>
         ensures { IfSome result (λ body. reading.BeginsAgain self.now.count self.now.fields.items line.now body.now) }
     {
@@ -145,8 +175,7 @@ impl Draft {
     {
         match kind {
             LineKind::Blank => Ok(Progress::GoesOn),
-            LineKind::Separator if self.is_empty() => Ok(Progress::GoesOn),
-            LineKind::Separator => Ok(Progress::Ends),
+            LineKind::Separator => Ok(self.separate()),
             LineKind::Continuation(text) => self.continue_field(text),
             LineKind::Start(name, body) => self.start_field(alloc, name, body, ended),
             LineKind::Bad => Err(JarFaultKind::BadLine),
@@ -190,6 +219,7 @@ impl Draft {
 
     /// Begins a field with what its body begins with; its name is in its place already. Refused if the record is one too
     /// many.
+    #[inline(always)]
     fn put_body(&mut self, body: &str, ended: usize) -> Result<Progress, JarFaultKind>
         requires { self.old.count < vec_len self.old.fields }
         ensures { IsTaken result (reading.started ended ((get_or self.old.fields.items self.old.count reading.nothing).0, body.now)

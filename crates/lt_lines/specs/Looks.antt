@@ -1,5 +1,5 @@
--- What a look (lt_rows) finds out of the line of a row before it is answered: whether it ends within quotes, so that its
--- record goes on, and where the text of its field is. No public contract cites this.
+-- What a look (lt_rows) finds out of the line of a row before it is answered: whether it ends within quotes, so that
+-- its record goes on, and where the text of its field is. No public contract cites this.
 use Rattle.std.specs.Prelude.{◌≡◌, ℕ, IsTrue, List, [], Option, None, MatchOption}
 use Rattle.lt_jar.specs.Lines.{content_of}
 use Rattle.lt_rows.specs.Looks.{IsLookAt}
@@ -21,8 +21,8 @@ IsLook forms.Tag line look = look ≡ None
 IsLook (forms.Row row) line look = IsRowLook separators.Tab row.before line look
 IsLook (forms.Csv row delimiter) line look = IsRowLook (separators.Delimiter delimiter) row.before line look
 
--- `kept` is the front of a line that came in earlier pieces, and `line` the bytes of it that came now: a look was made only
--- where `kept` is empty, so at a whole line, and what it found is true
+-- `kept` is the front of a line that came in earlier pieces, and `line` the bytes of it that came now: a look was made
+-- only where `kept` is empty, so at a whole line, and what it found is true
 pub record IsAhead (form : LineForm) (kept line : List ℕ) (look : Option Look) : Type 0 where
   pub is_look : IsLook form line look
   pub whole : MatchOption look (Unit {0}) (λ _. kept ≡ [])

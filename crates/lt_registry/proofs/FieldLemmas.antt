@@ -12,8 +12,8 @@ use Rattle.std.proofs.lemmas.List.{length-map}
 use Rattle.std.proofs.lemmas.List.Folds.{find-append}
 use Rattle.std.proofs.lemmas.List.Sums.{sum_by-append, sum_by-cons}
 use Rattle.lt_jar.specs.Records.{Field}
-use Rattle.lt_registry.specs.Records.{body, date_name, is_called, is_repeated, subtag_name, tag_name, type_name, value_name}
-use Rattle.lt_registry.specs.RecordSteps.{IsNoLength, IsPlace, field_told}
+use Rattle.lt_registry.specs.Records.{body, is_called, is_repeated}
+use Rattle.lt_registry.specs.RecordSteps.{IsPlace}
 use Rattle.lt_registry.specs.declared.fields.FieldName.{FieldName}
 use Rattle.lt_registry.specs.declared.fields.FieldName.TheVariants as told
 
@@ -196,15 +196,3 @@ module _ (name : List ℕ) (r : List Field) where
         let some : is_some place ≡ nat_lt 0 (count_by (is_called name) r) = ap is_some l ∙ some_counted (is_called name) 0 r in
         let more : count_by (is_called name) (r ++ f ∷ []) ≡ count_by (is_called name) r + 1 = counted_next (is_called name) r f ∙ ap (λ b. count_by (is_called name) r + cond b 1 0) h in
         rw (some, more) (grind (arith, nat_tests))
-
--- texts of different lengths are not the same
-lengths_apart : (s n : List ℕ) → length s ≢ length n → str_eq_ignore_ascii_case s n ≡ false
-lengths_apart s n far =
-    false_from_ne_true (str_eq_ignore_ascii_case s n) (λ g.
-    let same = (bytes_decides (str_to_ascii_lowercase s) (str_to_ascii_lowercase n)).0 g in
-    far (omega (arith, ap length same, length-map s to_ascii_lowercase, length-map n to_ascii_lowercase)))
-
--- a name of another length is none that is looked for
-pub other_length : (text : List ℕ) → IsNoLength (length text) → field_told text ≡ told.Other
-other_length text far =
-    rw (lengths_apart text type_name far.no_type, lengths_apart text subtag_name far.no_subtag, lengths_apart text tag_name far.no_tag, lengths_apart text value_name far.no_value, lengths_apart text date_name far.no_date) refl

@@ -1,10 +1,11 @@
 -- What is read of the texts of a record: subtags, Prefixes and names.
-use Rattle.std.proofs.Common.{◌≡◌, ℕ, ◌+◌, ◌<◌, ◌≤◌, true, false, List, [], ◌∷◌, ◌++◌, length, take, drop, get_or, Option, Some, None, refl, sym, ap, ◌∙◌, arith, add-one, append_assoc, suc, ◌⊎◌, inl, inr, subst, Result, Ok, Err, append-nil}
+use Rattle.std.proofs.Common.{◌≡◌, ℕ, Bool, ◌==◌, ◌+◌, ◌<◌, ◌≤◌, true, false, List, [], ◌∷◌, ◌++◌, length, take, drop, get_or, Option, Some, None, refl, sym, ap, ◌∙◌, arith, add-one, append_assoc, suc, ◌⊎◌, inl, inr, subst, Result, Ok, Err, append-nil}
 use Rattle.std.specs.Prelude.{Ok, Err, option_map, Result}
 use Rattle.std.proofs.Math.Seq.{drop-cons}
 use Rattle.std.proofs.lemmas.List.{take_more, drop_all, drop-drop, append-nil}
+use Rattle.std.specs.Char.{is_ascii_alphanumeric}
 use Rattle.std.specs.List.{list_all, AllByRecursion, onto_first}
-use Rattle.std.proofs.lemmas.Bool.{and_from, cases_Bool}
+use Rattle.std.proofs.lemmas.Bool.{and_from, and_parts, cases_Bool}
 use Rattle.std.proofs.lemmas.Bool.Decides.{nat_tests}
 use Rattle.lt_subtag.specs.Reading.{subtag_of}
 use Rattle.lt_subtag.specs.declared.SubtagFault.{SubtagFault}
@@ -131,6 +132,29 @@ range_fits k _ _ = inl refl
 pub name_fits : (k : Kind) (s : List ℕ) (o : Option (List ℕ × List ℕ)) → IsSubtagsResult (name_by k s o)
 name_fits k s None = single_fits (formed (has_form k) (subtag_of s))
 name_fits k s (Some ends) = range_fits k (subtag_of ends.0) (subtag_of ends.1)
+
+-- a text that is read as a subtag names it, since it has no full stop
+
+no_dots : (s : List ℕ) → list_all is_ascii_alphanumeric s ≡ true → ends_of s ≡ None
+unfolding ends_of
+no_dots [] h = refl
+no_dots (b ∷ s) h =
+    let parts = and_parts (is_ascii_alphanumeric b) (list_all is_ascii_alphanumeric s) h in
+    let letter : is_ascii_alphanumeric b ≡ true = parts.0 in
+    let other : (b == 46) ≡ false = grind (arith, nat_tests) in
+    rw (other, no_dots s parts.1) refl
+
+letters : (piece n : List ℕ) → subtag_of piece ≡ Ok n → list_all is_ascii_alphanumeric piece ≡ true
+letters piece n h = grind (arith, nat_tests)
+
+is_read : (test : List ℕ → Bool) (r : Result (List ℕ) SubtagFault) (n : List ℕ) → formed test r ≡ Some n → (m : List ℕ) × (r ≡ Ok m)
+is_read test (Ok m) n h = (m, refl)
+is_read test (Err fault) n h = cc
+
+pub subtag_named : (k : Kind) (s n : List ℕ) → formed (has_form k) (subtag_of s) ≡ Some n → name_by k s (ends_of s) ≡ Ok (names.Single n)
+subtag_named k s n h =
+    let read = is_read (has_form k) (subtag_of s) n h in
+    ap (name_by k s) (no_dots s (letters s read.0 read.1)) ∙ ap single_of h
 
 -- what reading a piece gives is a subtag
 pub subtag_is : (piece n : List ℕ) → subtag_of piece ≡ Ok n → is_subtag n ≡ true

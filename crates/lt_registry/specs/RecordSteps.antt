@@ -1,6 +1,6 @@
 -- What each step of reading a record of a registry gives; OutOfMemory may be the fault of any. No public contract cites
 -- this.
-use Rattle.std.specs.Prelude.{ℕ, ◌≡◌, ◌≢◌, true, false, if◌then◌else◌, List, Option, Some, None, is_some, Result, Ok, Err}
+use Rattle.std.specs.Prelude.{ℕ, ◌≡◌, true, false, if◌then◌else◌, List, Option, Some, None, is_some, Result, Ok, Err}
 use Rattle.std.specs.List.{position_from}
 use Rattle.std.specs.Str.{str_eq_ignore_ascii_case}
 use Rattle.lt_tag.specs.Parts.{TagForm}
@@ -25,14 +25,6 @@ field_told s =
     else (if str_eq_ignore_ascii_case s tag_name then told.Tag
     else (if str_eq_ignore_ascii_case s value_name then told.PreferredValue
     else (if str_eq_ignore_ascii_case s date_name then told.FileDate else told.Other))))
-
--- no name that is looked for has so many bytes
-pub record IsNoLength (n : ℕ) : Type 0 where
-  pub no_tag : n ≢ 3
-  pub no_type : n ≢ 4
-  pub no_subtag : n ≢ 6
-  pub no_date : n ≢ 9
-  pub no_value : n ≢ 15
 
 -- the place of the first field with this name, None if there is none
 abbrev pub IsPlace : List ℕ → List Field → Option ℕ → Type 0

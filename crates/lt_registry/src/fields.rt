@@ -1,5 +1,5 @@
 //! The fields of a record that count.
-ghost use Rattle.std.specs.Prelude.{false, ◌≡◌, ◌++◌, ◌∷◌, [], ℕ, List, length, Some, None, MatchOption, IfOk, option_map};
+ghost use Rattle.std.specs.Prelude.{◌≡◌, ◌++◌, ◌∷◌, [], ℕ, List, length, Some, None, MatchOption, IfOk, option_map};
 ghost use Rattle.std.specs.List.{slice_get};
 ghost use Rattle.std.specs.Option.{option_copied};
 ghost use Rattle.std.specs.Str.{str_eq_ignore_ascii_case};
@@ -40,24 +40,14 @@ pub(crate) enum FieldName {
     Other,
 }
 
-/// Whether a name of so many bytes may be one that is looked for.
-fn may_be_sought(length: usize) -> bool
-    ensures { result ≡ false → steps.IsNoLength length }
-{
-    matches!(length, 3 | 4 | 6 | 9 | 15)
-}
-
-/// Which field has this name, letter case aside. The names of most fields are tried first as they are usually written, and
-/// others are told by their length.
-#[tactic(auto, using(crate::proofs::FieldLemmas::other_length))]
+/// Which field has this name, letter case aside. The names of most fields are tried first as they are usually written.
 fn field_name(text: &str) -> FieldName
     ensures { result ≡ steps.field_told text.now }
 {
     match text.as_bytes() {
         b"Type" => FieldName::Type,
         b"Subtag" => FieldName::Subtag,
-        _ if may_be_sought(text.len()) => field_name_in_any_case(text),
-        _ => FieldName::Other,
+        _ => field_name_in_any_case(text),
     }
 }
 

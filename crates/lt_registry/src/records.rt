@@ -94,17 +94,18 @@ fn read_whole(alloc: Global, text: &[u8]) -> Result<Option<WholeTag>, OutOfMemor
     }
 }
 
-/// The subtag that a text names, or the range if it has two full stops. Refused if it doesn't have the form of the kind.
+/// The subtag that a text names, or the range if it has two full stops. Refused if it doesn't have the form of the kind. Most
+/// texts are a subtag, which is tried first.
 fn read_subtags(kind: Kind, text: &[u8]) -> Result<EntryName, RecordFaultKind>
     ensures named { result ≡ record_words.subtags_named kind text.now }
     ensures fits { IfOk result (FitsName kind) }
 {
+    if let Some(subtag) = read_formed(kind, text) {
+        return Ok(EntryName::Single(subtag));
+    }
     match ends_of(text) {
         Some((first, last)) => read_range(kind, first, last),
-        None => match read_formed(kind, text) {
-            Some(subtag) => Ok(EntryName::Single(subtag)),
-            None => Err(RecordFaultKind::BadSubtag),
-        },
+        None => Err(RecordFaultKind::BadSubtag),
     }
 }
 

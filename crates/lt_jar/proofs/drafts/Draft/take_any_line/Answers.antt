@@ -1,7 +1,7 @@
 use Rattle.std.proofs.Common.{sym, subst}
 use Rattle.lt_jar.specs.LineKinds.{HasName}
 use Rattle.lt_jar.proofs.NameLemmas.{line_named}
-use Rattle.lt_jar.proofs.drafts.Draft.take_short_line.Goals as goal
+use Rattle.lt_jar.proofs.drafts.Draft.take_any_line.Goals as goal
 
 pub take_kind-requires : goal.take_kind-requires
 take_kind-requires c = subst HasName (sym c.kind_of.ensures) (line_named c.args.line.now)
