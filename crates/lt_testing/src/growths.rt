@@ -5,6 +5,17 @@ use std::alloc::{AllocError, Global};
 use std::fmt::Debug;
 
 /// What a call answers, made again where it is refused.
+#[macro_export]
+macro_rules! again {
+    ($call:expr) => {
+        match $call {
+            Err(_) => $call,
+            made => made,
+        }
+    };
+}
+
+/// What a call answers, made again where it is refused.
 pub fn twice<T, E: Drop, C: Fn() -> Result<T, E>>(call: C) -> Result<T, E>
     requires { C.IsAlwaysCallable call }
     ensures { C.post call result }

@@ -7,50 +7,19 @@ use lt_tag::{
     Class, Core, Extension, OutOfMemory, TParts, Tag, TagFault, TagFaultKind, TransformFault,
     UParts, append_tag, join_t, join_u, read_tag, split_t, split_u, write_tag,
 };
-use lt_testing::{answers, mark, shown, twice};
+use lt_testing::{again, answers, mark, shown};
 use std::alloc::{AllocError, Global};
 use std::fmt::Debug;
 use std::test::Fail;
 
-/// Whether a call makes of its argument what it should; and where a growth was refused, whether it
-/// leaves it as it was, and then makes the same of it.
-fn changes<A, E, C, P>(
-    alloc: Global,
-    argument: &mut A,
-    call: C,
-    is_changed: P,
-) -> Result<bool, AllocError>
-where
-    A: Debug,
-    E: Drop,
-    C: Fn(&mut A) -> Result<(), E>,
-    P: Fn(&A) -> bool,
-    requires call { C.IsAlwaysCallable call }
-    requires changed { P.IsAlwaysCallable is_changed }
-{
-    let before = shown(alloc, argument)?;
-    if call(argument).is_err() {
-        let is_kept = shown(alloc, argument)?.as_str() == before.as_str();
-        if !is_kept || call(argument).is_err() {
-            return Ok(false);
-        }
-    }
-    Ok(is_changed(argument))
-}
-
-/// Whether a call is refused where memory runs out.
-fn is_refused<T>(answer: &Result<T, OutOfMemory>) -> bool {
-    answer.is_err()
-}
-
 /// The tag of a text.
 fn tag_of(alloc: Global, text: &str) -> Result<Tag, TagFault> {
-    twice(|| read_tag(alloc, text.as_bytes()))
+    again!(read_tag(alloc, text.as_bytes()))
 }
 
 /// Whether a tag's text is this one.
 fn has_text(alloc: Global, tag: &Tag, text: &str) -> bool {
-    matches!(twice(|| write_tag(alloc, tag)), Ok(written) if written.as_slice() == text.as_bytes())
+    matches!(again!(write_tag(alloc, tag)), Ok(written) if written.as_slice() == text.as_bytes())
 }
 
 /// Whether reading a text answers as it should.
@@ -101,28 +70,37 @@ fn is_written(alloc: Global, tag: &Tag, text: &str) -> Result<bool, AllocError> 
         tag,
         || write_tag(alloc, tag),
         |answer| matches!(answer, Ok(written) if written.as_slice() == text.as_bytes()),
-        |answer| is_refused(answer),
+        Result::is_err,
     )
+}
+
+/// Whether a tag's text is put after another; and where a growth was refused, whether that is left as it
+/// was, and the tag's text is then put after it.
+fn is_put_after(found: &mut Vec<u8>, tag: &Tag, text: &str) -> bool {
+    if append_tag(found, tag).is_err()
+        && (found.as_slice() != b"en ".as_slice() || append_tag(found, tag).is_err())
+    {
+        return false;
+    }
+    found.strip_prefix(b"en ") == Some(text.as_bytes())
 }
 
 /// Whether a tag's text is put after another.
 fn is_appended(alloc: Global, tag: &Tag, text: &str) -> Result<bool, AllocError> {
-    let mut found = twice(|| Vec::from_slice(alloc, b"en "))?;
-    changes(
-        alloc,
-        &mut found,
-        |found| append_tag(found, tag),
-        |found| found.strip_prefix(b"en ") == Some(text.as_bytes()),
-    )
+    let mut found = again!(Vec::from_slice(alloc, b"en "))?;
+    Ok(is_put_after(&mut found, tag, text))
+}
+
+/// Whether a text's tag is written so, also after another text.
+fn is_text(alloc: Global, text: &str, written: &str) -> Result<bool, Fail> {
+    let tag = tag_of(alloc, text)?;
+    Ok(is_written(alloc, &tag, written)? && is_appended(alloc, &tag, written)?)
 }
 
 #[test]
 fn tags_are_written(rt: HostRuntime) -> Result<(), Fail> {
     for (text, written) in &TEXTS {
-        let tag = tag_of(rt.alloc(), text)?;
-        let is_right = is_written(rt.alloc(), &tag, written)?
-            && is_appended(rt.alloc(), &tag, written)?;
-        assert!(rt; is_right, "{text}");
+        assert!(rt; is_text(rt.alloc(), text, written)?, "{text}");
     }
     Ok(())
 }
@@ -148,7 +126,7 @@ where
         value,
         copy,
         |answer| is_shown(alloc, answer, source.as_str()),
-        |answer| is_refused(answer),
+        Result::is_err,
     )
 }
 
@@ -167,19 +145,18 @@ fn tag_is_copied(alloc: Global, tag: &Tag) -> Result<bool, AllocError> {
     is_copied(alloc, tag, || tag.copy(alloc))
 }
 
+/// Whether a text's tag, its core and its extensions are copied.
+fn text_is_copied(alloc: Global, text: &str) -> Result<bool, Fail> {
+    Ok(tag_is_copied(alloc, &tag_of(alloc, text)?)?)
+}
+
 #[test]
 fn tags_are_copied(rt: HostRuntime) -> Result<(), Fail> {
     for text in &["de-1901-x-a", "x-a", "i-lux"] {
-        assert!(rt;
-            tag_is_copied(rt.alloc(), &tag_of(rt.alloc(), text)?)?,
-            "{text}"
-        );
+        assert!(rt; text_is_copied(rt.alloc(), text)?, "{text}");
     }
     for (text, _) in &TEXTS {
-        assert!(rt;
-            tag_is_copied(rt.alloc(), &tag_of(rt.alloc(), text)?)?,
-            "{text}"
-        );
+        assert!(rt; text_is_copied(rt.alloc(), text)?, "{text}");
     }
     Ok(())
 }
@@ -247,10 +224,10 @@ fn unicode_is_split(alloc: Global, extension: &Extension, words: &str) -> Result
         || split_u(alloc, extension),
         |answer| match answer {
             Ok(parts) =>
-                matches!(twice(|| unicode_words(alloc, parts)), Ok(found) if found.as_slice() == words.as_bytes()),
+                matches!(again!(unicode_words(alloc, parts)), Ok(found) if found.as_slice() == words.as_bytes()),
             Err(_) => false,
         },
-        |answer| is_refused(answer),
+        Result::is_err,
     )
 }
 
@@ -259,14 +236,14 @@ fn unicode_is_joined(alloc: Global, extension: &Extension) -> Result<bool, Fail>
     if extension.singleton() != b'u' {
         return Ok(false);
     }
-    let parts = twice(|| split_u(alloc, extension))?;
+    let parts = again!(split_u(alloc, extension))?;
     let whole = shown(alloc, extension)?;
     Ok(answers(
         alloc,
         &parts,
         || join_u(alloc, &parts),
         |answer| is_shown(alloc, answer, whole.as_str()),
-        |answer| is_refused(answer),
+        Result::is_err,
     )?)
 }
 
@@ -275,19 +252,27 @@ fn unicode_is_copied(alloc: Global, extension: &Extension) -> Result<bool, Fail>
     if extension.singleton() != b'u' {
         return Ok(false);
     }
-    let parts = twice(|| split_u(alloc, extension))?;
+    let parts = again!(split_u(alloc, extension))?;
     Ok(is_copied(alloc, &parts, || parts.copy(alloc))?)
+}
+
+/// Whether a `u` extension is split into parts of these words, and they are joined and copied.
+fn unicode_is_right(alloc: Global, extension: &Extension, words: &str) -> Result<bool, Fail> {
+    Ok(unicode_is_split(alloc, extension, words)?
+        && unicode_is_joined(alloc, extension)?
+        && unicode_is_copied(alloc, extension)?)
+}
+
+/// Whether the `u` extension of a text is split, joined and copied.
+fn unicode_text(alloc: Global, text: &str, words: &str) -> Result<bool, Fail> {
+    let tag = tag_of(alloc, text)?;
+    unicode_is_right(alloc, extension_of(&tag)?, words)
 }
 
 #[test]
 fn unicode_extensions(rt: HostRuntime) -> Result<(), Fail> {
     for (text, words) in &UNICODE {
-        let tag = tag_of(rt.alloc(), text)?;
-        let extension = extension_of(&tag)?;
-        let is_right = unicode_is_split(rt.alloc(), extension, words)?
-            && unicode_is_joined(rt.alloc(), extension)?
-            && unicode_is_copied(rt.alloc(), extension)?;
-        assert!(rt; is_right, "{text}");
+        assert!(rt; unicode_text(rt.alloc(), text, words)?, "{text}");
     }
     Ok(())
 }
@@ -351,7 +336,7 @@ fn transform_answers<P: Fn(&Result<TParts, TransformFault>) -> bool>(
 
 /// Whether parts of a `t` extension have these words.
 fn has_transform_words(alloc: Global, parts: &TParts, words: &str) -> bool {
-    match twice(|| transform_words(alloc, parts)) {
+    match again!(transform_words(alloc, parts)) {
         Ok(found) => found.as_slice() == words.as_bytes(),
         Err(_) => false,
     }
@@ -374,14 +359,14 @@ fn transform_is_joined(alloc: Global, extension: &Extension) -> Result<bool, Fai
     if extension.singleton() != b't' {
         return Ok(false);
     }
-    let parts = twice(|| split_t(alloc, extension))?;
+    let parts = again!(split_t(alloc, extension))?;
     let whole = shown(alloc, extension)?;
     Ok(answers(
         alloc,
         &parts,
         || join_t(alloc, &parts),
         |answer| is_shown(alloc, answer, whole.as_str()),
-        |answer| is_refused(answer),
+        Result::is_err,
     )?)
 }
 
@@ -390,34 +375,45 @@ fn transform_is_copied(alloc: Global, extension: &Extension) -> Result<bool, Fai
     if extension.singleton() != b't' {
         return Ok(false);
     }
-    let parts = twice(|| split_t(alloc, extension))?;
+    let parts = again!(split_t(alloc, extension))?;
     Ok(is_copied(alloc, &parts, || parts.copy(alloc))?)
+}
+
+/// Whether a `t` extension is split into parts of these words, and they are joined and copied.
+fn transform_is_right(alloc: Global, extension: &Extension, words: &str) -> Result<bool, Fail> {
+    Ok(transform_is_split(alloc, extension, words)?
+        && transform_is_joined(alloc, extension)?
+        && transform_is_copied(alloc, extension)?)
+}
+
+/// Whether the `t` extension of a text is split, joined and copied.
+fn transform_text(alloc: Global, text: &str, words: &str) -> Result<bool, Fail> {
+    let tag = tag_of(alloc, text)?;
+    transform_is_right(alloc, extension_of(&tag)?, words)
 }
 
 #[test]
 fn transforms(rt: HostRuntime) -> Result<(), Fail> {
     for (text, words) in &TRANSFORMS {
-        let tag = tag_of(rt.alloc(), text)?;
-        let extension = extension_of(&tag)?;
-        let is_right = transform_is_split(rt.alloc(), extension, words)?
-            && transform_is_joined(rt.alloc(), extension)?
-            && transform_is_copied(rt.alloc(), extension)?;
-        assert!(rt; is_right, "{text}");
+        assert!(rt; transform_text(rt.alloc(), text, words)?, "{text}");
     }
     Ok(())
+}
+
+/// Whether the first extension of a tag has no parts.
+fn has_no_parts(alloc: Global, tag: &Tag) -> Result<bool, Fail> {
+    let Some(extension) = tag.extensions().first() else {
+        return Err(Fail::from("no extension"));
+    };
+    Ok(transform_answers(alloc, extension, |answer| {
+        matches!(answer, Err(TransformFault::BadTransform))
+    })?)
 }
 
 #[test]
 fn transforms_without_parts(rt: HostRuntime) -> Result<(), Fail> {
     for text in &NO_PARTS {
-        let tag = tag_of(rt.alloc(), text)?;
-        let Some(extension) = tag.extensions().first() else {
-            return Err(Fail::from("no extension"));
-        };
-        let is_refused = transform_answers(rt.alloc(), extension, |answer| {
-            matches!(answer, Err(TransformFault::BadTransform))
-        })?;
-        assert!(rt; is_refused, "{text}");
+        assert!(rt; has_no_parts(rt.alloc(), &tag_of(rt.alloc(), text)?)?, "{text}");
     }
     Ok(())
 }

@@ -2,13 +2,13 @@
 use super::words::{ROWS, tag_of, words_of};
 use lt_parts::parts;
 use lt_tag::{Tag, write_tag};
-use lt_testing::{answers, twice};
+use lt_testing::{again, answers};
 use std::alloc::{AllocError, Global};
 use std::test::Fail;
 
 /// Whether the parts of a tag are these, or a growth was refused and they are these when asked again.
 fn are_found(alloc: Global, tag: &Tag, words: &str) -> Result<bool, AllocError> {
-    let Ok(text) = twice(|| write_tag(alloc, tag)) else {
+    let Ok(text) = again!(write_tag(alloc, tag)) else {
         return Ok(false);
     };
     answers(
@@ -17,10 +17,10 @@ fn are_found(alloc: Global, tag: &Tag, words: &str) -> Result<bool, AllocError> 
         || parts(alloc, tag),
         |answer| match answer {
             Ok(found) =>
-                matches!(twice(|| words_of(alloc, found, &text)), Ok(shown) if shown.as_slice() == words.as_bytes()),
+                matches!(again!(words_of(alloc, found, &text)), Ok(shown) if shown.as_slice() == words.as_bytes()),
             Err(_) => false,
         },
-        |answer| answer.is_err(),
+        Result::is_err,
     )
 }
 
@@ -28,8 +28,8 @@ fn are_found(alloc: Global, tag: &Tag, words: &str) -> Result<bool, AllocError> 
 fn parts_are_found(rt: HostRuntime) -> Result<(), Fail> {
     let alloc = rt.alloc();
     for (text, words) in &ROWS {
-        let tag = twice(|| tag_of(alloc, text))?;
-        let are_these = twice(|| are_found(alloc, &tag, words))?;
+        let tag = again!(tag_of(alloc, text))?;
+        let are_these = again!(are_found(alloc, &tag, words))?;
         assert!(rt; are_these, "{text}");
     }
     Ok(())

@@ -1,7 +1,7 @@
 //! Filtering and lookup by priority lists.
 use super::{ranges_of, tags_of};
 use lt_range::{LanguageRange, filter_basic, filter_extended, lookup};
-use lt_testing::twice;
+use lt_testing::again;
 use std::test::Fail;
 
 /// Tags that are offered.
@@ -19,9 +19,9 @@ const TAGS: [&str; 7] = [
 fn places_go_by_priority(rt: HostRuntime) -> Result<(), Fail> {
     let tags = tags_of(rt.alloc(), &TAGS)?;
     let ranges = ranges_of(rt.alloc(), &["fr", "de-DE", "de"])?;
-    let basic = twice(|| filter_basic(rt.alloc(), &ranges, &tags))?;
+    let basic = again!(filter_basic(rt.alloc(), &ranges, &tags))?;
     assert!(rt; basic.as_slice() == [2, 4, 3, 5, 1, 6].as_slice());
-    let extended = twice(|| filter_extended(rt.alloc(), &ranges, &tags))?;
+    let extended = again!(filter_extended(rt.alloc(), &ranges, &tags))?;
     assert!(rt; extended.as_slice() == [2, 4, 1, 3, 5, 6].as_slice());
     Ok(())
 }
@@ -48,7 +48,7 @@ fn first_range_that_finds_a_tag(rt: HostRuntime) -> Result<(), Fail> {
 fn a_tag_is_a_range(rt: HostRuntime) -> Result<(), Fail> {
     let tags = tags_of(rt.alloc(), &TAGS)?;
     for (place, tag) in tags.iter().enumerate() {
-        let range = twice(|| LanguageRange::of_tag(rt.alloc(), tag))?;
+        let range = again!(LanguageRange::of_tag(rt.alloc(), tag))?;
         let is_same = range.named() == tag.subtags() && !range.begins_wild();
         assert!(rt; is_same && range.falls_back_to(tag), "{place}");
     }

@@ -2,7 +2,7 @@
 use super::{ranges_of, tags_of};
 use lt_range::laws::ranges_are_read_by_their_grammar;
 use lt_range::{LanguageRange, TagSubtags, lookup};
-use lt_testing::twice;
+use lt_testing::again;
 use std::alloc::Global;
 use std::test::Fail;
 
@@ -159,8 +159,8 @@ fn marks(
     range: &LanguageRange,
     tags: &[TagSubtags],
 ) -> Result<(String, String), Fail> {
-    let mut basic = twice(|| String::with_capacity(alloc, 32))?;
-    let mut extended = twice(|| String::with_capacity(alloc, 32))?;
+    let mut basic = again!(String::with_capacity(alloc, 32))?;
+    let mut extended = again!(String::with_capacity(alloc, 32))?;
     for tag in tags {
         basic.push_str(if range.matches_basic(tag) { "#" } else { "." })?;
         extended.push_str(if range.matches_extended(tag) {
