@@ -7,7 +7,7 @@ use lt_tag::{
     Class, Core, Extension, OutOfMemory, TParts, Tag, TagFault, TagFaultKind, TransformFault,
     UParts, append_tag, join_t, join_u, read_tag, split_t, split_u, write_tag,
 };
-use lt_testing::{again, answers, mark, shown};
+use lt_testing::{again, answers, gives, mark, shown};
 use std::alloc::{AllocError, Global};
 use std::fmt::Debug;
 use std::test::Fail;
@@ -22,56 +22,57 @@ fn has_text(alloc: Global, tag: &Tag, text: &str) -> bool {
     matches!(again!(write_tag(alloc, tag)), Ok(written) if written.as_slice() == text.as_bytes())
 }
 
-/// Whether reading a text answers as it should.
-fn is_read<P: Fn(&Result<Tag, TagFault>) -> bool>(
-    alloc: Global,
-    text: &str,
-    is_answer: P,
-) -> Result<bool, AllocError>
-    requires { P.IsAlwaysCallable is_answer }
-{
+/// Whether reading a text was refused a growth.
+fn is_refusal(answer: &Result<Tag, TagFault>) -> bool {
     let refusal = TagFault {
         kind: TagFaultKind::OutOfMemory,
         place: 0,
     };
-    answers(
+    matches!(answer, Err(fault) if *fault == refusal)
+}
+
+/// Whether a text is read as a tag that is written so.
+fn is_read(alloc: Global, text: &str, written: &str) -> Result<bool, AllocError> {
+    Ok(gives!(
         alloc,
         &text,
-        || read_tag(alloc, text.as_bytes()),
-        is_answer,
-        |answer| matches!(answer, Err(fault) if *fault == refusal),
-    )
+        read_tag(alloc, text.as_bytes()),
+        |answer| matches!(answer, Ok(tag) if has_text(alloc, tag, written)),
+        |answer| is_refusal(answer),
+    ))
+}
+
+/// Whether a text has a fault of this name at this place.
+fn is_at_fault(alloc: Global, text: &str, name: &str, place: u32) -> Result<bool, AllocError> {
+    Ok(gives!(
+        alloc,
+        &text,
+        read_tag(alloc, text.as_bytes()),
+        |answer| matches!(answer, Err(fault) if fault.kind.name() == name && fault.place == place),
+        |answer| is_refusal(answer),
+    ))
 }
 
 #[test]
 fn tags_are_read(rt: HostRuntime) -> Result<(), Fail> {
-    let alloc = rt.alloc();
     for (text, written) in &TEXTS {
-        let is_tag = is_read(alloc, text, |answer| match answer {
-            Ok(tag) => has_text(alloc, tag, written),
-            Err(_) => false,
-        })?;
-        assert!(rt; is_tag, "{text}");
+        assert!(rt; is_read(rt.alloc(), text, written)?, "{text}");
     }
     for (text, name, place) in &FAULTS {
-        let is_fault = is_read(alloc, text, |answer| match answer {
-            Ok(_) => false,
-            Err(fault) => fault.kind.name() == *name && fault.place == *place,
-        })?;
-        assert!(rt; is_fault, "{text}");
+        assert!(rt; is_at_fault(rt.alloc(), text, name, *place)?, "{text}");
     }
     Ok(())
 }
 
 /// Whether a tag is written so.
 fn is_written(alloc: Global, tag: &Tag, text: &str) -> Result<bool, AllocError> {
-    answers(
+    Ok(gives!(
         alloc,
         tag,
-        || write_tag(alloc, tag),
+        write_tag(alloc, tag),
         |answer| matches!(answer, Ok(written) if written.as_slice() == text.as_bytes()),
-        Result::is_err,
-    )
+        |answer| answer.is_err(),
+    ))
 }
 
 /// Whether a tag's text is put after another; and where a growth was refused, whether that is left as it
@@ -213,22 +214,23 @@ const UNICODE: [(&str, &str); 4] = [
     ("en-u-foo-nu-latn", " attribute foo key nu type latn"),
 ];
 
+/// Whether parts of a `u` extension have these words.
+fn has_unicode_words(alloc: Global, parts: &UParts, words: &str) -> bool {
+    matches!(again!(unicode_words(alloc, parts)), Ok(found) if found.as_slice() == words.as_bytes())
+}
+
 /// Whether a `u` extension is split into parts of these words.
 fn unicode_is_split(alloc: Global, extension: &Extension, words: &str) -> Result<bool, AllocError> {
     if extension.singleton() != b'u' {
         return Ok(false);
     }
-    answers(
+    Ok(gives!(
         alloc,
         extension,
-        || split_u(alloc, extension),
-        |answer| match answer {
-            Ok(parts) =>
-                matches!(again!(unicode_words(alloc, parts)), Ok(found) if found.as_slice() == words.as_bytes()),
-            Err(_) => false,
-        },
-        Result::is_err,
-    )
+        split_u(alloc, extension),
+        |answer| matches!(answer, Ok(parts) if has_unicode_words(alloc, parts, words)),
+        |answer| answer.is_err(),
+    ))
 }
 
 /// Whether the parts of a `u` extension are joined to it.
@@ -238,13 +240,13 @@ fn unicode_is_joined(alloc: Global, extension: &Extension) -> Result<bool, Fail>
     }
     let parts = again!(split_u(alloc, extension))?;
     let whole = shown(alloc, extension)?;
-    Ok(answers(
+    Ok(gives!(
         alloc,
         &parts,
-        || join_u(alloc, &parts),
+        join_u(alloc, &parts),
         |answer| is_shown(alloc, answer, whole.as_str()),
-        Result::is_err,
-    )?)
+        |answer| answer.is_err(),
+    ))
 }
 
 /// Whether the parts of a `u` extension are copied.
@@ -258,9 +260,11 @@ fn unicode_is_copied(alloc: Global, extension: &Extension) -> Result<bool, Fail>
 
 /// Whether a `u` extension is split into parts of these words, and they are joined and copied.
 fn unicode_is_right(alloc: Global, extension: &Extension, words: &str) -> Result<bool, Fail> {
-    Ok(unicode_is_split(alloc, extension, words)?
-        && unicode_is_joined(alloc, extension)?
-        && unicode_is_copied(alloc, extension)?)
+    Ok(
+        unicode_is_split(alloc, extension, words)?
+            && unicode_is_joined(alloc, extension)?
+            && unicode_is_copied(alloc, extension)?,
+    )
 }
 
 /// Whether the `u` extension of a text is split, joined and copied.
@@ -314,26 +318,6 @@ const NO_PARTS: [&str; 8] = [
     "en-t-m0-aaa-de",
 ];
 
-/// Whether splitting a `t` extension answers as it should.
-fn transform_answers<P: Fn(&Result<TParts, TransformFault>) -> bool>(
-    alloc: Global,
-    extension: &Extension,
-    is_answer: P,
-) -> Result<bool, AllocError>
-    requires { P.IsAlwaysCallable is_answer }
-{
-    if extension.singleton() != b't' {
-        return Ok(false);
-    }
-    answers(
-        alloc,
-        extension,
-        || split_t(alloc, extension),
-        is_answer,
-        |answer| matches!(answer, Err(TransformFault::OutOfMemory)),
-    )
-}
-
 /// Whether parts of a `t` extension have these words.
 fn has_transform_words(alloc: Global, parts: &TParts, words: &str) -> bool {
     match again!(transform_words(alloc, parts)) {
@@ -348,10 +332,30 @@ fn transform_is_split(
     extension: &Extension,
     words: &str,
 ) -> Result<bool, AllocError> {
-    transform_answers(alloc, extension, |answer| match answer {
-        Ok(parts) => has_transform_words(alloc, parts, words),
-        Err(_) => false,
-    })
+    if extension.singleton() != b't' {
+        return Ok(false);
+    }
+    Ok(gives!(
+        alloc,
+        extension,
+        split_t(alloc, extension),
+        |answer| matches!(answer, Ok(parts) if has_transform_words(alloc, parts, words)),
+        |answer| matches!(answer, Err(TransformFault::OutOfMemory)),
+    ))
+}
+
+/// Whether a `t` extension has no parts.
+fn is_not_split(alloc: Global, extension: &Extension) -> Result<bool, AllocError> {
+    if extension.singleton() != b't' {
+        return Ok(false);
+    }
+    Ok(gives!(
+        alloc,
+        extension,
+        split_t(alloc, extension),
+        |answer| matches!(answer, Err(TransformFault::BadTransform)),
+        |answer| matches!(answer, Err(TransformFault::OutOfMemory)),
+    ))
 }
 
 /// Whether the parts of a `t` extension are joined to it.
@@ -361,13 +365,13 @@ fn transform_is_joined(alloc: Global, extension: &Extension) -> Result<bool, Fai
     }
     let parts = again!(split_t(alloc, extension))?;
     let whole = shown(alloc, extension)?;
-    Ok(answers(
+    Ok(gives!(
         alloc,
         &parts,
-        || join_t(alloc, &parts),
+        join_t(alloc, &parts),
         |answer| is_shown(alloc, answer, whole.as_str()),
-        Result::is_err,
-    )?)
+        |answer| answer.is_err(),
+    ))
 }
 
 /// Whether the parts of a `t` extension are copied.
@@ -381,9 +385,11 @@ fn transform_is_copied(alloc: Global, extension: &Extension) -> Result<bool, Fai
 
 /// Whether a `t` extension is split into parts of these words, and they are joined and copied.
 fn transform_is_right(alloc: Global, extension: &Extension, words: &str) -> Result<bool, Fail> {
-    Ok(transform_is_split(alloc, extension, words)?
-        && transform_is_joined(alloc, extension)?
-        && transform_is_copied(alloc, extension)?)
+    Ok(
+        transform_is_split(alloc, extension, words)?
+            && transform_is_joined(alloc, extension)?
+            && transform_is_copied(alloc, extension)?,
+    )
 }
 
 /// Whether the `t` extension of a text is split, joined and copied.
@@ -405,15 +411,16 @@ fn has_no_parts(alloc: Global, tag: &Tag) -> Result<bool, Fail> {
     let Some(extension) = tag.extensions().first() else {
         return Err(Fail::from("no extension"));
     };
-    Ok(transform_answers(alloc, extension, |answer| {
-        matches!(answer, Err(TransformFault::BadTransform))
-    })?)
+    Ok(is_not_split(alloc, extension)?)
 }
 
 #[test]
 fn transforms_without_parts(rt: HostRuntime) -> Result<(), Fail> {
     for text in &NO_PARTS {
-        assert!(rt; has_no_parts(rt.alloc(), &tag_of(rt.alloc(), text)?)?, "{text}");
+        assert!(rt;
+            has_no_parts(rt.alloc(), &tag_of(rt.alloc(), text)?)?,
+            "{text}"
+        );
     }
     Ok(())
 }

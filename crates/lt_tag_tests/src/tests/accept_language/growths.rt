@@ -1,18 +1,18 @@
 //! What a call does where a growth of memory is refused.
 use lt_accept::{AcceptFaultKind, AcceptLanguage};
-use lt_testing::{again, answers};
+use lt_testing::{again, gives};
 use std::alloc::{AllocError, Global};
 use std::test::Fail;
 
 /// Whether a text is read as a header of 21 acceptable ranges and two others.
 fn is_read(alloc: Global, text: &str) -> Result<bool, AllocError> {
-    answers(
+    Ok(gives!(
         alloc,
         &text,
-        || AcceptLanguage::read(alloc, text.as_bytes()),
+        AcceptLanguage::read(alloc, text.as_bytes()),
         |answer| matches!(answer, Ok(accept) if accept.acceptable.len() == 21 && accept.not_acceptable.len() == 2),
         |answer| matches!(answer, Err(fault) if fault.kind == AcceptFaultKind::OutOfMemory),
-    )
+    ))
 }
 
 #[test]

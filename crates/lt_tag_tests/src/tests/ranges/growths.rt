@@ -2,19 +2,19 @@
 use super::{ranges_of, subtags_of, tags_of};
 use lt_range::{LanguageRange, RangeFault, TagSubtags, filter_extended};
 use lt_tag::{Tag, read_tag};
-use lt_testing::{again, answers};
+use lt_testing::{again, gives};
 use std::alloc::{AllocError, Global};
 use std::test::Fail;
 
 /// Whether a text is read as a range of nine subtags.
 fn is_read(alloc: Global, text: &str) -> Result<bool, AllocError> {
-    answers(
+    Ok(gives!(
         alloc,
         &text,
-        || LanguageRange::read(alloc, text.as_bytes()),
+        LanguageRange::read(alloc, text.as_bytes()),
         |answer| matches!(answer, Ok(range) if range.named().len() == 9),
         |answer| matches!(answer, Err(RangeFault::OutOfMemory)),
-    )
+    ))
 }
 
 #[test]
@@ -25,13 +25,13 @@ fn a_range_is_read(rt: HostRuntime) -> Result<(), Fail> {
 
 /// Whether a tag has six subtags.
 fn has_six(alloc: Global, tag: &Tag) -> Result<bool, AllocError> {
-    answers(
+    Ok(gives!(
         alloc,
         tag,
-        || TagSubtags::of(alloc, tag),
+        TagSubtags::of(alloc, tag),
         |answer| matches!(answer, Ok(subtags) if subtags.subtags().len() == 6),
-        Result::is_err,
-    )
+        |answer| answer.is_err(),
+    ))
 }
 
 #[test]
@@ -48,13 +48,13 @@ fn are_found(
     tags: &Vec<TagSubtags>,
     places: &[usize],
 ) -> Result<bool, AllocError> {
-    answers(
+    Ok(gives!(
         alloc,
         tags,
-        || filter_extended(alloc, ranges, tags),
+        filter_extended(alloc, ranges, tags),
         |answer| matches!(answer, Ok(found) if found.as_slice() == places),
-        Result::is_err,
-    )
+        |answer| answer.is_err(),
+    ))
 }
 
 #[test]
@@ -67,13 +67,13 @@ fn places_are_found(rt: HostRuntime) -> Result<(), Fail> {
 
 /// Whether a tag's range has its subtags.
 fn is_same(alloc: Global, tag: &TagSubtags) -> Result<bool, AllocError> {
-    answers(
+    Ok(gives!(
         alloc,
         tag,
-        || LanguageRange::of_tag(alloc, tag),
+        LanguageRange::of_tag(alloc, tag),
         |answer| matches!(answer, Ok(range) if range.named() == tag.subtags()),
-        Result::is_err,
-    )
+        |answer| answer.is_err(),
+    ))
 }
 
 #[test]
