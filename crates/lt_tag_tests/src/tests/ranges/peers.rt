@@ -180,20 +180,38 @@ fn found(ranges: &[LanguageRange], tags: &[TagSubtags]) -> &'static str {
     }
 }
 
+/// Whether a range matches the tags with these marks.
+fn has_marks(
+    alloc: Global,
+    range: &LanguageRange,
+    tags: &[TagSubtags],
+    basic: &str,
+    extended: &str,
+) -> Result<bool, Fail> {
+    let (by_basic, by_extended) = marks(alloc, range, tags)?;
+    Ok(by_basic.as_str() == basic && by_extended.as_str() == extended)
+}
+
+/// Whether a range matches the tags, and lookup finds one of them, as in a row.
+fn is_as_java(
+    alloc: Global,
+    tags: &[TagSubtags],
+    row: &(&str, &str, &str, &str),
+) -> Result<bool, Fail> {
+    let (text, basic, extended, wanted) = *row;
+    let ranges = ranges_of(alloc, &[text])?;
+    let is_matched = match ranges.as_slice() {
+        [range] => has_marks(alloc, range, tags, basic, extended)?,
+        _ => false,
+    };
+    Ok(is_matched && (wanted.is_empty() || found(&ranges, tags) == wanted))
+}
+
 #[test]
 fn matches_as_java(rt: HostRuntime) -> Result<(), Fail> {
     let tags = tags_of(rt.alloc(), &TAGS)?;
-    for (text, basic, extended, wanted) in &ROWS {
-        let ranges = ranges_of(rt.alloc(), &[*text])?;
-        for range in &ranges {
-            let (by_basic, by_extended) = marks(rt.alloc(), range, &tags)?;
-            assert!(rt; by_basic.as_str() == *basic, "{text}");
-            assert!(rt; by_extended.as_str() == *extended, "{text}");
-        }
-        assert!(rt;
-            wanted.is_empty() || found(&ranges, &tags) == *wanted,
-            "{text}"
-        );
+    for row in &ROWS {
+        assert!(rt; is_as_java(rt.alloc(), &tags, row)?, "{}", row.0);
     }
     Ok(())
 }
