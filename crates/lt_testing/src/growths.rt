@@ -5,6 +5,17 @@ use std::alloc::{AllocError, Global};
 use std::fmt::Debug;
 
 /// What a call answers, made again where it is refused.
+#[macro_export]
+macro_rules! again {
+    ($call:expr) => {
+        match $call {
+            Err(_) => $call,
+            made => made,
+        }
+    };
+}
+
+/// What a call answers, made again where it is refused.
 pub fn twice<T, E: Drop, C: Fn() -> Result<T, E>>(call: C) -> Result<T, E>
     requires { C.IsAlwaysCallable call }
     ensures { C.post call result }
@@ -69,6 +80,26 @@ where
     let answer = call();
     let is_kept = shown(alloc, arguments)?.as_str() == before.as_str();
     Ok(is_kept && (is_answer(&answer) || (is_refusal(&answer) && is_answer(&call()))))
+}
+
+/// Whether a call gives its answer, as `answers` tells it, with no closure: the three are expressions.
+/// The function around it returns what tells that memory ran out.
+#[macro_export]
+macro_rules! gives {
+    ($alloc:expr, $arguments:expr, $call:expr, |$answer:ident| $is_answer:expr, |$told:ident| $is_refusal:expr $(,)?) => {{
+        let before = $crate::shown($alloc, $arguments)?;
+        let mut made = $call;
+        let is_kept = $crate::shown($alloc, $arguments)?.as_str() == before.as_str();
+        let is_refusal = {
+            let $told = &made;
+            $is_refusal
+        };
+        if is_kept && is_refusal {
+            made = $call;
+        }
+        let $answer = &made;
+        is_kept && $is_answer
+    }};
 }
 
 /// Marks where calls begin that take no memory: `bench/growth.py` refuses this growth, which is larger

@@ -4,10 +4,10 @@ mod growths;
 mod headers;
 
 use lt_accept::{AcceptFault, AcceptLanguage};
-use lt_testing::twice;
+use lt_testing::again;
 use std::alloc::Global;
 
 /// What a header says.
 fn accept_of(alloc: Global, text: &str) -> Result<AcceptLanguage<'_>, AcceptFault> {
-    twice(|| AcceptLanguage::read(alloc, text.as_bytes()))
+    again!(AcceptLanguage::read(alloc, text.as_bytes()))
 }

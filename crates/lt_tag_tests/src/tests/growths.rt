@@ -7,122 +7,101 @@ use lt_tag::{
     Class, Core, Extension, OutOfMemory, TParts, Tag, TagFault, TagFaultKind, TransformFault,
     UParts, append_tag, join_t, join_u, read_tag, split_t, split_u, write_tag,
 };
-use lt_testing::{answers, mark, shown, twice};
+use lt_testing::{again, answers, gives, mark, shown};
 use std::alloc::{AllocError, Global};
 use std::fmt::Debug;
 use std::test::Fail;
 
-/// Whether a call makes of its argument what it should; and where a growth was refused, whether it
-/// leaves it as it was, and then makes the same of it.
-fn changes<A, E, C, P>(
-    alloc: Global,
-    argument: &mut A,
-    call: C,
-    is_changed: P,
-) -> Result<bool, AllocError>
-where
-    A: Debug,
-    E: Drop,
-    C: Fn(&mut A) -> Result<(), E>,
-    P: Fn(&A) -> bool,
-    requires call { C.IsAlwaysCallable call }
-    requires changed { P.IsAlwaysCallable is_changed }
-{
-    let before = shown(alloc, argument)?;
-    if call(argument).is_err() {
-        let is_kept = shown(alloc, argument)?.as_str() == before.as_str();
-        if !is_kept || call(argument).is_err() {
-            return Ok(false);
-        }
-    }
-    Ok(is_changed(argument))
-}
-
-/// Whether a call is refused where memory runs out.
-fn is_refused<T>(answer: &Result<T, OutOfMemory>) -> bool {
-    answer.is_err()
-}
-
 /// The tag of a text.
 fn tag_of(alloc: Global, text: &str) -> Result<Tag, TagFault> {
-    twice(|| read_tag(alloc, text.as_bytes()))
+    again!(read_tag(alloc, text.as_bytes()))
 }
 
 /// Whether a tag's text is this one.
 fn has_text(alloc: Global, tag: &Tag, text: &str) -> bool {
-    matches!(twice(|| write_tag(alloc, tag)), Ok(written) if written.as_slice() == text.as_bytes())
+    matches!(again!(write_tag(alloc, tag)), Ok(written) if written.as_slice() == text.as_bytes())
 }
 
-/// Whether reading a text answers as it should.
-fn is_read<P: Fn(&Result<Tag, TagFault>) -> bool>(
-    alloc: Global,
-    text: &str,
-    is_answer: P,
-) -> Result<bool, AllocError>
-    requires { P.IsAlwaysCallable is_answer }
-{
+/// Whether reading a text was refused a growth.
+fn is_refusal(answer: &Result<Tag, TagFault>) -> bool {
     let refusal = TagFault {
         kind: TagFaultKind::OutOfMemory,
         place: 0,
     };
-    answers(
+    matches!(answer, Err(fault) if *fault == refusal)
+}
+
+/// Whether a text is read as a tag that is written so.
+fn is_read(alloc: Global, text: &str, written: &str) -> Result<bool, AllocError> {
+    Ok(gives!(
         alloc,
         &text,
-        || read_tag(alloc, text.as_bytes()),
-        is_answer,
-        |answer| matches!(answer, Err(fault) if *fault == refusal),
-    )
+        read_tag(alloc, text.as_bytes()),
+        |answer| matches!(answer, Ok(tag) if has_text(alloc, tag, written)),
+        |answer| is_refusal(answer),
+    ))
+}
+
+/// Whether a text has a fault of this name at this place.
+fn is_at_fault(alloc: Global, text: &str, name: &str, place: u32) -> Result<bool, AllocError> {
+    Ok(gives!(
+        alloc,
+        &text,
+        read_tag(alloc, text.as_bytes()),
+        |answer| matches!(answer, Err(fault) if fault.kind.name() == name && fault.place == place),
+        |answer| is_refusal(answer),
+    ))
 }
 
 #[test]
 fn tags_are_read(rt: HostRuntime) -> Result<(), Fail> {
-    let alloc = rt.alloc();
     for (text, written) in &TEXTS {
-        let is_tag = is_read(alloc, text, |answer| match answer {
-            Ok(tag) => has_text(alloc, tag, written),
-            Err(_) => false,
-        })?;
-        assert!(rt; is_tag, "{text}");
+        assert!(rt; is_read(rt.alloc(), text, written)?, "{text}");
     }
     for (text, name, place) in &FAULTS {
-        let is_fault = is_read(alloc, text, |answer| match answer {
-            Ok(_) => false,
-            Err(fault) => fault.kind.name() == *name && fault.place == *place,
-        })?;
-        assert!(rt; is_fault, "{text}");
+        assert!(rt; is_at_fault(rt.alloc(), text, name, *place)?, "{text}");
     }
     Ok(())
 }
 
 /// Whether a tag is written so.
 fn is_written(alloc: Global, tag: &Tag, text: &str) -> Result<bool, AllocError> {
-    answers(
+    Ok(gives!(
         alloc,
         tag,
-        || write_tag(alloc, tag),
+        write_tag(alloc, tag),
         |answer| matches!(answer, Ok(written) if written.as_slice() == text.as_bytes()),
-        |answer| is_refused(answer),
-    )
+        |answer| answer.is_err(),
+    ))
+}
+
+/// Whether a tag's text is put after another; and where a growth was refused, whether that is left as it
+/// was, and the tag's text is then put after it.
+fn is_put_after(found: &mut Vec<u8>, tag: &Tag, text: &str) -> bool {
+    if append_tag(found, tag).is_err()
+        && (found.as_slice() != b"en ".as_slice() || append_tag(found, tag).is_err())
+    {
+        return false;
+    }
+    found.strip_prefix(b"en ") == Some(text.as_bytes())
 }
 
 /// Whether a tag's text is put after another.
 fn is_appended(alloc: Global, tag: &Tag, text: &str) -> Result<bool, AllocError> {
-    let mut found = twice(|| Vec::from_slice(alloc, b"en "))?;
-    changes(
-        alloc,
-        &mut found,
-        |found| append_tag(found, tag),
-        |found| found.strip_prefix(b"en ") == Some(text.as_bytes()),
-    )
+    let mut found = again!(Vec::from_slice(alloc, b"en "))?;
+    Ok(is_put_after(&mut found, tag, text))
+}
+
+/// Whether a text's tag is written so, also after another text.
+fn is_text(alloc: Global, text: &str, written: &str) -> Result<bool, Fail> {
+    let tag = tag_of(alloc, text)?;
+    Ok(is_written(alloc, &tag, written)? && is_appended(alloc, &tag, written)?)
 }
 
 #[test]
 fn tags_are_written(rt: HostRuntime) -> Result<(), Fail> {
     for (text, written) in &TEXTS {
-        let tag = tag_of(rt.alloc(), text)?;
-        let is_right = is_written(rt.alloc(), &tag, written)?
-            && is_appended(rt.alloc(), &tag, written)?;
-        assert!(rt; is_right, "{text}");
+        assert!(rt; is_text(rt.alloc(), text, written)?, "{text}");
     }
     Ok(())
 }
@@ -148,7 +127,7 @@ where
         value,
         copy,
         |answer| is_shown(alloc, answer, source.as_str()),
-        |answer| is_refused(answer),
+        Result::is_err,
     )
 }
 
@@ -167,19 +146,18 @@ fn tag_is_copied(alloc: Global, tag: &Tag) -> Result<bool, AllocError> {
     is_copied(alloc, tag, || tag.copy(alloc))
 }
 
+/// Whether a text's tag, its core and its extensions are copied.
+fn text_is_copied(alloc: Global, text: &str) -> Result<bool, Fail> {
+    Ok(tag_is_copied(alloc, &tag_of(alloc, text)?)?)
+}
+
 #[test]
 fn tags_are_copied(rt: HostRuntime) -> Result<(), Fail> {
     for text in &["de-1901-x-a", "x-a", "i-lux"] {
-        assert!(rt;
-            tag_is_copied(rt.alloc(), &tag_of(rt.alloc(), text)?)?,
-            "{text}"
-        );
+        assert!(rt; text_is_copied(rt.alloc(), text)?, "{text}");
     }
     for (text, _) in &TEXTS {
-        assert!(rt;
-            tag_is_copied(rt.alloc(), &tag_of(rt.alloc(), text)?)?,
-            "{text}"
-        );
+        assert!(rt; text_is_copied(rt.alloc(), text)?, "{text}");
     }
     Ok(())
 }
@@ -236,22 +214,23 @@ const UNICODE: [(&str, &str); 4] = [
     ("en-u-foo-nu-latn", " attribute foo key nu type latn"),
 ];
 
+/// Whether parts of a `u` extension have these words.
+fn has_unicode_words(alloc: Global, parts: &UParts, words: &str) -> bool {
+    matches!(again!(unicode_words(alloc, parts)), Ok(found) if found.as_slice() == words.as_bytes())
+}
+
 /// Whether a `u` extension is split into parts of these words.
 fn unicode_is_split(alloc: Global, extension: &Extension, words: &str) -> Result<bool, AllocError> {
     if extension.singleton() != b'u' {
         return Ok(false);
     }
-    answers(
+    Ok(gives!(
         alloc,
         extension,
-        || split_u(alloc, extension),
-        |answer| match answer {
-            Ok(parts) =>
-                matches!(twice(|| unicode_words(alloc, parts)), Ok(found) if found.as_slice() == words.as_bytes()),
-            Err(_) => false,
-        },
-        |answer| is_refused(answer),
-    )
+        split_u(alloc, extension),
+        |answer| matches!(answer, Ok(parts) if has_unicode_words(alloc, parts, words)),
+        |answer| answer.is_err(),
+    ))
 }
 
 /// Whether the parts of a `u` extension are joined to it.
@@ -259,15 +238,15 @@ fn unicode_is_joined(alloc: Global, extension: &Extension) -> Result<bool, Fail>
     if extension.singleton() != b'u' {
         return Ok(false);
     }
-    let parts = twice(|| split_u(alloc, extension))?;
+    let parts = again!(split_u(alloc, extension))?;
     let whole = shown(alloc, extension)?;
-    Ok(answers(
+    Ok(gives!(
         alloc,
         &parts,
-        || join_u(alloc, &parts),
+        join_u(alloc, &parts),
         |answer| is_shown(alloc, answer, whole.as_str()),
-        |answer| is_refused(answer),
-    )?)
+        |answer| answer.is_err(),
+    ))
 }
 
 /// Whether the parts of a `u` extension are copied.
@@ -275,19 +254,29 @@ fn unicode_is_copied(alloc: Global, extension: &Extension) -> Result<bool, Fail>
     if extension.singleton() != b'u' {
         return Ok(false);
     }
-    let parts = twice(|| split_u(alloc, extension))?;
+    let parts = again!(split_u(alloc, extension))?;
     Ok(is_copied(alloc, &parts, || parts.copy(alloc))?)
+}
+
+/// Whether a `u` extension is split into parts of these words, and they are joined and copied.
+fn unicode_is_right(alloc: Global, extension: &Extension, words: &str) -> Result<bool, Fail> {
+    Ok(
+        unicode_is_split(alloc, extension, words)?
+            && unicode_is_joined(alloc, extension)?
+            && unicode_is_copied(alloc, extension)?,
+    )
+}
+
+/// Whether the `u` extension of a text is split, joined and copied.
+fn unicode_text(alloc: Global, text: &str, words: &str) -> Result<bool, Fail> {
+    let tag = tag_of(alloc, text)?;
+    unicode_is_right(alloc, extension_of(&tag)?, words)
 }
 
 #[test]
 fn unicode_extensions(rt: HostRuntime) -> Result<(), Fail> {
     for (text, words) in &UNICODE {
-        let tag = tag_of(rt.alloc(), text)?;
-        let extension = extension_of(&tag)?;
-        let is_right = unicode_is_split(rt.alloc(), extension, words)?
-            && unicode_is_joined(rt.alloc(), extension)?
-            && unicode_is_copied(rt.alloc(), extension)?;
-        assert!(rt; is_right, "{text}");
+        assert!(rt; unicode_text(rt.alloc(), text, words)?, "{text}");
     }
     Ok(())
 }
@@ -329,29 +318,9 @@ const NO_PARTS: [&str; 8] = [
     "en-t-m0-aaa-de",
 ];
 
-/// Whether splitting a `t` extension answers as it should.
-fn transform_answers<P: Fn(&Result<TParts, TransformFault>) -> bool>(
-    alloc: Global,
-    extension: &Extension,
-    is_answer: P,
-) -> Result<bool, AllocError>
-    requires { P.IsAlwaysCallable is_answer }
-{
-    if extension.singleton() != b't' {
-        return Ok(false);
-    }
-    answers(
-        alloc,
-        extension,
-        || split_t(alloc, extension),
-        is_answer,
-        |answer| matches!(answer, Err(TransformFault::OutOfMemory)),
-    )
-}
-
 /// Whether parts of a `t` extension have these words.
 fn has_transform_words(alloc: Global, parts: &TParts, words: &str) -> bool {
-    match twice(|| transform_words(alloc, parts)) {
+    match again!(transform_words(alloc, parts)) {
         Ok(found) => found.as_slice() == words.as_bytes(),
         Err(_) => false,
     }
@@ -363,10 +332,30 @@ fn transform_is_split(
     extension: &Extension,
     words: &str,
 ) -> Result<bool, AllocError> {
-    transform_answers(alloc, extension, |answer| match answer {
-        Ok(parts) => has_transform_words(alloc, parts, words),
-        Err(_) => false,
-    })
+    if extension.singleton() != b't' {
+        return Ok(false);
+    }
+    Ok(gives!(
+        alloc,
+        extension,
+        split_t(alloc, extension),
+        |answer| matches!(answer, Ok(parts) if has_transform_words(alloc, parts, words)),
+        |answer| matches!(answer, Err(TransformFault::OutOfMemory)),
+    ))
+}
+
+/// Whether a `t` extension has no parts.
+fn is_not_split(alloc: Global, extension: &Extension) -> Result<bool, AllocError> {
+    if extension.singleton() != b't' {
+        return Ok(false);
+    }
+    Ok(gives!(
+        alloc,
+        extension,
+        split_t(alloc, extension),
+        |answer| matches!(answer, Err(TransformFault::BadTransform)),
+        |answer| matches!(answer, Err(TransformFault::OutOfMemory)),
+    ))
 }
 
 /// Whether the parts of a `t` extension are joined to it.
@@ -374,15 +363,15 @@ fn transform_is_joined(alloc: Global, extension: &Extension) -> Result<bool, Fai
     if extension.singleton() != b't' {
         return Ok(false);
     }
-    let parts = twice(|| split_t(alloc, extension))?;
+    let parts = again!(split_t(alloc, extension))?;
     let whole = shown(alloc, extension)?;
-    Ok(answers(
+    Ok(gives!(
         alloc,
         &parts,
-        || join_t(alloc, &parts),
+        join_t(alloc, &parts),
         |answer| is_shown(alloc, answer, whole.as_str()),
-        |answer| is_refused(answer),
-    )?)
+        |answer| answer.is_err(),
+    ))
 }
 
 /// Whether the parts of a `t` extension are copied.
@@ -390,34 +379,48 @@ fn transform_is_copied(alloc: Global, extension: &Extension) -> Result<bool, Fai
     if extension.singleton() != b't' {
         return Ok(false);
     }
-    let parts = twice(|| split_t(alloc, extension))?;
+    let parts = again!(split_t(alloc, extension))?;
     Ok(is_copied(alloc, &parts, || parts.copy(alloc))?)
+}
+
+/// Whether a `t` extension is split into parts of these words, and they are joined and copied.
+fn transform_is_right(alloc: Global, extension: &Extension, words: &str) -> Result<bool, Fail> {
+    Ok(
+        transform_is_split(alloc, extension, words)?
+            && transform_is_joined(alloc, extension)?
+            && transform_is_copied(alloc, extension)?,
+    )
+}
+
+/// Whether the `t` extension of a text is split, joined and copied.
+fn transform_text(alloc: Global, text: &str, words: &str) -> Result<bool, Fail> {
+    let tag = tag_of(alloc, text)?;
+    transform_is_right(alloc, extension_of(&tag)?, words)
 }
 
 #[test]
 fn transforms(rt: HostRuntime) -> Result<(), Fail> {
     for (text, words) in &TRANSFORMS {
-        let tag = tag_of(rt.alloc(), text)?;
-        let extension = extension_of(&tag)?;
-        let is_right = transform_is_split(rt.alloc(), extension, words)?
-            && transform_is_joined(rt.alloc(), extension)?
-            && transform_is_copied(rt.alloc(), extension)?;
-        assert!(rt; is_right, "{text}");
+        assert!(rt; transform_text(rt.alloc(), text, words)?, "{text}");
     }
     Ok(())
+}
+
+/// Whether the first extension of a tag has no parts.
+fn has_no_parts(alloc: Global, tag: &Tag) -> Result<bool, Fail> {
+    let Some(extension) = tag.extensions().first() else {
+        return Err(Fail::from("no extension"));
+    };
+    Ok(is_not_split(alloc, extension)?)
 }
 
 #[test]
 fn transforms_without_parts(rt: HostRuntime) -> Result<(), Fail> {
     for text in &NO_PARTS {
-        let tag = tag_of(rt.alloc(), text)?;
-        let Some(extension) = tag.extensions().first() else {
-            return Err(Fail::from("no extension"));
-        };
-        let is_refused = transform_answers(rt.alloc(), extension, |answer| {
-            matches!(answer, Err(TransformFault::BadTransform))
-        })?;
-        assert!(rt; is_refused, "{text}");
+        assert!(rt;
+            has_no_parts(rt.alloc(), &tag_of(rt.alloc(), text)?)?,
+            "{text}"
+        );
     }
     Ok(())
 }

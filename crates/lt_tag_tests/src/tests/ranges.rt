@@ -7,24 +7,24 @@ mod peers;
 
 use lt_range::{LanguageRange, RangeFault, TagSubtags};
 use lt_tag::read_tag;
-use lt_testing::twice;
+use lt_testing::again;
 use std::alloc::Global;
 use std::test::Fail;
 
 /// The range that a text is.
 fn range_of(alloc: Global, text: &str) -> Result<LanguageRange, RangeFault> {
-    twice(|| LanguageRange::read(alloc, text.as_bytes()))
+    again!(LanguageRange::read(alloc, text.as_bytes()))
 }
 
 /// The subtags of the tag that a text is read as.
 fn subtags_of(alloc: Global, text: &str) -> Result<TagSubtags, Fail> {
-    let tag = twice(|| read_tag(alloc, text.as_bytes()))?;
-    Ok(twice(|| TagSubtags::of(alloc, &tag))?)
+    let tag = again!(read_tag(alloc, text.as_bytes()))?;
+    Ok(again!(TagSubtags::of(alloc, &tag))?)
 }
 
 /// The ranges that texts are.
 fn ranges_of(alloc: Global, texts: &[&str]) -> Result<Vec<LanguageRange>, Fail> {
-    let mut ranges = twice(|| Vec::with_capacity(alloc, texts.len()))?;
+    let mut ranges = again!(Vec::with_capacity(alloc, texts.len()))?;
     for text in texts {
         ranges.push(range_of(alloc, text)?)?;
     }
@@ -33,7 +33,7 @@ fn ranges_of(alloc: Global, texts: &[&str]) -> Result<Vec<LanguageRange>, Fail> 
 
 /// The subtags of the tags that texts are read as.
 fn tags_of(alloc: Global, texts: &[&str]) -> Result<Vec<TagSubtags>, Fail> {
-    let mut tags = twice(|| Vec::with_capacity(alloc, texts.len()))?;
+    let mut tags = again!(Vec::with_capacity(alloc, texts.len()))?;
     for text in texts {
         tags.push(subtags_of(alloc, text)?)?;
     }

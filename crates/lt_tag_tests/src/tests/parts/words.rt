@@ -99,10 +99,17 @@ pub fn tag_of(alloc: Global, text: &str) -> Result<Tag, TagFault> {
     read_tag(alloc, text.as_bytes())
 }
 
+/// The parts of a tag with this text, in words.
+fn words_of_tag(alloc: Global, tag: &Tag, text: &[u8]) -> Result<Vec<u8>, Fail> {
+    Ok(words_of(alloc, &parts(alloc, tag)?, text)?)
+}
+
+/// The parts of a tag in words.
+fn tag_in_words(alloc: Global, tag: &Tag) -> Result<Vec<u8>, Fail> {
+    words_of_tag(alloc, tag, &write_tag(alloc, tag)?)
+}
+
 /// The parts of the tag that a text is read as, in words.
 pub fn parts_in_words(alloc: Global, text: &str) -> Result<Vec<u8>, Fail> {
-    let tag = tag_of(alloc, text)?;
-    let shown = write_tag(alloc, &tag)?;
-    let parts = parts(alloc, &tag)?;
-    Ok(words_of(alloc, &parts, &shown)?)
+    tag_in_words(alloc, &tag_of(alloc, text)?)
 }

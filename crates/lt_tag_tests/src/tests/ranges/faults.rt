@@ -1,6 +1,6 @@
 //! Texts that are no ranges.
 use lt_range::{LanguageRange, RangeFault};
-use lt_testing::twice;
+use lt_testing::again;
 use std::test::Fail;
 
 /// Texts and the names of their faults; a text without one is a range.
@@ -24,7 +24,7 @@ const ROWS: [(&str, &str); 14] = [
 #[test]
 fn leftmost_piece_at_fault(rt: HostRuntime) -> Result<(), Fail> {
     for (text, name) in &ROWS {
-        let found = match twice(|| LanguageRange::read(rt.alloc(), text.as_bytes())) {
+        let found = match again!(LanguageRange::read(rt.alloc(), text.as_bytes())) {
             Ok(_) => "",
             Err(fault) => fault.name(),
         };

@@ -2,7 +2,7 @@
 use super::{ranges_of, tags_of};
 use lt_range::laws::ranges_are_read_by_their_grammar;
 use lt_range::{LanguageRange, TagSubtags, lookup};
-use lt_testing::twice;
+use lt_testing::again;
 use std::alloc::Global;
 use std::test::Fail;
 
@@ -159,8 +159,8 @@ fn marks(
     range: &LanguageRange,
     tags: &[TagSubtags],
 ) -> Result<(String, String), Fail> {
-    let mut basic = twice(|| String::with_capacity(alloc, 32))?;
-    let mut extended = twice(|| String::with_capacity(alloc, 32))?;
+    let mut basic = again!(String::with_capacity(alloc, 32))?;
+    let mut extended = again!(String::with_capacity(alloc, 32))?;
     for tag in tags {
         basic.push_str(if range.matches_basic(tag) { "#" } else { "." })?;
         extended.push_str(if range.matches_extended(tag) {
@@ -180,20 +180,38 @@ fn found(ranges: &[LanguageRange], tags: &[TagSubtags]) -> &'static str {
     }
 }
 
+/// Whether a range matches the tags with these marks.
+fn has_marks(
+    alloc: Global,
+    range: &LanguageRange,
+    tags: &[TagSubtags],
+    basic: &str,
+    extended: &str,
+) -> Result<bool, Fail> {
+    let (by_basic, by_extended) = marks(alloc, range, tags)?;
+    Ok(by_basic.as_str() == basic && by_extended.as_str() == extended)
+}
+
+/// Whether a range matches the tags, and lookup finds one of them, as in a row.
+fn is_as_java(
+    alloc: Global,
+    tags: &[TagSubtags],
+    row: &(&str, &str, &str, &str),
+) -> Result<bool, Fail> {
+    let (text, basic, extended, wanted) = *row;
+    let ranges = ranges_of(alloc, &[text])?;
+    let is_matched = match ranges.as_slice() {
+        [range] => has_marks(alloc, range, tags, basic, extended)?,
+        _ => false,
+    };
+    Ok(is_matched && (wanted.is_empty() || found(&ranges, tags) == wanted))
+}
+
 #[test]
 fn matches_as_java(rt: HostRuntime) -> Result<(), Fail> {
     let tags = tags_of(rt.alloc(), &TAGS)?;
-    for (text, basic, extended, wanted) in &ROWS {
-        let ranges = ranges_of(rt.alloc(), &[*text])?;
-        for range in &ranges {
-            let (by_basic, by_extended) = marks(rt.alloc(), range, &tags)?;
-            assert!(rt; by_basic.as_str() == *basic, "{text}");
-            assert!(rt; by_extended.as_str() == *extended, "{text}");
-        }
-        assert!(rt;
-            wanted.is_empty() || found(&ranges, &tags) == *wanted,
-            "{text}"
-        );
+    for row in &ROWS {
+        assert!(rt; is_as_java(rt.alloc(), &tags, row)?, "{}", row.0);
     }
     Ok(())
 }
