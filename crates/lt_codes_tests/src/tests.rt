@@ -5,7 +5,7 @@ mod reading;
 mod texts;
 
 use lt_codes::{CodeTable, TableFault};
-use lt_testing::twice;
+use lt_testing::again;
 use std::alloc::{AllocError, Global};
 
 /// Rows as the Library of Congress publishes them.
@@ -20,7 +20,7 @@ qaa-qtz|||Reserved for local use|réservée à l'usage local
 
 /// The table that a text is.
 fn table_of(alloc: Global, text: &[u8]) -> Result<CodeTable, TableFault> {
-    twice(|| CodeTable::from_bytes(alloc, text))
+    again!(CodeTable::from_bytes(alloc, text))
 }
 
 /// The text with what is registered for its first subtag, or as it is, if there is memory.
@@ -34,5 +34,5 @@ fn read_text(alloc: Global, table: &CodeTable, text: &str) -> Result<Vec<u8>, Al
 
 /// The text with what is registered for its first subtag, or as it is.
 fn replaced(alloc: Global, table: &CodeTable, text: &str) -> Result<Vec<u8>, AllocError> {
-    twice(|| read_text(alloc, table, text))
+    again!(read_text(alloc, table, text))
 }

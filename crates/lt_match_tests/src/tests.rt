@@ -9,7 +9,7 @@ use lt_match::{LanguageRange, RangeRefusal, TagSubtags, canonical_range, canonic
 use lt_registry::SortedTable;
 use lt_tag::read_tag;
 use lt_test_tables::sorted_sample;
-use lt_testing::twice;
+use lt_testing::again;
 use std::alloc::Global;
 use std::test::Fail;
 
@@ -28,7 +28,7 @@ fn range_of(
     checked: &Checked<SortedTable>,
     text: &str,
 ) -> Result<LanguageRange, RangeRefusal> {
-    twice(|| canonical_range(alloc, checked, text.as_bytes()))
+    again!(canonical_range(alloc, checked, text.as_bytes()))
 }
 
 /// The subtags by which the tag is matched that a text is read as.
@@ -37,6 +37,6 @@ fn subtags_of(
     checked: &Checked<SortedTable>,
     text: &str,
 ) -> Result<TagSubtags, Fail> {
-    let tag = twice(|| read_tag(alloc, text.as_bytes()))?;
-    Ok(twice(|| canonical_subtags(alloc, checked, &tag))?)
+    let tag = again!(read_tag(alloc, text.as_bytes()))?;
+    Ok(again!(canonical_subtags(alloc, checked, &tag))?)
 }

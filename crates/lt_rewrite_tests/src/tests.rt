@@ -24,15 +24,15 @@ use lt_tag::{
     split_t, split_u,
 };
 use lt_test_tables::{sample, sample_with};
-use lt_testing::twice;
+use lt_testing::again;
 use std::alloc::Global;
 use std::test::Fail;
 
 /// A copy of the core of a text's tag.
 fn core_of(alloc: Global, text: &str) -> Result<Core, Fail> {
-    let tag = twice(|| read_tag(alloc, text.as_bytes()))?;
+    let tag = again!(read_tag(alloc, text.as_bytes()))?;
     match tag.core() {
-        Some(core) => Ok(twice(|| core.copy(alloc))?),
+        Some(core) => Ok(again!(core.copy(alloc))?),
         None => Err(Fail::from("no langtag")),
     }
 }
@@ -85,9 +85,9 @@ fn settled_u(alloc: Global, extension: &Extension) -> Result<Extension, Fail> {
     if extension.singleton() != b'u' {
         return Err(Fail::from("no u"));
     }
-    let mut parts = twice(|| split_u(alloc, extension))?;
+    let mut parts = again!(split_u(alloc, extension))?;
     settle_u(alloc, &mut parts)?;
-    Ok(twice(|| join_u(alloc, &parts))?)
+    Ok(again!(join_u(alloc, &parts))?)
 }
 
 /// The normal form of a `t` extension.
@@ -95,9 +95,9 @@ fn settled_t(alloc: Global, table: &ListTable, extension: &Extension) -> Result<
     if extension.singleton() != b't' || first_cycle(table).is_some() {
         return Err(Fail::from("no t"));
     }
-    let mut parts = twice(|| split_t(alloc, extension))?;
+    let mut parts = again!(split_t(alloc, extension))?;
     settle_t(alloc, table, &mut parts)?;
-    Ok(twice(|| join_t(alloc, &parts))?)
+    Ok(again!(join_t(alloc, &parts))?)
 }
 
 /// The normal form of a `u` or a `t` extension.
@@ -110,7 +110,7 @@ fn settled(alloc: Global, table: &ListTable, extension: &Extension) -> Result<Ex
 
 /// The normal form of the one extension of a text's tag.
 fn settled_extension(alloc: Global, table: &ListTable, text: &str) -> Result<Extension, Fail> {
-    let tag = twice(|| read_tag(alloc, text.as_bytes()))?;
+    let tag = again!(read_tag(alloc, text.as_bytes()))?;
     match tag.extensions() {
         [extension] => settled(alloc, table, extension),
         _ => Err(Fail::from("not one extension")),
@@ -123,7 +123,7 @@ fn are_extensions_of(
     extensions: &[Extension],
     text: &str,
 ) -> Result<bool, TagFault> {
-    let tag = twice(|| read_tag(alloc, text.as_bytes()))?;
+    let tag = again!(read_tag(alloc, text.as_bytes()))?;
     Ok(same_extensions(extensions, tag.extensions()))
 }
 
@@ -227,7 +227,7 @@ fn settled_extensions(
     table: &ListTable,
     text: &str,
 ) -> Result<Vec<Extension>, Fail> {
-    let tag = twice(|| read_tag(alloc, text.as_bytes()))?;
+    let tag = again!(read_tag(alloc, text.as_bytes()))?;
     judge(alloc, table, &tag)?;
     know_chains(table)?;
     let mut extensions = copies(alloc, tag.extensions())?;

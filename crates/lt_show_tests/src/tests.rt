@@ -8,7 +8,7 @@ use lt_registry::{Registry, SortedTable};
 use lt_show::{RecordsFault, read_records};
 use lt_tag::{Tag, read_tag};
 use lt_test_tables::sorted;
-use lt_testing::twice;
+use lt_testing::again;
 use std::alloc::Global;
 use std::test::Fail;
 
@@ -66,5 +66,5 @@ fn table_of_file(alloc: Global) -> Result<(SortedTable, Jar), Fail> {
 
 /// The tag that a text is read as.
 fn tag_of(alloc: Global, text: &str) -> Result<Tag, Fail> {
-    Ok(twice(|| read_tag(alloc, text.as_bytes()))?)
+    Ok(again!(read_tag(alloc, text.as_bytes()))?)
 }

@@ -3,23 +3,23 @@
 
 use lt_jar::read_jar;
 use lt_registry::{ListTable, Registry, SortedTable};
-use lt_testing::{changed_text, twice};
+use lt_testing::{again, changed_text};
 use std::alloc::Global;
 use std::test::Fail;
 
 /// The entries of a registry's text, which has no fault.
 pub fn registry_of(alloc: Global, text: &str) -> Result<Registry, Fail> {
-    let jar = twice(|| read_jar(alloc, text.as_bytes()))?;
+    let jar = again!(read_jar(alloc, text.as_bytes()))?;
     let records = jar.records();
     if records.len() > 100_000 {
         return Err(Fail::from("too many records"));
     }
-    Ok(twice(|| Registry::from_records(alloc, records))?)
+    Ok(again!(Registry::from_records(alloc, records))?)
 }
 
 /// The entries of the sample, with these lines in place of the record of this number, or after the last.
 fn registry_with(alloc: Global, number: usize, lines: &str) -> Result<Registry, Fail> {
-    let text = twice(|| changed_text(alloc, number, lines))?;
+    let text = again!(changed_text(alloc, number, lines))?;
     registry_of(alloc, text.as_str())
 }
 

@@ -15,20 +15,9 @@ macro_rules! again {
     };
 }
 
-/// What a call answers, made again where it is refused.
-pub fn twice<T, E: Drop, C: Fn() -> Result<T, E>>(call: C) -> Result<T, E>
-    requires { C.IsAlwaysCallable call }
-    ensures { C.post call result }
-{
-    match call() {
-        Ok(value) => Ok(value),
-        Err(_) => call(),
-    }
-}
-
 /// A value in words.
 pub fn shown<T: Debug>(alloc: Global, value: &T) -> Result<String, AllocError> {
-    twice(|| format!(in alloc; "{value:?}"))
+    again!(format!(in alloc; "{value:?}"))
 }
 
 /// Whether a value is shown in these words.

@@ -5,7 +5,7 @@
 mod growths;
 mod sample;
 
-pub use growths::{answered, answers, is_shown, mark, shown, twice};
+pub use growths::{answered, answers, is_shown, mark, shown};
 pub use sample::{
     FOLDED, HEADER, ROWS, Row, changed_text, push_record, returned_text, sample_text,
 };

@@ -10,7 +10,7 @@ use lt_check::Checked;
 use lt_registry::Lookup;
 use lt_tag::{OutOfMemory, Tag, read_tag, write_tag};
 use lt_test_tables::sorted_sample;
-use lt_testing::{answered, twice};
+use lt_testing::{again, answered};
 use std::alloc::{AllocError, Global};
 use std::process::Abort;
 use std::test::Fail;
@@ -216,9 +216,9 @@ pub(super) fn the_longest_text<L: Lookup>(
     alloc: Global,
     checked: &Checked<L>,
 ) -> Result<(), AllocError> {
-    let longest = twice(|| long_text(alloc, ""))?;
+    let longest = again!(long_text(alloc, ""))?;
     assert!(rt; comes_to(alloc, checked, longest.as_bytes(), longest.as_bytes()));
-    let longer = twice(|| long_text(alloc, "a"))?;
+    let longer = again!(long_text(alloc, "a"))?;
     assert!(rt; has_fault(alloc, checked, longer.as_bytes(), "TooLong", 0));
     Ok(())
 }
@@ -240,7 +240,7 @@ fn is_answer(
     wanted: &str,
 ) -> Result<bool, OutOfMemory> {
     match answer {
-        Ok(form) => Ok(twice(|| write_tag(alloc, &form))?.as_slice() == wanted.as_bytes()),
+        Ok(form) => Ok(again!(write_tag(alloc, &form))?.as_slice() == wanted.as_bytes()),
         Err(refusal) => Ok(refusal_name(refusal) == wanted),
     }
 }
@@ -257,7 +257,7 @@ pub fn has_form<L: Lookup>(
     text: &str,
     wanted: &str,
 ) -> Result<bool, Fail> {
-    let tag = twice(|| read_tag(alloc, text.as_bytes()))?;
+    let tag = again!(read_tag(alloc, text.as_bytes()))?;
     let answer = answered(
         alloc,
         &tag,
@@ -298,7 +298,7 @@ fn has_extlang_form<L: Lookup>(
     text: &str,
     wanted: &str,
 ) -> Result<bool, Fail> {
-    let tag = twice(|| read_tag(alloc, text.as_bytes()))?;
+    let tag = again!(read_tag(alloc, text.as_bytes()))?;
     let answer = answered(
         alloc,
         &tag,
@@ -351,8 +351,8 @@ fn compare_as<L: Lookup>(
     second: &str,
     wanted: &str,
 ) -> Result<bool, Fail> {
-    let first = twice(|| read_tag(alloc, first.as_bytes()))?;
-    let second = twice(|| read_tag(alloc, second.as_bytes()))?;
+    let first = again!(read_tag(alloc, first.as_bytes()))?;
+    let second = again!(read_tag(alloc, second.as_bytes()))?;
     Ok(compared(alloc, checked, &first, &second) == wanted)
 }
 

@@ -8,7 +8,7 @@ use lt_check::Checked;
 use lt_registry::{Lookup, proper};
 use lt_rewrite::{ApplyFault, Step, StepKind, apply};
 use lt_tag::{OutOfMemory, Tag, read_tag, write_tag};
-use lt_testing::{answered, twice};
+use lt_testing::{again, answered};
 use std::alloc::Global;
 use std::process::Abort;
 use std::test::Fail;
@@ -122,7 +122,7 @@ fn led<L: Lookup>(
         return Err(Fail::from("not proper"));
     }
     let next = applied(alloc, table, tag, step).map_err(|fault| fault.name())?;
-    if twice(|| write_tag(alloc, &next))?.as_slice() == text.as_bytes() {
+    if again!(write_tag(alloc, &next))?.as_slice() == text.as_bytes() {
         Ok(next)
     } else {
         Err(Fail::from("another text"))
@@ -137,7 +137,7 @@ fn lead_on<L: Lookup>(
     steps: &[Step],
     rows: &[Row],
 ) -> Result<bool, Fail> {
-    let mut here = twice(|| tag.copy(alloc))?;
+    let mut here = again!(tag.copy(alloc))?;
     for (step, row) in steps.iter().zip(rows) {
         here = led(alloc, table, &here, step, row.3)?;
     }
@@ -162,9 +162,9 @@ fn is_explained<L: Lookup>(
     rows: &[Row],
     last: &str,
 ) -> Result<bool, Fail> {
-    let tag = twice(|| read_tag(alloc, text.as_bytes()))?;
+    let tag = again!(read_tag(alloc, text.as_bytes()))?;
     let trace = explained(alloc, checked, &tag).map_err(|_| "an explanation")?;
-    let end = twice(|| write_tag(alloc, &trace.last))?;
+    let end = again!(write_tag(alloc, &trace.last))?;
     Ok(
         end.as_slice() == last.as_bytes()
             && lead_on(alloc, checked.table(), &tag, &trace.steps, rows)?,
@@ -185,7 +185,7 @@ fn has_no_explanation<L: Lookup>(
     checked: &Checked<L>,
     text: &str,
 ) -> Result<bool, Fail> {
-    let tag = twice(|| read_tag(alloc, text.as_bytes()))?;
+    let tag = again!(read_tag(alloc, text.as_bytes()))?;
     match explained(alloc, checked, &tag) {
         Ok(_trace) => Ok(false),
         Err(refusal) => Ok(is_unknown_language(refusal)),
@@ -301,5 +301,5 @@ pub(super) fn explanation_texts<L: Lookup>(rt: &impl Abort, alloc: Global, check
     for (text, name) in &WITHOUT_LINES {
         assert!(rt; is_refused(alloc, checked, text, name), "{text}");
     }
-    assert!(rt; matches!(twice(|| are_given(alloc, checked)), Ok(true)));
+    assert!(rt; matches!(again!(are_given(alloc, checked)), Ok(true)));
 }

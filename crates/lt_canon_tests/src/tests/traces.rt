@@ -4,7 +4,7 @@ use lt_check::Checked;
 use lt_registry::{Lookup, ValidFault, ValidFaultKind};
 use lt_rewrite::{Step, StepKind};
 use lt_tag::{TagFault, read_tag};
-use lt_testing::{answered, twice};
+use lt_testing::{again, answered};
 use std::alloc::Global;
 use std::process::Abort;
 use std::test::Fail;
@@ -51,8 +51,8 @@ fn is_verified<L: Lookup>(
     last: &str,
     wanted: Result<(), TraceFault>,
 ) -> Result<bool, Fail> {
-    let tag = twice(|| read_tag(alloc, text.as_bytes()))?;
-    let trace = twice(|| two_steps(alloc, number, last))?;
+    let tag = again!(read_tag(alloc, text.as_bytes()))?;
+    let trace = again!(two_steps(alloc, number, last))?;
     let told = (tag, trace);
     let answer = answered(
         alloc,

@@ -2,12 +2,12 @@
 use super::{ROWS, table_of};
 use lt_codes::{CodeTable, TableFaultKind};
 use lt_jar::Device;
-use lt_testing::{answers, twice};
+use lt_testing::{again, answers};
 use std::test::Fail;
 
 #[test]
 fn a_table_is_read(rt: HostRuntime) -> Result<(), Fail> {
-    let is_read = twice(|| {
+    let is_read = again!({
         answers(
             rt.alloc(),
             &ROWS,
@@ -22,7 +22,7 @@ fn a_table_is_read(rt: HostRuntime) -> Result<(), Fail> {
 
 #[test]
 fn a_table_is_read_from_a_reader(rt: HostRuntime) -> Result<(), Fail> {
-    let is_read = twice(|| {
+    let is_read = again!({
         answers(
             rt.alloc(),
             &ROWS,
@@ -38,7 +38,7 @@ fn a_table_is_read_from_a_reader(rt: HostRuntime) -> Result<(), Fail> {
 #[test]
 fn a_text_is_replaced(rt: HostRuntime) -> Result<(), Fail> {
     let table = table_of(rt.alloc(), ROWS.as_bytes()).map_err(|fault| fault.kind.name())?;
-    let is_replaced = twice(|| {
+    let is_replaced = again!({
         answers(
             rt.alloc(),
             &table,

@@ -2,7 +2,7 @@
 use super::{ROWS, replaced};
 use lt_codes::{CodeTable, TableFault};
 use lt_jar::{Device, Pieces};
-use lt_testing::twice;
+use lt_testing::again;
 use std::alloc::Global;
 use std::io::Read;
 use std::test::Fail;
@@ -23,7 +23,7 @@ fn read<R: Read + Drop>(alloc: Global, reader: R) -> Result<CodeTable, TableFaul
 #[test]
 fn a_table_is_read_in_pieces(rt: HostRuntime) -> Result<(), Fail> {
     for size in [1, 7, 65_536] {
-        let table = twice(|| read(rt.alloc(), Pieces::once(ROWS.as_bytes(), size)));
+        let table = again!(read(rt.alloc(), Pieces::once(ROWS.as_bytes(), size)));
         let table = table.map_err(|fault| fault.kind.name())?;
         let text = replaced(rt.alloc(), &table, "fre-CA")?;
         assert_eq!(rt; text.as_slice(), b"fr-CA".as_slice());
@@ -34,7 +34,7 @@ fn a_table_is_read_in_pieces(rt: HostRuntime) -> Result<(), Fail> {
 #[test]
 fn a_failed_read_is_told(rt: HostRuntime) -> Result<(), Fail> {
     for (call, line) in [(1, 1), (2, 2), (5, 3)] {
-        let answer = twice(|| read(
+        let answer = again!(read(
             rt.alloc(),
             Pieces::once(ROWS.as_bytes(), 20).failing_at(call),
         ));
@@ -45,7 +45,7 @@ fn a_failed_read_is_told(rt: HostRuntime) -> Result<(), Fail> {
 
 #[test]
 fn a_reader_without_end_is_too_long(rt: HostRuntime) -> Result<(), Fail> {
-    let answer = twice(|| {
+    let answer = again!({
         read(
             rt.alloc(),
             Pieces::for_ever(b"afa|||Languages|langues\n", 65_536),

@@ -2,7 +2,7 @@
 use super::one_by_one::SIZES;
 use super::{FAULTS, LONG_LINES, TEXTS, has_fields, is_one_field, long_line, shown as records_of};
 use lt_jar::{Device, Jar, JarFault, JarFaultKind, JarReader, Pieces, RecordRef, read_jar};
-use lt_testing::{answers, mark, returned_text, sample_text, twice};
+use lt_testing::{again, answers, mark, returned_text, sample_text};
 use std::alloc::{AllocError, Global};
 use std::io::{self, Read};
 use std::test::Fail;
@@ -54,7 +54,7 @@ const LINES_OF_FAULTS: [Lines; 8] = [&[1, 2, 3, 4], &[1], &[1, 2], &[1], &[1], &
 
 /// Whether a jar has these records, as `records_of` gives them.
 fn has_records(alloc: Global, jar: &Jar, records: &str) -> bool {
-    matches!(twice(|| records_of(alloc, jar)), Ok(found) if found.as_str() == records)
+    matches!(again!(records_of(alloc, jar)), Ok(found) if found.as_str() == records)
 }
 
 #[test]
@@ -160,7 +160,7 @@ fn runs_out_at_the_line(alloc: Global, text: &[u8]) -> bool {
 #[test]
 fn memory_runs_out_at_the_line_that_is_read(rt: HostRuntime) -> Result<(), Fail> {
     assert!(rt; runs_out_at_the_line(rt.alloc(), b"A: b\n c\n\nD: e\n%%\n%%\nF: g\n h\ni: j"));
-    let text = twice(|| sample_text(rt.alloc()))?;
+    let text = again!(sample_text(rt.alloc()))?;
     assert!(rt; runs_out_at_the_line(rt.alloc(), text.as_bytes()));
     Ok(())
 }
@@ -172,7 +172,7 @@ fn is_long_line(
     end: &str,
     is_read_whole: bool,
 ) -> Result<bool, Fail> {
-    let text = twice(|| long_line(alloc, letters, end))?;
+    let text = again!(long_line(alloc, letters, end))?;
     Ok(is_read(alloc, &text, &[1], |answer| match answer {
         Ok(jar) => is_read_whole && is_one_field(jar, letters),
         Err(fault) => {
@@ -202,14 +202,14 @@ fn is_sample(alloc: Global, jar: &Jar) -> bool {
     let sixth = "Type=language;Subtag=he;Description=Modern Hebrew";
     let last = "Type=redundant;Tag=zh-Hans";
     jar.records().len() == 47
-        && matches!(twice(|| has_fields(alloc, jar, 5, sixth)), Ok(true))
-        && matches!(twice(|| has_fields(alloc, jar, 46, last)), Ok(true))
+        && matches!(again!(has_fields(alloc, jar, 5, sixth)), Ok(true))
+        && matches!(again!(has_fields(alloc, jar, 46, last)), Ok(true))
 }
 
 #[test]
 fn the_sample_is_read(rt: HostRuntime) -> Result<(), Fail> {
     let alloc = rt.alloc();
-    let text = twice(|| returned_text(alloc))?;
+    let text = again!(returned_text(alloc))?;
     let text = text.as_bytes().strip_suffix(b"\r\n").unwrap_or(&[]);
     assert!(rt;
         answers(

@@ -4,7 +4,7 @@
 use super::records::{LINES as RECORDS, OWED as OWED_RECORDS};
 use lt_canon::Checked;
 use lt_registry::SortedTable;
-use lt_testing::{answers, sample_text, shown, twice};
+use lt_testing::{again, answers, sample_text, shown};
 use lt_tool::{Command, Counts, LineForm, ToolFault, WordsFault, read_words};
 use lt_tool_testing::{
     LINES, OWED, SECOND_OF_RECORD, SECOND_OF_ROW, answer_lines, checked_sample, command_line, ends,
@@ -141,7 +141,7 @@ fn prints_of_files(
     printed: &str,
     status: u8,
 ) -> Result<bool, Fail> {
-    let Ok(command) = twice(|| read(alloc, words)) else {
+    let Ok(command) = again!(read(alloc, words)) else {
         return Ok(false);
     };
     let is_printed = answers(
@@ -180,7 +180,7 @@ fn prints_of_sample(
     printed: &str,
     status: u8,
 ) -> Result<bool, Fail> {
-    let file = twice(|| sample_text(alloc))?;
+    let file = again!(sample_text(alloc))?;
     prints(alloc, words, &file, printed, status)
 }
 
@@ -222,7 +222,7 @@ fn tags_are_canonicalised(rt: HostRuntime) -> Result<(), Fail> {
 
 #[test]
 fn codes_are_replaced(rt: HostRuntime) -> Result<(), Fail> {
-    let file = twice(|| sample_text(rt.alloc()))?;
+    let file = again!(sample_text(rt.alloc()))?;
     let table = "chi|zho|zh|Chinese|chinois\nsgn|||Sign Languages|langues des signes\n";
     let words = ["codes", "table", "registry"];
     assert!(rt; prints_of_files(rt.alloc(), &words, (&file, table), OWED, 1)?);
@@ -410,7 +410,7 @@ fn answer_text(alloc: Global, words: &[String]) -> Result<String, AllocError> {
 
 /// Whether the answer to words begins so.
 fn are_read(alloc: Global, words: &[&str], start: &str) -> Result<bool, AllocError> {
-    let words = twice(|| command_line(alloc, words))?;
+    let words = again!(command_line(alloc, words))?;
     let text = answer_text(alloc, &words)?;
     let is_read = answers(
         alloc,

@@ -3,14 +3,14 @@ use super::checked_sample;
 use lt_canon::Refusal;
 use lt_match::{RangeRefusal, canonical_range, canonical_subtags};
 use lt_tag::read_tag;
-use lt_testing::{answers, twice};
+use lt_testing::{again, answers};
 use std::test::Fail;
 
 #[test]
 fn a_range_is_canonical(rt: HostRuntime) -> Result<(), Fail> {
     let checked = checked_sample(rt.alloc())?;
     for (text, count) in &[("zh-yue-x-a-b-c", 5), ("de-foo-x-a", 4), ("de-*-DE", 2)] {
-        let is_read = twice(|| {
+        let is_read = again!({
             answers(
                 rt.alloc(),
                 text,
@@ -27,8 +27,8 @@ fn a_range_is_canonical(rt: HostRuntime) -> Result<(), Fail> {
 #[test]
 fn subtags_are_canonical(rt: HostRuntime) -> Result<(), Fail> {
     let checked = checked_sample(rt.alloc())?;
-    let tag = twice(|| read_tag(rt.alloc(), b"zh-yue-x-a-b-c"))?;
-    let has_all = twice(|| {
+    let tag = again!(read_tag(rt.alloc(), b"zh-yue-x-a-b-c"))?;
+    let has_all = again!({
         answers(
             rt.alloc(),
             &tag,

@@ -11,7 +11,7 @@ use lt_registry::SortedTable;
 use lt_select::{Scheme, select_lines};
 use lt_stream::ToolFault;
 use lt_test_tables::{registry_of, sorted};
-use lt_testing::{changed_text, twice};
+use lt_testing::{again, changed_text};
 use std::alloc::Global;
 use std::io::{Read, Write};
 use std::test::Fail;
@@ -30,7 +30,7 @@ Subtag: HK
 
 /// The checked table of the sample and these.
 fn checked_table(alloc: Global) -> Result<Checked<SortedTable>, Fail> {
-    let text = twice(|| changed_text(alloc, 48, MORE))?;
+    let text = again!(changed_text(alloc, 48, MORE))?;
     let table = sorted(alloc, registry_of(alloc, text.as_str())?)?;
     match Checked::new(alloc, table).or_else(|rejected| Checked::new(alloc, rejected.table)) {
         Ok(checked) => Ok(checked),
@@ -60,7 +60,7 @@ fn ranges_of(
     checked: &Checked<SortedTable>,
     texts: &[&str],
 ) -> Result<Vec<LanguageRange>, Fail> {
-    Ok(twice(|| read_ranges(alloc, checked, texts))?)
+    Ok(again!(read_ranges(alloc, checked, texts))?)
 }
 
 /// How a run over the lines of a reader ends that writes to this writer.

@@ -7,7 +7,7 @@ use lt_registry::{
     ValidRefusal, proper, validate,
 };
 use lt_tag::{Tag, TagFault, read_tag};
-use lt_testing::{answers, mark, returned_text, sample_text, shown, twice};
+use lt_testing::{again, answers, mark, returned_text, sample_text, shown};
 use std::alloc::{AllocError, Global};
 use std::test::Fail;
 
@@ -30,7 +30,7 @@ fn is_made<P: Fn(&Result<Registry, RecordFault>) -> bool>(
 ) -> Result<bool, Fail>
     requires { P.IsAlwaysCallable is_answer }
 {
-    let jar = twice(|| read_jar(alloc, text.as_bytes()))?;
+    let jar = again!(read_jar(alloc, text.as_bytes()))?;
     let records = jar.records();
     if records.len() > 100_000 {
         return Err(Fail::from("too many records"));
@@ -66,7 +66,7 @@ fn entries_are_made(rt: HostRuntime) -> Result<(), Fail> {
             Err(_) => false,
         })?
     );
-    let text = twice(|| sample_text(rt.alloc()))?;
+    let text = again!(sample_text(rt.alloc()))?;
     assert!(rt;
         is_made(rt.alloc(), text.as_str(), (2, 47), |answer| match answer {
             Ok(registry) => registry.entries().len() == 46,
@@ -82,7 +82,7 @@ fn entries_are_made(rt: HostRuntime) -> Result<(), Fail> {
 fn records_in_order(rt: HostRuntime) -> Result<(), Fail> {
     let text =
         b"Type: variant\nSubtag: 1901\nPrefix: de\n%%\nType: extlang\nSubtag: yue\nPrefix: zh\n%%\nType: variant\nSubtag: hepburn\nPrefix: ja-Latn";
-    let jar = twice(|| read_jar(rt.alloc(), text))?;
+    let jar = again!(read_jar(rt.alloc(), text))?;
     let records = jar.records();
     if records.len() > 100_000 {
         return Err(Fail::from("too many records"));
@@ -179,7 +179,7 @@ fn registries_with_faults_are_read(rt: HostRuntime) -> Result<(), Fail> {
 
 #[test]
 fn registries_are_read(rt: HostRuntime) -> Result<(), Fail> {
-    let text = twice(|| returned_text(rt.alloc()))?;
+    let text = again!(returned_text(rt.alloc()))?;
     let text = text.as_str().strip_suffix("\r\n").unwrap_or("");
     let spans = ((1, 1_000), (2, 47));
     assert!(rt;
@@ -193,7 +193,7 @@ fn registries_are_read(rt: HostRuntime) -> Result<(), Fail> {
 
 /// The tag of a text.
 fn tag_of(alloc: Global, text: &str) -> Result<Tag, TagFault> {
-    twice(|| read_tag(alloc, text.as_bytes()))
+    again!(read_tag(alloc, text.as_bytes()))
 }
 
 /// Whether a table finds the subtags and the whole tags of the sample.
@@ -225,8 +225,8 @@ fn table_of(alloc: Global, registry: Registry) -> Result<SortedTable, Fail> {
 
 /// The entries of the sample.
 fn sample(alloc: Global) -> Result<Registry, Fail> {
-    let text = twice(|| sample_text(alloc))?;
-    Ok(twice(|| Registry::read(alloc, &mut Device::new(text.as_bytes())))?)
+    let text = again!(sample_text(alloc))?;
+    Ok(again!(Registry::read(alloc, &mut Device::new(text.as_bytes())))?)
 }
 
 #[test]

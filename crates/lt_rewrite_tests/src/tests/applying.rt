@@ -7,14 +7,14 @@ use lt_registry::{Lookup, proper};
 use lt_rewrite::{ApplyFault, Step, StepKind, apply};
 use lt_tag::{OutOfMemory, Tag, read_tag, write_tag};
 use lt_test_tables::sorted_sample;
-use lt_testing::twice;
+use lt_testing::again;
 use std::alloc::Global;
 use std::process::Abort;
 use std::test::Fail;
 
 /// Whether a tag is printed so.
 fn is_printed(alloc: Global, tag: &Tag, text: &str) -> Result<bool, OutOfMemory> {
-    Ok(twice(|| write_tag(alloc, tag))?.as_slice() == text.as_bytes())
+    Ok(again!(write_tag(alloc, tag))?.as_slice() == text.as_bytes())
 }
 
 /// Whether an answer is a tag that is printed so, or a fault of that name.
@@ -65,7 +65,7 @@ fn leads<L: Lookup>(
     step: Step,
     wanted: &str,
 ) -> Result<bool, Fail> {
-    let tag = twice(|| read_tag(alloc, text.as_bytes()))?;
+    let tag = again!(read_tag(alloc, text.as_bytes()))?;
     let _ = tag.extensions();
     let is_proper = is_proper_tag(alloc, table, &tag)?;
     if !is_proper {

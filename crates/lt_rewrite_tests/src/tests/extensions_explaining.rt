@@ -7,7 +7,7 @@ use super::judge;
 use lt_registry::ListTable;
 use lt_rewrite::{Step, StepKind, explain_extensions, first_cycle};
 use lt_tag::{OutOfMemory, Tag, copy_extensions, read_tag};
-use lt_testing::twice;
+use lt_testing::again;
 use std::alloc::Global;
 use std::test::Fail;
 
@@ -49,7 +49,7 @@ fn explained_tag(alloc: Global, table: &ListTable, tag: &Tag) -> Result<Vec<Step
 
 /// The steps on the extensions of a valid text whose core has one subtag.
 pub(super) fn explained(alloc: Global, table: &ListTable, text: &str) -> Result<Vec<Step>, Fail> {
-    let tag = twice(|| read_tag(alloc, text.as_bytes()))?;
+    let tag = again!(read_tag(alloc, text.as_bytes()))?;
     judge(alloc, table, &tag)?;
     if first_cycle(table).is_some() {
         return Err(Fail::from("a cycle"));

@@ -10,7 +10,7 @@ use super::{
 use lt_registry::Lookup;
 use lt_rewrite::Shortcuts;
 use lt_test_tables::sample;
-use lt_testing::twice;
+use lt_testing::again;
 use std::test::Fail;
 
 #[test]
@@ -75,7 +75,7 @@ fn shortcuts_lead_to_ends(rt: HostRuntime) -> Result<(), Fail> {
 #[test]
 fn shortcuts_tell_chains_without_end(rt: HostRuntime) -> Result<(), Fail> {
     let table = sample_with_cycle(rt.alloc())?;
-    let shortcuts = twice(|| Shortcuts::of_table(rt.alloc(), &table))?;
+    let shortcuts = again!(Shortcuts::of_table(rt.alloc(), &table))?;
     for entry in table.entries() {
         let is_on_cycle = entry.number() == 6 || entry.number() == 9;
         assert!(rt;

@@ -5,7 +5,7 @@ use lt_rewrite::{Shortcuts, first_cycle};
 use lt_subtag::Subtag;
 use lt_tag::Core;
 use lt_test_tables::sample;
-use lt_testing::twice;
+use lt_testing::again;
 use std::alloc::Global;
 use std::test::Fail;
 
@@ -17,7 +17,7 @@ pub(super) fn chain_ends_in(
     text: &str,
     end: &str,
 ) -> Result<bool, Fail> {
-    let shortcuts = twice(|| Shortcuts::of_table(alloc, table))?;
+    let shortcuts = again!(Shortcuts::of_table(alloc, table))?;
     let subtag = Subtag::read(text.as_bytes())?;
     match shortcuts.chain_end(table, kind, &subtag) {
         Ok(found) => Ok(found.bytes() == end.as_bytes()),

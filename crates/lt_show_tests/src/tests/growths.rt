@@ -3,7 +3,7 @@ use super::{read_file, table_of_file, tag_of};
 use lt_jar::JarFaultKind;
 use lt_registry::{RecordFaultKind, RegistryFault};
 use lt_show::{RecordsFault, append_rows, append_table, rows_of};
-use lt_testing::twice;
+use lt_testing::again;
 use std::alloc::Global;
 use std::test::Fail;
 
@@ -44,7 +44,7 @@ fn a_tag_is_shown(rt: HostRuntime) -> Result<(), Fail> {
     let alloc = rt.alloc();
     let (table, jar) = table_of_file(alloc)?;
     let tag = tag_of(alloc, "zh-yue")?;
-    let rows = twice(|| rows_of(alloc, &table, &tag))?;
+    let rows = again!(rows_of(alloc, &table, &tag))?;
     assert_eq!(rt; rows.len(), 3);
     let mut told = Vec::new(alloc);
     if append_table(&mut told, alloc, &table, jar.records(), &tag).is_err() {
