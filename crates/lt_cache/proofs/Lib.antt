@@ -6,4 +6,5 @@ mod SourceLemmas
 pub mod KeptEnds
 mod PieceLemmas
 mod KeysRise
+mod KeywordEnds
 mod SettledEnds

@@ -8,19 +8,20 @@ use Rattle.std.proofs.lemmas.Bool.Decides.{nat_tests}
 use Rattle.std.proofs.lemmas.List.{append_assoc, length-append, length-map}
 use Rattle.lt_subtag.specs.Bytes.{folded, is_subtag}
 use Rattle.lt_subtag.specs.Shapes.{is_singleton}
-use Rattle.lt_tag.specs.Parts.{ExtensionParts}
-use Rattle.lt_tag.specs.Extensions.{unicode}
+use Rattle.lt_tag.specs.Parts.{ExtensionParts, UForm}
+use Rattle.lt_tag.specs.Extensions.{unicode, spell_u, IsUnicode}
 use Rattle.lt_tag.specs.Lists.{list_of, pieces, longest_text}
 use Rattle.lt_tag.specs.Conventional.{conventional}
-use Rattle.lt_tag.specs.Spelling.{spell_core}
+use Rattle.lt_tag.specs.Spelling.{spell_core, IsExtension, is_extension_subtag}
 use Rattle.lt_tag.proofs.LetterLemmas.{join_pieces, list_of_is}
 use Rattle.lt_tag.proofs.ListedLemmas.{length-pieces}
+use Rattle.lt_tag.proofs.PartsLemmas.{u_extension}
 use Rattle.lt_tag.proofs.TextLemmas.{some_pieces}
 use Rattle.lt_registry.specs.Parts.{EntryParts}
 use Rattle.lt_registry.specs.Validity.{HasDistinctSource}
 use Rattle.lt_rewrite.specs.Rewriting.{IsNormalForm}
 use Rattle.lt_rewrite.specs.Orderings.{ListStep, by_swap, by_drop}
-use Rattle.lt_rewrite.specs.Extensions.{ExtensionStep, singleton_cmp}
+use Rattle.lt_rewrite.specs.Extensions.{UnicodeStep, singleton_cmp}
 use Rattle.lt_rewrite.proofs.NormalForms.{normal_is_form, rest_is_form, star_rests}
 use Rattle.lt_rewrite.proofs.ExtensionForms.{extension, extension_formed, extensions_ordered, unicode_settled}
 use Rattle.lt_check.specs.Conditions.{IsChecked}
@@ -31,7 +32,9 @@ use Rattle.lt_canon.proofs.StayingTags.{stays_canonical}
 use Rattle.lt_check.specs.Staying.{IsStaying}
 use Rattle.lt_cache.specs.Ends.{IsEnd, IsEndText, IsCanonicalCore}
 use Rattle.lt_cache.proofs.EndLemmas.{CanFollow, text_with, whole_list, extension_alone, spell_rest}
-use Rattle.lt_cache.specs.SettledEnds.{keys_rise, is_settled_end}
+use Rattle.lt_cache.specs.SettledEnds.{AppendsEndText, keys_rise, is_settled_end}
+use Rattle.lt_cache.specs.KeywordEnds.{IsKeywordEnd}
+use Rattle.lt_cache.proofs.KeywordEnds.{hyphened_joined}
 use Rattle.lt_cache.proofs.KeysRise.{Rise, rise, parts, parts_found, parts_rest}
 
 -- the text of the list of a text
@@ -46,7 +49,7 @@ after_first b text = go (list_of text) (omega (arith, length-map (pieces text) f
     go [] n = absurd (omega arith)
     go (s ∷ ss) n = refl
 
-some_list : (text : List ℕ) → 0 < length (list_of text)
+pub some_list : (text : List ℕ) → 0 < length (list_of text)
 some_list text = omega (arith, length-map (pieces text) folded, some_pieces text)
 
 few_list : (text : List ℕ) → length (list_of text) ≤ length text + 1
@@ -61,29 +64,27 @@ no_step : (e : ExtensionParts) (fs : List ExtensionParts) → ListStep false sin
 no_step e fs (by_swap before a b after s) = omega (arith, ap length s.there, length-append before (a ∷ b ∷ after))
 no_step e fs (by_drop before a between b after o s) = let bad : false ≡ true = o in cc
 
-u_singleton : is_singleton (unicode ∷ []) ≡ true
+u_shaped : (ss : List (List ℕ)) (p : UForm) → IsUnicode ss p → IsExtension (extension unicode ss)
 unfolding is_singleton is_subtag
-u_singleton = refl
+u_shaped ss p u = record { singleton = refl; subtags = subst (λ (l : List (List ℕ)). list_all is_extension_subtag l ≡ true) u.spelled (u_extension p u.shaped); some = rw (← u.spelled) u.shaped.some }
 
 module _ (R : List EntryParts) (C : IsChecked R) where
   abbrev u_of : List (List ℕ) → ExtensionParts
   u_of ss = extension unicode ss
 
-  u_ended : (ss : List (List ℕ)) → Rise None ss → 0 < length ss → extensions_end R C (u_of ss ∷ []) ≡ u_of ss ∷ []
-  u_ended ss r some =
-      let found = parts_found ss r some in
-      let settled : IsNormalForm (ExtensionStep R) (u_of ss) (u_of ss) = subst (λ (l : List (List ℕ)). IsNormalForm (ExtensionStep R) (u_of ss) (u_of l)) found.spelled (unicode_settled R (u_of ss) (parts ss) (parts ss) refl found (parts_rest ss r)) in
+  u_ended : (ss : List (List ℕ)) (p q : UForm) → IsUnicode ss p → IsNormalForm UnicodeStep p q → extensions_end R C (u_of ss ∷ []) ≡ u_of (spell_u q) ∷ []
+  u_ended ss p q found n =
       sym (star_rests (extensions_ordered R C.registry (core_conditions R C.passes) (u_of ss ∷ [])) (no_step (extension_end R C (u_of ss))))
-      ∙ ap (λ (e : ExtensionParts). e ∷ []) (normal_is_form (extension_formed R C.registry (core_conditions R C.passes)) (u_of ss) (u_of ss) settled)
+      ∙ ap (λ (e : ExtensionParts). e ∷ []) (normal_is_form (extension_formed R C.registry (core_conditions R C.passes)) (u_of ss) (u_of (spell_u q)) (unicode_settled R (u_of ss) p q refl found n))
 
   u_distinct : (ss : List (List ℕ)) → HasDistinctSource (u_of ss)
   u_distinct ss = λ t q k. absurd (omega (arith, t))
 
-  u_follows : (ss : List (List ℕ)) → Rise None ss → 0 < length ss → length ss ≤ longest_text → CanFollow R C (u_of ss ∷ []) []
-  u_follows ss r some few = record {
+  u_follows : (ss : List (List ℕ)) (p q : UForm) → IsUnicode ss p → IsNormalForm UnicodeStep p q → length ss ≤ longest_text → CanFollow R C (u_of ss ∷ []) []
+  u_follows ss p q found n few = record {
     parts = λ c k. record {
       core = k;
-      values = (record { shaped = record { singleton = u_singleton; subtags = r.subtags; some = some }; subtags = few }, tt);
+      values = (record { shaped = u_shaped ss p found; subtags = few }, tt);
       count = omega arith;
       private = refl;
       private_count = omega arith;
@@ -91,21 +92,29 @@ module _ (R : List EntryParts) (C : IsChecked R) where
       singletons = (tt, tt);
     };
     distinct = (u_distinct ss, tt);
-    sources = subst (AllByRecursion HasDistinctSource) (sym (u_ended ss r some)) (u_distinct ss, tt);
+    sources = subst (AllByRecursion HasDistinctSource) (sym (u_ended ss p q found n)) (u_distinct (spell_u q), tt);
     some = omega arith;
   }
 
-  -- a `u` extension of keywords whose keys rise
-  u_text : (s : ℕ) (rest : List ℕ) → to_ascii_lowercase s ≡ 117 → keys_rise None (list_of rest) ≡ true → IsEndText R (end_of s rest) (45 ∷ 117 ∷ 45 ∷ folded rest)
-  u_text s rest is_u h front F short =
+  -- a `u` extension, by the normal form of its parts
+  pub unicode_text : (s : ℕ) (rest : List ℕ) (p q : UForm) → to_ascii_lowercase s ≡ 117 → IsUnicode (list_of rest) p → IsNormalForm UnicodeStep p q
+      → IsEndText R (end_of s rest) (45 ∷ join_with_byte 45 ((117 ∷ []) ∷ spell_u q))
+  unicode_text s rest p q is_u found n front F short =
       let ss = list_of rest in
-      let r = rise None ss h in
-      let some = some_list rest in
       let few : length ss ≤ longest_text = omega (arith, few_list rest, short, length-append front (end_of s rest)) in
       let E : IsEnd (end_of s rest) = record { singleton = s; rest = rest; single = λ e. let bad : to_ascii_lowercase 45 ≡ 117 = ap to_ascii_lowercase (sym e) ∙ is_u in absurd (omega (arith, bad)); whole = refl } in
-      text_with R C front (end_of s rest) _ F (u_of ss ∷ []) [] (u_follows ss r some few)
+      text_with R C front (end_of s rest) _ F (u_of ss ∷ []) [] (u_follows ss p q found n few)
       (whole_list front (end_of s rest) F.core E F.read ∙ ap (λ (l : List (List ℕ)). spell_core F.core ++ l) ((λ i. (is_u i ∷ []) ∷ ss) ∙ sym (extension_alone (u_of ss))))
-      (ap (λ (es : List ExtensionParts). join_with_byte 45 (spell_rest es [])) (u_ended ss r some) ∙ ap (join_with_byte 45) (extension_alone (u_of ss)) ∙ after_first 117 rest) short
+      (ap (λ (es : List ExtensionParts). join_with_byte 45 (spell_rest es [])) (u_ended ss p q found n) ∙ ap (join_with_byte 45) (extension_alone (u_of (spell_u q)))) short
+
+  -- of keywords whose keys rise
+  u_text : (s : ℕ) (rest : List ℕ) → to_ascii_lowercase s ≡ 117 → keys_rise None (list_of rest) ≡ true → IsEndText R (end_of s rest) (45 ∷ 117 ∷ 45 ∷ folded rest)
+  u_text s rest is_u h =
+      let ss = list_of rest in
+      let r = rise None ss h in
+      let found = parts_found ss r (some_list rest) in
+      subst (IsEndText R (end_of s rest)) (ap (λ (l : List (List ℕ)). 45 ∷ join_with_byte 45 ((117 ∷ []) ∷ l)) found.spelled ∙ ap (λ (l : List ℕ). 45 ∷ l) (after_first 117 rest))
+      (unicode_text s rest (parts ss) (parts ss) is_u found (parts_rest ss r))
 
   x_ended : extensions_end R C [] ≡ []
   x_ended = rest_is_form (extensions_end_formed R C) [] (none_rests R)
@@ -163,13 +172,23 @@ pub ok_holds : {A B : Type 0} (r : Result A B) (P : Type 0) → is_err r ≡ fal
 ok_holds (Ok a) P none holds = holds
 ok_holds (Err b) P none holds = cc
 
--- the canonical text of a front that stays and such an end was appended
-pub settled_appended : (R : List EntryParts) → IsChecked R → (front end text old middle new : List ℕ) → IsStaying R front → is_settled_end end ≡ true → front ++ end ≡ text → length text ≤ longest_text
-    → middle ≡ old ++ conventional (list_of front) → new ≡ middle ++ folded end → AppendsCanonicalText R text old new
-settled_appended R C front end text old middle new stay settled whole short front_grown end_grown =
+-- such an end was appended in lower case
+pub settled_appends : (end old new : List ℕ) → is_settled_end end ≡ true → new ≡ old ++ folded end → AppendsEndText end old new
+settled_appends end old new settled grown = (folded end, λ R C. settled_text R C end settled, grown)
+
+-- the normal form of keywords was appended
+pub keywords_append : (end text old new : List ℕ) → IsKeywordEnd end text → new ≡ old ++ text → AppendsEndText end old new
+keywords_append end text old new k grown =
+    let joined : text ≡ 45 ∷ join_with_byte 45 ((117 ∷ []) ∷ spell_u k.to) = k.written ∙ ap (λ (l : List ℕ). 45 ∷ l) (hyphened_joined (117 ∷ []) (spell_u k.to)) in
+    (text, λ R C. subst₂ (IsEndText R) (sym k.whole) (sym joined) (unicode_text R C k.singleton k.rest k.from k.to k.is_u k.read k.settled), grown)
+
+-- the canonical text of a front that stays and an end was appended
+pub end_appended : (R : List EntryParts) → IsChecked R → (front end text old middle new : List ℕ) → IsStaying R front → front ++ end ≡ text → length text ≤ longest_text
+    → middle ≡ old ++ conventional (list_of front) → AppendsEndText end middle new → AppendsCanonicalText R text old new
+end_appended R C front end text old middle new stay whole short front_grown a =
     let F : IsCanonicalCore R front = record { core = stay.0; read = stay.1.read; canonical = (stays_canonical R front stay.0 stay.1 C).canonical } in
     record {
-      canonical = conventional (list_of front) ++ folded end;
-      grown = end_grown ∙ ap (λ (l : List ℕ). l ++ folded end) front_grown ∙ append_assoc old (conventional (list_of front)) (folded end);
-      is_canonical = rw (← whole) (settled_text R C end settled front F (omega (arith, short, ap length whole)));
+      canonical = conventional (list_of front) ++ a.0;
+      grown = a.2 ∙ ap (λ (l : List ℕ). l ++ a.0) front_grown ∙ append_assoc old (conventional (list_of front)) a.0;
+      is_canonical = rw (← whole) (a.1 R C front F (omega (arith, short, ap length whole)));
     }

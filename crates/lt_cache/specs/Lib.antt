@@ -4,3 +4,4 @@ pub mod Recent
 pub mod Ends
 pub mod Appending
 pub mod SettledEnds
+pub mod KeywordEnds

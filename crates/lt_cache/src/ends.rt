@@ -22,7 +22,7 @@ fn comes_after(last: &Option<Subtag>, key: &Subtag) -> bool
 
 /// The piece as a subtag, or None if it isn't one.
 #[tactic(auto, using(crate::proofs::PieceLemmas::piece_read, crate::proofs::PieceLemmas::piece_refused))]
-fn read_piece(piece: &[u8]) -> Option<Subtag>
+pub(crate) fn read_piece(piece: &[u8]) -> Option<Subtag>
     ensures { MatchOption result (is_subtag (folded piece.now) ≡ false) (λ subtag. subtag ≡ folded piece.now) }
 {
     Subtag::read(piece).ok()

@@ -5,6 +5,7 @@
 #![tactic(auto)]
 
 mod ends;
+mod keyword_ends;
 pub mod laws;
 mod recent;
 mod recent_ends;

@@ -6,9 +6,10 @@ ghost use Rattle.lt_tag.specs.Lists.{list_of, longest_text};
 ghost use Rattle.lt_check.specs.Staying.{IsStaying};
 ghost use Rattle.lt_check.specs.Conditions.{IsChecked};
 ghost use Rattle.lt_canon.specs.Texts.{AppendsCanonicalText, IsTextRefusal};
-ghost use Rattle.lt_cache.specs.SettledEnds as settled;
+ghost use Rattle.lt_cache.specs.SettledEnds.{AppendsEndText};
 
 use crate::ends::is_settled_end;
+use crate::keyword_ends::keyword_end;
 use lt_canon::{Checked, TextRefusal, append_usual_text};
 use lt_registry::Lookup;
 use lt_tag::OutOfMemory;
@@ -68,25 +69,43 @@ fn append_lower(text: &[u8], texts: &mut Vec<u8>) -> Result<(), OutOfMemory>
     Ok(())
 }
 
+/// Appends the canonical form of an end that is keywords or private use. Tells whether it did; of any other end, or where
+/// memory runs out, it does nothing. Memory of its own is taken only for keywords that don't stay as they are.
+#[tactic(auto, using(crate::proofs::SettledEnds::settled_appends))]
+fn append_end(alloc: Global, end: &[u8], texts: &mut Vec<u8>) -> bool
+    ensures appended { IsTrue result → AppendsEndText end.now texts.old.items texts.new.items }
+    ensures unchanged { result ≡ false → texts.new.items ≡ texts.old.items }
+{
+    if is_settled_end(end) {
+        return append_lower(end, texts).is_ok();
+    }
+    match keyword_end(alloc, end) {
+        Ok(Some(text)) => texts.extend_from_slice(&text).is_ok(),
+        _ => false,
+    }
+}
+
 /// Appends the canonical text of a text without reading it as a tag, if its front is a language, and a script and a region
-/// where there is one, that stay as they are, and its end is keywords or private use, canonical but for the case of its
-/// letters. Tells whether it did; of any other text, or where memory runs out, it does nothing.
-fn append_settled_text<L: Lookup>(checked: &Checked<L>, text: &[u8], texts: &mut Vec<u8>) -> bool
+/// where there is one, that stay as they are, and its end is keywords or private use. Tells whether it did; of any other
+/// text, or where memory runs out, it does nothing.
+fn append_settled_text<L: Lookup>(
+    alloc: Global,
+    checked: &Checked<L>,
+    text: &[u8],
+    texts: &mut Vec<u8>,
+) -> bool
     ensures appended { IsTrue result → AppendsCanonicalText (L.listed checked.now) text.now texts.old.items texts.new.items }
     ensures unchanged { result ≡ false → texts.new.items ≡ texts.old.items }
 {
     let Some((front, end)) = split_end(text) else {
         return false;
     };
-    if !is_settled_end(end) {
-        return false;
-    }
     let before = texts.len();
     match append_front(checked, front, texts) {
         Ok(true) => {}
         _ => return false,
     }
-    if append_lower(end, texts).is_err() {
+    if !append_end(alloc, end, texts) {
         texts.truncate(before);
         return false;
     }
@@ -106,7 +125,7 @@ pub(crate) fn append_other_text<L: Lookup>(
     ensures refusal { IfErr result (λ refusal. IsTextRefusal (L.listed checked.now) text.now refusal) }
     ensures kept { OnErr result (texts.new.items ≡ texts.old.items) }
 {
-    if append_settled_text(checked, text, texts) {
+    if append_settled_text(alloc, checked, text, texts) {
         return Ok(());
     }
     lt_canon::append_canonical_text(alloc, checked, text, texts)
@@ -114,8 +133,8 @@ pub(crate) fn append_other_text<L: Lookup>(
 
 /// Appends the text, in conventional case, of the canonical form of the tag that a text is read as (RFC 5646, 2.1.1 and
 /// 4.5), with the refusals of [`lt_canon::append_canonical_text`]. A text is not read as a tag if its front is a language,
-/// and a script and a region where there is one, that stay as they are, and its end is keywords or private use, canonical
-/// but for the case of its letters, as in `ar-u-nu-latn` and `en-GB-x-own`.
+/// and a script and a region where there is one, that stay as they are, and its end is keywords or private use, as in
+/// `ar-u-nu-latn` and `en-GB-x-own`.
 pub fn append_canonical_text<L: Lookup>(
     alloc: Global,
     checked: &Checked<L>,

@@ -1,5 +1,5 @@
 use Rattle.std.proofs.Common.{sym}
-use Rattle.lt_cache.proofs.SettledEnds.{settled_appended, ok_holds}
+use Rattle.lt_cache.proofs.SettledEnds.{end_appended}
 use Rattle.lt_cache.proofs.texts.append_settled_text.Goals as goal
 
 pub returns-clause-appended : goal.returns-clause-appended
@@ -7,6 +7,5 @@ returns-clause-appended g c = λ _.
     let R = g.L.Lookup.listed c.args.checked.now in
     let told = c.in-Ok-true.ensures {u = tt} in
     let parts = c.in-Some.ensures {u = tt} in
-    settled_appended R c.append_front.ensures.checked c.in-Some.front.now c.in-Some.end.now c.args.text.now c.args.texts.now.items c.append_front.new.texts.items c.append_lower.new.texts.items
-    (told.exact.0 c.in-Ok-true.field-0-test) (sym c.if-not-is_settled_end.ensures) parts.whole parts.short (told.appended c.in-Ok-true.field-0-test)
-    (ok_holds c.append_lower.result _ (sym (c.if-is_err.ensures {u = tt}).value) c.append_lower.ensures.appended)
+    end_appended R c.append_front.ensures.checked c.in-Some.front.now c.in-Some.end.now c.args.text.now c.args.texts.now.items c.append_front.new.texts.items c.append_end.new.texts.items
+    (told.exact.0 c.in-Ok-true.field-0-test) parts.whole parts.short (told.appended c.in-Ok-true.field-0-test) (c.append_end.ensures.appended c.if-not-append_end.false)
