@@ -1,7 +1,9 @@
 //! The command `json`.
-use super::registries::{names_each_read, prints_of_reader};
+use super::registries::{
+    REFUSED_FILES, REPEATED, names_each_read, prints_of_reader, repeated_text,
+};
 use lt_jar::{Pieces, Takes};
-use lt_testing::{push_record, sample_text};
+use lt_testing::sample_text;
 use lt_tool_testing::{Broken, LINES, NO_FILE, ends, prints, read};
 use std::alloc::{AllocError, Global};
 use std::io::{Read, Write};
@@ -61,11 +63,10 @@ fn is_refused(alloc: Global, file: &str, line: &str) -> bool {
 
 #[test]
 fn registries_that_are_refused(rt: HostRuntime) -> Result<(), Fail> {
-    assert!(rt; is_refused(rt.alloc(), "abc", "jar BadLine line 1\n"));
-    assert!(rt; is_refused(rt.alloc(), "Subtag: en", "record 1 MissingType\n"));
-    let mut repeated = sample_text(rt.alloc())?;
-    push_record(&mut repeated, &("language", "de", "", ""), "\n")?;
-    assert!(rt; is_refused(rt.alloc(), &repeated, "check C1 record 48\n"));
+    for (file, line) in &REFUSED_FILES {
+        assert!(rt; is_refused(rt.alloc(), file, line));
+    }
+    assert!(rt; is_refused(rt.alloc(), &repeated_text(rt.alloc())?, REPEATED));
     Ok(())
 }
 

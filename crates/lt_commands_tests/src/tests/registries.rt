@@ -52,13 +52,28 @@ fn is_refused(alloc: Global, file: &str, line: &str) -> bool {
         && prints_of(alloc, "canon", file.as_bytes(), b"", line, 2)
 }
 
+/// Files that are refused as a registry, and the line of each.
+pub(super) const REFUSED_FILES: [(&str, &str); 2] = [
+    ("abc", "jar BadLine line 1\n"),
+    ("Subtag: en", "record 1 MissingType\n"),
+];
+
+/// The line of a file that does not pass the check, by `repeated_text`.
+pub(super) const REPEATED: &str = "check C1 record 48\n";
+
+/// The sample, and a language of it again.
+pub(super) fn repeated_text(alloc: Global) -> Result<String, AllocError> {
+    let mut text = sample_text(alloc)?;
+    push_record(&mut text, &("language", "de", "", ""), "\n")?;
+    Ok(text)
+}
+
 #[test]
 fn registries_that_are_refused(rt: HostRuntime) -> Result<(), Fail> {
-    assert!(rt; is_refused(rt.alloc(), "abc", "jar BadLine line 1\n"));
-    assert!(rt; is_refused(rt.alloc(), "Subtag: en", "record 1 MissingType\n"));
-    let mut repeated = sample_text(rt.alloc())?;
-    push_record(&mut repeated, &("language", "de", "", ""), "\n")?;
-    assert!(rt; is_refused(rt.alloc(), &repeated, "check C1 record 48\n"));
+    for (file, line) in &REFUSED_FILES {
+        assert!(rt; is_refused(rt.alloc(), file, line));
+    }
+    assert!(rt; is_refused(rt.alloc(), &repeated_text(rt.alloc())?, REPEATED));
     Ok(())
 }
 

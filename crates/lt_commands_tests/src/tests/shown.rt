@@ -1,7 +1,7 @@
 //! The command `show`, for people and as JSON.
-use super::registries::{leaves_input, names_each_read};
+use super::registries::{REFUSED_FILES, REPEATED, leaves_input, names_each_read, repeated_text};
 use lt_jar::{Pieces, Takes};
-use lt_testing::{push_record, returned_text, sample_text};
+use lt_testing::{returned_text, sample_text};
 use lt_tool_testing::{Broken, NO_FILE, ends, prints, read};
 use std::alloc::Global;
 use std::test::Fail;
@@ -221,14 +221,21 @@ fn is_refused(alloc: Global, words: &[&str], file: &str, line: &str) -> bool {
     prints(alloc, words, file.as_bytes(), b"", line, 2)
 }
 
+/// Whether the command of these words refuses each file that can't be used as a registry, by its line.
+fn refuses(alloc: Global, words: &[&str], repeated: &str) -> bool {
+    for (file, line) in &REFUSED_FILES {
+        if !is_refused(alloc, words, file, line) {
+            return false;
+        }
+    }
+    is_refused(alloc, words, repeated, REPEATED)
+}
+
 #[test]
 fn registries_that_are_refused(rt: HostRuntime) -> Result<(), Fail> {
-    let mut repeated = sample_text(rt.alloc())?;
-    push_record(&mut repeated, &("language", "de", "", ""), "\n")?;
+    let repeated = repeated_text(rt.alloc())?;
     for (words, _) in &FORMS {
-        assert!(rt; is_refused(rt.alloc(), words, "abc", "jar BadLine line 1\n"));
-        assert!(rt; is_refused(rt.alloc(), words, "Subtag: en", "record 1 MissingType\n"));
-        assert!(rt; is_refused(rt.alloc(), words, &repeated, "check C1 record 48\n"));
+        assert!(rt; refuses(rt.alloc(), words, &repeated));
     }
     Ok(())
 }

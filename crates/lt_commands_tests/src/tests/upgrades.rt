@@ -1,4 +1,5 @@
 //! The command on two registries: `upgrade`.
+use super::registries::repeated_text;
 use lt_jar::{Device, Pieces};
 use lt_testing::{changed_text, push_record, sample_text};
 use lt_tool::{Answered, Command, WordsFault, perform};
@@ -57,8 +58,7 @@ fn upgrades(rt: HostRuntime) -> Result<(), Fail> {
 #[test]
 fn registries_of_an_upgrade_that_are_refused(rt: HostRuntime) -> Result<(), Fail> {
     let sample = sample_text(rt.alloc())?;
-    let mut repeated = sample_text(rt.alloc())?;
-    push_record(&mut repeated, &("language", "de", "", ""), "\n")?;
+    let repeated = repeated_text(rt.alloc())?;
     assert!(rt;
         prints(
             rt.alloc(),
