@@ -3,17 +3,18 @@
 
 Usage: compare.py TAGS COMMAND..
 
-The programs take turns, so that a noisy minute falls on all of them, and the best of each one's rounds counts, less its
-best without a line. The last column is the first program's speed as a multiple of this one's.
+The programs take turns, so that a noisy minute falls on all of them. Of each one's rounds it gives the best and the median,
+less those of its rounds without a line. The last column is the first program's median as a multiple of this one's.
 """
 
+import statistics
 import subprocess
 import sys
 import time
 from pathlib import Path
 
 ROUNDS = 15
-COLUMNS = "%-16s %14s %10s %12s"
+COLUMNS = "%-16s %14s %14s %10s %12s"
 
 
 def seconds(command, tags):
@@ -33,13 +34,14 @@ def main():
     with open(tags, "rb") as lines:
         count = sum(1 for _ in lines)
     runs = [[(seconds(command, tags), seconds(command, "/dev/null")) for command in commands] for _ in range(ROUNDS)]
-    speeds, starts = [], []
-    for rounds in zip(*runs):
-        starts.append(min(start for _, start in rounds))
-        speeds.append(count / max(min(whole for whole, _ in rounds) - starts[-1], 1e-9))
-    print(COLUMNS % ("program", "tags a second", "start ms", "langtag is"))
-    for command, speed, start in zip(commands, speeds, starts):
-        print(COLUMNS % (Path(command[0]).name, "%.0f" % speed, "%.1f" % (start * 1000), "%.2f x" % (speeds[0] / speed)))
+    print(COLUMNS % ("program", "tags a second", "median", "start ms", "langtag is"))
+    first = None
+    for command, rounds in zip(commands, zip(*runs)):
+        wholes, starts = zip(*rounds)
+        best, middle = (count / max(of(wholes) - of(starts), 1e-9) for of in (min, statistics.median))
+        first = first or middle
+        name = Path(command[0]).name
+        print(COLUMNS % (name, "%.0f" % best, "%.0f" % middle, "%.1f" % (min(starts) * 1000), "%.2f x" % (first / middle)))
 
 
 if __name__ == "__main__":
