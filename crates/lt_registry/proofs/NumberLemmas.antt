@@ -114,7 +114,7 @@ numbers_equal s t h k =
     same_test (eqb (number s) (number t)) (bytes_eq s t) (λ e. told.1 (same_number s t h k (eqb-true (number s) (number t) e))) (λ e. eq-eqb (number s) (number t) (ap number (told.0 e)))
 
 -- each byte, and zeros after the last
-pub filled_by_index : (s : List ℕ) → length s ≤ 8
+filled_by_index : (s : List ℕ) → length s ≤ 8
     → padded s ≡ get_or s 0 0 ∷ get_or s 1 0 ∷ get_or s 2 0 ∷ get_or s 3 0 ∷ get_or s 4 0 ∷ get_or s 5 0 ∷ get_or s 6 0 ∷ get_or s 7 0 ∷ []
 filled_by_index (a ∷ b ∷ c ∷ d ∷ e ∷ f ∷ g ∷ h ∷ i ∷ s) l = absurd (omega (arith, l))
 filled_by_index _ l = refl

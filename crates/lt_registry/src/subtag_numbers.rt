@@ -1,9 +1,8 @@
 //! Subtags as numbers of 64 bits, which are compared at once.
-ghost use Rattle.std.specs.Prelude.{◌≡◌, ◌≤◌, ◌<◌, ◌^◌, true, length, map, slice_index_or};
+ghost use Rattle.std.specs.Prelude.{◌≡◌, ◌≤◌, ◌<◌, ◌^◌, true, length, map};
 ghost use Rattle.std.specs.List.{IsDistinct};
 ghost use Rattle.std.specs.Ordering.{nat_cmp, eq_by_cmp};
 ghost use Rattle.lt_subtag.specs.Bytes.{is_subtag};
-ghost use Rattle.lt_subtag.specs.Lanes.{padded};
 ghost use Rattle.lt_registry.specs.Sorted as sorted;
 ghost use Rattle.lt_registry.specs.Validity.{Distinct};
 
@@ -13,21 +12,13 @@ use lt_subtag::Subtag;
 /// How many numbers there are.
 const NUMBERS: u128 = 1 << 64;
 
-/// The bytes of a subtag, filled up with zeros, as one number. Numbers are in the order of
-/// subtags. Most subtags have two to four bytes.
+/// The bytes of a subtag, filled up with zeros, as one number. Numbers are in the order of subtags.
 #[tactic(auto, unfolding(crate::specs::Sorted::number))]
 pub(crate) fn number_of(subtag: &Subtag) -> u64
     ensures value { result ≡ sorted.number subtag.now }
     ensures subtag { is_subtag subtag.now ≡ true }
 {
-    match subtag.bytes() {
-        [first, second] => u64::from_be_bytes([*first, *second, 0, 0, 0, 0, 0, 0]),
-        [first, second, third] => u64::from_be_bytes([*first, *second, *third, 0, 0, 0, 0, 0]),
-        [first, second, third, fourth] => {
-            u64::from_be_bytes([*first, *second, *third, *fourth, 0, 0, 0, 0])
-        }
-        bytes => u64::from_be_bytes(filled(bytes)),
-    }
+    u64::from_be_bytes(subtag.padded())
 }
 
 /// The rank of a subtag: its length, and after it its number. So subtags of one length are together, in their order.
@@ -39,31 +30,6 @@ pub(crate) fn rank_of(subtag: &Subtag) -> u128
 {
     let length = subtag.bytes().len() as u128;
     length * NUMBERS + number_of(subtag) as u128
-}
-
-/// The byte at an index, or zero after the last.
-fn byte_at(bytes: &[u8], index: usize) -> u8
-    ensures { result ≡ slice_index_or bytes.now index 0 }
-{
-    if index < bytes.len() { bytes[index] } else { 0 }
-}
-
-/// The bytes, and zeros after them up to eight.
-#[tactic(auto, using(crate::proofs::NumberLemmas::filled_by_index))]
-fn filled(bytes: &[u8]) -> [u8; 8]
-    requires { length bytes.now ≤ 8 }
-    ensures { result ≡ padded bytes.now }
-{
-    [
-        byte_at(bytes, 0),
-        byte_at(bytes, 1),
-        byte_at(bytes, 2),
-        byte_at(bytes, 3),
-        byte_at(bytes, 4),
-        byte_at(bytes, 5),
-        byte_at(bytes, 6),
-        byte_at(bytes, 7),
-    ]
 }
 
 /// The numbers of subtags, at most 256.

@@ -1,12 +1,13 @@
 -- What the run of letters and digits at the front says of a piece.
-use Rattle.std.proofs.Common.{◌≡◌, ℕ, ◌<◌, ◌≤◌, ◌-◌, Bool, true, false, List, length, take, get_or, replicate, refl, sym, ap, ◌∙◌, subst, arith}
+use Rattle.std.proofs.Common.{◌≡◌, ℕ, zero, suc, ◌∷◌, ◌++◌, ◌<◌, ◌≤◌, ◌-◌, Bool, true, false, List, length, take, get_or, replicate, refl, sym, ap, ◌∙◌, subst, arith}
 use Rattle.std.specs.List.{list_all, prefix_len}
 use Rattle.std.specs.Char.{is_ascii_alphanumeric, to_ascii_lowercase}
-use Rattle.std.proofs.lemmas.List.{length-take-le, length-append, length-replicate, get_or-take, get_or_append_left, take-take, take_at, take-map}
+use Rattle.std.proofs.lemmas.List.{length-take-le, length-append, length-replicate, get_or-take, get_or_append_left, take-take, take_at, take_all, map-append, length-map}
 use Rattle.std.proofs.lemmas.List.Folds.{list_all_at}
 use Rattle.std.proofs.lemmas.List.Sums.{list_all-from_AllPass, prefix_len_passes, prefix_len_stops, prefix_len-le-length}
 use Rattle.std.proofs.lemmas.List.Elements.{All-from_get_or}
-use Rattle.lt_subtag.specs.Bytes.{folded}
+use Rattle.lt_subtag.specs.Bytes.{is_subtag, folded}
+use Rattle.lt_subtag.proofs.BytesLemmas.{piece_folds}
 use Rattle.lt_subtag.specs.Lanes.{padded}
 
 -- each byte of a run passes
@@ -20,7 +21,7 @@ run_passes p v n le =
 length_padded : (s : List ℕ) → length s ≤ 8 → length (padded s) ≡ 8
 length_padded s few = length-append s (replicate (8 - length s) 0) ∙ omega (arith, length-replicate {A = ℕ} (8 - length s) 0)
 
-pub front_padded : (s : List ℕ) → length s ≤ 8 → take (length s) (take 8 (padded s)) ≡ s
+front_padded : (s : List ℕ) → length s ≤ 8 → take (length s) (take 8 (padded s)) ≡ s
 front_padded s few = take-take (length s) 8 (padded s) few ∙ take_at s (replicate (8 - length s) 0) (length s) refl
 
 pub padded_passes : (s : List ℕ) (r : ℕ) → length s ≤ 8 → r ≡ prefix_len is_ascii_alphanumeric (take 8 (padded s)) → length s ≤ r → list_all is_ascii_alphanumeric s ≡ true
@@ -35,5 +36,25 @@ padded_fails s r few is lt =
     let at = get_or-take 8 (padded s) r 0 (omega arith) ∙ get_or_append_left s (replicate (8 - length s) 0) 0 r lt in
     list_all_at is_ascii_alphanumeric s r 0 lt (subst (λ x. is_ascii_alphanumeric x ≡ false) at stop)
 
-pub fold_padded : (s : List ℕ) → length s ≤ 8 → take (length s) (folded (take 8 (padded s))) ≡ folded s
-fold_padded s few = take-map to_ascii_lowercase (length s) (take 8 (padded s)) ∙ ap folded (front_padded s few)
+zeros_fold : (n : ℕ) → folded (replicate n 0) ≡ replicate n 0
+zeros_fold zero = refl
+zeros_fold (suc n) = ap (λ zs. 0 ∷ zs) (zeros_fold n)
+
+-- a padded piece in lower case is the piece in lower case, padded
+pub folded_padded : (s : List ℕ) → length s ≤ 8 → folded (take 8 (padded s)) ≡ padded (folded s)
+folded_padded s few =
+    let n = 8 - length s in
+    ap folded (take_all 8 (padded s) (omega (arith, length_padded s few))) ∙ map-append to_ascii_lowercase s (replicate n 0)
+    ∙ ap (λ zs. folded s ++ zs) (zeros_fold n) ∙ ap (λ k. folded s ++ replicate (8 - k) 0) (sym (length-map s to_ascii_lowercase))
+
+-- the bytes of a padded piece in lower case
+pub read_front : (s letters : List ℕ) → letters ≡ padded (folded s) → take (length s) letters ≡ folded s
+read_front s letters is =
+    ap (take (length s)) is ∙ take_at (folded s) (replicate (8 - length (folded s)) 0) (length s) (length-map s to_ascii_lowercase)
+
+-- letters and digits in lower case, padded, are a subtag and zeros after it
+pub read_holds : (s letters : List ℕ) → letters ≡ padded (folded s) → list_all is_ascii_alphanumeric s ≡ true → 0 < length s → length s ≤ 8
+    → (length s ≤ 8) × (is_subtag (take (length s) letters) ≡ true) × (letters ≡ padded (take (length s) letters))
+read_holds s letters is good some few =
+    let front = read_front s letters is in
+    (few, ap is_subtag front ∙ piece_folds s good some few, is ∙ ap padded (sym front))

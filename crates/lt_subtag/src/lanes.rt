@@ -5,7 +5,6 @@ ghost use Rattle.std.specs.Char.{is_ascii_alphanumeric};
 ghost use Rattle.lt_subtag.specs.Bytes.{folded};
 ghost use Rattle.lt_subtag.specs.Lanes.{padded, first_set};
 
-use arrayvec::ArrayVec;
 use std::simd::prelude::*;
 
 /// The index of the lowest bit that is set, or `lanes` if none is.
@@ -54,19 +53,17 @@ fn fold_8(text: &[u8]) -> [u8; 8]
     no_capital.select(v, v | u8x8::splat(0x20)).to_array()
 }
 
-/// The bytes with their letters in lower case, or None if one is neither a letter nor a digit.
+/// The bytes with their letters in lower case and zeros after them, or None if one is neither a letter nor a digit.
 #[inline(always)]
-pub(crate) fn fold(bytes: &[u8]) -> Option<ArrayVec<u8, 8>>
+pub(crate) fn fold(bytes: &[u8]) -> Option<[u8; 8]>
     requires { length bytes.now ≤ 8 }
     ensures good { IfSome result (λ letters. list_all is_ascii_alphanumeric bytes.now ≡ true) }
-    ensures folded { IfSome result (λ letters. letters.items ≡ folded bytes.now) }
+    ensures folded { IfSome result (λ letters. letters ≡ padded (folded bytes.now)) }
     ensures bad { IfNone result (list_all is_ascii_alphanumeric bytes.now ≡ false) }
 {
     let padded = pad(bytes);
     if run_of_8(&padded) < bytes.len() {
         return None;
     }
-    let mut letters = ArrayVec::from(fold_8(&padded));
-    letters.truncate(bytes.len());
-    Some(letters)
+    Some(fold_8(&padded))
 }

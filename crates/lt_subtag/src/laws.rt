@@ -1,4 +1,4 @@
-//! What the comparisons of subtags compute. Equal subtags hash alike: the derived `Hash` reads the
+//! What the comparisons of subtags compute. Equal subtags hash alike: `Hash` reads the
 //! lower-case bytes alone.
 ghost use Rattle.std.specs.Prelude.{◌≡◌, ◌↔◌, IsTrue};
 ghost use Rattle.std.specs.Ordering.{nat_cmp};

@@ -7,10 +7,12 @@ ghost use Rattle.std.specs.Fmt.{styled_text};
 ghost use Rattle.std.specs.List.{list_all};
 ghost use Rattle.std.specs.Char.{is_ascii_alphanumeric};
 ghost use Rattle.lt_subtag.specs.Bytes.{is_subtag, upper};
+ghost use Rattle.lt_subtag.specs.Lanes.{padded};
 ghost use Rattle.lt_subtag.specs.Shapes as shapes;
 ghost use Rattle.lt_subtag.specs.Reading.{subtag_of};
 ghost use Rattle.lt_subtag.specs.Reading as reading;
 
+mod comparing;
 mod lanes;
 pub mod laws;
 
@@ -67,23 +69,24 @@ pub enum Case {
 
 /// A subtag: 1 to 8 ASCII letters or digits (RFC 5646, 2.1). Letter case never matters: a contract sees the
 /// lower-case bytes, and equality, order and hash are theirs. It is printed as them.
-#[derive(Debug, Drop, PartialEq, Eq, PartialOrd, Ord, Hash)]
+#[derive(Debug, Drop)]
 pub struct Subtag {
-    letters: ArrayVec<u8, 8>,
+    /// The lower-case bytes, and zeros after them, so that eight bytes are copied and compared at once.
+    letters: [u8; 8],
+    count: u8,
 }
 
 // A contract sees a subtag as its lower-case bytes (RFC 5646, 2.1.1).
 impl Model for Subtag {
-    ghost use Rattle.std.specs.Prelude.{◌≡◌, ℕ, List, true};
+    ghost use Rattle.std.specs.Prelude.{◌≡◌, ◌≤◌, ℕ, List, take, true};
     ghost use Rattle.lt_subtag.specs.Bytes.{is_subtag};
+    ghost use Rattle.lt_subtag.specs.Lanes.{padded};
 
     ghost Value = { List ℕ };
 
-    ghost view = { λ s. s.letters.items };
+    ghost view = { λ s. take s.count s.letters };
 
-    ghost invariant = { λ s. is_subtag s.letters.items ≡ true };
-
-    ghost inverse = { λ bytes. record { letters = record { items = bytes } } };
+    ghost invariant = { λ s. (s.count ≤ 8) × (is_subtag (take s.count s.letters) ≡ true) × (s.letters ≡ padded (take s.count s.letters)) };
 }
 
 impl Default for Subtag {
@@ -92,9 +95,10 @@ impl Default for Subtag {
     /// The subtag `x`, which fills the unused places of an `ArrayVec`.
     #[tactic(auto, unfolding(crate::specs::Bytes::is_subtag))]
     fn default() -> Subtag {
-        let mut letters = ArrayVec::new();
-        letters.push(b'x');
-        Subtag { letters }
+        Subtag {
+            letters: [b'x', 0, 0, 0, 0, 0, 0, 0],
+            count: 1,
+        }
     }
 }
 
@@ -114,7 +118,7 @@ impl Subtag {
     /// The subtag that the bytes spell, whatever the case of their letters: `Hant` and `HANT` give the same.
     /// Refused as `Empty` where there is no byte, else as `BadByte` where one is no ASCII letter or digit, else
     /// as `TooLong` above 8 bytes.
-    #[tactic(auto, using(crate::proofs::BytesLemmas::piece_folds))]
+    #[tactic(auto, using(crate::proofs::RunLemmas::read_holds, crate::proofs::RunLemmas::read_front))]
     pub fn read(bytes: &[u8]) -> Result<Subtag, SubtagFault>
         ensures { result ≡ subtag_of bytes.now }
     {
@@ -125,7 +129,10 @@ impl Subtag {
             return Err(long_fault(bytes));
         }
         match fold(bytes) {
-            Some(letters) => Ok(Subtag { letters }),
+            Some(letters) => Ok(Subtag {
+                letters,
+                count: bytes.len() as u8,
+            }),
             None => Err(SubtagFault::BadByte),
         }
     }
@@ -138,18 +145,25 @@ impl Subtag {
         ensures some { 0 < length self.now }
         ensures few { length self.now ≤ 8 }
     {
-        &self.letters[..]
+        &self.letters[..usize::from(self.count)]
+    }
+
+    /// The lower-case bytes, and zeros after them up to 8. Arrays are in the order of their subtags.
+    pub fn padded(&self) -> [u8; 8]
+        ensures padded { result ≡ padded self.now }
+        ensures subtag { is_subtag self.now ≡ true }
+    {
+        self.letters
     }
 
     /// An equal subtag.
     pub fn copy(&self) -> Subtag
         ensures { result ≡ self.now }
     {
-        let mut letters = ArrayVec::new();
-        for letter in self.letters.as_slice() {
-            letters.push(*letter);
+        Subtag {
+            letters: self.letters,
+            count: self.count,
         }
-        Subtag { letters }
     }
 
     /// The bytes with the letters in a case (RFC 5646, 2.1.1).
@@ -157,7 +171,7 @@ impl Subtag {
     pub fn cased(&self, case: Case) -> ArrayVec<u8, 8>
         ensures { result.items ≡ reading.cased case self.now }
     {
-        let bytes = self.letters.as_slice();
+        let bytes = self.bytes();
         match case {
             Case::Lower => capitalised(bytes, 0),
             Case::Upper => capitalised(bytes, bytes.len()),
@@ -170,8 +184,7 @@ impl Subtag {
     pub fn is_language(&self) -> bool
         ensures { result ≡ shapes.is_language self.now }
     {
-        let length = self.letters.len();
-        is_alphabetic(self.letters.as_slice()) && 2 <= length && length <= 8
+        is_alphabetic(self.bytes()) && 2 <= self.count && self.count <= 8
     }
 
     /// Whether it has the form of an extlang: 3 letters (RFC 5646, 2.2.2).
@@ -179,7 +192,7 @@ impl Subtag {
     pub fn is_extlang(&self) -> bool
         ensures { result ≡ shapes.is_extlang self.now }
     {
-        self.letters.len() == 3 && is_alphabetic(self.letters.as_slice())
+        self.count == 3 && is_alphabetic(self.bytes())
     }
 
     /// Whether it has the form of a script: 4 letters (RFC 5646, 2.2.3).
@@ -187,7 +200,7 @@ impl Subtag {
     pub fn is_script(&self) -> bool
         ensures { result ≡ shapes.is_script self.now }
     {
-        self.letters.len() == 4 && is_alphabetic(self.letters.as_slice())
+        self.count == 4 && is_alphabetic(self.bytes())
     }
 
     /// Whether it has the form of a region: 2 letters or 3 digits (RFC 5646, 2.2.4).
@@ -195,7 +208,7 @@ impl Subtag {
     pub fn is_region(&self) -> bool
         ensures { result ≡ shapes.is_region self.now }
     {
-        let bytes = self.letters.as_slice();
+        let bytes = self.bytes();
         bytes.len() == 2 && is_alphabetic(bytes) || bytes.len() == 3 && is_numeric(bytes)
     }
 
@@ -205,7 +218,7 @@ impl Subtag {
     pub fn is_variant(&self) -> bool
         ensures { result ≡ shapes.is_variant self.now }
     {
-        let bytes = self.letters.as_slice();
+        let bytes = self.bytes();
         5 <= bytes.len() || bytes.len() == 4 && bytes[0].is_ascii_digit()
     }
 
@@ -214,7 +227,7 @@ impl Subtag {
     pub fn is_singleton(&self) -> bool
         ensures { result ≡ shapes.is_singleton self.now }
     {
-        match self.letters.as_slice() {
+        match self.bytes() {
             [byte] => *byte != b'x',
             _ => false,
         }
@@ -225,7 +238,7 @@ impl Subtag {
     pub fn is_key(&self) -> bool
         ensures { result ≡ shapes.is_key self.now }
     {
-        self.letters.len() == 2
+        self.count == 2
     }
 
     /// Whether it has the form of a separator of a `t` extension: a letter and a digit (RFC 6497, 2.2).
@@ -233,7 +246,7 @@ impl Subtag {
     pub fn is_separator(&self) -> bool
         ensures { result ≡ shapes.is_separator self.now }
     {
-        match self.letters.as_slice() {
+        match self.bytes() {
             [first, second] => first.is_ascii_lowercase() && second.is_ascii_digit(),
             _ => false,
         }

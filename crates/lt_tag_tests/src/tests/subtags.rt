@@ -81,6 +81,7 @@ fn hash_of(subtag: &Subtag) -> u64 {
 /// Whether a subtag is `hans`, by each of its letter cases.
 fn is_hans(subtag: &Subtag) -> bool {
     subtag.bytes() == b"hans".as_slice()
+        && subtag.padded().as_slice() == b"hans\0\0\0\0".as_slice()
         && subtag.cased(Case::Title).as_slice() == b"Hans".as_slice()
         && subtag.cased(Case::Upper).as_slice() == b"HANS".as_slice()
 }

@@ -1,8 +1,8 @@
-use Rattle.std.proofs.Common.{length, take, ap, ◌∙◌, arith}
+use Rattle.std.proofs.Common.{take, ap, ◌∙◌, arith}
 use Rattle.std.specs.List.{prefix_len}
 use Rattle.std.specs.Char.{is_ascii_alphanumeric}
 use Rattle.lt_subtag.specs.Bytes.{folded}
-use Rattle.lt_subtag.proofs.RunLemmas.{padded_passes, padded_fails, fold_padded}
+use Rattle.lt_subtag.proofs.RunLemmas.{padded_passes, padded_fails, folded_padded}
 use Rattle.lt_subtag.proofs.lanes.fold.Goals as goal
 
 pub returns-then-run_of_8-bytes-clause-bad : goal.returns-then-run_of_8-bytes-clause-bad
@@ -18,4 +18,4 @@ returns-clause-good c =
 pub returns-clause-folded : goal.returns-clause-folded
 returns-clause-folded c =
     let s = c.args.bytes.now in
-    c.truncate.ensures.items ∙ ap (take (length s)) (c.from-letters.ensures.0 ∙ c.fold_8.ensures ∙ ap (λ v. folded (take 8 v)) c.pad-padded.ensures) ∙ fold_padded s (omega arith)
+    c.fold_8.ensures ∙ ap (λ v. folded (take 8 v)) c.pad-padded.ensures ∙ folded_padded s (omega arith)
