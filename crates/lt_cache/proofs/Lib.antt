@@ -5,6 +5,5 @@ mod EndLemmas
 mod SourceLemmas
 pub mod KeptEnds
 mod PieceLemmas
-mod KeysRise
 mod KeywordEnds
 mod SettledEnds

@@ -10,7 +10,7 @@ use Rattle.lt_subtag.specs.Reading.{subtag_of}
 use Rattle.lt_subtag.specs.Shapes.{is_key}
 use Rattle.lt_subtag.specs.declared.SubtagFault.{SubtagFault}
 use Rattle.lt_tag.specs.Extensions.{is_long}
-use Rattle.lt_cache.specs.SettledEnds.{next_key}
+use Rattle.lt_rewrite.specs.RisingKeys.{next_key}
 
 pub piece_read : (p s : List ℕ) → subtag_of p ≡ Ok s → s ≡ folded p
 piece_read p s h = grind (arith, nat_tests)

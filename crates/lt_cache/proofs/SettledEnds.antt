@@ -32,10 +32,11 @@ use Rattle.lt_canon.proofs.StayingTags.{stays_canonical}
 use Rattle.lt_check.specs.Staying.{IsStaying}
 use Rattle.lt_cache.specs.Ends.{IsEnd, IsEndText, IsCanonicalCore}
 use Rattle.lt_cache.proofs.EndLemmas.{CanFollow, text_with, whole_list, extension_alone, spell_rest}
-use Rattle.lt_cache.specs.SettledEnds.{AppendsEndText, keys_rise, is_settled_end}
+use Rattle.lt_rewrite.specs.RisingKeys.{keys_rise}
+use Rattle.lt_cache.specs.SettledEnds.{AppendsEndText, is_settled_end}
 use Rattle.lt_cache.specs.KeywordEnds.{IsKeywordEnd}
 use Rattle.lt_cache.proofs.KeywordEnds.{hyphened_joined}
-use Rattle.lt_cache.proofs.KeysRise.{Rise, rise, parts, parts_found, parts_rest}
+use Rattle.lt_rewrite.proofs.KeysRise.{rise, parts, parts_found, parts_rest}
 
 -- the text of the list of a text
 list_text : (text : List ℕ) → join_with_byte 45 (list_of text) ≡ folded text

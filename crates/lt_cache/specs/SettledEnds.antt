@@ -1,45 +1,13 @@
 -- Ends of texts that are canonical but for the case of their letters: a `u` extension of keywords in their order, or
 -- private use (RFC 5646, 2.2.7 and 4.5; RFC 6067, 2.1.1). No public contract cites this.
-use Rattle.std.specs.Prelude.{ℕ, ◌≡◌, ◌++◌, ◌==◌, ◌&&◌, ◌||◌, not, if◌then◌else◌, Bool, true, false, List, [], ◌∷◌, Option, Some, None, bytes_eq, codes}
-use Rattle.std.proofs.Common.{Ordering, Less, Equal, Greater}
+use Rattle.std.specs.Prelude.{ℕ, ◌≡◌, ◌++◌, ◌==◌, ◌&&◌, ◌||◌, Bool, false, List, ◌∷◌, None}
 use Rattle.std.specs.List.{list_all}
-use Rattle.std.specs.Option.{option_map_or}
 use Rattle.lt_subtag.specs.Bytes.{is_subtag}
-use Rattle.lt_subtag.specs.Shapes.{is_key}
-use Rattle.lt_tag.specs.Extensions.{is_long}
 use Rattle.lt_tag.specs.Lists.{list_of}
 use Rattle.lt_registry.specs.Parts.{EntryParts}
-use Rattle.lt_rewrite.specs.Extensions.{text_cmp}
+use Rattle.lt_rewrite.specs.RisingKeys.{keys_rise}
 use Rattle.lt_check.specs.Conditions.{IsChecked}
 use Rattle.lt_cache.specs.Ends.{IsEndText}
-
--- whether an order is Greater
-abbrev pub is_above : Ordering → Bool
-is_above Less = false
-is_above Equal = false
-is_above Greater = true
-
--- whether a key comes after the key before it, if there is one (RFC 6067, 2.1.1)
-abbrev pub comes_after : Option (List ℕ) → List ℕ → Bool
-comes_after None key = true
-comes_after (Some last) key = is_above (text_cmp key last)
-
--- whether a subtag is a type of a keyword other than `true` (RFC 6067, 2.1)
-abbrev pub is_type : List ℕ → Bool
-is_type s = is_long s && not (bytes_eq s (codes "true"))
-
--- the last key once a subtag follows it: that subtag if it is a later key, the same key if it is a type other than
--- `true`; else None
-abbrev pub next_key : Option (List ℕ) → List ℕ → Option (List ℕ)
-next_key last s =
-    if is_key s then (if comes_after last s then Some s else None)
-    else (if is_type s then last else None)
-
--- whether subtags are types of the last key, if there is one, and then keywords in the order of their keys, with no
--- type `true`
-abbrev pub keys_rise : Option (List ℕ) → List (List ℕ) → Bool
-keys_rise last [] = true
-keys_rise last (s ∷ ss) = option_map_or (λ (key : List ℕ). keys_rise (Some key) ss) (next_key last s) false
 
 -- whether an end is canonical but for its case: `-u-` (45, 117 or 85, 45) and keywords in their order, or `-x-` (120 or
 -- 88) and subtags

@@ -3,22 +3,12 @@ ghost use Rattle.std.specs.Prelude.{◌≡◌, None, false, MatchOption};
 ghost use Rattle.std.specs.List.{list_all};
 ghost use Rattle.lt_subtag.specs.Bytes.{folded, is_subtag};
 ghost use Rattle.lt_tag.specs.Lists.{list_of};
+ghost use Rattle.lt_rewrite.specs.RisingKeys as rising;
 ghost use Rattle.lt_cache.specs.SettledEnds as settled;
 
+use lt_rewrite::next_key;
 use lt_subtag::Subtag;
 use lt_tag::cut_piece;
-use std::cmp::Ordering;
-
-/// Whether a key comes after the last one in the order of keys (RFC 6067, 2.1.1). The first key, which has none before it,
-/// does.
-fn comes_after(last: &Option<Subtag>, key: &Subtag) -> bool
-    ensures { result ≡ settled.comes_after last.now key.now }
-{
-    match last {
-        Some(last) => matches!(key.cmp(last), Ordering::Greater),
-        None => true,
-    }
-}
 
 /// The piece as a subtag, or None if it isn't one.
 #[tactic(auto, using(crate::proofs::PieceLemmas::piece_read, crate::proofs::PieceLemmas::piece_refused))]
@@ -28,43 +18,24 @@ pub(crate) fn read_piece(piece: &[u8]) -> Option<Subtag>
     Subtag::read(piece).ok()
 }
 
-/// Whether a subtag has the form of a type, and is not `true`.
-#[tactic(auto, unfolding(lt_tag::specs::Extensions::is_long))]
-fn is_type(subtag: &Subtag) -> bool
-    ensures { result ≡ settled.is_type subtag.now }
-{
-    3 <= subtag.bytes().len() && subtag.bytes() != b"true".as_slice()
-}
-
 /// The last key after a further piece: the piece if it is a key after the last one, or the last key if the piece is a type
 /// of it other than `true`. None if the piece is neither.
 #[tactic(auto, using(crate::proofs::PieceLemmas::next_none))]
-fn next_key(last: Option<Subtag>, piece: &[u8]) -> Option<Subtag>
-    ensures { result ≡ settled.next_key last (folded piece.now) }
+fn key_after(last: Option<Subtag>, piece: &[u8]) -> Option<Subtag>
+    ensures { result ≡ rising.next_key last (folded piece.now) }
 {
-    let subtag = read_piece(piece)?;
-    if subtag.is_key() {
-        if comes_after(&last, &subtag) {
-            Some(subtag)
-        } else {
-            None
-        }
-    } else if is_type(&subtag) {
-        last
-    } else {
-        None
-    }
+    next_key(last, read_piece(piece)?)
 }
 
 /// Whether a text consists of keywords whose keys rise, none of which has the type `true`.
 fn keys_rise(text: &[u8]) -> bool
-    ensures { result ≡ settled.keys_rise None (list_of text.now) }
+    ensures { result ≡ rising.keys_rise None (list_of text.now) }
 {
     let mut last = None;
     let mut rest = Some(text);
     while let Some(bytes) = rest {
         let (piece, after) = cut_piece(bytes);
-        let Some(key) = next_key(last, piece) else {
+        let Some(key) = key_after(last, piece) else {
             return false;
         };
         last = Some(key);

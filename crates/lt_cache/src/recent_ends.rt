@@ -4,16 +4,19 @@ ghost use Rattle.lt_subtag.specs.Bytes.{folded};
 ghost use Rattle.lt_registry.specs.Parts.{EntryParts};
 ghost use Rattle.lt_canon.specs.Texts.{AppendsCanonicalText, IsTextRefusal};
 ghost use Rattle.lt_cache.specs.Ends.{AreEnds, IsCanonicalCore, IsEnd, IsTransformed};
-ghost use Rattle.lt_cache.specs.Appending.{AppendsEnd, AppendsFront, AppendsKept, AppendsTransformed, EndStands, EndsText};
+ghost use Rattle.lt_cache.specs.Appending.{AppendsEnd, AppendsKept, AppendsTransformed, EndStands, EndsText};
 
 use crate::recent::Recent;
-use crate::splitting::{split_end, split_source};
-use crate::texts::append_other_text;
+use crate::splitting::{LONGEST_FRONT, split_end, split_source};
+use crate::texts::{append_front, append_other_text};
 use lt_canon::{Checked, TextRefusal, append_canonical_text};
 use lt_registry::Lookup;
 use lt_tag::OutOfMemory;
 use std::alloc::Global;
 use std::marker::Model;
+
+/// The most bytes of a text whose end may be kept.
+const LONGEST: usize = LONGEST_FRONT + 32;
 
 /// The ends of tags that were made canonical lately, each with the end of the canonical text. An end begins with the
 /// hyphen before the first one-character subtag; where that is a `t` after which a source stays as it is, with the hyphen
@@ -30,21 +33,6 @@ impl Model for RecentEnds {
     ghost Value = { List (Option Kept) };
 
     ghost view = { λ ends. ends.texts };
-}
-
-/// Appends a front in conventional case if each of its subtags stays as it is. Tells whether it did, and else appends
-/// nothing.
-#[inline(always)]
-fn append_front<L: Lookup>(
-    checked: &Checked<L>,
-    front: &[u8],
-    texts: &mut Vec<u8>,
-) -> Result<bool, OutOfMemory>
-    ensures told { IfOk result (AppendsFront (L.listed checked.now) front.now texts.old.items texts.new.items) }
-    ensures kept { OnErr result (texts.new.items ≡ texts.old.items) }
-{
-    let told = checked.usual().append_text(front, texts)?;
-    Ok(told)
 }
 
 /// Whether a text is a core whose subtags stay as they are. `texts` is used as room for it, and left as it was. False where
@@ -244,7 +232,7 @@ impl RecentEnds {
         ensures kept { IfErr result (λ refusal. (refusal ≡ TextRefusal.OutOfMemory) ⊎ (texts.new.items ≡ texts.old.items)) }
         ensures ends { AreEnds (L.listed checked.now) self.old → AreEnds (L.listed checked.now) self.new }
     {
-        let Some((front, end)) = split_end(text) else {
+        let Some((front, end)) = split_end(text, LONGEST) else {
             return append_canonical_text(alloc, checked, text, texts);
         };
         let start = texts.len();

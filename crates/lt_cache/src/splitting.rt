@@ -8,21 +8,19 @@ ghost use Rattle.lt_cache.specs.Ends.{IsEnd, IsTransformed};
 ghost use Rattle.lt_cache.specs.Appending.{FollowsSingleton, IsSeparated};
 
 /// The most bytes of a front: a language of three letters, a script and a region of three digits.
-const LONGEST_FRONT: usize = 12;
-
-/// The most bytes of a text whose end may be kept.
-const LONGEST: usize = LONGEST_FRONT + 32;
+pub(crate) const LONGEST_FRONT: usize = 12;
 
 /// What is before the first one-character subtag, and the end that begins with the hyphen before it: `ar` and
 /// `-u-nu-latn` of `ar-u-nu-latn`. None where there is no such subtag within the first bytes, it is the last one, or the text
-/// is too long.
+/// has more than `longest` bytes.
 #[inline(always)]
-pub(crate) fn split_end(text: &[u8]) -> Option<(&[u8], &[u8])>
+pub(crate) fn split_end(text: &[u8], longest: usize) -> Option<(&[u8], &[u8])>
+    requires { longest ≤ longest_text }
     ensures whole { IfSome result (λ parts. parts.0.now ++ parts.1.now ≡ text.now) }
     ensures end { IfSome result (λ parts. IsEnd parts.1.now) }
     ensures short { IfSome result (λ parts. length text.now ≤ longest_text) }
 {
-    if text.len() > LONGEST {
+    if text.len() > longest {
         return None;
     }
     for place in 2..text.len().saturating_sub(2).min(LONGEST_FRONT + 1) {

@@ -1,15 +1,17 @@
 //! Canonical texts.
-ghost use Rattle.std.specs.Prelude.{◌≡◌, ◌≤◌, ◌++◌, false, length, IsTrue, IfOk, IfErr, OnOk, OnErr, IfSome, ◌↔◌};
+ghost use Rattle.std.specs.Prelude.{◌≡◌, ◌++◌, false, IsTrue, IfOk, IfErr, OnOk, OnErr, ◌↔◌};
 ghost use Rattle.lt_subtag.specs.Bytes.{folded};
 ghost use Rattle.lt_tag.specs.Conventional.{conventional};
-ghost use Rattle.lt_tag.specs.Lists.{list_of, longest_text};
+ghost use Rattle.lt_tag.specs.Lists.{list_of};
 ghost use Rattle.lt_check.specs.Staying.{IsStaying};
 ghost use Rattle.lt_check.specs.Conditions.{IsChecked};
 ghost use Rattle.lt_canon.specs.Texts.{AppendsCanonicalText, IsTextRefusal};
+ghost use Rattle.lt_cache.specs.Appending.{AppendsFront};
 ghost use Rattle.lt_cache.specs.SettledEnds.{AppendsEndText};
 
 use crate::ends::is_settled_end;
 use crate::keyword_ends::keyword_end;
+use crate::splitting::split_end;
 use lt_canon::{Checked, TextRefusal, append_usual_text};
 use lt_registry::Lookup;
 use lt_tag::OutOfMemory;
@@ -18,31 +20,9 @@ use std::alloc::Global;
 /// The most bytes of a text that is read.
 const LONGEST_TEXT: usize = 1024;
 
-/// The most bytes of a front: a language of three letters, a script and a region of three digits.
-const LONGEST_FRONT: usize = 12;
-
-/// What is before the first one-character subtag, which is looked for from the third byte on, and the end that begins with
-/// the hyphen before it: `ar` and `-u-nu-latn` of `ar-u-nu-latn`. None where there is no such subtag within the first bytes,
-/// it is the last one, or the text is too long.
-#[inline(always)]
-fn split_end(text: &[u8]) -> Option<(&[u8], &[u8])>
-    ensures whole { IfSome result (λ parts. parts.0.now ++ parts.1.now ≡ text.now) }
-    ensures short { IfSome result (λ parts. length text.now ≤ longest_text) }
-{
-    if text.len() > LONGEST_TEXT {
-        return None;
-    }
-    for place in 2..text.len().saturating_sub(2).min(LONGEST_FRONT + 1) {
-        if text[place] == b'-' && text[place + 2] == b'-' {
-            return Some(text.split_at(place));
-        }
-    }
-    None
-}
-
 /// Appends a front in conventional case if each of its subtags stays as it is, and gives true; else it appends nothing.
 #[inline(always)]
-fn append_front<L: Lookup>(
+pub(crate) fn append_front<L: Lookup>(
     checked: &Checked<L>,
     front: &[u8],
     texts: &mut Vec<u8>,
@@ -51,6 +31,7 @@ fn append_front<L: Lookup>(
     ensures exact { IfOk result (λ told. IsTrue told ↔ IsStaying (L.listed checked.now) front.now) }
     ensures appended { IfOk result (λ told. IsTrue told → texts.new.items ≡ texts.old.items ++ conventional (list_of front.now)) }
     ensures unchanged { IfOk result (λ told. told ≡ false → texts.new.items ≡ texts.old.items) }
+    ensures told { IfOk result (AppendsFront (L.listed checked.now) front.now texts.old.items texts.new.items) }
     ensures kept { OnErr result (texts.new.items ≡ texts.old.items) }
 {
     let told = checked.usual().append_text(front, texts)?;
@@ -97,7 +78,7 @@ fn append_settled_text<L: Lookup>(
     ensures appended { IsTrue result → AppendsCanonicalText (L.listed checked.now) text.now texts.old.items texts.new.items }
     ensures unchanged { result ≡ false → texts.new.items ≡ texts.old.items }
 {
-    let Some((front, end)) = split_end(text) else {
+    let Some((front, end)) = split_end(text, LONGEST_TEXT) else {
         return false;
     };
     let before = texts.len();

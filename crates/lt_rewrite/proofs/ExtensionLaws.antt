@@ -2,7 +2,7 @@
 use Rattle.std.proofs.Common.{◌≡◌, ℕ, ◌≤◌, ◌<◌, Bool, true, false, cond, List, [], ◌∷◌, ◌++◌, refl, sym, ap, ◌∙◌, subst, subst₂, ap₂, length, arith, Option, Some, None, IfSome, ◌==◌, ◌≢◌, ltb, zero, suc, get_or, set, take, drop}
 use Rattle.std.specs.Prelude.{map, position}
 use Rattle.std.specs.List.{AllByRecursion, position_or_len}
-use Rattle.std.proofs.lemmas.List.{set_split, length-set, get_or_read, get_or-set_other}
+use Rattle.std.proofs.lemmas.List.{set_split, set-get_or, length-set, get_or_read, get_or-set_other}
 use Rattle.lt_tag.specs.Parts.{UForm, TForm, ExtensionParts}
 use Rattle.lt_tag.specs.Extensions.{IsTransform, transform, unicode}
 use Rattle.lt_rewrite.specs.Rewriting.{Star, done, IsNormalForm, Rests}
@@ -69,6 +69,13 @@ none_there es n h =
     let past = not_found (position_or_len test es) (length es) h in
     recursion_from_All (λ (e : ExtensionParts). e.singleton ≢ n) es (λ k d l. eqb-false (get_or es k d).singleton n (fails_before_first test es k d (omega arith)))
 
+-- where no extension has the singleton, each of it rests
+pub none_rest : (R : List EntryParts) (es : List ExtensionParts) (n : ℕ) → AllByRecursion (λ (e : ExtensionParts). e.singleton ≢ n) es → Settles R n es None
+none_rest R es n = AllByRecursion-weaker (λ (x : ExtensionParts). x.singleton ≢ n) (λ x. x.singleton ≡ n → Rests (ExtensionStep R) x) (λ x a q. absurd (a q)) es
+
+pub none_settles : (R : List EntryParts) (es : List ExtensionParts) (n : ℕ) → position (λ (e : ExtensionParts). e.singleton == n) es ≡ None → Settles R n es None
+none_settles R es n h = none_rest R es n (none_there es n h)
+
 -- the extension there
 pub record FoundAt (n : ℕ) (es : List ExtensionParts) (place : ℕ) (e : ExtensionParts) : Type 0 where
   pub within : place < length es
@@ -102,6 +109,14 @@ placed_alone P n (x ∷ xs) (suc i) e f d h is s p =
     let other = all_index (λ (y : ExtensionParts). y.singleton ≢ x.singleton) xs i e (omega arith) is (all_unmapped (λ (m : ℕ). m ≢ x.singleton) singleton_of xs d.0) in
     (λ q. absurd (other (s ∙ sym q)), placed_alone P n xs i e f d.1 (omega arith) is s p)
 
+-- where the first of a singleton rests, and each singleton occurs once, each of it rests
+pub found_rests : (R : List EntryParts) (n : ℕ) (es : List ExtensionParts) (place : ℕ) (e : ExtensionParts) → Distinct (map singleton_of es) → position (λ (e : ExtensionParts). e.singleton == n) es ≡ Some place → e ≡ get_or es place e
+    → (e.singleton ≡ n → Rests (ExtensionStep R) e) → Settles R n es None
+found_rests R n es place e d h is rests =
+    let found = found_there es n place e h is in
+    subst (AllByRecursion (λ (x : ExtensionParts). x.singleton ≡ n → Rests (ExtensionStep R) x)) (ap (set es place) is ∙ set-get_or es place e)
+    (placed_alone (Rests (ExtensionStep R)) n es place e e d found.within is found.of_singleton (rests found.of_singleton))
+
 pub keeps_singleton : (R : List EntryParts) (n : ℕ) (e f : ExtensionParts) → e.singleton ≡ n → Star (ExtensionStep R) e f → f.singleton ≡ n
 keeps_singleton R n e f h s = star_keeps (λ (x : ExtensionParts). x.singleton ≡ n) (λ a b t q. extension_step_singleton R a b t ∙ q) s h
 
@@ -119,7 +134,7 @@ placed_distinct R n es (Some p) s d =
 
 -- that of the singleton rests
 pub placed_rests : (R : List EntryParts) (n : ℕ) (es : List ExtensionParts) (o : Option (ℕ × ExtensionParts)) → Settles R n es o → Distinct (map singleton_of es) → AllByRecursion (λ (x : ExtensionParts). x.singleton ≡ n → Rests (ExtensionStep R) x) (placed o es)
-placed_rests R n es None s d = AllByRecursion-weaker (λ (x : ExtensionParts). x.singleton ≢ n) (λ x. x.singleton ≡ n → Rests (ExtensionStep R) x) (λ x a q. absurd (a q)) es s
+placed_rests R n es None s d = s
 placed_rests R n es (Some p) s d = placed_alone (Rests (ExtensionStep R)) n es p.0 s.from p.1 d s.within s.there s.of_singleton s.normal.at_rest
 
 -- and what all have, and each of the singleton, all have then
@@ -131,7 +146,7 @@ placed_keeps R P n es (Some p) s f a =
 -- the one at another place is not touched
 settles_still : (R : List EntryParts) (n m : ℕ) → n ≢ m → (es : List ExtensionParts) (o p : Option (ℕ × ExtensionParts)) → Settles R n es o → Settles R m es p → Settles R m (placed o es) p
 settles_still R n m ne es None p s t = t
-settles_still R n m ne es (Some o) None s t = placed_keeps R (λ (x : ExtensionParts). x.singleton ≢ m) n es (Some o) s (λ x q r. ne (sym q ∙ r)) t
+settles_still R n m ne es (Some o) None s t = placed_keeps R (λ (x : ExtensionParts). x.singleton ≡ m → Rests (ExtensionStep R) x) n es (Some o) s (λ x q r. absurd (ne (sym q ∙ r))) t
 settles_still R n m ne es (Some o) (Some p) s t =
     let apart : p.0 ≢ o.0 = λ e.
     let one : s.from ≡ get_or es p.0 t.from = get_or_read es o.0 s.from s.within s.there t.from ∙ ap (λ k. get_or es k t.from) (sym e) in

@@ -16,7 +16,7 @@ use Rattle.lt_rewrite.specs.Extensions.{singleton_cmp, ExtensionStep, in_unicode
 use Rattle.lt_rewrite.specs.Labels.{extension_label}
 use Rattle.lt_rewrite.proofs.PartForms.{u_shaped, t_shaped}
 use Rattle.lt_rewrite.proofs.ExtensionForms.{extension_step_singleton, extension_step_length, each_rests}
-use Rattle.lt_rewrite.proofs.ExtensionLaws.{FoundAt, keeps_singleton, placed_reached, placed_distinct, placed_rests, placed_keeps}
+use Rattle.lt_rewrite.proofs.ExtensionLaws.{none_rest, FoundAt, keeps_singleton, placed_reached, placed_distinct, placed_rests, placed_keeps}
 use Rattle.lt_registry.specs.Parts.{EntryParts}
 use Rattle.lt_registry.specs.Entries.{IsRegistry}
 use Rattle.lt_rewrite.proofs.CoreLaws.{step_shaped}
@@ -205,7 +205,7 @@ module _ (R : List EntryParts) (start : ℕ) where
 -- an extension in its place
 
 pub settles_of : (R : List EntryParts) (n start : ℕ) (es : List ExtensionParts) (o : Option (ℕ × ExtensionParts)) (old new : List Step) → Explains R n start es o old new → Settles R n es o
-settles_of R n start es None old new h = h.0
+settles_of R n start es None old new h = none_rest R es n h.0
 settles_of R n start es (Some p) old new h = h.settles
 
 placed_singletons : (R : List EntryParts) (n : ℕ) (es : List ExtensionParts) (o : Option (ℕ × ExtensionParts)) → Settles R n es o → map singleton_of es ≡ map singleton_of (placed o es)

@@ -1,5 +1,5 @@
 -- Keywords whose keys rise, none of which has a type `true`: no step leads from them.
-use Rattle.std.proofs.Common.{◌≡◌, ℕ, ◌<◌, Bool, true, false, not, List, [], ◌∷◌, ◌++◌, Option, Some, None, refl, sym, ap, ◌∙◌, subst, length, arith, Ordering, Less, Equal, Greater, bytes_eq}
+use Rattle.std.proofs.Common.{◌≡◌, ℕ, ◌<◌, Bool, true, false, not, List, [], ◌∷◌, ◌++◌, Option, Some, None, refl, sym, ap, ap₂, ◌∙◌, subst, length, arith, Ordering, Less, Equal, Greater, bytes_eq}
 use Rattle.std.specs.Prelude.{codes}
 use Rattle.std.specs.List.{list_all, AllByRecursion}
 use Rattle.std.specs.Ordering.{ordering_reverse}
@@ -7,18 +7,21 @@ use Rattle.std.proofs.lemmas.Bool.{and_parts, and_from}
 use Rattle.std.proofs.lemmas.Bool.Decides.{nat_tests}
 use Rattle.std.proofs.lemmas.List.{length-append}
 use Rattle.lt_subtag.specs.Shapes.{is_key}
-use Rattle.lt_tag.specs.Parts.{KeywordParts, UForm}
-use Rattle.lt_tag.specs.Extensions.{is_long, IsUnicode}
+use Rattle.lt_tag.specs.Parts.{ExtensionParts, KeywordParts, UForm}
+use Rattle.lt_tag.specs.Extensions.{is_long, IsUnicode, unicode}
+use Rattle.lt_tag.specs.Values.{IsExtensionValue}
+use Rattle.lt_registry.specs.Parts.{EntryParts}
 use Rattle.lt_tag.specs.Spelling.{is_extension_subtag}
 use Rattle.lt_tag.specs.Splitting.{before, keywords_of}
 use Rattle.lt_tag.proofs.PartsLemmas.{u_found}
 use Rattle.lt_tag.proofs.TagLemmas.{AllByRecursion-weaker}
 use Rattle.lt_rewrite.specs.Rewriting.{done, IsNormalForm, Rests}
 use Rattle.lt_rewrite.specs.Orderings.{ListStep, by_swap, by_drop}
-use Rattle.lt_rewrite.specs.Extensions.{text_cmp, key_cmp, UnicodeStep, on_attributes, on_keywords, on_types}
+use Rattle.lt_rewrite.specs.Extensions.{text_cmp, key_cmp, ExtensionStep, UnicodeStep, on_attributes, on_keywords, on_types}
 use Rattle.lt_rewrite.proofs.PartLists.{all_middle}
+use Rattle.lt_rewrite.proofs.ExtensionForms.{extension, unicode_settled}
 use Rattle.lt_rewrite.proofs.PartForms.{text_total}
-use Rattle.lt_cache.specs.SettledEnds.{is_above, comes_after, is_type, next_key, keys_rise}
+use Rattle.lt_rewrite.specs.RisingKeys.{is_above, comes_after, is_type, next_key, keys_rise}
 
 -- no subtag is `true`
 abbrev pub none_true : List (List ℕ) → Bool
@@ -173,3 +176,10 @@ parts_rest ss r = record { reached = done; at_rest = rests }
         let none = all_middle HasNoTrue before k after (subst (AllByRecursion HasNoTrue) s.there r.none) in
         let bad : false ≡ true = ap none_true (sym s.sole) ∙ none in
         cc
+
+-- a `u` extension of such keywords rests
+pub unicode_rests : (R : List EntryParts) (e : ExtensionParts) → IsExtensionValue e → keys_rise None e.subtags ≡ true → e.singleton ≡ unicode → Rests (ExtensionStep R) e
+unicode_rests R e v h u =
+    let r = rise None e.subtags h in
+    let found = parts_found e.subtags r v.shaped.some in
+    subst (Rests (ExtensionStep R)) (ap₂ extension (sym u) found.spelled) (unicode_settled R e (parts e.subtags) (parts e.subtags) u found (parts_rest e.subtags r)).at_rest

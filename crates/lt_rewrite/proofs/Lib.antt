@@ -15,6 +15,7 @@ mod CoreSettling
 mod CoreLaws
 pub mod PartForms
 pub mod ExtensionForms
+pub mod KeysRise
 mod ExtensionLaws
 pub mod ProperTags
 pub mod StepLaws

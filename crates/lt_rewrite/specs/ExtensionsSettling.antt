@@ -1,9 +1,9 @@
 -- An extension among others that comes to its normal form (RFC 5646, 4.5).
-use Rattle.std.specs.Prelude.{ℕ, ◌≡◌, ◌≢◌, ◌<◌, List, Option, Some, None, length, slice_index_or, slice_set}
+use Rattle.std.specs.Prelude.{ℕ, ◌≡◌, ◌<◌, List, Option, Some, None, length, slice_index_or, slice_set}
 use Rattle.std.specs.List.{AllByRecursion}
 use Rattle.lt_tag.specs.Parts.{ExtensionParts}
 use Rattle.lt_registry.specs.Parts.{EntryParts}
-use Rattle.lt_rewrite.specs.Rewriting.{IsNormalForm}
+use Rattle.lt_rewrite.specs.Rewriting.{IsNormalForm, Rests}
 use Rattle.lt_rewrite.specs.Extensions.{ExtensionStep}
 
 -- the extension at an index has this singleton, and `f` is its normal form
@@ -15,9 +15,9 @@ pub record SettlesAt (R : List EntryParts) (singleton : ℕ)
   pub of_singleton : from.singleton ≡ singleton
   pub normal : IsNormalForm (ExtensionStep R) from f
 
--- the index and the normal form of the extension with this singleton, or None where there is none
+-- the index and the normal form of the extension with this singleton, or None where each of it is in its normal form
 abbrev pub Settles : List EntryParts → ℕ → List ExtensionParts → Option (ℕ × ExtensionParts) → Type 0
-Settles R singleton es None = AllByRecursion (λ e. e.singleton ≢ singleton) es
+Settles R singleton es None = AllByRecursion (λ e. e.singleton ≡ singleton → Rests (ExtensionStep R) e) es
 Settles R singleton es (Some settled) = SettlesAt R singleton es settled.0 settled.1
 
 -- the extensions, with a normal form in the place of its extension

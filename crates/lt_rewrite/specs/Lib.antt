@@ -19,3 +19,4 @@ pub mod ApplyFaults
 pub mod Runs
 pub mod ExtensionsExplaining
 pub mod Shortcuts
+pub mod RisingKeys

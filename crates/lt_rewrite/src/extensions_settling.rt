@@ -13,6 +13,7 @@ ghost use Rattle.lt_rewrite.specs.Shortcuts.{AreShortcuts};
 
 use crate::extension_settling::{recall_forms, settle_transform, settle_u};
 use crate::part_ordering::put_in_order;
+use crate::rising_keys::keys_rise;
 use crate::shortcuts::Shortcuts;
 use lt_registry::Lookup;
 use lt_tag::{Extension, OutOfMemory, TransformFault, join_t, join_u, split_t, split_u};
@@ -27,24 +28,30 @@ pub(crate) fn place_of(extensions: &[Extension], singleton: u8) -> Option<usize>
         .position(|extension| extension.singleton() == singleton)
 }
 
-/// The index of the `u` extension, and its normal form. None if there is no such extension.
-#[tactic(auto, using(crate::proofs::ExtensionLaws::none_there))]
+/// The index of the `u` extension, and its normal form. None if there is no such extension, or if it is in its normal form
+/// as its keys show: then it takes no memory.
+#[tactic(auto, using(crate::proofs::ExtensionLaws::none_settles))]
 fn settled_unicode(
     alloc: Global,
     extensions: &[Extension],
 ) -> Result<Option<(usize, Extension)>, OutOfMemory>
+    requires { Distinct (map (λ (e : ExtensionParts). e.singleton) extensions.now) }
     ensures { IfOk result (λ settled. (R : List EntryParts) → Settles R unicode extensions.now settled) }
 {
     let Some(place) = place_of(extensions, b'u') else {
         return Ok(None);
     };
-    let mut parts = split_u(alloc, &extensions[place])?;
+    let extension = &extensions[place];
+    if keys_rise(extension.subtags()) {
+        return Ok(None);
+    }
+    let mut parts = split_u(alloc, extension)?;
     settle_u(alloc, &mut parts)?;
     Ok(Some((place, join_u(alloc, &parts)?)))
 }
 
 /// The index of the `t` extension, and its normal form. None if there is no such extension.
-#[tactic(auto, using(crate::proofs::ExtensionLaws::none_there))]
+#[tactic(auto, using(crate::proofs::ExtensionLaws::none_settles))]
 fn settled_transform<L: Lookup>(
     alloc: Global,
     table: &L,

@@ -3,6 +3,7 @@ mod applying;
 mod core_explaining;
 mod extensions_explaining;
 mod growths;
+mod rising_keys;
 mod shortcuts;
 
 ghost use Rattle.std.specs.Prelude.{◌≡◌, List, All, IfOk, OnOk, map};

@@ -2,7 +2,7 @@ use Rattle.std.proofs.Common.{◌≡◌, None, length, map}
 use Rattle.lt_subtag.specs.Bytes.{folded}
 use Rattle.lt_tag.specs.Lists.{list_of}
 use Rattle.lt_tag.specs.Rest.{pieces_left}
-use Rattle.lt_cache.specs.SettledEnds.{keys_rise}
+use Rattle.lt_rewrite.specs.RisingKeys.{keys_rise}
 use Rattle.lt_cache.proofs.ends.keys_rise.Given as goal
 
 -- of what is left the same is asked as of the text

@@ -1,4 +1,3 @@
-use Rattle.std.proofs.Common.{sym}
 use Rattle.lt_cache.proofs.SettledEnds.{end_appended}
 use Rattle.lt_cache.proofs.texts.append_settled_text.Goals as goal
 
