@@ -1,5 +1,5 @@
 //! What the text of a tag is printed to: a vector of bytes, or the formatter of a `Display`.
-ghost use Rattle.std.specs.Prelude.{◌≡◌, ℕ, List, [], ◌++◌, OnOk};
+ghost use Rattle.std.specs.Prelude.{◌≡◌, ◌≤◌, ℕ, List, [], ◌++◌, OnOk, take};
 ghost use Rattle.std.specs.Fmt.{HasWritten, IsPlainFormatter};
 ghost use Rattle.lt_tag.specs.Keeping.{IsKept};
 
@@ -21,6 +21,12 @@ pub(crate) trait Sink {
     fn add(&mut self, bytes: &[u8]) -> Result<(), Self::Refusal>
         ensures took { OnOk result (took self.old bytes.now self.new) }
         ensures kept { IsKept (held self.old) (held self.new) };
+
+    /// Takes the first `count` of nine bytes, as `add` does.
+    fn add_front(&mut self, bytes: &[u8; 9], count: usize) -> Result<(), Self::Refusal>
+        requires { count ≤ 9 }
+        ensures took { OnOk result (took self.old (take count bytes.now) self.new) }
+        ensures kept { IsKept (held self.old) (held self.new) };
 }
 
 impl Sink for Vec<u8> {
@@ -32,6 +38,15 @@ impl Sink for Vec<u8> {
 
     fn add(&mut self, bytes: &[u8]) -> Result<(), OutOfMemory> {
         Ok(self.extend_from_slice(bytes)?)
+    }
+
+    /// Takes all nine bytes, and then cuts them to their front, since a copy whose length is known takes no loop.
+    #[inline(always)]
+    fn add_front(&mut self, bytes: &[u8; 9], count: usize) -> Result<(), OutOfMemory> {
+        let end = self.len() + count;
+        self.extend_from_slice(bytes)?;
+        self.truncate(end);
+        Ok(())
     }
 }
 
@@ -45,5 +60,9 @@ impl<W: fmt::Write> Sink for fmt::Formatter<W> {
     fn add(&mut self, bytes: &[u8]) -> fmt::Result {
         let text = str::from_utf8(bytes).map_err(|_| fmt::Error)?;
         self.write_str(text)
+    }
+
+    fn add_front(&mut self, bytes: &[u8; 9], count: usize) -> fmt::Result {
+        self.add(&bytes[..count])
     }
 }

@@ -1,12 +1,10 @@
-use Rattle.std.proofs.Common.{◌++◌, ◌∷◌, List, ℕ, [], ap, take, ◌∙◌}
 use Rattle.lt_tag.proofs.PrintingLemmas.{prints_append, prints_as, kept_trans, take_turn}
 use Rattle.lt_tag.proofs.writing.Style.put_all.Goals as goal
 
 pub loop-subtag-preserved : goal.loop-subtag-preserved
 loop-subtag-preserved g c = record {
   put = prints_as
-      (ap (λ (s : List ℕ). take c.loop-subtag.subtag-index c.args.subtags.now ++ s ∷ []) c.bytes.ensures.same
-      ∙ take_turn c.args.subtags.now c.loop-subtag.subtag-index _ c.loop-subtag-test.true c.subtag-item.is)
-      (prints_append c.loop-subtag.invariant.put c.in_ok-put.ensures.put);
-  kept = kept_trans _ _ _ c.loop-subtag.invariant.kept c.put.ensures.kept;
+      (take_turn c.args.subtags.now c.loop-subtag.subtag-index _ c.loop-subtag-test.true c.subtag-item.is)
+      (prints_append c.loop-subtag.invariant.put c.in_ok-put_subtag.ensures.put);
+  kept = kept_trans _ _ _ c.loop-subtag.invariant.kept c.put_subtag.ensures.kept;
 }
