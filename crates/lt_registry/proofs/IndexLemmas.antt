@@ -12,7 +12,7 @@ use Rattle.std.proofs.lemmas.List.{append-nil}
 use Rattle.std.specs.Option.{option_map, option_and_then}
 use Rattle.std.proofs.lemmas.Option.{slice_get_within, get_or_from_slice_get, slice_get_read, same_Some}
 use Rattle.std.proofs.lemmas.List.Elements.{All-push, Contains-append_left, Contains-push}
-use Rattle.lt_tag.specs.Parts.{TagForm, Grandfathered}
+use Rattle.lt_tag.specs.Parts.{TagForm}
 use Rattle.lt_tag.specs.OrderLaws.{tag_total, tags_apart}
 use Rattle.lt_tag.specs.Order.{tag_cmp}
 use Rattle.lt_registry.specs.Entries.{has_form, is_whole_kind, FitsName, IsEntry, is_named, holds, is_whole, entry, whole}

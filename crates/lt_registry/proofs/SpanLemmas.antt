@@ -13,7 +13,7 @@ use Rattle.std.proofs.lemmas.List.Folds.{drop_split, find-append}
 use Rattle.std.specs.Option.{option_map, option_or}
 use Rattle.std.proofs.lemmas.Option.{slice_get_within, slice_get-get_or, get_or_from_slice_get, slice_get_read, same_Some}
 use Rattle.std.proofs.lemmas.List.Elements.{All-push, All-from_get_or}
-use Rattle.lt_registry.specs.Sorted.{number, place_of, RowsRise, beginning, IsInSpan, AreStarts, ends}
+use Rattle.lt_registry.specs.Sorted.{place_of, RowsRise, beginning, IsInSpan, AreStarts, ends}
 use Rattle.lt_registry.specs.declared.rows.Row.{Row}
 use Rattle.lt_registry.proofs.NumberLemmas.{small}
 use Rattle.lt_registry.proofs.SortedLemmas.{find_first, find_none, nats_equal}

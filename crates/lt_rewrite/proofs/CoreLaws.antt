@@ -26,7 +26,6 @@ use Rattle.lt_rewrite.proofs.Entries.{chains_end, variant_language_is, entry_has
 use Rattle.lt_rewrite.proofs.ChainWalks.{Takes, takes_unique, takes_within}
 use Rattle.lt_rewrite.proofs.Forms.{registered_entry, value_form, value_registered, replacement_form, replacement_registered, language_value_form, variant_value_form}
 use Rattle.lt_rewrite.proofs.CoreSteps.{core_step_no_longer, each_step}
-use Rattle.lt_rewrite.proofs.CoreForms.{last}
 
 -- Core steps come to an end: each makes a number lower.
 

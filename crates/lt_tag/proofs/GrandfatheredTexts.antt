@@ -1,6 +1,6 @@
 -- Grandfathered lists: the pieces of a text compared with one, the first four subtags of a list, and the texts that have one.
 use Rattle.std.proofs.Common.{◌≡◌, ℕ, ◌≤◌, ◌<◌, ◌+◌, Bool, true, false, not, List, [], ◌∷◌, ◌++◌, length, take, drop, get_or, refl, sym, ap, ◌∙◌, arith, Bor, ◌-◌, zero, suc, map}
-use Rattle.std.specs.Prelude.{Option, Some, None, MatchOption, IsTrue, is_some, nat_le, IfSome, IfNone, slice_get, slice_index_or, sum_by}
+use Rattle.std.specs.Prelude.{Option, Some, None, IsTrue, is_some, nat_le, IfSome, IfNone, slice_get, slice_index_or, sum_by}
 use Rattle.std.proofs.lemmas.List.{append_assoc, append-nil, append_cancel_left, take-append-drop, take_all, drop_more, length-take, get_or-map, length-map, length-append}
 use Rattle.std.proofs.lemmas.Grind.{take_at_read}
 use Rattle.lt_tag.specs.Lists.{pieces, list_of}

@@ -1,4 +1,4 @@
-use Rattle.std.proofs.Common.{rules, ◌≡◌, ℕ, true, List, None, All, get_or, sym, ap, ◌∙◌, subst, true≢false, arith}
+use Rattle.std.proofs.Common.{rules, ◌≡◌, ℕ, List, None, All, sym, ◌∙◌, subst}
 use Rattle.std.proofs.lemmas.List.{take_all}
 use Rattle.lt_rewrite.specs.CoreSteps.{language_beside}
 use Rattle.lt_rewrite.specs.VariantLanguages.{ArePlaces}
