@@ -36,6 +36,7 @@ impl Sink for Vec<u8> {
 
     ghost held = { λ text. text.items };
 
+    #[inline(always)]
     fn add(&mut self, bytes: &[u8]) -> Result<(), OutOfMemory> {
         Ok(self.extend_from_slice(bytes)?)
     }
