@@ -1,5 +1,5 @@
 //! A registry that passes the check, and what it says of tags.
-ghost use Rattle.std.specs.Prelude.{◌≡◌, ◌++◌, Ok, OnOk, OnErr, IfOk, IfErr, Err, Some};
+ghost use Rattle.std.specs.Prelude.{◌≡◌, ◌++◌, Ok, OnOk, OnErr, IfOk, IfErr, IfSome, Err, Some};
 ghost use Rattle.std.specs.Option.{option_copied};
 ghost use Rattle.lt_registry.specs.Entries as listed;
 ghost use Rattle.lt_registry.specs.Faults as validity;
@@ -78,11 +78,21 @@ impl fmt::Debug for Registry {
     }
 }
 
-/// The registry of these entries, or why the check rejects them.
+/// The table of these entries, or None where memory runs out. It is no part of its caller, as `check_entries` is none.
+#[inline(never)]
+fn sorted(alloc: Global, entries: Entries) -> Option<SortedTable>
+    ensures { IfSome result (λ table. table ≡ entries) }
+{
+    SortedTable::new(alloc, entries).ok()
+}
+
+/// The registry of these entries, or why the check rejects them. It is no part of its callers, so that what reads a registry
+/// needs no stack for what checks it.
+#[inline(never)]
 fn check_entries(alloc: Global, entries: Entries) -> Result<Registry, RegistryError>
     ensures { IsJudged (Ok entries) result }
 {
-    let Ok(table) = SortedTable::new(alloc, entries) else {
+    let Some(table) = sorted(alloc, entries) else {
         return Err(RegistryError::OutOfMemory);
     };
     match Checked::new(alloc, table) {
