@@ -71,7 +71,7 @@ pub enum Case {
 /// lower-case bytes, and equality, order and hash are theirs. It is printed as them.
 #[derive(Debug, Drop)]
 pub struct Subtag {
-    /// The lower-case bytes, and zeros after them, so that eight bytes are copied and compared at once.
+    /// The lower-case bytes, and zeros after them, so that a copy is of eight bytes whatever their number.
     letters: [u8; 8],
     count: u8,
 }
