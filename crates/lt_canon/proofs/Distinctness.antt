@@ -11,7 +11,7 @@ use Rattle.lt_registry.proofs.VariantFaultLemmas.{stands_at}
 use Rattle.lt_registry.proofs.DistinctTests.{distinct_further}
 use Rattle.lt_canon.specs.Answers.{IsSecondOccurrence}
 
--- the variant at an index is before it too, where those before it are distinct
+-- a variant that is among those before it, which are distinct, is the first to occur again
 pub second_here : (vs : List (List ℕ)) (i : ℕ) (v : List ℕ) → i < length vs → v ≡ get_or vs i v → stands_in (take i vs) v ≡ true → Distinct (take i vs) → IsSecondOccurrence vs v
 second_here vs i v l e h d =
     let s = stands_at (take i vs) v h in

@@ -27,7 +27,7 @@ pub struct FoundColumn {
 /// Why no column was found.
 #[derive(Debug, Drop)]
 pub enum ColumnFault {
-    /// The heading was not read, for this reason.
+    /// The heading was not read, or memory ran out over it.
     Heading(ToolFault),
     /// No column has the name, or more than one, as this line says.
     Name(String),

@@ -12,7 +12,7 @@ use Rattle.lt_jar.specs.Limits.{most_records}
 use Rattle.lt_jar.specs.Faults.{Fault, begun, is_inside}
 use Rattle.lt_jar.specs.Lines.{lines_of}
 
--- a last text that is something
+-- a text after the others
 joined_last : (first : List ℕ) (rest : List (List ℕ)) (text : List ℕ) → joined (first ∷ (rest ++ text ∷ [])) ≡ joined (first ∷ rest) ++ 32 ∷ text
 joined_last first [] text = refl
 joined_last first (next ∷ rest) text = ap (λ l. first ++ 32 ∷ l) (joined_last next rest text) ∙ sym (append_assoc first (32 ∷ joined (next ∷ rest)) (32 ∷ text))
@@ -50,6 +50,7 @@ lines-continued text field [] =
     ap (λ l. (Start field.name field.first ∷ l) ++ []) (map-append Continuation field.more (text ∷ [])) ∙ append-nil _ ∙ ap (λ l. l ++ Continuation text ∷ []) (sym (append-nil (lines_of_field field)))
 lines-continued text field (next ∷ group) = rw (lines-continued text next group) (sym (append_assoc (lines_of_field field) (lines_of_group (next ∷ group)) (Continuation text ∷ [])))
 
+-- the lines of groups that a separator has ended, and of a last one
 abbrev pub lines_of_groups : List (List Written) → List Written → List Line
 lines_of_groups ended last = flat_map lines_of_ended ended ++ lines_of_group last
 
@@ -57,6 +58,7 @@ lines_of_groups ended last = flat_map lines_of_ended ended ++ lines_of_group las
 abbrev pub records_of : List (List Written) → List (List Field)
 records_of groups = map record_of (filter has_field groups)
 
+-- what was read of such lines: the records that have ended, and the fields of the last
 abbrev pub going_of : List (List Written) → List Written → Going
 going_of ended last = record { records = records_of ended; fields = map field_of last }
 
@@ -78,6 +80,7 @@ finished-going_of ended (field ∷ last) = sym (records_of-append ended ((field 
 abbrev pub Makes : List Line → Going → Result Taken Fault → Type 0
 Makes lines going said = MatchResult said (λ taken. Leaves lines (with_taken going taken)) (λ fault. Unit {0})
 
+-- a line that begins a field adds it to the last group
 starts : (ended : List (List Written)) (last : List Written) (name body : List ℕ) → Makes (lines_of_groups ended last ++ Start name body ∷ []) (going_of ended last) (Ok (GoesOn (map field_of last ++ (name, body) ∷ [])))
 starts ended last name body =
     let written : Written = record { name = name; first = body; more = [] } in
@@ -86,7 +89,7 @@ starts ended last name body =
 lines-separated : (ended : List (List Written)) (last : List Written) → lines_of_groups ended last ++ Separator ∷ [] ≡ lines_of_groups (ended ++ last ∷ []) []
 lines-separated ended last = simp (append_assoc, append-nil, flat_map-append)
 
--- what lines and going are, taken apart
+-- what a line of each kind leaves after the lines of groups
 after_kind : (n : ℕ) (ended : List (List Written)) (last : List Written) (kind : Line) → Makes (lines_of_groups ended last ++ filter is_nonblank (kind ∷ [])) (going_of ended last) (take_kind n (map field_of last) kind)
 after_kind n ended last Blank = record { ended = ended; last = last; lines_are = append-nil (lines_of_groups ended last); going_is = refl }
 after_kind n ended [] Separator =

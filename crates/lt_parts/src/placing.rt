@@ -20,7 +20,7 @@ pub struct Part {
     pub length: usize,
 }
 
-/// The parts of a text, which are between its hyphens: each with its kind, of which there is one for each in `kinds`.
+/// The pieces of a text between its hyphens, each as a part of the kind in its place in `kinds`; as many as both have.
 fn place(alloc: Global, kinds: &[PartKind], text: &[u8]) -> Result<Vec<Part>, OutOfMemory>
     ensures { IfOk result (λ parts. parts.items ≡ placed 0 kinds.now (pieces text.now)) }
 {

@@ -26,11 +26,7 @@ use Rattle.lt_registry.specs.Sorted.{IsRowAt, AreRows, IsIndex}
 use Rattle.lt_registry.specs.Same.{same_list, same_extension, same_tag}
 use Rattle.lt_registry.specs.Parts.{EntryParts}
 
--- The sorted rows of a table, and what a search in them finds.
-
 -- Tags are equal by their order where they are the same.
-
--- equal where the same
 
 pub then_equal : (a b : Ordering) → is_eq (ordering_then a b) ≡ (is_eq a && is_eq b)
 then_equal Less b = refl

@@ -71,7 +71,7 @@ impl Indexes {
     }
 }
 
-/// The entry at an index, or None if there is none.
+/// The entry at a place of the list, or None if there is none.
 #[tactic(auto, using(std::proofs::lemmas::Option::gets))]
 pub(crate) fn entry_at(entries: &[Entry], place: usize) -> Option<&Entry>
     ensures { option_copied result ≡ slice_get entries.now place }

@@ -50,12 +50,12 @@ pub record Holds (R : List EntryParts) (ranges : List RangeParts) (lines : List 
   pub have : LinesHave R lines lists
   pub among : ClosestAmong ranges lines lists closest
 
--- a further line was taken, of which `kept` is kept
+-- what was the closest of the lines becomes the closest of them and a further one, of which `kept` is kept
 abbrev pub TakesLine : List EntryParts → List RangeParts → (kept : List ℕ) → (old new : Option Closest) → Type 0
 TakesLine R ranges kept old new = (lines : List (List ℕ)) (line : List ℕ) → kept ≡ take longest_kept line
     → Holds R ranges lines old → Holds R ranges (lines ++ line ∷ []) new
 
--- a further line was taken, whose tag has the subtags `list`
+-- the same of a further line whose tag has the subtags `list`
 abbrev pub TakesSubtags : List RangeParts → (list : List (List ℕ)) → (line : List ℕ) → (old new : Option Closest) → Type 0
 TakesSubtags ranges list line old new = (lines : List (List ℕ)) (lists : List (List (List ℕ))) → length lines ≡ length lists
     → ClosestAmong ranges lines lists old → ClosestAmong ranges (lines ++ line ∷ []) (lists ++ list ∷ []) new

@@ -8,7 +8,7 @@ use std::alloc::{AllocError, Global};
 use std::cell::Cell;
 use std::io::{self, Read};
 
-/// The most bytes of a file that are kept.
+/// The most bytes of a file that is kept.
 const MOST_TRACED: usize = 16_777_216;
 
 /// Why the last file that could not be opened was not, in a line for a person; and the bytes that were read of the first
@@ -20,7 +20,7 @@ pub struct Openings {
     second: Cell<Option<Vec<u8>>>,
 }
 
-/// A file of which what is read is kept in an [`Openings`], up to 16 MiB and if there is memory for it.
+/// A file of which what is read is kept in an [`Openings`], as long as that is no more than 16 MiB and there is memory for it.
 #[derive(Drop)]
 pub struct Traced<'a, F> {
     inner: F,

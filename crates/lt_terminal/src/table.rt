@@ -32,8 +32,8 @@ fn append_counted(
     Ok(())
 }
 
-/// Appends the line that tells how many lines were answered and refused, as `2 lines, 1 refused`. Nothing if it is not
-/// known.
+/// Appends the line that tells how many of these units were answered and refused, as `2 lines, 1 refused`. Nothing if it is
+/// not known.
 pub(crate) fn append_counts(
     told: &mut Vec<u8>,
     alloc: Global,

@@ -152,8 +152,8 @@ fn append_place(told: &mut Vec<u8>, status: u8, place: &str) -> Result<(), Alloc
     Ok(())
 }
 
-/// Appends what a person is told of `said`, which is the front of what was written to the errors, and of a file that can't
-/// be opened the line `refusal`. Nothing at the status of wrong usage.
+/// Appends what a person is told of `said`, the front of what was written to the errors: the message on its first line, and
+/// if that is of a file, the line `refusal`, which says why it can't be opened. Nothing at the status of wrong usage.
 fn append_errors(
     told: &mut Vec<u8>,
     status: u8,
@@ -203,7 +203,7 @@ fn lines_of(
     Ok(told)
 }
 
-/// The lines that a person is told of a run that wrote to `output` and `errors`.
+/// The lines that a person is told of a run that wrote to `output` and `errors`, and opened files by `openings`.
 fn told_of_run<O: Write, E: Write>(
     alloc: Global,
     unit: Option<&str>,

@@ -109,7 +109,8 @@ fn run_on_first<F: Read + Drop, P: FnMut(&str) -> io::Result<F>, I: Read, O: Wri
     }
 }
 
-/// Opens the files that a command names, in order, and does what it asks for. One that can't be opened is named on `errors`.
+/// Opens the files that a command names, in the order in which they are read, and does what it asks for. One that
+/// can't be opened is named on `errors`.
 fn run_on_files<F: Read + Drop, P: FnMut(&str) -> io::Result<F>, I: Read, O: Write, E: Write>(
     alloc: Global,
     command: &Command,
@@ -173,12 +174,13 @@ fn run_command<F: Read + Drop, P: FnMut(&str) -> io::Result<F>, I: Read, O: Writ
 /// Runs the program by the words of its command line, of which the first is its name, and answers the exit
 /// status, 0 to 4. Words that can't be had are answered as words that name no command, for the reason that is given.
 ///
-/// `opener` opens the files that the words name: the first, and then the second, where a command names two. One
-/// that can't be opened ends the run by `! File` on `errors`, and the status 4. The name `-` is the standard
-/// input where the command doesn't read `input`. Where the command reads `input`, it is asked for no bytes
-/// before a file is opened, so that one that is closed is not taken for a file that is opened in its place: it
-/// ends the run by `! Read`, and the status 4. Then [`perform`] does what the command asks for, or [`report`]
-/// says why the words name none. `answered` is set as [`perform`] sets it, and stays where nothing is performed.
+/// `opener` opens the files that the words name, in the order in which they are read: of a table and a registry the
+/// registry, of two registries the older one first. One that can't be opened ends the run by `! File` on `errors`,
+/// and the status 4. The name `-` is the standard input where the command doesn't read `input`. Where the command
+/// reads `input`, it is asked for no bytes before a file is opened, so that one that is closed is not taken for a
+/// file that is opened in its place: it ends the run by `! Read`, and the status 4. Then [`perform`] does what the
+/// command asks for, or [`report`] says why the words name none. `answered` is set as [`perform`] sets it, and stays
+/// where nothing is performed.
 pub fn run_program<F: Read + Drop, P: FnMut(&str) -> io::Result<F>, I: Read, O: Write, E: Write>(
     alloc: Global,
     words: Result<Vec<String>, WordsFault>,

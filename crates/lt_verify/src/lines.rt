@@ -100,7 +100,8 @@ impl Following {
         judge_front(alloc, table, self.number, here, &self.kept)
     }
 
-    /// Takes the next bytes, and judges the lines that they end. None if no verdict is settled yet.
+    /// Takes the next bytes, and judges the lines that they end and the front of the line after those. None if no verdict is
+    /// settled yet.
     #[tactic(auto, using(crate::proofs::FollowingLemmas::first_turn, crate::proofs::FollowingLemmas::turn_proper, crate::proofs::FollowingLemmas::next_turn, crate::proofs::FollowingLemmas::turn_room))]
     fn take_piece<L: Lookup>(
         &mut self,
@@ -166,7 +167,8 @@ impl<'a, L: Lookup> Pieces<()> for Verifying<'a, L> {
 
     ghost finished = { λ first _ _ read _ result. spec.JudgesAll (L.listed first.table.now) first.following read result };
 
-    /// Judges the lines that the piece ends; the first that settles the verdict ends the run.
+    /// Judges the lines that the piece ends and the front of the line after those; the first that settles the verdict ends the
+    /// run.
     fn take_piece(
         &mut self,
         alloc: Global,
