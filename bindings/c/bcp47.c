@@ -145,21 +145,33 @@ static inline void give(slot *s) {
 
 /* ---- opening and closing */
 
-static bool is_digits(const uint8_t *bytes, size_t count) {
-    for (size_t i = 0; i < count; i++)
-        if (bytes[i] < '0' || bytes[i] > '9') return false;
-    return true;
+/* The number that so many digits are; -1 where one is none. */
+static int number_of(const uint8_t *bytes, size_t count) {
+    int number = 0;
+    for (size_t i = 0; i < count; i++) {
+        if (bytes[i] < '0' || bytes[i] > '9') return -1;
+        number = 10 * number + (bytes[i] - '0');
+    }
+    return number;
 }
 
-/* The date of a header that begins the bytes, in the form of RFC 3339. */
+/* Whether ten bytes are a day, as 2025-05-15, and one of the calendar (RFC 3339, 5.6 and 5.7). */
+static bool is_day(const uint8_t *bytes) {
+    static const int longest[] = {31, 29, 31, 30, 31, 30, 31, 31, 30, 31, 30, 31};
+    int year = number_of(bytes, 4), month = number_of(bytes + 5, 2), day = number_of(bytes + 8, 2);
+    if (bytes[4] != '-' || bytes[7] != '-' || year < 1 || month < 1 || month > 12 || day < 1) return false;
+    bool is_leap = year % 4 == 0 && (year % 100 != 0 || year % 400 == 0);
+    return day <= longest[month - 1] && (day < 29 || month != 2 || is_leap);
+}
+
+/* The date of a header that begins the bytes, in the form of RFC 3339. Blanks may follow it. */
 static void read_date(const uint8_t *bytes, size_t length, char date[11]) {
     static const char name[] = "File-Date: ";
     size_t begin = sizeof name - 1;
-    const uint8_t *day = bytes + begin;
     date[0] = 0;
-    if (length < begin + 10 || memcmp(bytes, name, begin)) return;
-    if (!is_digits(day, 4) || day[4] != '-' || !is_digits(day + 5, 2) || day[7] != '-' || !is_digits(day + 8, 2)) return;
-    memcpy(date, day, 10);
+    if (length < begin + 10 || memcmp(bytes, name, begin) || !is_day(bytes + begin)) return;
+    if (length > begin + 10 && bytes[begin + 10] > ' ') return;
+    memcpy(date, bytes + begin, 10);
     date[10] = 0;
 }
 

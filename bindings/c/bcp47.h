@@ -117,7 +117,7 @@ enum {
 typedef struct {
     size_t entries;     /* how many there are: one for each record but the header */
     uint8_t sha256[32]; /* the SHA-256 of the bytes that were read (FIPS 180-4) */
-    char file_date[11]; /* the File-Date of the header, as "2025-05-15"; "" where there is none of that form */
+    char file_date[11]; /* the File-Date of the header, as "2025-05-15"; "" where there is none of that form, or no such day */
 } bcp47_info;
 
 /* Room for the line of any registry that is refused, and for any name, with a zero after it. */

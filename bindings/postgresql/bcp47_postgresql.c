@@ -67,7 +67,7 @@ static void read_folder(const char *path) {
     while ((entry = ReadDir(folder, path)) != NULL) {
         size_t length = strlen(entry->d_name);
         char *whole;
-        if (length != 14 || strcmp(entry->d_name + 10, ".txt")) continue;
+        if (length != 14 || strspn(entry->d_name, "0123456789-") != 10 || strcmp(entry->d_name + 10, ".txt")) continue;
         if (count > MOST)
             ereport(ERROR, (errcode(ERRCODE_PROGRAM_LIMIT_EXCEEDED), errmsg("\"%s\" has more than %d registries", path, MOST)));
         whole = psprintf("%s/%s", path, entry->d_name);
@@ -115,12 +115,13 @@ static const named_registry *unnamed(void) {
                     errhint("Set it in postgresql.conf, and start the server again.")));
 }
 
-/* The registry of a name: its File-Date, or at least 8 digits of its digest. */
+/* The registry of a name: its File-Date, or at least 8 digits of its digest. Those of the folder come first, so that what a name
+   means there is no matter of bcp47.registry. */
 static const named_registry *named(const text *value) {
     const char *name = text_to_cstring(value);
     size_t length = strlen(name);
 
-    for (int i = 0; i < count; i++) {
+    for (int i = count; i-- > 0;) {
         const named_registry *it = &registries[i];
         if (!it->registry || !length) continue;
         if (!strcmp(name, it->info.file_date)) return it;

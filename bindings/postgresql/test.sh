@@ -99,6 +99,13 @@ is 'which registry' "$date $(grep -c '^%%' registry) $digest" ask -c 'SELECT bcp
 is 'named by the digest' 'he|he|he' ask -c "SELECT bcp47_canonical('iw', '$digest'), bcp47_canonical('iw', '${digest:0:8}'), bcp47_canonical('iw', upper('$digest'))"
 is 'too short a name' "ERROR:  the server has no registry \"${digest:0:7}\"" ask -v VERBOSITY=terse -c "SELECT bcp47_canonical('iw', '${digest:0:7}')"
 
+# What a name means in the folder is no matter of bcp47.registry, which has the same date here; a file that has no date is no registry.
+sed '/^Subtag: iw$/,/^%%$/{/^Preferred-Value: /d;}' registry > same-date
+cp sample dates/registries.txt && chmod 644 same-date dates/registries.txt
+again -c "bcp47.registry=$folder/same-date" || fail "$(cat start.log log)"
+is 'the folder comes first' 'he|iw' ask -c "SELECT bcp47_canonical('iw', '$date'), bcp47_canonical('iw')"
+again || fail "$(cat start.log log)"
+
 # The file is replaced while the server runs, and it starts again with another one: the index has what it says.
 cp sample "$folder/registry"
 is 'a replaced file' "$date" ask -c "SELECT split_part(bcp47_registry(), ' ', 1)"

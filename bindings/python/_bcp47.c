@@ -23,8 +23,10 @@ PyAPI_FUNC(const char *) PyUnicode_AsUTF8AndSize(PyObject *, Py_ssize_t *);
 #define CHUNK 2048
 #define CHUNK_ROOM (32 * CHUNK + ROOM)
 
-/* What the package gives: what makes an exception of a refusal, and the type of a tag that was read. */
-static PyObject *refuse, *tag_type;
+/* The names under which each interpreter of the process keeps what its package gives: what makes an exception of a refusal, and
+   the type of a tag that was read. */
+#define REFUSE "bcp47.refuse"
+#define TAG_TYPE "bcp47.tag_type"
 
 typedef struct {
     PyObject_HEAD
@@ -32,6 +34,21 @@ typedef struct {
     size_t calls;     /* those that are under way without the interpreter's lock */
     int is_to_close;  /* the last of them closes the registry */
 } registry_object;
+
+/* ---- what the package gives */
+
+static PyObject *of_interpreter(void) {
+    return PyInterpreterState_GetDict(PyInterpreterState_Get());
+}
+
+/* What the package of this interpreter gave under a name: borrowed. */
+static PyObject *given(const char *name) {
+    PyObject *all = of_interpreter(), *key = all ? PyUnicode_FromString(name) : NULL;
+    PyObject *it = key ? PyDict_GetItemWithError(all, key) : NULL;
+    Py_XDECREF(key);
+    if (!it && !PyErr_Occurred()) PyErr_SetString(PyExc_RuntimeError, "import bcp47 first");
+    return it;
+}
 
 /* ---- texts */
 
@@ -43,7 +60,8 @@ static PyObject *same(PyObject *object) {
 /* The str of a tag, a str or a Tag: a new reference. */
 static PyObject *str_of(PyObject *tag) {
     if (PyUnicode_CheckExact(tag) || PyUnicode_Check(tag)) return same(tag);
-    int is_tag = PyObject_IsInstance(tag, tag_type);
+    PyObject *type = given(TAG_TYPE);
+    int is_tag = type ? PyObject_IsInstance(tag, type) : -1;
     if (is_tag > 0) return PyObject_Str(tag);
     PyObject *name = is_tag ? NULL : PyObject_GetAttrString((PyObject *)Py_TYPE(tag), "__name__");
     if (name) PyErr_Format(PyExc_TypeError, "a tag is a str or a Tag, not %U", name);
@@ -85,6 +103,8 @@ static PyObject *refusal(const char *name, bcp47_outcome outcome, const char *li
         PyErr_SetString(PyExc_RuntimeError, "too many threads ask this registry at once");
         return NULL;
     }
+    PyObject *refuse = given(REFUSE);
+    if (!refuse) return NULL;
     return PyObject_CallFunction(refuse, "siiKs#O", name, outcome.status, outcome.detail, (unsigned long long)outcome.place,
                                  line, line ? (Py_ssize_t)outcome.length : (Py_ssize_t)0, tag);
 }
@@ -515,6 +535,18 @@ static int answer_all(registry_object *registry, PyObject *tags, PyObject *missi
     return well;
 }
 
+/* A list of so many places, which the collector shows to nobody while they are filled. */
+static PyObject *hidden_list(Py_ssize_t count) {
+    PyObject *made = PyList_New(count);
+    if (made) PyObject_GC_UnTrack(made);
+    return made;
+}
+
+static PyObject *shown_list(PyObject *list) {
+    PyObject_GC_Track(list);
+    return same(list);
+}
+
 /* answer_many(tags, missing, is_in_columns): a list of texts and exceptions, or a list of texts and one of lines. */
 static PyObject *registry_answer_many(PyObject *self, PyObject *arguments) {
     PyObject *tags, *missing, *list, *texts = NULL, *faults = NULL, *made = NULL;
@@ -522,10 +554,10 @@ static PyObject *registry_answer_many(PyObject *self, PyObject *arguments) {
     if (!PyArg_ParseTuple(arguments, "OOp", &tags, &missing, &is_in_columns) || !opened(self)) return NULL;
     /* a list of its own: no code of Python can change it */
     if (!(list = PySequence_List(tags))) return NULL;
-    texts = PyList_New(PyList_Size(list));
-    if (is_in_columns) faults = PyList_New(PyList_Size(list));
+    texts = hidden_list(PyList_Size(list));
+    if (is_in_columns) faults = hidden_list(PyList_Size(list));
     if (texts && (faults || !is_in_columns) && answer_all((registry_object *)self, list, missing, texts, faults))
-        made = is_in_columns ? Py_BuildValue("OO", texts, faults) : same(texts);
+        made = is_in_columns ? Py_BuildValue("NN", shown_list(texts), shown_list(faults)) : shown_list(texts);
     Py_DECREF(list);
     Py_XDECREF(texts);
     Py_XDECREF(faults);
@@ -536,13 +568,11 @@ static PyObject *registry_answer_many(PyObject *self, PyObject *arguments) {
 
 /* setup(refuse, tag_type): what the package gives. */
 static PyObject *module_setup(PyObject *module, PyObject *arguments) {
-    PyObject *makes, *type;
+    PyObject *makes, *type, *all = of_interpreter();
     (void)module;
     if (!PyArg_ParseTuple(arguments, "OO", &makes, &type)) return NULL;
-    Py_XDECREF(refuse);
-    Py_XDECREF(tag_type);
-    refuse = same(makes);
-    tag_type = same(type);
+    if (!all) return PyErr_NoMemory();
+    if (PyDict_SetItemString(all, REFUSE, makes) || PyDict_SetItemString(all, TAG_TYPE, type)) return NULL;
     Py_RETURN_NONE;
 }
 
@@ -598,7 +628,8 @@ static PyMethodDef module_methods[] = {
     {NULL, NULL, 0, NULL},
 };
 
-static struct PyModuleDef module = {PyModuleDef_HEAD_INIT, "_bcp47", NULL, -1, module_methods, NULL, NULL, NULL, NULL};
+/* It has no state: each interpreter makes a module, and a type of registries, of its own. */
+static struct PyModuleDef module = {PyModuleDef_HEAD_INIT, "_bcp47", NULL, 0, module_methods, NULL, NULL, NULL, NULL};
 
 PyMODINIT_FUNC PyInit__bcp47(void) {
     PyObject *made = PyModule_Create(&module);

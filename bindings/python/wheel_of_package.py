@@ -1,9 +1,9 @@
 # SPDX-License-Identifier: MIT OR Apache-2.0
 """Makes a wheel of the package, whose extension module serves each Python from 3.9 on, and an archive of its sources.
 
-It needs a C compiler, Python's headers and libbcp47. CC and CFLAGS are as for make. BCP47_LIBRARY names the static library, if
-it is not the repository's build/libbcp47.a; where neither is there, pkg-config finds the library of the system. The same
-files, compiler and SOURCE_DATE_EPOCH give the same bytes.
+It needs a C compiler, Python's headers and libbcp47. CC and CFLAGS are as for make. BCP47_LIBRARY names the static library;
+without it that is the repository's build/libbcp47.a, and where that is not there, or this is an archive of sources, pkg-config
+finds the library of the system. The same files, compiler and SOURCE_DATE_EPOCH give the same bytes.
 """
 import base64
 import gzip
@@ -21,8 +21,12 @@ import zipfile
 from pathlib import Path
 
 HERE = Path(__file__).resolve().parent
-HEADERS = HERE.parent / "c"
-LIBRARY = Path(os.environ.get("BCP47_LIBRARY") or HERE.parent.parent / "build" / "libbcp47.a")
+# An archive of sources has the header in it, and nothing beside its folder is its own.
+IS_ARCHIVE = (HERE / "bcp47.h").exists()
+HEADERS = HERE if IS_ARCHIVE else HERE.parent / "c"
+NAMED = os.environ.get("BCP47_LIBRARY")
+BUILT = HERE.parent.parent / "build" / "libbcp47.a"
+LIBRARY = NAMED or (None if IS_ARCHIVE or not BUILT.exists() else BUILT)
 NAME, VERSION = "bcp47", "1.1.0"
 INFO = f"{NAME}-{VERSION}.dist-info"
 METADATA = f"""Metadata-Version: 2.1
@@ -48,12 +52,15 @@ TIME = max(int(os.environ.get("SOURCE_DATE_EPOCH") or time.time()), 315532800)
 
 def library():
     """The words by which a compiler finds the library and its header."""
-    if LIBRARY.exists():
+    if NAMED and not Path(NAMED).exists():
+        raise FileNotFoundError(f"BCP47_LIBRARY names {NAMED}, which is not there")
+    if LIBRARY:
         return [f"-I{HEADERS}", str(LIBRARY), "-Wl,--exclude-libs,ALL"]
     try:
         return subprocess.run(["pkg-config", "--cflags", "--libs", "bcp47"], check=True, text=True, stdout=subprocess.PIPE).stdout.split()
     except (OSError, subprocess.CalledProcessError):
-        raise FileNotFoundError(f"{LIBRARY} is not there, and pkg-config finds no bcp47: run 'make lib', or install libbcp47") from None
+        raise FileNotFoundError("pkg-config finds no bcp47: install libbcp47, run 'make lib' in the repository, or name a libbcp47.a by "
+                                "BCP47_LIBRARY") from None
 
 
 def build_extension(path):
@@ -80,7 +87,7 @@ def sources():
 def build_wheel(wheel_directory, config_settings=None, metadata_directory=None):
     module = extension()
     processor = PROCESSORS[struct.unpack_from("<H", module, 18)[0]]
-    tag = f"cp39-abi3-{'manylinux2014' if LIBRARY.exists() else 'linux'}_{processor}"
+    tag = f"cp39-abi3-{'manylinux2014' if LIBRARY else 'linux'}_{processor}"
     files = [(f"{NAME}/{path.name}", path.read_bytes()) for path in sources()]
     files.append((f"{NAME}/_bcp47.abi3.so", module))
     wheel_words = f"Wheel-Version: 1.0\nGenerator: wheel_of_package\nRoot-Is-Purelib: false\nTag: {tag}\n"
@@ -103,6 +110,7 @@ def build_sdist(sdist_directory, config_settings=None):
     folder = f"{NAME}-{VERSION}"
     files = [(f"{NAME}/{path.name}", path.read_bytes()) for path in sources()]
     files += [(name, (HERE / name).read_bytes()) for name in ("_bcp47.c", "pyproject.toml", Path(__file__).name)]
+    files.append(("bcp47.h", (HEADERS / "bcp47.h").read_bytes()))
     files.append(("PKG-INFO", METADATA.encode()))
     archive = io.BytesIO()
     with tarfile.open(fileobj=archive, mode="w", format=tarfile.USTAR_FORMAT) as tar:

@@ -12,9 +12,8 @@ SQLITE_EXTENSION_INIT1
 /* Room for any canonical text, and more. */
 enum { BUFFER = 4096 };
 
-/* The most steps that are told, the most bytes of a registry, of which IANA's has some 730,000, and how often a comparison asks
-   again, every 5 milliseconds. */
-enum { STEPS = 100000, LONGEST = 64 << 20, TRIES = 200 };
+/* The most steps that are told, and the most bytes of a registry, of which IANA's has some 730,000. */
+enum { STEPS = 100000, LONGEST = 64 << 20 };
 
 /* ---- registries of the process */
 
@@ -317,15 +316,11 @@ static void match(sqlite3_context *context, int count, sqlite3_value **values) {
     tell_of_two(context, outcome);
 }
 
-/* The canonical text of a text to compare. A collation can't answer an error, and the order of an index must not change: where
-   memory runs out, or too many calls are under way, it asks for a second again, and then the statement is interrupted. */
+/* The canonical text of a text to compare. A collation can't answer an error, and a statement may write by a wrong order before
+   it is interrupted: where memory runs out, or too many calls are under way, it asks until there is an answer. */
 static bcp47_outcome canonical_to_compare(connection *c, const void *text, size_t length, char *buffer) {
     bcp47_outcome outcome = bcp47_canonical(c->held->registry, text, length, buffer, BUFFER);
-    for (int tries = 0; outcome.status == BCP47_OUT_OF_MEMORY || outcome.status >= BCP47_NOT_OPEN; tries++) {
-        if (tries == TRIES) {
-            sqlite3_interrupt(c->database);
-            break;
-        }
+    while (outcome.status == BCP47_OUT_OF_MEMORY || outcome.status == BCP47_BUSY) {
         sqlite3_sleep(5);
         outcome = bcp47_canonical(c->held->registry, text, length, buffer, BUFFER);
     }
@@ -376,7 +371,8 @@ int sqlite3_extension_init(sqlite3 *database, char **error, const sqlite3_api_ro
     if (!c) return SQLITE_NOMEM;
     c->database = database;
     c->users = 1;
-    int result = SQLITE_OK;
+    /* Where the extension was loaded before, its order goes with its functions, and not while a statement runs. */
+    int result = sqlite3_create_collation_v2(database, "BCP47", SQLITE_UTF8, NULL, NULL, NULL);
     for (size_t i = 0; i < sizeof functions / sizeof *functions && result == SQLITE_OK; i++) {
         c->users++;
         result = sqlite3_create_function_v2(database, functions[i].name, functions[i].words, functions[i].flags, c,

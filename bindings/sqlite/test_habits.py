@@ -74,6 +74,18 @@ class Habits(unittest.TestCase):
             with self.assertRaisesRegex(sqlite3.OperationalError, "second word"):
                 connection.execute("SELECT bcp47_load(?, ?)", (other, word))
 
+    def test_the_extension_is_loaded_again(self):
+        connection = opened()
+        with self.assertRaises(sqlite3.OperationalError):
+            connection.execute("SELECT load_extension(?)", (EXTENSION,)).fetchone()
+        self.assertEqual(value(connection, "SELECT bcp47_canonical('iw')"), "he")
+        connection.load_extension(EXTENSION)
+        for query in ("SELECT bcp47_canonical('iw')", "SELECT 'iw' < 'he' COLLATE BCP47"):
+            with self.assertRaisesRegex(sqlite3.OperationalError, "no registry is loaded|no such collation sequence"):
+                value(connection, query)
+        self.assertEqual(value(connection, "SELECT bcp47_load(?)", (SAMPLE,)), 1)
+        self.assertEqual(value(connection, "SELECT 'zh-yue' = 'yue' COLLATE BCP47"), 1)
+
     def test_the_registry_is_named(self):
         connection = opened(load=False)
         self.assertIsNone(value(connection, "SELECT bcp47_registry()"))

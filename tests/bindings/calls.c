@@ -518,6 +518,17 @@ static void info(const char *bytes, size_t length, char **wanted) {
         {"File-Date: 2OOO-01-01\n", "", 0},
         {"File-Date: 2000-O1-01\n", "", 0},
         {"File-Date: 2000-01-O1\n", "", 0},
+        {"File-Date: 2000-01-01\r\n", "2000-01-01", 0},
+        {"File-Date: 2000-01-011\n", "", 0},
+        {"File-Date: 0000-01-01\n", "", 0},
+        {"File-Date: 2000-00-01\n", "", 0},
+        {"File-Date: 2000-13-01\n", "", 0},
+        {"File-Date: 2000-01-00\n", "", 0},
+        {"File-Date: 2000-04-31\n", "", 0},
+        {"File-Date: 2000-02-29\n", "2000-02-29", 0},
+        {"File-Date: 2024-02-29\n", "2024-02-29", 0},
+        {"File-Date: 2023-02-29\n", "", 0},
+        {"File-Date: 1900-02-29\n", "", 0},
         {"Type: language\nSubtag: en\nFile-Date: 2000-01-01\n", "", 1},
     };
     for (size_t i = 0; i < sizeof rows / sizeof *rows; i++) {

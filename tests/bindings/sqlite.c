@@ -1,5 +1,5 @@
-/* Refuses each growth of memory in turn, of the extension's and of SQLite's, while statements ask; then as many calls at once
-   as there is no room for. Linked with bindings/sqlite/bcp47_sqlite.c, which is compiled with -DSQLITE_CORE, and with
+/* Refuses each growth of memory in turn, of the extension's and of SQLite's, while statements ask; then answers as where too
+   many calls are under way. Linked with bindings/sqlite/bcp47_sqlite.c, which is compiled with -DSQLITE_CORE, and with
    -Wl,--wrap=malloc and so on. Argument: the sample registry. */
 #include "support.h"
 #include <sqlite3.h>
@@ -10,7 +10,8 @@ void *__wrap_malloc(size_t), *__wrap_calloc(size_t, size_t), *__wrap_realloc(voi
 bcp47_outcome __real_bcp47_canonical(const bcp47_registry *, const char *, size_t, char *, size_t);
 bcp47_outcome __wrap_bcp47_canonical(const bcp47_registry *, const char *, size_t, char *, size_t);
 static long refused_at = 0, growths = 0;
-static int is_busy = 0;
+/* how many further calls find too many others under way */
+static int busy_calls = 0;
 static sqlite3_mem_methods methods;
 
 static int is_refused(void) {
@@ -38,8 +39,9 @@ static void *more_of_sqlite(void *old, int size) {
 }
 
 bcp47_outcome __wrap_bcp47_canonical(const bcp47_registry *registry, const char *text, size_t length, char *buffer, size_t room) {
-    bcp47_outcome busy = {.status = BCP47_BUSY};
-    return is_busy ? busy : __real_bcp47_canonical(registry, text, length, buffer, room);
+    if (!busy_calls) return __real_bcp47_canonical(registry, text, length, buffer, room);
+    busy_calls--;
+    return (bcp47_outcome){.status = BCP47_BUSY};
 }
 
 static const char *path;
@@ -102,7 +104,7 @@ static void ask(sqlite3 *database, const char *statement, const char *wanted) {
     if (!status) status = sqlite3_step(prepared);
     const char *text = status == SQLITE_ROW ? (const char *)sqlite3_column_text(prepared, 0) : NULL;
     int is_same = status == SQLITE_ROW && wanted && !strcmp(text ? text : "NULL", wanted);
-    if (!is_same && !((status == SQLITE_ERROR || status == SQLITE_INTERRUPT) && !wanted) && !(before < refused_at && refused_at <= growths)) {
+    if (!is_same && !(status == SQLITE_ERROR && !wanted) && !(before < refused_at && refused_at <= growths)) {
         fprintf(stderr, "%s: %d %s\n", statement, status, text ? text : sqlite3_errmsg(database));
         failures++;
     }
@@ -136,10 +138,15 @@ int main(int count, char **words) {
     CHECK(!sqlite3_open(":memory:", &database) && !sqlite3_extension_init(database, NULL, NULL));
     ask(database, "SELECT bcp47_load(?)", "1");
     ask(database, "SELECT bcp47_load('/dev/zero')", NULL);
-    is_busy = 1;
+    busy_calls = 2;
     ask(database, "SELECT bcp47_canonical('en')", NULL);
     ask(database, "SELECT bcp47_fault('en')", NULL);
-    ask(database, "SELECT count(*) FROM (SELECT column1 FROM (VALUES ('en'), ('de')) ORDER BY column1 COLLATE BCP47)", NULL);
+    CHECK(!sqlite3_exec(database, "CREATE TABLE tags (tag TEXT COLLATE BCP47 PRIMARY KEY); INSERT INTO tags VALUES ('en'), ('de')", NULL, NULL, NULL));
+    busy_calls = 250;
+    ask(database, "INSERT INTO tags VALUES ('fr') RETURNING tag", "fr");
+    CHECK(!busy_calls);
+    ask(database, "SELECT group_concat(tag, ' ') FROM (SELECT tag FROM tags ORDER BY tag)", "de en fr");
+    ask(database, "PRAGMA integrity_check", "ok");
     CHECK(!sqlite3_close(database));
     sqlite3_shutdown();
     if (!failures) printf("SQLite: %ld growths refused in turn\n", runs);

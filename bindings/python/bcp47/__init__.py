@@ -356,7 +356,8 @@ class Registry(_bcp47.Registry):
     def filter(self, ranges: Iterable[Union[str, Tag]], tags: Iterable[AnyTag],
                scheme: Literal["basic", "extended"] = "extended") -> List[AnyTag]:
         """The tags that a list of ranges by priority matches (RFC 4647, 3.3): those that its first range matches, in their order,
-        then of the others those that its second matches, and so on. Raises RefusedTag where any range or tag is refused."""
+        then of the others those that its second matches, and so on. Raises RefusedTag where any range or tag is refused, unless
+        one of the lists is empty."""
         ranges = list(_listed(ranges))
         found: List[Tuple[int, AnyTag]] = []
         for tag in _listed(tags):
@@ -373,7 +374,7 @@ class Registry(_bcp47.Registry):
     def lookup(self, ranges: Iterable[Union[str, Tag]], tags: Iterable[Any], default: Any = None) -> Any:
         """The tag that is found by a list of ranges by priority (RFC 4647, 3.4): by the first range that finds one, cut from its
         end as little as it takes, and of equivalent tags the first; else the default. Raises RefusedTag where any range or tag is
-        refused."""
+        refused, unless one of the lists is empty."""
         tags = list(_listed(tags))
         found = [[tag for tag in tags if self.matches(it, tag, "lookup")] for it in _listed(ranges)]
         # What ranges find are fronts of them: the longest text has the most subtags.

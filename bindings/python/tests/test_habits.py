@@ -2,6 +2,8 @@
 and names of tests, if not all are wanted."""
 import concurrent.futures
 import copy
+import gc
+import importlib
 import math
 import multiprocessing
 import os
@@ -14,6 +16,9 @@ import unittest
 import warnings
 
 import bcp47
+
+# (from 3.12 on a module of this kind is for the first interpreter alone)
+interpreters = importlib.import_module("_xxsubinterpreters") if sys.version_info < (3, 12) else None
 
 SAMPLE = sys.argv[1]
 registry = bcp47.Registry.from_file(SAMPLE)
@@ -143,6 +148,18 @@ class Processes(unittest.TestCase):
         self.assertEqual(statuses, [0] * 30)
 
 
+class Interpreters(unittest.TestCase):
+    @unittest.skipUnless(interpreters, "this Python makes no further interpreters")
+    def test_another_has_a_package_of_its_own(self):
+        other = interpreters.create()
+        lines = f"import sys; sys.path[:] = {sys.path!r}; import bcp47; r = bcp47.Registry.from_file({SAMPLE!r}); "
+        interpreters.run_string(other, lines + "assert not r.is_valid('xx') and r.canonical(bcp47.Tag('iw')) == 'he'")
+        self.assertFalse(registry.is_valid("xx"))
+        self.assertEqual(registry.canonical(bcp47.Tag("iw")), "he")
+        interpreters.destroy(other)
+        self.assertEqual(str(registry.canonical_many(["e_n", "iw"])[0]), "BadByte 1")
+
+
 class Signals(unittest.TestCase):
     def ask_beside(self, handler, seconds, call):
         """Calls again and again, while a handler runs each millisecond."""
@@ -220,6 +237,15 @@ class Threads(unittest.TestCase):
             turns.append(time.monotonic())
             time.sleep(0.001)
         self.assertGreater(len(turns), 5)
+
+    def test_what_the_collector_shows_is_whole(self):
+        thread = threading.Thread(target=registry.canonical_columns, args=(["iw", "e_n"] * 200_000,))
+        thread.start()
+        while thread.is_alive():
+            for one in gc.get_objects():
+                if type(one) is list and len(one) == 400_000:
+                    list(one)
+        thread.join()
 
 
 class Columns(unittest.TestCase):
@@ -359,6 +385,9 @@ class Facts(unittest.TestCase):
         self.assertIn(str(info.file_date), repr(registry))
         empty = bcp47.Registry.from_bytes(b"")
         self.assertEqual((empty.info.entries, empty.info.file_date), (0, None))
+        for day in ("2025-02-30", "0000-00-00", "2025-05-151"):
+            other = bcp47.Registry.from_bytes(f"File-Date: {day}\n".encode())
+            self.assertEqual((other.info.file_date, repr(other)), (None, "<bcp47.Registry of None, 0 entries>"))
         empty.close()
         self.assertRaises(ValueError, lambda: empty.info)
         self.assertIn("closed", repr(empty))

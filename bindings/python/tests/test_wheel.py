@@ -48,17 +48,41 @@ class Wheels(unittest.TestCase):
         content = (self.path / name).read_bytes()
         with tarfile.open(self.path / name) as sources:
             names = {file.name.split("/", 1)[1] for file in sources.getmembers()}
-        self.assertLessEqual({"PKG-INFO", "_bcp47.c", "pyproject.toml", "wheel_of_package.py", *(f"bcp47/{name}" for name in NAMES)}, names)
+        self.assertLessEqual({"PKG-INFO", "_bcp47.c", "bcp47.h", "pyproject.toml", "wheel_of_package.py", *(f"bcp47/{name}" for name in NAMES)}, names)
         package.build_sdist(self.path)
         self.assertEqual((self.path / name).read_bytes(), content)
 
-    def test_a_library_that_is_missing(self):
+    def built(self, sources, library=None):
+        """Runs the sources' build of a wheel where pkg-config finds no library; the status, what was made and what was said."""
+        made = self.path / "made"
+        made.mkdir()
         words = [sys.executable, "-B", "-c", "import wheel_of_package; wheel_of_package.build_wheel('.')"]
-        missing = {**os.environ, "BCP47_LIBRARY": "/no/such/library.a", "PKG_CONFIG_LIBDIR": "/no/such/folder",
-                   "PYTHONPATH": str(Path(package.__file__).parent)}
-        ran = subprocess.run(words, cwd=self.path, env=missing, text=True, stdout=subprocess.PIPE, stderr=subprocess.PIPE)
-        self.assertIn("is not there, and pkg-config finds no bcp47: run 'make lib', or install libbcp47", ran.stderr)
-        self.assertEqual((ran.returncode, os.listdir(self.path)), (1, []))
+        known = {name: value for name, value in os.environ.items() if name != "BCP47_LIBRARY"}
+        known.update({"PKG_CONFIG_LIBDIR": "/no/such/folder", "PYTHONPATH": str(sources)}, **({"BCP47_LIBRARY": library} if library else {}))
+        ran = subprocess.run(words, cwd=made, env=known, text=True, stdout=subprocess.PIPE, stderr=subprocess.PIPE)
+        return ran.returncode, os.listdir(made), ran.stderr
+
+    def unpacked(self):
+        """The sources' archive in a folder of its own, beside whose parent somebody has put a library."""
+        (self.path / "build").mkdir()
+        (self.path / "build" / "libbcp47.a").write_bytes(b"")
+        with tarfile.open(self.path / package.build_sdist(self.path)) as sources:
+            sources.extractall(self.path / "unpacked")
+        return self.path / "unpacked" / f"bcp47-{package.VERSION}"
+
+    def test_a_library_that_is_missing(self):
+        status, made, said = self.built(Path(package.__file__).parent, "/no/such/library.a")
+        self.assertIn("BCP47_LIBRARY names /no/such/library.a, which is not there", said)
+        self.assertEqual((status, made), (1, []))
+
+    def test_an_archive_takes_no_library_beside_it(self):
+        status, made, said = self.built(self.unpacked())
+        self.assertIn("pkg-config finds no bcp47", said)
+        self.assertEqual((status, made), (1, []))
+
+    def test_an_archive_with_a_library_that_is_named(self):
+        status, made, said = self.built(self.unpacked(), str(package.LIBRARY))
+        self.assertEqual((status, [name.split("-")[0] for name in made]), (0, ["bcp47"]), said)
 
 
 if __name__ == "__main__":
