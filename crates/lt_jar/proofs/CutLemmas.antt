@@ -6,7 +6,6 @@ use Rattle.std.proofs.lemmas.List.{get_or-take, length-take-le, take-append-drop
 use Rattle.std.proofs.lemmas.List.Elements.{All-from_get_or, All-head, All-tail}
 use Rattle.memchr.specs.Find.{NoneBefore, Nowhere, Passes, is_byte, places, places_from}
 use Rattle.lt_jar.specs.Lines.{IsOneLine, begin_first, lines_of}
-use Rattle.lt_jar.specs.Pieces.{EndsAt}
 
 abbrev pub IsNoEnd : ℕ → Type 0
 IsNoEnd byte = byte ≢ 10
@@ -52,6 +51,13 @@ line_front text i le none =
 pub whole_line : (text : List ℕ) → Nowhere (Passes (is_byte 10) text) 0 (length text) → IsOneLine text
 whole_line text none = subst IsOneLine (take-length text) (line_front text (length text) (omega arith) none)
 
+-- the first line feed is at i
+abbrev pub IsFirstFeed : ℕ → List ℕ → Type 0
+IsFirstFeed i text = NoneBefore (Passes (is_byte 10) text) 0 (length text) i × Passes (is_byte 10) text i
+
+pub feed_at : (text : List ℕ) (i : ℕ) → IsFirstFeed i text → (i < length text) × (get_or text i 0 ≡ 10) × IsOneLine (take i text)
+feed_at text i first = (first.0.high, eqb-true (get_or text i 0) 10 first.1, line_front text i (omega (arith, first.0.high)) first.0.before)
+
 -- the parts before and after the line feed at i, which go to the end
 pub cut_at : (text : List ℕ) (i : ℕ) → i < length text → get_or text i 0 ≡ 10 → text ≡ take i text ++ 10 ∷ drop (i + 1) text
 cut_at text i below end =
@@ -64,63 +70,3 @@ split_at text i below end =
     let back = drop-cons text i 0 below ∙ ap (λ b. b ∷ drop (suc i) text) end in
     rw (take_all (length text - (i + 1)) (drop (i + 1) text) (omega (arith, length-drop (i + 1) text)), add-one) (sym (take-append-drop i text) ∙ ap (λ l. take i text ++ l) back)
 
--- The places of the line feeds.
-
-module _ (text : List ℕ) where
-  abbrev IsEnd : ℕ → Type 0
-  IsEnd i = Passes (is_byte 10) text i
-
-  after : (i k : ℕ) → i ≤ k → (i ≡ k → ⊥) → i + 1 ≤ k
-  after i k low far = ⊎_elim (λ l. omega (arith, l)) (λ l. absurd (far (omega (arith, l, low)))) (cases_lt i k)
-
-  -- none from a place on, where there is none there and none from the next on
-  none_from : (i j : ℕ) → ¬ IsEnd i → Nowhere IsEnd (i + 1) j → Nowhere IsEnd i j
-  none_from i j other rest k low high here =
-      ⊎_elim (λ same. other (subst IsEnd (sym same) here)) (λ far. rest k (after i k low far) high here) (cases_eq i k)
-
-  first_from : (n i k : ℕ) (rest : List ℕ) → places_from (is_byte 10) text i n ≡ k ∷ rest → NoneBefore IsEnd i (i + n) k × IsEnd k
-  unfolding places_from
-  first_from zero i k rest e = cc
-  first_from (suc n) i k rest e =
-      ⊎_elim
-      (λ here.
-      let same : i ≡ k = ap (λ l. get_or l 0 0) (sym (cond-true _ _ _ here) ∙ e) in
-      (record { low = omega (arith, same); high = omega (arith, same); before = λ m low high. absurd (omega (arith, same, low, high)) }, subst IsEnd same here))
-      (λ other.
-      let later = first_from n (i + 1) k rest (sym (cond-false _ _ _ other) ∙ e) in (
-        record {
-          low = omega (arith, later.0.low);
-          high = omega (arith, later.0.high);
-          before = none_from i k (λ here. true≢false (sym here ∙ other)) later.0.before;
-        },
-        later.1,
-      ))
-      (cases_Bool (is_byte 10 (get_or text i 0)))
-
-  cons_is_none : (x : ℕ) (xs : List ℕ) → x ∷ xs ≡ [] → ⊥
-  cons_is_none x xs e = cc
-
-  nowhere_from : (n i : ℕ) → places_from (is_byte 10) text i n ≡ [] → Nowhere IsEnd i (i + n)
-  unfolding places_from
-  nowhere_from zero i e = λ k low high. absurd (omega (arith, low, high))
-  nowhere_from (suc n) i e =
-      ⊎_elim
-      (λ here. absurd (cons_is_none _ _ (sym (cond-true _ _ _ here) ∙ e)))
-      (λ other.
-      let end : i + 1 + n ≡ i + suc n = omega arith in
-      none_from i (i + suc n) (λ here. true≢false (sym here ∙ other)) (subst (Nowhere IsEnd (i + 1)) end (nowhere_from n (i + 1) (sym (cond-false _ _ _ other) ∙ e))))
-      (cases_Bool (is_byte 10 (get_or text i 0)))
-
--- where the list of their places begins a line ends
-pub ends_first : (text : List ℕ) (i : ℕ) (rest : List ℕ) → places (is_byte 10) text ≡ i ∷ rest → EndsAt text i
-ends_first text i rest e =
-    let count : length text - 0 ≡ length text = omega arith in
-    let found = first_from text (length text) 0 i rest (sym (ap (places_from (is_byte 10) text 0) count) ∙ e) in
-    (omega (arith, found.0.high), eqb-true (get_or text i 0) 10 found.1, line_front text i (omega (arith, found.0.high)) found.0.before)
-
--- where there is none the text is one line
-pub ends_nowhere : (text : List ℕ) → places (is_byte 10) text ≡ [] → IsOneLine text
-ends_nowhere text e =
-    let count : length text - 0 ≡ length text = omega arith in
-    let all : 0 + length text ≡ length text = omega arith in
-    whole_line text (subst (Nowhere (Passes (is_byte 10) text) 0) all (nowhere_from text (length text) 0 (sym (ap (places_from (is_byte 10) text 0) count) ∙ e)))

@@ -1,5 +1,6 @@
 -- Lemmas on the definitions of the format.
 pub mod CutLemmas
+pub mod PlaceLemmas
 pub mod NameLemmas
 pub mod WordLemmas
 pub mod TrimLemmas

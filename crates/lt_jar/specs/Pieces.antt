@@ -12,10 +12,6 @@ use Rattle.lt_jar.specs.declared.faults.JarFaultKind.TheVariants as kinds
 use Rattle.lt_jar.specs.declared.drafts.Progress.{Progress}
 use Rattle.lt_jar.specs.declared.engine.Engine.{Engine}
 
--- the first line feed (10) is at this place
-abbrev pub EndsAt : List ℕ → ℕ → Type 0
-EndsAt text i = (i < length text) × (get_or text i 0 ≡ 10) × IsOneLine (take i text)
-
 -- what is before the first line feed (10), and what is after it; None where there is none
 abbrev pub SplitsLine : List ℕ → Option (Bor (List ℕ) × Bor (List ℕ)) → Type 0
 SplitsLine text parts = MatchOption parts (IsOneLine text) (λ p. IsOneLine p.0.now × (text ≡ p.0.now ++ 10 ∷ p.1.now))

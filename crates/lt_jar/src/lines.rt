@@ -1,33 +1,21 @@
 //! The lines of a text, and what a line is.
 ghost use Rattle.std.specs.Prelude.{◌≡◌, ◌<◌, ◌≤◌, ◌∷◌, length, IfSome, MatchOption};
 ghost use Rattle.std.specs.List.{list_all};
-ghost use Rattle.lt_jar.specs.Lines.{IsOneLine, content_of, lines_of};
+ghost use Rattle.lt_jar.specs.Lines.{content_of, lines_of};
 ghost use Rattle.lt_jar.specs.LineKinds as lines;
 ghost use Rattle.lt_jar.specs.Views.{line_in};
-ghost use Rattle.lt_jar.specs.Pieces.{EndsAt, SplitsLine};
+ghost use Rattle.lt_jar.specs.Pieces.{SplitsLine};
 
+use crate::places::first_place;
 use crate::words::are_same;
-use memchr::{memchr, memchr_iter};
 
 /// What is before the first line feed and after it, or None if there is none.
 #[tactic(auto, using(crate::proofs::CutLemmas::line_front, crate::proofs::CutLemmas::split_at, crate::proofs::CutLemmas::whole_line))]
 pub(crate) fn split_line(text: &[u8]) -> Option<(&[u8], &[u8])>
     ensures { SplitsLine text.now result }
 {
-    match memchr(b'\n', text) {
+    match first_place(b'\n', text) {
         Some(i) => Some((&text[..i], &text[i + 1..])),
-        None => None,
-    }
-}
-
-/// Where the first line feed is, or None if there is none.
-#[tactic(auto, using(crate::proofs::CutLemmas::line_front, crate::proofs::CutLemmas::whole_line))]
-fn line_end(text: &[u8]) -> Option<usize>
-    ensures { MatchOption result (IsOneLine text.now) (EndsAt text.now) }
-{
-    let found = memchr_iter(b'\n', text).next();
-    match found {
-        Some(i) => Some(i),
         None => None,
     }
 }
@@ -36,7 +24,7 @@ fn line_end(text: &[u8]) -> Option<usize>
 pub(crate) fn split_text(text: &str) -> Option<(&str, &str)>
     ensures { SplitsLine text.now result }
 {
-    match line_end(text.as_bytes()) {
+    match first_place(b'\n', text.as_bytes()) {
         Some(i) => Some((&text[..i], &text[i + 1..])),
         None => None,
     }

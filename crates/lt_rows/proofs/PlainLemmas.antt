@@ -13,7 +13,7 @@ use Rattle.lt_rows.specs.declared.rows.Separator.TheVariants as separators
 use Rattle.lt_rows.proofs.FieldLemmas.{field_ended, field_last, line_end, skips_one, tab_end}
 use Rattle.lt_rows.proofs.NearLemmas.{byte_is, row_long, split_there}
 use Rattle.lt_rows.proofs.RowLemmas.{skips_last}
-use Rattle.lt_rows.proofs.SplitLemmas.{first_from, none_from}
+use Rattle.lt_jar.proofs.PlaceLemmas.{first_from, none_from}
 
 -- ---- the places of a byte, one after another
 

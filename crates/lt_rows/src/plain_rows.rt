@@ -8,7 +8,7 @@ ghost use Rattle.lt_rows.specs.Splitting.{IsNear};
 use crate::lanes::LANES;
 use crate::rows::Separator;
 use crate::short_rows::short_field_at;
-use crate::splitting::TOGETHER;
+use lt_jar::TOGETHER;
 use memchr::{Memchr, memchr_iter};
 
 /// The first `count` bytes of a text, and as many after them as a search looks at together with the last of them.

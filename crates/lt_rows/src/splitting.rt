@@ -1,21 +1,9 @@
 //! Splitting bytes at a byte.
 ghost use Rattle.std.specs.Prelude.{◌≤◌, ◌↔◌, IsTrue, length, take};
-ghost use Rattle.memchr.specs.Find.{IsFirstByte, is_byte};
 ghost use Rattle.lt_rows.specs.Splitting.{IsFreeOf, IsNear, IsPlaceOf, SplitsAt};
 
-use memchr::{memchr_iter, memchr2};
-
-/// So many bytes of a text are looked at together.
-pub(crate) const TOGETHER: usize = 32;
-
-/// Where the first such byte is, or None if there is none. It is likely to be near: the next 32 bytes are looked at first.
-#[tactic(auto, using(crate::proofs::SplitLemmas::first_byte))]
-#[inline(always)]
-fn first_place(byte: u8, bytes: &[u8]) -> Option<usize>
-    ensures { IsFirstByte (is_byte byte) bytes.now result }
-{
-    memchr_iter(byte, bytes).next()
-}
+use lt_jar::{TOGETHER, first_place};
+use memchr::memchr2;
 
 /// What is before the first such byte and after it: `a` and `b-c` of `a-b-c` at a hyphen. None if there is none.
 #[tactic(auto, using(crate::proofs::SplitLemmas::free_front, crate::proofs::SplitLemmas::free_whole, crate::proofs::SplitLemmas::split_at))]

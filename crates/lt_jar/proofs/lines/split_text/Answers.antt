@@ -1,21 +1,20 @@
-use Rattle.std.proofs.Common.{◌≡◌, ◌∙◌, ◌++◌, ◌∷◌, ◌+◌, ◌-◌, List, ℕ, sym, ap, subst, take, drop, arith}
+use Rattle.std.proofs.Common.{◌∙◌, ◌++◌, ◌∷◌, ◌+◌, ◌-◌, ◌≡◌, List, ℕ, sym, ap, subst, take, drop, arith}
 use Rattle.std.proofs.lemmas.Str.{IsCharBoundary-after_ascii}
 use Rattle.lt_jar.specs.Lines.{IsOneLine}
-use Rattle.lt_jar.specs.Pieces.{EndsAt}
-use Rattle.lt_jar.proofs.CutLemmas.{cut_at}
+use Rattle.lt_jar.proofs.CutLemmas.{IsFirstFeed, cut_at, feed_at}
 use Rattle.lt_jar.proofs.lines.split_text.Goals as goal
 
 pub range_from-requires : goal.range_from-requires
 range_from-requires c =
     let text = c.args.text.now in
-    let at : EndsAt text c.in-Some.i = subst (λ (l : List ℕ). EndsAt l c.in-Some.i) c.as_bytes.ensures.value c.in-Some.ensures in
+    let at = feed_at text c.in-Some.i (subst (IsFirstFeed c.in-Some.i) c.as_bytes.ensures.value (c.in-Some.ensures {u = tt})) in
     λ _. IsCharBoundary-after_ascii text c.in-Some.i c.utf8.text at.0 (omega (arith, at.1))
 
 pub returns-in-Some : goal.returns-in-Some
 returns-in-Some c =
     let text = c.args.text.now in
     let i = c.in-Some.i in
-    let at : EndsAt text i = subst (λ (l : List ℕ). EndsAt l i) c.as_bytes.ensures.value c.in-Some.ensures in
+    let at = feed_at text i (subst (IsFirstFeed i) c.as_bytes.ensures.value (c.in-Some.ensures {u = tt})) in
     let same : i - 0 ≡ i = omega arith in
     let front : c.range.result.now ≡ take i text = c.range.ensures.value ∙ ap (λ (n : ℕ). take n text) same in
     let back = c.range_from.ensures.value in (
