@@ -69,4 +69,3 @@ pub split_at : (text : List ℕ) (i : ℕ) → i < length text → get_or text i
 split_at text i below end =
     let back = drop-cons text i 0 below ∙ ap (λ b. b ∷ drop (suc i) text) end in
     rw (take_all (length text - (i + 1)) (drop (i + 1) text) (omega (arith, length-drop (i + 1) text)), add-one) (sym (take-append-drop i text) ∙ ap (λ l. take i text ++ l) back)
-

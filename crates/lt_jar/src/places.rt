@@ -25,8 +25,8 @@ fn count_before(byte: u8, text: &[u8]) -> usize
     }
 }
 
-/// Where the first such byte is, or None if there is none: 1 for the hyphen of `a-b-c`. It is likely to be near, so the first 32 bytes
-/// are looked at together.
+/// Where the first such byte is, or None if there is none: 1 for the hyphen of `a-b-c`. It is likely to be near, so the first
+/// 32 bytes are looked at together.
 #[inline(always)]
 pub fn first_place(byte: u8, text: &[u8]) -> Option<usize>
     ensures { IsFirstByte (is_byte byte) text.now result }
