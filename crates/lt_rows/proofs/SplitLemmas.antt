@@ -1,10 +1,10 @@
 -- Where a byte is first.
-use Rattle.std.proofs.Common.{refl, ◌≡◌, ◌≢◌, ◌≤◌, ◌<◌, ◌+◌, ◌-◌, ◌==◌, ◌++◌, [], ◌∷◌, ◌∙◌, ℕ, true, false, List, Option, Some, None, length, length-append, sym, ap, arith, zero, suc, subst, take, drop, get_or, add-one, take-append-drop, inl, inr, not}
+use Rattle.std.proofs.Common.{refl, ◌≡◌, ◌≢◌, ◌≤◌, ◌<◌, ◌+◌, ◌-◌, ◌++◌, ◌∷◌, ◌∙◌, ℕ, List, length, length-append, sym, ap, arith, subst, take, drop, get_or, add-one, take-append-drop}
 use Rattle.std.proofs.Math.Seq.{drop-cons, get_or-append_seam, take-length}
-use Rattle.std.proofs.lemmas.Bool.{eq-eqb, cases_Bool, cases_eq}
+use Rattle.std.proofs.lemmas.Bool.{eq-eqb}
 use Rattle.std.proofs.lemmas.List.{take_rest, length-take-le, get_or-take}
 use Rattle.std.proofs.lemmas.List.Elements.{All-from_get_or}
-use Rattle.memchr.specs.Find.{IsFirstByte, Nowhere, NoneBefore, Passes, TakesFirst, is_byte, places, places_from}
+use Rattle.memchr.specs.Find.{Nowhere, Passes, is_byte}
 use Rattle.lt_rows.specs.Splitting.{IsFreeOf}
 
 -- the first such byte is at i
