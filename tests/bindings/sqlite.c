@@ -122,6 +122,12 @@ static int run(long number) {
     return growths >= number;
 }
 
+/* An order that another extension gave. */
+static int no_order(void *data, int first_length, const void *first, int second_length, const void *second) {
+    (void)data, (void)first_length, (void)first, (void)second_length, (void)second;
+    return 0;
+}
+
 int main(int count, char **words) {
     if (count < 2) return 3;
     path = words[1];
@@ -135,6 +141,11 @@ int main(int count, char **words) {
     CHECK(number > 100);
     sqlite3 *database;
     refused_at = 0;
+    CHECK(!sqlite3_open(":memory:", &database) && !sqlite3_extension_init(database, NULL, NULL));
+    CHECK(!sqlite3_create_collation_v2(database, "BCP47", SQLITE_UTF8, NULL, no_order, NULL));
+    ask(database, "SELECT bcp47_load(?)", NULL);
+    ask(database, "SELECT bcp47_registry()", "NULL");
+    CHECK(!sqlite3_close(database));
     CHECK(!sqlite3_open(":memory:", &database) && !sqlite3_extension_init(database, NULL, NULL));
     ask(database, "SELECT bcp47_load(?)", "1");
     ask(database, "SELECT bcp47_load('/dev/zero')", NULL);
