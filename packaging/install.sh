@@ -64,7 +64,7 @@ list() {
 
 install_file() {
     folder=$(dirname "$DESTDIR$3")
-    install -d "$folder"
+    [ -d "$folder" ] || install -d "$folder"
     case $1 in
         link) ln -sf "$2" "$DESTDIR$3" ;;
         fill)

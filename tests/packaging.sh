@@ -34,6 +34,7 @@ is() {
 # A folder with a file of another's, and a space in its name.
 place="$folder/a place"
 mkdir -p "$place/opt/share/langtag"
+mkdir -m 2755 "$place/opt/bin"
 echo mine > "$place/opt/share/langtag/mine"
 DESTDIR=$place PREFIX=/opt LIBDIR=/opt/lib/multiarch passes "make install" make -s install
 passes "the program runs" "$place/opt/bin/langtag" check "$place/opt/share/langtag/registry.txt"
@@ -41,6 +42,7 @@ is "the registry is installed" 'ok 9274' "$(cat "$folder/out")"
 is "what is executable" "$(printf '%s\n' ./bin/langtag ./share/langtag/update-registry.sh)" \
     "$(cd "$place/opt" && find . -type f -perm -111 ! -name '*.so.*' | sort)"
 passes "no file that others can't read, or can write" test -z "$(find "$place" ! -type l \( ! -perm -444 -o -perm /022 \))"
+is "the mode of a folder that was there" 2755 "$(stat -c %a "$place/opt/bin")"
 is "pkg-config" "-I/opt/include -L/opt/lib/multiarch -lbcp47" \
     "$(PKG_CONFIG_PATH=$place/opt/lib/multiarch/pkgconfig pkg-config --cflags --libs bcp47 | sed 's/ *$//')"
 is "no page is left out" "$(cd docs && ls ./*.md)" "$(cd "$place/opt/share/doc/langtag/docs" && ls ./*.md)"
@@ -122,6 +124,8 @@ for package in "$folder"/dist/*.deb; do
     is "$name: modes and owners" '' \
         "$(grep -vE '^(drwxr-xr-x|-rw-r--r--|-rwxr-xr-x|lrwxrwxrwx) root/root ' "$folder/contents")"
     passes "$name: copyright" grep -q " ./usr/share/doc/$name/copyright$" "$folder/contents"
+    is "$name: pages are not compressed" '' "$(grep '\.md\.gz$' "$folder/contents")"
+    [ "$name" != langtag ] || passes "$name: its timer stops with it" grep -q 'stop langtag-registry.timer' <(dpkg-deb -I "$package" prerm)
     passes "$name: changes" grep -q " ./usr/share/doc/$name/changelog.Debian.gz$" "$folder/contents"
     is "$name: its version" "$version-1" "$(dpkg-deb -f "$package" Version)"
     # unpacked over a folder of all users, it stays one

@@ -7,7 +7,8 @@
 #include <node_api.h>
 #include <stdlib.h>
 
-/* Room for the text of any tag, and for its canonical text; a longer one is no tag, which the library says of its front. */
+/* Room for the text of any tag, and for its canonical text; a longer one is no tag, which the library says of its front. A range
+   may have any length. */
 enum { ROOM = 4096, STEPS = 1000000 };
 
 /* A registry, which its object holds until it is closed or collected. */
@@ -41,6 +42,18 @@ static bool text_of(napi_env env, napi_value value, char text[ROOM], size_t *len
     return false;
 }
 
+/* The bytes of a string of any length, for free(); NULL, with an error, where it is none or memory runs out. */
+static char *whole_text_of(napi_env env, napi_value value, size_t *length) {
+    char *text = NULL;
+    if (napi_get_value_string_utf8(env, value, NULL, 0, length) != napi_ok)
+        napi_throw_type_error(env, NULL, "a tag is a string or a Tag");
+    else if (!(text = malloc(*length + 1)))
+        napi_throw_error(env, NULL, "OutOfMemory");
+    else
+        napi_get_value_string_utf8(env, value, text, *length + 1, length);
+    return text;
+}
+
 static napi_value string_of(napi_env env, const char *text, size_t length) {
     napi_value made = NULL;
     napi_create_string_latin1(env, text, length, &made);
@@ -71,11 +84,12 @@ static bool takes(napi_env env, napi_callback_info info, size_t count, napi_valu
 /* open(bytes): an object that holds a registry */
 static napi_value open_registry(napi_env env, napi_callback_info info) {
     napi_value bytes, made;
+    napi_typedarray_type kind;
     char line[BCP47_LINE];
     void *data;
     size_t length;
     if (!takes(env, info, 1, &bytes)) return NULL;
-    if (napi_get_typedarray_info(env, bytes, NULL, &length, &data, NULL, NULL) != napi_ok) {
+    if (napi_get_typedarray_info(env, bytes, &kind, &length, &data, NULL, NULL) != napi_ok || kind != napi_uint8_array) {
         napi_throw_type_error(env, NULL, "a registry is read from a Uint8Array");
         return NULL;
     }
@@ -188,16 +202,21 @@ static napi_value validate(napi_env env, napi_callback_info info) {
 /* equal(registry, first, second): whether they are. match(registry, range, tag, scheme): whether the range matches the tag */
 static napi_value agrees(napi_env env, napi_callback_info info, size_t count) {
     napi_value values[4], made = NULL;
-    char first[ROOM], second[ROOM], variant[BCP47_LINE];
+    char second[ROOM], variant[BCP47_LINE];
     size_t length, other;
     int32_t scheme = 0;
     if (!takes(env, info, count, values)) return NULL;
     holder *it = held(env, values[0]);
-    if (!it || !text_of(env, values[1], first, &length) || !text_of(env, values[2], second, &other)) return NULL;
+    char *first = it ? whole_text_of(env, values[1], &length) : NULL;
+    if (!first || !text_of(env, values[2], second, &other)) {
+        free(first);
+        return NULL;
+    }
     if (count == 4) napi_get_value_int32(env, values[3], &scheme);
     bcp47_outcome outcome =
         count == 4 ? bcp47_match(it->registry, scheme, first, length, second, other, variant, sizeof variant)
                    : bcp47_equal(it->registry, first, length, second, other, variant, sizeof variant);
+    free(first);
     if (outcome.status != BCP47_DONE && outcome.status != BCP47_DIFFERENT) return refusal(env, outcome, variant);
     napi_get_boolean(env, outcome.status == BCP47_DONE, &made);
     return made;

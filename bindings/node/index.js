@@ -141,7 +141,8 @@ class Registry {
   }
 
   explain(tag, most = 1_000_000) {
-    const answer = native.explain(this.#open, textOf(tag), most);
+    if (typeof most !== 'number' || Number.isNaN(most)) throw new TypeError('the most steps are a number');
+    const answer = native.explain(this.#open, textOf(tag), Math.min(Math.max(most, 0), 0xffffffff));
     // the variant that would be repeated
     if (Array.isArray(answer) && answer[0] === REPEATS) this.canonical(tag);
     const lines = answered(answer, RefusedTag, tag).trimEnd().split('\n');

@@ -24,6 +24,7 @@ HERE = Path(__file__).resolve().parent
 # An archive of sources has the header in it, and nothing beside its folder is its own.
 IS_ARCHIVE = (HERE / "bcp47.h").exists()
 HEADERS = HERE if IS_ARCHIVE else HERE.parent / "c"
+LICENSES = [(HERE if IS_ARCHIVE else HERE.parent.parent) / name for name in ("LICENSE", "LICENSE-APACHE", "LICENSE-MIT")]
 NAMED = os.environ.get("BCP47_LIBRARY")
 BUILT = HERE.parent.parent / "build" / "libbcp47.a"
 LIBRARY = NAMED or (None if IS_ARCHIVE or not BUILT.exists() else BUILT)
@@ -90,6 +91,7 @@ def build_wheel(wheel_directory, config_settings=None, metadata_directory=None):
     tag = f"cp39-abi3-{'manylinux2014' if LIBRARY else 'linux'}_{processor}"
     files = [(f"{NAME}/{path.name}", path.read_bytes()) for path in sources()]
     files.append((f"{NAME}/_bcp47.abi3.so", module))
+    files += [(f"{INFO}/licenses/{path.name}", path.read_bytes()) for path in LICENSES]
     wheel_words = f"Wheel-Version: 1.0\nGenerator: wheel_of_package\nRoot-Is-Purelib: false\nTag: {tag}\n"
     files += [(f"{INFO}/METADATA", METADATA.encode()), (f"{INFO}/WHEEL", wheel_words.encode())]
     record = []
@@ -110,7 +112,7 @@ def build_sdist(sdist_directory, config_settings=None):
     folder = f"{NAME}-{VERSION}"
     files = [(f"{NAME}/{path.name}", path.read_bytes()) for path in sources()]
     files += [(name, (HERE / name).read_bytes()) for name in ("_bcp47.c", "pyproject.toml", Path(__file__).name)]
-    files.append(("bcp47.h", (HEADERS / "bcp47.h").read_bytes()))
+    files += [(path.name, path.read_bytes()) for path in (HEADERS / "bcp47.h", *LICENSES)]
     files.append(("PKG-INFO", METADATA.encode()))
     archive = io.BytesIO()
     with tarfile.open(fileobj=archive, mode="w", format=tarfile.USTAR_FORMAT) as tar:

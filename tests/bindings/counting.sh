@@ -22,11 +22,12 @@ passes() {
     fi
 }
 
-# writes NAME FILE COMMAND..: a command has to write what the file has.
+# writes NAME FILE COMMAND..: a command has to write what the file has, and no signal may end it.
 writes() {
-    local name=$1 wanted=$2
+    local name=$1 wanted=$2 status=0
     shift 2
-    "$@" > "$folder/written" 2> "$folder/told"
+    "$@" > "$folder/written" 2> "$folder/told" || status=$?
+    [ "$status" -lt 126 ] || echo "$name ended with $status" >> "$folder/written"
     passes "$name" cmp "$wanted" "$folder/written" || head -n 20 "$folder/told"
 }
 

@@ -30,6 +30,7 @@ test('ranges match', () => {
     ['*', 'de', [true, true, false]], [new Tag('en'), 'de', [false, false, false]],
   ]) assert.deepEqual(schemes.map((scheme) => registry.matches(range, tag, scheme)), wanted, `${range} ${tag}`);
   assert.equal(registry.matches('de-DE', 'de-Latn-DE'), true);
+  for (const range of ['*-'.repeat(2050) + 'zz', 'en-' + '*-'.repeat(2050) + 'zz']) assert.equal(registry.matches(range, 'en'), false);
   for (const [range, tag, message, refused] of [
     ['e_n', 'e_n', 'BadByte 0', 'e_n'], ['en', 'e_n', 'BadByte 1', 'e_n'], ['en', 'xx', 'UnknownLanguage 1', 'xx'],
     ['ja-Latn-hepburn-alalc97-heploc', 'ja', 'ReplacementRepeats alalc97', 'ja-Latn-hepburn-alalc97-heploc'],
@@ -64,6 +65,7 @@ test('refusals say why', () => {
   assert.throws(() => new Registry(Buffer.from('no registry\n')), (error) =>
     error instanceof RefusedRegistry && error.message === 'jar BadLine line 1');
   assert.throws(() => new Registry('text'), TypeError);
+  assert.throws(() => new Registry(new Uint16Array(8)), TypeError);
   assert.throws(() => Registry.fromFile('/no/such/file'), { code: 'ENOENT' });
 });
 
@@ -73,7 +75,9 @@ test('explanations', () => {
     canonical: 'gsg',
   });
   assert.deepEqual(registry.explain('en'), { steps: [], canonical: 'en' });
-  assert.throws(() => registry.explain('sgn-dd', 1), { message: 'TooManySteps' });
+  for (const few of [1, 0, -1]) assert.throws(() => registry.explain('sgn-dd', few), { message: 'TooManySteps' });
+  assert.equal(registry.explain('sgn-dd', Infinity).steps.length, 2);
+  for (const wrong of [NaN, 'a', null]) assert.throws(() => registry.explain('sgn-dd', wrong), TypeError);
 });
 
 test('explanations are verified', () => {

@@ -31,6 +31,7 @@ class Wheels(unittest.TestCase):
             files = {file: wheel.read(file) for file in wheel.namelist()}
         self.assertLessEqual({f"bcp47/{name}" for name in NAMES}, files.keys())
         info = f"bcp47-{package.VERSION}.dist-info"
+        self.assertLessEqual({f"{info}/licenses/LICENSE", f"{info}/licenses/LICENSE-MIT"}, files.keys())
         self.assertIn(b"Root-Is-Purelib: false\n", files[f"{info}/WHEEL"])
         self.assertIn(b"License: MIT OR Apache-2.0\n", files[f"{info}/METADATA"])
         self.assertEqual(files["bcp47/_bcp47.abi3.so"][:4], b"\x7fELF")
@@ -48,7 +49,7 @@ class Wheels(unittest.TestCase):
         content = (self.path / name).read_bytes()
         with tarfile.open(self.path / name) as sources:
             names = {file.name.split("/", 1)[1] for file in sources.getmembers()}
-        self.assertLessEqual({"PKG-INFO", "_bcp47.c", "bcp47.h", "pyproject.toml", "wheel_of_package.py", *(f"bcp47/{name}" for name in NAMES)}, names)
+        self.assertLessEqual({"PKG-INFO", "_bcp47.c", "bcp47.h", "LICENSE", "pyproject.toml", "wheel_of_package.py", *(f"bcp47/{name}" for name in NAMES)}, names)
         package.build_sdist(self.path)
         self.assertEqual((self.path / name).read_bytes(), content)
 

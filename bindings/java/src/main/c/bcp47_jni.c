@@ -6,7 +6,8 @@
 #include <stdlib.h>
 #include <string.h>
 
-/* Room for the text of any tag and for its canonical text; a longer one is no tag, as the library says of its front. */
+/* Room for the text of any tag and for its canonical text; a longer one is no tag, as the library says of its front. A range
+   may have any length. */
 enum { ROOM = 4096 };
 
 #define NATIVE(kind, name) JNIEXPORT kind JNICALL Java_bcp47_Native_##name
@@ -14,9 +15,10 @@ enum { ROOM = 4096 };
 static jclass outcome_class, long_class;
 static jmethodID outcome_made, long_made;
 
+/* A class by a reference that does not keep its loader: while a call of the library runs, that is there. */
 static jclass kept_class(JNIEnv *env, const char *name) {
     jclass found = (*env)->FindClass(env, name);
-    return found ? (*env)->NewGlobalRef(env, found) : NULL;
+    return found ? (*env)->NewWeakGlobalRef(env, found) : NULL;
 }
 
 JNIEXPORT jint JNICALL JNI_OnLoad(JavaVM *machine, void *reserved) {
@@ -135,11 +137,14 @@ NATIVE(jobject, equal)(JNIEnv *env, jclass self, jlong registry, jbyteArray firs
 }
 
 NATIVE(jobject, match)(JNIEnv *env, jclass self, jlong registry, jint scheme, jbyteArray range, jbyteArray tag) {
-    char text[ROOM], other[ROOM], variant[BCP47_LINE];
-    size_t length = text_of(env, range, text), other_length = text_of(env, tag, other);
+    char other[ROOM], variant[BCP47_LINE];
+    size_t other_length = text_of(env, tag, other);
+    jbyte *whole = (*env)->GetByteArrayElements(env, range, NULL);
     (void)self;
-    bcp47_outcome outcome =
-        bcp47_match(registry_of(registry), scheme, text, length, other, other_length, variant, sizeof variant);
+    if (!whole) return NULL;
+    bcp47_outcome outcome = bcp47_match(registry_of(registry), scheme, (const char *)whole, (size_t)(*env)->GetArrayLength(env, range),
+                                        other, other_length, variant, sizeof variant);
+    (*env)->ReleaseByteArrayElements(env, range, whole, JNI_ABORT);
     return refusal(env, outcome, variant);
 }
 

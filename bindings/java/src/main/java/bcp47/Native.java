@@ -3,11 +3,11 @@ package bcp47;
 
 import java.io.IOException;
 import java.io.InputStream;
+import java.io.OutputStream;
 import java.io.UncheckedIOException;
 import java.nio.charset.StandardCharsets;
 import java.nio.file.Files;
 import java.nio.file.Path;
-import java.nio.file.StandardCopyOption;
 
 /** The calls of the library. A tag is its bytes; what is answered is what a call gives, or an {@link Outcome}. */
 final class Native {
@@ -68,7 +68,9 @@ final class Native {
             }
             Path file = Files.createTempFile("libbcp47jni", ".so");
             try {
-                Files.copy(inside, file, StandardCopyOption.REPLACE_EXISTING);
+                try (OutputStream out = Files.newOutputStream(file)) {
+                    inside.transferTo(out);
+                }
                 System.load(file.toString());
             } finally {
                 Files.delete(file);

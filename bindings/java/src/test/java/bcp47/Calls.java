@@ -1,6 +1,9 @@
 package bcp47;
 
 import java.io.IOException;
+import java.lang.ref.WeakReference;
+import java.net.URL;
+import java.net.URLClassLoader;
 import java.nio.charset.StandardCharsets;
 import java.nio.file.Files;
 import java.nio.file.NoSuchFileException;
@@ -69,6 +72,9 @@ final class Calls {
             all += " ";
         }
         is("110 001 010 110 110 000 ", all);
+        for (String range : List.of("*-".repeat(2050) + "zz", "en-" + "*-".repeat(2050) + "zz")) {
+            is(false, registry.matches(range, "en", Scheme.EXTENDED));
+        }
         RefusedTag refused = thrown(RefusedTag.class, () -> registry.matches("e_n", "e_m", Scheme.BASIC));
         is("BadByte 0 e_n", refused.getMessage() + " " + refused.tag());
         refused = thrown(RefusedTag.class, () -> registry.matches("en", "e_m", Scheme.LOOKUP));
@@ -257,6 +263,26 @@ final class Calls {
         is("collected", of300 > 10_000_000 && grown < 3 * of300 ? "collected" : "grown by " + grown + ", where 300 take " + of300);
     }
 
+    /** Too many calls at once are no fault of a tag. */
+    private static void busy() {
+        thrown(IllegalStateException.class, () -> new Outcome(Outcome.BUSY, 0, 0, null, 0).checked());
+    }
+
+    /** A class loader goes, with the classes that it loaded. */
+    private static void loaders() throws Exception {
+        URL jar = Native.class.getProtectionDomain().getCodeSource().getLocation();
+        URLClassLoader loader = new URLClassLoader(new URL[] {jar}, ClassLoader.getPlatformClassLoader());
+        is("zh-yue", Class.forName("bcp47.Tag", true, loader).getMethod("of", CharSequence.class).invoke(null, "zh-yue").toString());
+        loader.close();
+        WeakReference<ClassLoader> left = new WeakReference<>(loader);
+        loader = null;
+        for (int tries = 0; tries < 100 && left.get() != null; tries++) {
+            System.gc();
+            Thread.sleep(20);
+        }
+        is(true, left.get() == null);
+    }
+
     public static void main(String[] words) throws Exception {
         Path sample = Path.of(words[0]);
         byte[] content = Files.readAllBytes(sample);
@@ -272,6 +298,8 @@ final class Calls {
             threads(registry, content);
             collected(content);
         }
+        busy();
+        loaders();
         System.out.println(CHECKS.get() > 140_000 ? "ok" : "too few: " + CHECKS);
     }
 }
