@@ -4,7 +4,8 @@ use bcp47_sys as sys;
 use std::ffi::c_int;
 use std::{error, fmt, io};
 
-/// The cause of a refusal: the name of a fault, as the program `langtag` prints it, and its place.
+/// The cause of a refusal: the name of a fault, as the program `langtag` prints it, and its place. Where memory ran out that is
+/// `OutOfMemory`.
 #[derive(Clone, Copy, Debug, PartialEq, Eq, Hash)]
 pub struct Cause {
     fault: &'static str,
@@ -16,10 +17,13 @@ impl Cause {
     pub(crate) fn of(outcome: &sys::bcp47_outcome) -> Cause {
         // SAFETY: the calls answer each number.
         let (fault, help) = unsafe {
-            (
-                sys::bcp47_fault_name(outcome.detail),
-                sys::bcp47_fault_help(outcome.detail),
-            )
+            match outcome.detail {
+                0 => (
+                    sys::bcp47_status_name(outcome.status),
+                    sys::bcp47_status_help(outcome.status),
+                ),
+                fault => (sys::bcp47_fault_name(fault), sys::bcp47_fault_help(fault)),
+            }
         };
         Cause {
             fault: name(fault),
@@ -209,3 +213,18 @@ impl fmt::Display for TraceError {
 }
 
 impl error::Error for TraceError {}
+
+#[cfg(test)]
+mod tests {
+    use super::*;
+
+    #[test]
+    fn memory_that_ran_out_is_named() {
+        let cause = Cause::of(&sys::bcp47_outcome {
+            status: sys::BCP47_OUT_OF_MEMORY,
+            ..Default::default()
+        });
+        assert_eq!(cause.fault(), "OutOfMemory");
+        assert_eq!(cause.help(), help_of(sys::BCP47_OUT_OF_MEMORY));
+    }
+}
