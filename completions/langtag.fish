@@ -17,8 +17,8 @@ complete -c langtag -n __fish_use_subcommand -a json -d 'An object of JSON for e
 complete -c langtag -n __fish_use_subcommand -a help -d 'The commands, or the words of one'
 complete -c langtag -n __fish_use_subcommand -s h -l help -d 'The commands'
 complete -c langtag -n __fish_use_subcommand -s V -l version -d 'The version'
-complete -c langtag -n '__fish_seen_subcommand_from check canon codes tsv csv match extlang equal explain verify upgrade show json; and test (count (commandline -opc)) -eq 2' -F
-complete -c langtag -n '__fish_seen_subcommand_from codes upgrade; and test (count (commandline -opc)) -eq 3' -F
+complete -c langtag -n '__fish_seen_subcommand_from check canon codes tsv csv match extlang equal explain verify upgrade show json; and test (count (string match -v -- "-*" (commandline -opc))) -eq 2' -F
+complete -c langtag -n '__fish_seen_subcommand_from codes upgrade; and test (count (string match -v -- "-*" (commandline -opc))) -eq 3' -F
 complete -c langtag -n '__fish_seen_subcommand_from csv' -l delimiter -x -d 'The byte between fields, or tab'
 complete -c langtag -n '__fish_seen_subcommand_from tsv' -l heading -d 'Take the first row for a heading'
 complete -c langtag -n '__fish_seen_subcommand_from tsv csv' -l keep -d 'Leave each row as it is, and add the answer in two fields'

@@ -55,10 +55,12 @@ is 'bash: the file of json' 'json registry.txt' < <({ by_bash langtag js; by_bas
 is 'bash: options of tsv' '--codes --heading --help --keep --summary' < <(by_bash langtag tsv registry.txt -)
 is 'bash: show, its file and its options' '--help --json registry.txt show' < <({ by_bash langtag sh; by_bash langtag show reg; by_bash langtag show registry.txt -; })
 is 'bash: options of match' '--extended --help --lookup' < <(by_bash langtag match registry.txt -)
+is 'bash: a file after options' 'registry.txt registry.txt registry.txt' < <({ by_bash langtag canon --summary reg; by_bash langtag csv --delimiter tab reg; by_bash langtag codes --summary table reg; })
 is 'bash: a tag is not completed' '' < <(by_bash langtag classify reg)
 if command -v fish > /dev/null; then
     is 'fish: a command' 'canon check classify codes csv' < <(by_fish 'langtag c')
     is 'fish: a file' 'registry.txt' < <(by_fish 'langtag tsv reg')
+    is 'fish: a file after an option' 'registry.txt' < <(by_fish 'langtag canon --summary reg')
     is 'fish: the table' 'registry.txt' < <(by_fish 'langtag csv registry.txt 2 --codes reg')
     is 'fish: an option' '--delimiter' < <(by_fish 'langtag csv --d')
     is 'fish: options of rows' '--heading --keep' < <({ by_fish 'langtag tsv --hea'; by_fish 'langtag csv --k'; })
@@ -72,6 +74,7 @@ if command -v zsh > /dev/null; then
     is 'zsh: an option' '--summary' < <(by_zsh 'langtag tsv --s' | grep -ao -e '--summary' | sort -u)
     is 'zsh: an option of show' '--json' < <(by_zsh 'langtag show --j' | grep -ao -e '--json' | sort -u)
     is 'zsh: the table' 'registry.txt' < <(by_zsh 'langtag tsv r 2 --codes reg' | grep -ao 'registry.txt' | sort -u)
+    is 'zsh: a file after an option' 'registry.txt' < <(by_zsh 'langtag canon --summary reg' | grep -ao 'registry.txt' | sort -u)
     is 'zsh: a file' 'registry.txt' < <(by_zsh 'langtag check reg' | grep -ao 'registry.txt' | sort -u)
 else
     echo 'zsh is not here'
