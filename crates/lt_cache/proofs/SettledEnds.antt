@@ -25,7 +25,6 @@ use Rattle.lt_rewrite.specs.Extensions.{UnicodeStep, singleton_cmp}
 use Rattle.lt_rewrite.proofs.NormalForms.{normal_is_form, rest_is_form, star_rests}
 use Rattle.lt_rewrite.proofs.ExtensionForms.{extension, extension_formed, extensions_ordered, unicode_settled}
 use Rattle.lt_check.specs.Conditions.{IsChecked}
-use Rattle.lt_check.proofs.Checks.{core_conditions}
 use Rattle.lt_canon.specs.Texts.{AppendsCanonicalText}
 use Rattle.lt_canon.proofs.TagForm.{extension_end, extensions_end, extensions_end_formed, none_rests}
 use Rattle.lt_canon.proofs.StayingTags.{stays_canonical}
@@ -75,8 +74,8 @@ module _ (R : List EntryParts) (C : IsChecked R) where
 
   u_ended : (ss : List (List ℕ)) (p q : UForm) → IsUnicode ss p → IsNormalForm UnicodeStep p q → extensions_end R C (u_of ss ∷ []) ≡ u_of (spell_u q) ∷ []
   u_ended ss p q found n =
-      sym (star_rests (extensions_ordered R C.registry (core_conditions R C.passes) (u_of ss ∷ [])) (no_step (extension_end R C (u_of ss))))
-      ∙ ap (λ (e : ExtensionParts). e ∷ []) (normal_is_form (extension_formed R C.registry (core_conditions R C.passes)) (u_of ss) (u_of (spell_u q)) (unicode_settled R (u_of ss) p q refl found n))
+      sym (star_rests (extensions_ordered R C.registry C.passes.core_conditions (u_of ss ∷ [])) (no_step (extension_end R C (u_of ss))))
+      ∙ ap (λ (e : ExtensionParts). e ∷ []) (normal_is_form (extension_formed R C.registry C.passes.core_conditions) (u_of ss) (u_of (spell_u q)) (unicode_settled R (u_of ss) p q refl found n))
 
   u_distinct : (ss : List (List ℕ)) → HasDistinctSource (u_of ss)
   u_distinct ss = λ t q k. absurd (omega (arith, t))

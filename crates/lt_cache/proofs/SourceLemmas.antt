@@ -34,7 +34,6 @@ use Rattle.lt_rewrite.proofs.PartLists.{all_step, step_some}
 use Rattle.lt_rewrite.proofs.PartForms.{t_form, t_formed}
 use Rattle.lt_rewrite.proofs.ExtensionForms.{extension_formed, extensions_ordered, transform_settled}
 use Rattle.lt_tag.proofs.PartsLaws.{t_unique as one_transform}
-use Rattle.lt_check.proofs.Checks.{core_conditions}
 use Rattle.std.proofs.lemmas.Bool.Decides.{nat_tests}
 use Rattle.lt_cache.specs.Appending.{FollowsSingleton, IsSeparated}
 use Rattle.lt_cache.proofs.EndLemmas.{CanFollow, core_list, core_no_single, core_rests, extension_alone, has_end, join_append, list_after, list_append, no_single, one_text, spell_rest, text_with, whole_list}
@@ -114,7 +113,7 @@ module _ (R : List EntryParts) (C : IsChecked R) where
   fields_kept p q (on_fields _ s) A = record { each = all_step IsField p.fields q.fields s A.each; some = step_some p.fields q.fields s }
 
   abbrev parts_end : TForm → TForm
-  parts_end = t_form R (core_conditions R C.passes)
+  parts_end = t_form R C.passes.core_conditions
 
   abbrev fields_end : List FieldParts → List FieldParts
   fields_end fs = (parts_end (record { source = None; fields = fs })).fields
@@ -122,7 +121,7 @@ module _ (R : List EntryParts) (C : IsChecked R) where
   fields_ended : (fs : List FieldParts) → AreFields fs → AreFields (fields_end fs)
   fields_ended fs A =
       let none : TForm = record { source = None; fields = fs } in
-      star_keeps (λ (p : TForm). AreFields p.fields) fields_kept ((t_formed R (core_conditions R C.passes)).reached none) A
+      star_keeps (λ (p : TForm). AreFields p.fields) fields_kept ((t_formed R C.passes.core_conditions).reached none) A
 
   -- one extension is in order
   no_step : (e : ExtensionParts) (fs : List ExtensionParts) → ListStep false singleton_cmp (e ∷ []) fs → ⊥
@@ -132,9 +131,9 @@ module _ (R : List EntryParts) (C : IsChecked R) where
   extension_ended : {source : List ℕ} (G : IsCanonicalCore R source) (fs : List FieldParts) → AreFields fs → extensions_end R C (t_of G.core fs ∷ []) ≡ t_of G.core (fields_end fs) ∷ []
   extension_ended G fs A =
       let p = with_source G.core fs in
-      let settled = transform_settled R C.registry (t_of G.core fs) p (parts_end p) refl (formed G fs A) (form_is_normal (t_formed R (core_conditions R C.passes)) p) in
-      sym (star_rests (extensions_ordered R C.registry (core_conditions R C.passes) (t_of G.core fs ∷ [])) (no_step (extension_end R C (t_of G.core fs))))
-      ∙ ap (λ (e : ExtensionParts). e ∷ []) (normal_is_form (extension_formed R C.registry (core_conditions R C.passes)) (t_of G.core fs) (t_of (core_end R C G.core) (fields_end fs)) settled)
+      let settled = transform_settled R C.registry (t_of G.core fs) p (parts_end p) refl (formed G fs A) (form_is_normal (t_formed R C.passes.core_conditions) p) in
+      sym (star_rests (extensions_ordered R C.registry C.passes.core_conditions (t_of G.core fs ∷ [])) (no_step (extension_end R C (t_of G.core fs))))
+      ∙ ap (λ (e : ExtensionParts). e ∷ []) (normal_is_form (extension_formed R C.registry C.passes.core_conditions) (t_of G.core fs) (t_of (core_end R C G.core) (fields_end fs)) settled)
       ∙ ap (λ (c : CoreParts). t_of c (fields_end fs) ∷ []) (rest_is_form (cores_formed R C) G.core (core_rests R C G.core G.canonical))
 
   -- they can follow each canonical core

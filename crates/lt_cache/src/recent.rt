@@ -11,6 +11,9 @@ use std::marker::Model;
 /// How many pairs of places the table has. A place takes 67 bytes.
 const PAIRS: usize = 4096;
 
+/// After so many answers in a row that were put while none came again, one of eight is.
+const MANY_NEW: u32 = 256;
+
 /// An answer, the line that it was given to, and whether it is a refusal.
 #[derive(Drop)]
 struct Kept {
@@ -36,6 +39,8 @@ pub struct Recent {
     alloc: Global,
     /// None until an answer is put.
     places: Vec<Option<Kept>>,
+    /// How many answers in a row were to be put while none came again.
+    new: u32,
 }
 
 impl Model for Recent {
@@ -67,6 +72,7 @@ impl Recent {
         Recent {
             alloc,
             places: Vec::new(alloc),
+            new: 0,
         }
     }
 
@@ -108,9 +114,30 @@ impl Recent {
         }
     }
 
-    /// Puts an answer for a line, if both have at most 32 bytes and there is memory for the table. A line has two places,
-    /// which it shares with others: what was put there the time before last is lost.
+    /// Notes that an answer of the table was given again.
+    #[inline(always)]
+    pub fn note_again(&mut self)
+        ensures { self.new ≡ self.old }
+    {
+        self.new = 0;
+    }
+
+    /// Puts an answer for a line, if both have at most 32 bytes and there is memory for the table; where answers don't come
+    /// again, not each. A line has two places, which it shares with others: what was put there the time before last is
+    /// lost.
+    #[inline(always)]
     pub fn put(&mut self, line: &[u8], answer: &[u8], refused: bool)
+        ensures { PutsIn self.old self.new line.now answer.now refused }
+    {
+        self.new = self.new.wrapping_add(1);
+        if self.new < MANY_NEW || self.new % 8 == 0 {
+            self.put_short(line, answer, refused);
+        }
+    }
+
+    /// Puts an answer for a line, if both have at most 32 bytes and there is memory for the table.
+    #[inline(never)]
+    fn put_short(&mut self, line: &[u8], answer: &[u8], refused: bool)
         ensures { PutsIn self.old self.new line.now answer.now refused }
     {
         let (Some(line), Some(answer)) = (

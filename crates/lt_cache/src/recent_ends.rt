@@ -241,6 +241,7 @@ impl RecentEnds {
         }
         let count = texts.len() - start;
         if self.append_end(checked, end, texts)? {
+            self.texts.note_again();
             return Ok(());
         }
         texts.truncate(start);

@@ -15,7 +15,6 @@ use Rattle.lt_check.specs.Conditions.{IsChecked, IsValidCoreAlone}
 use Rattle.lt_canon.specs.Answers.{IsCanonicalFormOf, RefusesOnlyRepeats}
 use Rattle.lt_canon.specs.Settled.{IsDistinctForm, IsReplacedWhole, IsCanonicalAnswer, IsCoreRefusal, IsSettledTag, IsSettledValue}
 use Rattle.lt_canon.proofs.TagForm.{core_end, cores_formed, extensions_end_formed, parts_end, parts_reached, replaced, tag_reached, end_form, core_spells_none, cores_proper, extensions_step_to, step_of_change, lang_end}
-use Rattle.lt_check.proofs.Checks.{core_conditions}
 use Rattle.lt_rewrite.specs.TagSteps.{on_core, IsReached, IsCanonical, CanBeReplacedWhole}
 use Rattle.lt_rewrite.proofs.CoreSteps.{by_extlang, by_language}
 use Rattle.lt_rewrite.proofs.CoreForms.{one_end_one_form}
@@ -192,7 +191,7 @@ pub record IsFittingPrefix (R : List EntryParts) (l p : List ℕ) : Type 0 where
 module _ (R : List EntryParts) (C : IsChecked R) where
   pub fitting_prefix : (l p : List ℕ) → prefix_of (prefixes R kinds.Extlang l) ≡ Some p → IsFittingPrefix R l p
   fitting_prefix l p e =
-      let x : ExtlangEntry R l = extlang_entry R (core_conditions R C.passes) l (grind arith) in
+      let x : ExtlangEntry R l = extlang_entry R C.passes.core_conditions l (grind arith) in
       let found = prefixes_at R kinds.Extlang l x.at x.found in
       let form = language_form R C.registry x.fits.prefix x.fits.final_prefix.registered in
       let extlang = extlang_name_form R C.registry l x in
@@ -226,7 +225,7 @@ module _ (R : List EntryParts) (C : IsChecked R) where
       let back : unwrap_or (one_of x.at.value) x.fits.subtag ≡ replacement R l = ap (unwrap_or (one_of x.at.value)) x.same ∙ sym (replacement_at R l x.at x.found) in
       let Q : List ℕ → Type 0 = λ u. EndsIn (preferred_value R kinds.Language) u x.fits.end in
       (cores_formed R C).kept (behind (Some p) d) (at (replacement R l)) (by_extlang R (behind (Some p) d) l refl)
-      ∙ one_end_one_form R (core_conditions R C.passes) (preferred_value R kinds.Language) at (λ s t e. by_language R (at s) t refl e)
+      ∙ one_end_one_form R C.passes.core_conditions (preferred_value R kinds.Language) at (λ s t e. by_language R (at s) t refl e)
       (replacement R l) l x.fits.end (subst Q back x.fits.replacement_ends) (subst Q x.same x.fits.ends)
       ∙ ap (λ xs. core_end R C (core l xs d.script d.region d.variants)) (sym none)
 

@@ -23,7 +23,6 @@ use Rattle.lt_canon.specs.Answers.{IsSecondOccurrence, IsRepeatOfCore, IsRepeatO
 use Rattle.lt_canon.specs.Settled.{IsDistinctForm, IsReplacedWhole, IsSecondInSource, IsSecondInSources}
 use Rattle.lt_canon.proofs.Distinctness.{distinct_or_second, second_repeats, one_second}
 use Rattle.lt_canon.proofs.TagForm.{core_end, core_normal, cores_formed, cores_reached, extension_end, extensions_end, extensions_end_formed, parts_end, parts_reached, replaced, settled_reached, settled_rests, end_replaced, tag_end, tag_reached, end_form}
-use Rattle.lt_check.proofs.Checks.{core_conditions}
 use Rattle.lt_rewrite.specs.Orderings.{ListStep, by_swap, by_drop}
 use Rattle.lt_rewrite.specs.Conditions.{MeetsCoreConditions}
 use Rattle.lt_rewrite.specs.TagSteps.{TagChange, on_core, on_extensions, on_whole, TagStep, IsReached, CanRepeat}
@@ -111,15 +110,15 @@ module _ (R : List EntryParts) (C : IsChecked R) where
   -- the source of an extension in its normal form
   pub source_end : (e : ExtensionParts) (c : CoreParts) → HasSource e c → HasSource (extension_end R C e) (core_end R C c)
   source_end e c h =
-      let n = normal_parts R C.registry (core_conditions R C.passes) e h.parts h.transforms h.formed in
-      record { transforms = normal_singleton R C.registry (core_conditions R C.passes) e ∙ h.transforms; parts = n.parts; formed = n.formed; there = n.source ∙ ap (option_map (core_end R C)) h.there }
+      let n = normal_parts R C.registry C.passes.core_conditions e h.parts h.transforms h.formed in
+      record { transforms = normal_singleton R C.registry C.passes.core_conditions e ∙ h.transforms; parts = n.parts; formed = n.formed; there = n.source ∙ ap (option_map (core_end R C)) h.there }
 
   -- what is repeated there, the source repeats
   own_repeat : (e : ExtensionParts) (v : List ℕ) → IsProperExtension R e → IsSecondInSource (extension_end R C e) v → (c : CoreParts) × HasSource e c × IsRepeatOfCore R c v
   own_repeat e v P k =
-      let s : e.singleton ≡ transform = sym (normal_singleton R C.registry (core_conditions R C.passes) e) ∙ k.has_source.transforms in
+      let s : e.singleton ≡ transform = sym (normal_singleton R C.registry C.passes.core_conditions e) ∙ k.has_source.transforms in
       let m = P s in
-      let n = normal_parts R C.registry (core_conditions R C.passes) e m.0 s m.1 in
+      let n = normal_parts R C.registry C.passes.core_conditions e m.0 s m.1 in
       let there : option_map (core_end R C) m.0.source ≡ Some k.source = sym n.source ∙ ap (λ (p : TForm). p.source) (one_transform (extension_end R C e).subtags n.parts k.has_source.parts n.formed k.has_source.formed) ∙ k.has_source.there in
       let at : (c : CoreParts) × (m.0.source ≡ Some c) × (core_end R C c ≡ k.source) = grind arith in
       (at.0, record { transforms = s; parts = m.0; formed = m.1; there = at.1 }, record { form = core_end R C at.0; normal = core_normal R C at.0; second = subst (λ (x : CoreParts). IsSecondOccurrence x.variants v) (sym at.2) k.second })
@@ -131,7 +130,7 @@ module _ (R : List EntryParts) (C : IsChecked R) where
       let each : AllByRecursion (λ e. Q (extension_end R C e)) es = all_from (λ e. Q (extension_end R C e)) es (λ b e a there w j.
       let r = own_repeat e w (all_at (IsProperExtension R) es b e a there P) j in
       record { before = b; extension = e; after = a; there = there; source = r.0; has_source = r.1; repeat = r.2 }) in
-      let ends = star_keeps (AllByRecursion Q) (λ x y s. all_step Q x y s) (extensions_ordered R C.registry (core_conditions R C.passes) es) (all_mapped (λ e. Q (extension_end R C e)) Q (extension_end R C) (λ e h. h) es each) in
+      let ends = star_keeps (AllByRecursion Q) (λ x y s. all_step Q x y s) (extensions_ordered R C.registry C.passes.core_conditions es) (all_mapped (λ e. Q (extension_end R C e)) Q (extension_end R C) (λ e h. h) es each) in
       all_at Q fs k.before k.extension k.after k.there (subst (AllByRecursion Q) (normal_is_form (extensions_end_formed R C) es fs n) ends) v k.own
 
 -- what each part has in another order, each part has
@@ -157,7 +156,7 @@ module _ (R : List EntryParts) (C : IsChecked R) where
   extension_once : (e f : ExtensionParts) → ExtensionStep R e f → Once e → Once f
   extension_once e f (in_unicode p q is_u kept _ _ _) h k s = absurd (omega (arith, s.transforms, kept, is_u))
   extension_once e f (in_transform p q is_t _ from to (on_source c d there here step _)) h k s =
-      subst (VariantLanguagesOnce R) (one_source f d k (record { transforms = s.transforms; parts = q; formed = to; there = here }) s) (variant_languages_once_kept R (core_conditions R C.passes) c d step (h c (record { transforms = is_t; parts = p; formed = from; there = there })))
+      subst (VariantLanguagesOnce R) (one_source f d k (record { transforms = s.transforms; parts = q; formed = to; there = here }) s) (variant_languages_once_kept R C.passes.core_conditions c d step (h c (record { transforms = is_t; parts = p; formed = from; there = there })))
   extension_once e f (in_transform p q is_t _ from to (on_fields g _)) h k s =
       h k (record { transforms = is_t; parts = p; formed = from; there = sym g ∙ ap (λ (r : TForm). r.source) (sym (one_transform f.subtags s.parts q s.formed to)) ∙ s.there })
 
@@ -168,9 +167,9 @@ module _ (R : List EntryParts) (C : IsChecked R) where
   extensions_once es fs (among s) h = all_step Once es fs s h
 
   change_once : (t u : TagForm) → TagChange R t u → VariantLanguagesOnceTag R t → VariantLanguagesOnceTag R u
-  change_once t u (on_core c d es ps from to s) h = let k = rw from at h in rw to (variant_languages_once_kept R (core_conditions R C.passes) c d s k.0, k.1)
+  change_once t u (on_core c d es ps from to s) h = let k = rw from at h in rw to (variant_languages_once_kept R C.passes.core_conditions c d s k.0, k.1)
   change_once t u (on_extensions c es fs ps from to s) h = let k = rw from at h in rw to (k.0, extensions_once es fs s k.1)
-  change_once t u (on_whole _ has) h = distinct_once R (core_conditions R C.passes) u (value_plain R C t u has).valid.distinct
+  change_once t u (on_whole _ has) h = distinct_once R C.passes.core_conditions u (value_plain R C t u has).valid.distinct
 
   -- a tag whose value, or which itself repeats no variant
   replaced_distinct : (s r : TagForm) → IsReplacedWhole R s r → RepeatsNoVariant r → RepeatsNoVariant s
@@ -180,17 +179,17 @@ module _ (R : List EntryParts) (C : IsChecked R) where
   -- where the parts repeat no variant at their ends, the tag repeats none
   parts_distinct : (t : TagForm) → VariantLanguagesOnceTag R t → RepeatsNoVariant (parts_end R C t) → RepeatsNoVariant t
   parts_distinct (LangTag c es ps) h d = (
-    form_distinct R (core_conditions R C.passes) c h.0 d.0,
+    form_distinct R C.passes.core_conditions c h.0 d.0,
     all_both Once (λ e. HasDistinctSource (extension_end R C e)) HasDistinctSource
-        (λ e h d. told_source HasDistinctVariants e (λ c s. form_distinct R (core_conditions R C.passes) c (h c s) (source_told (extension_end R C e) d (core_end R C c) (source_end R C e c s)))) es h.1
-        (all_unmapped HasDistinctSource (extension_end R C) es (unordered HasDistinctSource singleton_cmp (extensions_ordered R C.registry (core_conditions R C.passes) es) d.1)),
+        (λ e h d. told_source HasDistinctVariants e (λ c s. form_distinct R C.passes.core_conditions c (h c s) (source_told (extension_end R C e) d (core_end R C c) (source_end R C e c s)))) es h.1
+        (all_unmapped HasDistinctSource (extension_end R C) es (unordered HasDistinctSource singleton_cmp (extensions_ordered R C.registry C.passes.core_conditions es) d.1)),
   )
   parts_distinct _ h d = tt
 
   -- from a valid tag a repeat is reached only if its end form has one
   pub repeats_at_end : (t : TagForm) → IsValid R t → CanRepeat R t → RepeatsNoVariant (tag_end R C t) → ⊥
   repeats_at_end t V r d =
-      let once = star_keeps (VariantLanguagesOnceTag R) (λ a b s k. change_once a b s.change k) r.reached (distinct_once R (core_conditions R C.passes) t V.distinct) in
+      let once = star_keeps (VariantLanguagesOnceTag R) (λ a b s k. change_once a b s.change k) r.reached (distinct_once R C.passes.core_conditions t V.distinct) in
       let there = rw (star_end (end_form R C) r.reached) at d in
       r.repeats (parts_distinct r.tag once (replaced_distinct (parts_end R C r.tag) (tag_end R C r.tag) (end_replaced R C r.tag) there))
 

@@ -21,7 +21,6 @@ use Rattle.lt_rewrite.proofs.ExtensionForms.{normal_extension, normal_extensions
 use Rattle.lt_rewrite.specs.Conditions.{HasEndingChain}
 use Rattle.lt_check.specs.Conditions.{HasRestingWhole, HasAgreeingWhole, IsChecked}
 use Rattle.lt_canon.proofs.EndForms.{IsEndForm, confluent, rest_unique}
-use Rattle.lt_check.proofs.Checks.{core_conditions}
 use Rattle.lt_check.proofs.CheckedRegistry.{grandfathered_fit, valued_whole, whole_has, no_value, value_plain}
 use Rattle.lt_tag.specs.Spelling.{spell_core}
 use Rattle.lt_tag.specs.WellFormed.{IsNotGrandfathered}
@@ -60,14 +59,14 @@ pub lang_at_end : (R : List EntryParts) (d : CoreParts) (es : List ExtensionPart
 lang_at_end R d es ps k m w = at_end R (LangTag d es ps) (λ c e. let same : d ≡ c = cc in subst (Rests (CoreStep R)) same k) m w
 
 pub ending_chains : (R : List EntryParts) → IsChecked R → All (HasEndingChain R) R
-ending_chains R C = C.passes.ending_chain
+ending_chains R C = C.passes.core_conditions.chains
 
 module _ (R : List EntryParts) (C : IsChecked R) where
   pub core_spells_none : (c : CoreParts) → IsProperValue R c → IsNotGrandfathered (spell_core c)
   core_spells_none c P = proper_spells_none R (grandfathered_fit R C) c P
 
   pub steps_keep : StepsKeepTagsProper R
-  steps_keep = steps_keep_tags_proper R C.registry (core_conditions R C.passes) (grandfathered_fit R C)
+  steps_keep = steps_keep_tags_proper R C.registry C.passes.core_conditions (grandfathered_fit R C)
 
   -- each change is a step
   pub step_of_change : (t u : TagForm) → TagChange R t u → IsProper R t → TagStep R t u
@@ -79,19 +78,19 @@ module _ (R : List EntryParts) (C : IsChecked R) where
       led (on_whole _ has) = (value_plain R C t u has).valid.proper
 
   abbrev pub core_end : CoreParts → CoreParts
-  core_end = normal_core R (core_conditions R C.passes)
+  core_end = normal_core R C.passes.core_conditions
 
   pub cores_formed : IsFormOf (CoreStep R) core_end
-  cores_formed = normal_cores R (core_conditions R C.passes)
+  cores_formed = normal_cores R C.passes.core_conditions
 
   abbrev pub extension_end : ExtensionParts → ExtensionParts
-  extension_end = normal_extension R C.registry (core_conditions R C.passes)
+  extension_end = normal_extension R C.registry C.passes.core_conditions
 
   abbrev pub extensions_end : List ExtensionParts → List ExtensionParts
-  extensions_end = normal_extensions R C.registry (core_conditions R C.passes)
+  extensions_end = normal_extensions R C.registry C.passes.core_conditions
 
   pub extensions_end_formed : IsFormOf (ExtensionsStep R) extensions_end
-  extensions_end_formed = extensions_formed R C.registry (core_conditions R C.passes)
+  extensions_end_formed = extensions_formed R C.registry C.passes.core_conditions
 
   abbrev pub value_end : TagForm → TagForm
   value_end (LangTag c es ps) = LangTag (core_end c) es ps

@@ -33,12 +33,14 @@ all_below R i m l h =
     let last : i ≡ 11 = omega (arith, m, l) in
     let each : (k : Condition) → All (Meets k R) R = λ k. subst (λ j. MeetsBelow (rank_at j) R) last h k (grind arith) in
     record {
-      own_name = each conditions.OwnName;
-      registered_value = each conditions.RegisteredValue;
-      ending_chain = each conditions.EndingChain;
-      fitting_extlang = each conditions.FittingExtlang;
-      fitting_variant_value = each conditions.FittingVariantValue;
-      final_prefixes = each conditions.FinalPrefixes;
+      core_conditions = record {
+        names = each conditions.OwnName;
+        values = each conditions.RegisteredValue;
+        chains = each conditions.EndingChain;
+        extlangs = each conditions.FittingExtlang;
+        variants = each conditions.FittingVariantValue;
+        variant_languages = each conditions.FinalPrefixes;
+      };
       langtag_prefixes = each conditions.LangtagPrefixes;
       fitting_grandfathered = each conditions.FittingGrandfathered;
       valid_whole = each conditions.ValidWhole;
@@ -63,7 +65,12 @@ pub judged_whole : (R : List EntryParts) → MeetsBelow 10 R → All (Meets cond
 judged_whole R M a o = judged {E = Unit {0}} R conditions.AgreeingWhole (below_more R conditions.RestingWhole 11 refl M a) (λ e. cc) (Ok o)
 
 meets : (R : List EntryParts) → Passes R → (k : Condition) → All (Meets k R) R
-meets R P conditions.OwnName = P.own_name
+meets R P conditions.OwnName = P.core_conditions.names
+meets R P conditions.RegisteredValue = P.core_conditions.values
+meets R P conditions.EndingChain = P.core_conditions.chains
+meets R P conditions.FittingExtlang = P.core_conditions.extlangs
+meets R P conditions.FittingVariantValue = P.core_conditions.variants
+meets R P conditions.FinalPrefixes = P.core_conditions.variant_languages
 meets R P _ = search rules
 
 -- where a record is at fault the table doesn't pass

@@ -1,6 +1,5 @@
 -- What the crates above may use.
 pub mod CheckedRegistry
-pub mod Checks
 pub mod Deciding
 pub mod RecordChecks
 pub mod FirstFaults

@@ -8,7 +8,7 @@ use Rattle.lt_registry.specs.Validity.{IsValid, Distinct}
 use Rattle.lt_registry.specs.declared.entries.Kind.TheVariants as kinds
 use Rattle.lt_registry.specs.declared.entries.EntryName.TheVariants as names
 use Rattle.lt_rewrite.specs.CoreSteps.{IsCoreNormalForm}
-use Rattle.lt_rewrite.specs.Conditions.{HasOwnName, HasRegisteredValue, HasEndingChain, HasFittingExtlang, HasFittingVariantValue, HasFinalPrefixes, HasLangtagPrefixes, HasFittingGrandfathered, HasNoRangeValue}
+use Rattle.lt_rewrite.specs.Conditions.{HasOwnName, HasRegisteredValue, HasEndingChain, HasFittingExtlang, HasFittingVariantValue, HasFinalPrefixes, HasLangtagPrefixes, HasFittingGrandfathered, HasNoRangeValue, MeetsCoreConditions}
 use Rattle.lt_check.specs.declared.conditions.Condition.{Condition}
 use Rattle.lt_check.specs.declared.conditions.Condition.TheVariants as conditions
 use Rattle.lt_tag.specs.Values.{core_alone}
@@ -73,12 +73,7 @@ rank_of conditions.NoRangeValue = 12
 
 -- each record meets each of the twelve conditions, C1 to C12 (this project's own)
 pub record Passes (R : List EntryParts) : Type 0 where
-  pub own_name : All (HasOwnName R) R
-  pub registered_value : All (HasRegisteredValue R) R
-  pub ending_chain : All (HasEndingChain R) R
-  pub fitting_extlang : All (HasFittingExtlang R) R
-  pub fitting_variant_value : All (HasFittingVariantValue R) R
-  pub final_prefixes : All (HasFinalPrefixes R) R
+  pub core_conditions : MeetsCoreConditions R
   pub langtag_prefixes : All (HasLangtagPrefixes R) R
   pub fitting_grandfathered : All (HasFittingGrandfathered R) R
   pub valid_whole : All (HasValidWhole R) R

@@ -5,6 +5,7 @@ mod failing;
 mod growths;
 mod one_by_one;
 mod passing;
+mod places;
 
 use lt_jar::{Jar, JarFault, JarField, Record, read_jar};
 use lt_testing::{returned_text, sample_text};

@@ -81,6 +81,7 @@ fn long_fault(form: LineForm, line: u64) -> ToolFault
 /// Appends the answer to a line, and tells whether it was refused. The line is the first `count` bytes of `text`, and `look`
 /// is the look at it, if there was one.
 #[tactic(auto, using(crate::proofs::TextLemmas::csv_recent))]
+#[inline(always)]
 fn append_reply<L: Lookup>(
     lines: &mut Vec<u8>,
     alloc: Global,
@@ -136,6 +137,7 @@ fn append_reply<L: Lookup>(
 
 /// Appends the answer to a line, and tells whether it was refused. The line is what is in `kept` and then the first `count`
 /// bytes of `text`, which are kept too if anything was.
+#[inline(always)]
 fn append_line<L: Lookup>(
     lines: &mut Vec<u8>,
     alloc: Global,
@@ -242,7 +244,7 @@ impl Answering {
         count_if(
             &mut self.tallies,
             alloc,
-            form,
+            &form,
             self.counts.lines + 1,
             line_at(&self.kept, &text[..count]),
             &self.owed[start.min(self.owed.len())..],
@@ -315,7 +317,7 @@ impl Answering {
         ensures counted { OnOk result (spec.CountsFeed self.old self.new) }
     {
         match form {
-            LineForm::Tag => self.answer_line(alloc, basis, form, &None, text, count),
+            LineForm::Tag => self.answer_line(alloc, basis, LineForm::Tag, &None, text, count),
             LineForm::Row(_) | LineForm::Csv(_, _) => {
                 self.end_row(alloc, basis, form, lacks, text, count)
             }

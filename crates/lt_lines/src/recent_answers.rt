@@ -4,7 +4,6 @@ ghost use Rattle.lt_registry.specs.Parts.{EntryParts};
 ghost use Rattle.lt_codes.specs.Codes.{registered_text};
 ghost use Rattle.lt_lines.specs.Answering.{AppendsTextReply, AreRecent, FieldReply};
 ghost use Rattle.lt_lines.specs.Owed.{codes_in};
-ghost use Rattle.lt_cache.specs.Recent.{PutsIn};
 
 use crate::answer_lines::append_answer;
 use crate::bases::Basis;
@@ -16,16 +15,11 @@ use lt_registry::Lookup;
 use lt_tag::OutOfMemory;
 use std::alloc::{AllocError, Global};
 
-/// After so many lines in a row that had no answer there, one answer of eight is put.
-const MANY_NEW: u32 = 256;
-
 /// Answers that were given lately: those of whole lines, and ends of canonical texts.
 #[derive(Drop)]
 pub(crate) struct RecentAnswers {
     whole: Recent,
     ends: RecentEnds,
-    /// How many lines in a row had no answer there.
-    new_lines: u32,
 }
 
 impl RecentAnswers {
@@ -36,19 +30,6 @@ impl RecentAnswers {
         RecentAnswers {
             whole: Recent::new(alloc),
             ends: RecentEnds::new(alloc),
-            new_lines: 0,
-        }
-    }
-
-    /// Puts the answer to a line that had none there with the others; where lines don't come again, not each.
-    #[inline(always)]
-    fn put(&mut self, line: &[u8], answer: &[u8], refused: bool)
-        ensures whole { PutsIn self.old.whole self.new.whole line.now answer.now refused }
-        ensures ends { self.new.ends ≡ self.old.ends }
-    {
-        self.new_lines = self.new_lines.wrapping_add(1);
-        if self.new_lines < MANY_NEW || self.new_lines % 8 == 0 {
-            self.whole.put(line, answer, refused);
         }
     }
 }
@@ -178,13 +159,13 @@ fn append_found<L: Lookup>(
     if let Some(found) = recent.whole.find(text, count) {
         found.answer.append_to(lines)?;
         let refused = found.refused;
-        recent.new_lines = 0;
+        recent.whole.note_again();
         return Ok(refused);
     }
     let text = &text[..count];
     let start = lines.len();
     let refused = append_answer(lines, alloc, checked, &mut recent.ends, text)?;
-    recent.put(text, &lines[start..], refused);
+    recent.whole.put(text, &lines[start..], refused);
     Ok(refused)
 }
 
@@ -286,7 +267,7 @@ fn append_found_field<L: Lookup>(
 {
     if let Some(found) = recent.whole.find(rest, count) {
         found.answer.append_to(lines)?;
-        recent.new_lines = 0;
+        recent.whole.note_again();
         return Ok(None);
     }
     let field = &rest[..count];
@@ -296,7 +277,7 @@ fn append_found_field<L: Lookup>(
         .append_canonical_text(alloc, checked, field, lines)
     {
         Ok(()) => {
-            recent.put(field, &lines[start..], false);
+            recent.whole.put(field, &lines[start..], false);
             Ok(None)
         }
         Err(TextRefusal::OutOfMemory) => Err(OutOfMemory),

@@ -102,16 +102,16 @@ fn count_line(
 pub(crate) fn count_if(
     tallies: &mut Tallies,
     alloc: Global,
-    form: LineForm,
+    form: &LineForm,
     number: u64,
     line: &[u8],
     answer: &[u8],
     refused: bool,
 ) -> Result<(), AllocError>
-    ensures { OnOk result (CountsIf form number line.now answer.now refused tallies.old tallies.new) }
+    ensures { OnOk result (CountsIf form.now number line.now answer.now refused tallies.old tallies.new) }
 {
     if refused {
-        count_line(tallies, alloc, form, number, line, answer)?;
+        count_line(tallies, alloc, *form, number, line, answer)?;
     }
     Ok(())
 }

@@ -16,7 +16,8 @@ use Rattle.lt_tag.specs.Parts.{TagForm}
 use Rattle.lt_tag.specs.OrderLaws.{tag_total, tags_apart}
 use Rattle.lt_tag.specs.Order.{tag_cmp}
 use Rattle.lt_registry.specs.Entries.{has_form, is_whole_kind, FitsName, IsEntry, is_named, holds, is_whole, entry, whole}
-use Rattle.lt_registry.specs.Sorted.{number, IsRowAt, AreRows, single_number, single_row, place_of, tag_in, tag_at, language_number, whole_row, whole_key, whole_key_cmp, IsSingles, IsWholes, index_of}
+use Rattle.lt_subtag.specs.Lanes.{number}
+use Rattle.lt_registry.specs.Sorted.{IsRowAt, AreRows, single_number, single_row, place_of, tag_in, tag_at, language_number, whole_row, whole_key, whole_key_cmp, IsSingles, IsWholes, index_of}
 use Rattle.lt_registry.specs.declared.entries.Kind.{Kind}
 use Rattle.lt_registry.specs.Same.{same_tag, same_kind}
 use Rattle.lt_registry.specs.Parts.{EntryParts}
@@ -25,7 +26,8 @@ use Rattle.lt_registry.specs.declared.rows.Row.{Row}
 use Rattle.lt_registry.specs.declared.indexes.Indexes.{Indexes}
 use Rattle.lt_registry.specs.declared.entries.Kind.TheVariants as kinds
 use Rattle.lt_registry.specs.declared.entries.EntryName.TheVariants as names
-use Rattle.lt_registry.proofs.NumberLemmas.{IsFew, form_few, numbers_equal, same_test}
+use Rattle.lt_subtag.proofs.NumberLemmas.{IsFew, numbers_equal}
+use Rattle.lt_registry.proofs.NumberLemmas.{form_few, same_test}
 use Rattle.lt_registry.proofs.SortedLemmas.{absent, find_none, found, found_passes, matches, missing, nats_equal, rises, tags_equal, then_equal, unfound_fails}
 
 -- rows are gathered entry by entry

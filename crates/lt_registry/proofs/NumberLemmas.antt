@@ -1,17 +1,18 @@
 -- The numbers of subtags, by which they are ordered and found.
-use Rattle.std.proofs.Common.{◌≡◌, ◌≢◌, ℕ, zero, suc, ◌+◌, ◌-◌, ◌*◌, ◌^◌, ◌<◌, ◌≤◌, Bool, true, false, ◌||◌, cond, eqb, ltb, leb, List, [], ◌∷◌, ◌++◌, length, length-append, map, replicate, get_or, true≢false, refl, sym, ap, ◌∙◌, arith, inl, inr, ◌&&◌, Result, Ok, Err}
+use Rattle.std.proofs.Common.{Ordering, ◌≡◌, ◌≢◌, ℕ, zero, suc, ◌+◌, ◌-◌, ◌*◌, ◌^◌, ◌<◌, ◌≤◌, Bool, true, false, ◌||◌, cond, eqb, ltb, leb, List, [], ◌∷◌, ◌++◌, length, length-append, map, replicate, get_or, true≢false, refl, sym, ap, ◌∙◌, arith, inl, inr, ◌&&◌, Result, Ok, Err}
 use Rattle.std.specs.Prelude.{bytes_eq, filter}
 use Rattle.std.specs.Int.{to_be_bytes, from_be_bytes, w64}
 use Rattle.std.specs.List.{list_all, AllByRecursion, AllAdjacentBelow, IsDistinct, list_any, filter_map}
 use Rattle.std.specs.List.Sorted.{IsPermutation, IsBinarySearchResult, IsSorted}
-use Rattle.std.specs.Ordering.{nat_cmp, eq_by_cmp}
+use Rattle.std.specs.Ordering.{nat_cmp, eq_by_cmp, is_le}
+use Rattle.std.specs.Cmp.Lexicographic.{slice_cmp}
 use Rattle.std.specs.Cmp.{nat_cmp_is}
 use Rattle.std.specs.declared.cmp.Ordering.TheVariants.{Less}
 use Rattle.std.specs.Char.{is_ascii_lowercase, is_ascii_digit}
 use Rattle.std.proofs.lemmas.Bool.{and_parts, cases_eq, cases_lt, eqb-true, ltb-true, eq-eqb, ne_eqb, lt-ltb, le-ltb, le-leb, lt-leb}
 use Rattle.std.proofs.Math.Bool.{and-true, and-false}
 use Rattle.std.proofs.lemmas.Bool.Decides.{nat_tests}
-use Rattle.std.proofs.lemmas.Cmp.{nat_cmp_total, eq_by_cmp_equiv}
+use Rattle.std.proofs.lemmas.Cmp.{nat_cmp_total, eq_by_cmp_equiv, same_from_slice_cmp}
 use Rattle.std.proofs.lemmas.List.{length-replicate, length-append}
 use Rattle.std.proofs.lemmas.List.Sorted.{IsPermutation-sym, searched, sorted_far, list_any-IsPermutation, ranks_by}
 use Rattle.std.proofs.lemmas.Map.Keys.{IsDistinct-IsPermutation, IsDistinct-from_sorted, sorted_from_all_adjacent, ge_from_not_lt}
@@ -22,30 +23,19 @@ use Rattle.std.proofs.lemmas.List.Folds.{list_any_none, list_any-from_Any}
 use Rattle.std.proofs.lemmas.List.MinMax.{ranks_by}
 use Rattle.lt_subtag.specs.Bytes.{is_subtag, is_subtag_byte}
 use Rattle.lt_subtag.specs.Shapes.{is_variant}
-use Rattle.lt_subtag.proofs.BytesLemmas.{subtag_length}
+use Rattle.lt_subtag.proofs.NumberLemmas.{IsFew, subtag_few, number_below, numbers_ordered, numbers_equal}
 use Rattle.lt_tag.proofs.Apart.{extlang_is, script_is, region_is}
 use Rattle.lt_tag.proofs.ShapeLemmas.{all_weaker, language_long}
 use Rattle.std.proofs.lemmas.Slice.Eq.{bytes_eq-Decides}
 use Rattle.lt_registry.specs.Entries.{has_form, letters_le, IsPrefix, has_prefix}
 use Rattle.lt_registry.specs.Validity.{Distinct}
-use Rattle.lt_subtag.specs.Lanes.{padded}
-use Rattle.lt_registry.specs.Sorted.{number, rank}
+use Rattle.lt_subtag.specs.Lanes.{number}
+use Rattle.lt_registry.specs.Sorted.{rank}
 use Rattle.lt_registry.specs.declared.entries.Kind.{Kind}
 use Rattle.lt_registry.specs.Prefixes.{single_of, AreSingles}
 use Rattle.lt_registry.specs.declared.entries.Kind.TheVariants as kinds
 
 -- The numbers of subtags.
-
--- Subtags of one number are the same.
-
--- at most eight letters and digits
-pub record IsFew (s : List ℕ) : Type 0 where
-  pub bytes : list_all is_subtag_byte s ≡ true
-  pub few : length s ≤ 8
-
-pub subtag_few : (s : List ℕ) → is_subtag s ≡ true → IsFew s
-unfolding is_subtag
-subtag_few s h = record { bytes = (and_parts (list_all is_subtag_byte s) _ h).0; few = (subtag_length s h).1 }
 
 letters_few : (s : List ℕ) → list_all is_ascii_lowercase s ≡ true → length s ≤ 8 → IsFew s
 letters_few s h l = record { bytes = all_weaker is_ascii_lowercase is_subtag_byte (λ b k. rw k refl) s h; few = l }
@@ -64,114 +54,22 @@ form_few kinds.Region s h =
 form_few kinds.Variant s h = subtag_few s (and_parts (is_subtag s) _ h).0
 form_few _ s h = cc
 
-byte_bounds : (b : ℕ) → is_subtag_byte b ≡ true → (0 < b) × (b < 256)
-byte_bounds b h = (grind (arith, nat_tests), grind (arith, nat_tests))
-
-abbrev AreBytes : List ℕ → Type 0
-AreBytes bs = AllByRecursion (λ (b : ℕ). b < 256) bs
-
-filled_bytes : (s : List ℕ) (n : ℕ) → list_all is_subtag_byte s ≡ true → AreBytes (s ++ replicate n 0)
-filled_bytes [] zero h = tt
-filled_bytes [] (suc n) h = (omega arith, filled_bytes [] n h)
-filled_bytes (b ∷ s) n h = let both = and_parts (is_subtag_byte b) (list_all is_subtag_byte s) h in ((byte_bounds b both.0).1, filled_bytes s n both.1)
-
-byte_below : (bs : List ℕ) (i : ℕ) → AreBytes bs → get_or bs i 0 < 256
-byte_below [] i h = omega arith
-byte_below (b ∷ bs) zero h = h.0
-byte_below (b ∷ bs) (suc i) h = byte_below bs i h.1
-
-pub small : (s : List ℕ) → IsFew s → (i : ℕ) → get_or (padded s) i 0 < 256
-small s h i = byte_below (padded s) i (filled_bytes s (8 - length s) h.bytes)
-
--- no byte is zero, so the bytes are what is not
-unfilled : (s : List ℕ) (n : ℕ) → list_all is_subtag_byte s ≡ true → filter (ltb 0) (s ++ replicate n 0) ≡ s
-unfilled [] zero h = refl
-unfilled [] (suc n) h = unfilled [] n h
-unfilled (b ∷ s) n h =
-    let both = and_parts (is_subtag_byte b) (list_all is_subtag_byte s) h in
-    ap (λ t. cond t (b ∷ filter (ltb 0) (s ++ replicate n 0)) (filter (ltb 0) (s ++ replicate n 0))) (lt-ltb 0 b (byte_bounds b both.0).0) ∙ ap (λ bs. b ∷ bs) (unfilled s n both.1)
-
-filled_length : (s : List ℕ) → length s ≤ 8 → length (padded s) ≡ 8
-filled_length s l = length-append s (replicate (8 - length s) 0) ∙ omega (arith, length-replicate {A = ℕ} (8 - length s) 0)
-
-bytes_of : (s : List ℕ) → IsFew s → to_be_bytes w64 (number s) ≡ padded s
-unfolding number
-bytes_of s h = be_bytes_8 (padded s) (number s) (filled_length s h.few) (small s h) refl
-
-pub same_number : (s t : List ℕ) → IsFew s → IsFew t → number s ≡ number t → s ≡ t
-same_number s t h k e =
-    sym (unfilled s (8 - length s) h.bytes) ∙ ap (filter (ltb 0)) (sym (bytes_of s h) ∙ ap (to_be_bytes w64) e ∙ bytes_of t k) ∙ unfilled t (8 - length t) k.bytes
-
 pub same_test : (b c : Bool) → (b ≡ true → c ≡ true) → (c ≡ true → b ≡ true) → b ≡ c
 same_test true c f g = sym (f refl)
 same_test false true f g = g refl
 same_test false false f g = refl
 
--- so their numbers are equal where they are
-pub numbers_equal : (s t : List ℕ) → IsFew s → IsFew t → eqb (number s) (number t) ≡ bytes_eq s t
-numbers_equal s t h k =
-    let told = bytes_eq-Decides s t in
-    same_test (eqb (number s) (number t)) (bytes_eq s t) (λ e. told.1 (same_number s t h k (eqb-true (number s) (number t) e))) (λ e. eq-eqb (number s) (number t) (ap number (told.0 e)))
+is_letters_le : (s t : List ℕ) (o : Ordering) → o ≡ slice_cmp nat_cmp s t → is_le o ≡ letters_le s t
+is_letters_le = same_from_slice_cmp nat_cmp is_le letters_le refl (λ _ _. refl) (λ _ _. refl) (λ x y s t o h. grind (arith, nat_tests))
 
--- each byte, and zeros after the last
-filled_by_index : (s : List ℕ) → length s ≤ 8
-    → padded s ≡ get_or s 0 0 ∷ get_or s 1 0 ∷ get_or s 2 0 ∷ get_or s 3 0 ∷ get_or s 4 0 ∷ get_or s 5 0 ∷ get_or s 6 0 ∷ get_or s 7 0 ∷ []
-filled_by_index (a ∷ b ∷ c ∷ d ∷ e ∷ f ∷ g ∷ h ∷ i ∷ s) l = absurd (omega (arith, l))
-filled_by_index _ l = refl
+least_is : (m n : ℕ) → is_le (nat_cmp m n) ≡ leb m n
+least_is m n = grind (arith, nat_tests)
 
--- numbers of subtags of one length are in their order
-
-abbrev through : ℕ → List ℕ → ℕ
-through v [] = v
-through v (b ∷ bs) = through (v * 256 + b) bs
-
-through_below : (u v : ℕ) (s t : List ℕ) → u < v → length s ≡ length t → AreBytes s → through u s < through v t
-through_below u v [] [] low one are = low
-through_below u v (x ∷ s) (y ∷ t) low one are = through_below (u * 256 + x) (v * 256 + y) s t (omega (arith, low, are.0)) (omega (arith, one)) are.1
-through_below u v _ _ low one are = absurd (omega (arith, one))
-
-through_ordered : (u : ℕ) (s t : List ℕ) → length s ≡ length t → AreBytes s → AreBytes t → letters_le s t ≡ leb (through u s) (through u t)
-through_ordered u [] [] one are too = sym (le-leb u u (omega arith))
-through_ordered u (x ∷ s) (y ∷ t) one are too =
-    let rest : length s ≡ length t = omega (arith, one) in
-    elim (cases_eq x y) [
-      | inl same ↦
-          ap (λ b. cond b (letters_le s t) (ltb x y)) (eq-eqb x y same) ∙ through_ordered (u * 256 + x) s t rest are.1 too.1
-          ∙ ap (λ z. leb (through (u * 256 + x) s) (through (u * 256 + z) t)) same
-      | inr other ↦
-          ap (λ b. cond b (letters_le s t) (ltb x y)) (ne_eqb x y other)
-          ∙ elim (cases_lt x y) [
-            | inl low ↦
-                let below = through_below (u * 256 + x) (u * 256 + y) s t (omega (arith, low)) rest are.1 in
-                lt-ltb x y low ∙ sym (le-leb (through (u * 256 + x) s) (through (u * 256 + y) t) (omega (arith, below)))
-            | inr high ↦
-                let above : y < x = omega (arith, high, other) in
-                le-ltb x y high ∙ sym (lt-leb (through (u * 256 + x) s) (through (u * 256 + y) t) (through_below (u * 256 + y) (u * 256 + x) t s (omega (arith, above)) (sym rest) too.1))
-          ]
-    ]
-through_ordered u _ _ one are too = absurd (omega (arith, one))
-
-letters_filled : (s t : List ℕ) (n : ℕ) → length s ≡ length t → letters_le (s ++ replicate n 0) (t ++ replicate n 0) ≡ letters_le s t
-letters_filled [] [] zero one = refl
-letters_filled [] [] (suc n) one = letters_filled [] [] n one
-letters_filled (x ∷ s) (y ∷ t) n one = ap (λ b. cond (eqb x y) b (ltb x y)) (letters_filled s t n (omega (arith, one)))
-letters_filled _ _ n one = absurd (omega (arith, one))
-
--- the number of a subtag, by its bytes
-number_through : (s : List ℕ) → length s ≤ 8 → from_be_bytes w64 (padded s) ≡ through 0 (padded s)
-number_through s l = rw (filled_by_index s l) (omega arith)
-
-pub number_below : (s : List ℕ) → IsFew s → number s < 2 ^ 64
-unfolding number
-number_below s h = let at = small s h in omega (arith, at 0, at 1, at 2, at 3, at 4, at 5, at 6, at 7)
-
-pub numbers_ordered : (s t : List ℕ) → IsFew s → IsFew t → length s ≡ length t → letters_le s t ≡ leb (number s) (number t)
-unfolding number
-numbers_ordered s t h k one =
-    let filling : padded t ≡ t ++ replicate (8 - length s) 0 = ap (λ m. t ++ replicate (8 - m) 0) (sym one) in
-    sym (letters_filled s t (8 - length s) one) ∙ ap (letters_le (padded s)) (sym filling)
-    ∙ through_ordered 0 (padded s) (padded t) (filled_length s h.few ∙ sym (filled_length t k.few)) (filled_bytes s (8 - length s) h.bytes) (filled_bytes t (8 - length t) k.bytes)
-    ∙ ap (leb (through 0 (padded s))) (sym (number_through t k.few)) ∙ ap (λ m. leb m (number t)) (sym (number_through s h.few))
+-- numbers are in letter order
+numbers_rise_with : (s t : List ℕ) → IsFew s → IsFew t → letters_le s t ≡ leb (number s) (number t)
+numbers_rise_with s t h k =
+    sym (is_letters_le s t (slice_cmp nat_cmp s t) refl) ∙ ap is_le (numbers_ordered s t h k)
+    ∙ least_is (number s) (number t)
 
 -- and ranks by the lengths first
 
@@ -181,7 +79,7 @@ rank_shorter s t h low = omega (arith, number_below s h, low)
 pub ranks_ordered : (s t : List ℕ) → IsFew s → IsFew t → length s ≡ length t → letters_le s t ≡ leb (rank s) (rank t)
 ranks_ordered s t h k one =
     let shifted : leb (length s * 2 ^ 64 + number s) (length s * 2 ^ 64 + number t) ≡ leb (number s) (number t) = grind (arith, nat_tests) in
-    numbers_ordered s t h k one ∙ sym (ap (λ l. leb (rank s) (l * 2 ^ 64 + number t)) (sym one) ∙ shifted)
+    numbers_rise_with s t h k ∙ sym (ap (λ l. leb (rank s) (l * 2 ^ 64 + number t)) (sym one) ∙ shifted)
 
 -- numbers that differ are those of subtags that do
 

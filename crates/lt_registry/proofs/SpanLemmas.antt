@@ -15,7 +15,6 @@ use Rattle.std.proofs.lemmas.Option.{slice_get_within, slice_get-get_or, get_or_
 use Rattle.std.proofs.lemmas.List.Elements.{All-push, All-from_get_or}
 use Rattle.lt_registry.specs.Sorted.{place_of, RowsRise, beginning, IsInSpan, AreStarts, ends}
 use Rattle.lt_registry.specs.declared.rows.Row.{Row}
-use Rattle.lt_registry.proofs.NumberLemmas.{small}
 use Rattle.lt_registry.proofs.SortedLemmas.{find_first, find_none, nats_equal}
 
 -- Where rows of one beginning start, and what a search among them finds.

@@ -1,10 +1,10 @@
--- Those Prefixes of a record that are one subtag, as numbers (the bytes of the subtag as one number, as in Sorted) that rise,
+-- Those Prefixes of a record that are one subtag, as numbers that rise,
 -- so that one is found by binary search (RFC 5646, 3.1.8).
 use Rattle.std.specs.Prelude.{ℕ, List, [], ◌∷◌, Option, Some, None}
 use Rattle.std.specs.List.{filter_map}
 use Rattle.std.specs.List.Sorted.{IsPermutation, IsSorted}
 use Rattle.std.specs.Ordering.{nat_cmp}
-use Rattle.lt_registry.specs.Sorted.{number}
+use Rattle.lt_subtag.specs.Lanes.{number}
 
 -- the number of the one subtag that a Prefix is; None of a longer Prefix
 abbrev pub single_of : List (List ℕ) → Option ℕ

@@ -3,10 +3,9 @@ use Rattle.std.specs.Prelude.{ℕ, ◌≡◌, ◌≤◌, ◌<◌, ◌-◌, ◌+�
 use Rattle.std.specs.List.{AllByRecursion, AllPairs, Any, Contains, slice_get, cons_option}
 use Rattle.std.specs.Option.{option_map, option_and_then, option_or, option_cmp}
 use Rattle.std.specs.Ordering.{nat_cmp, ordering_then}
-use Rattle.std.specs.Int.{from_be_bytes, w64}
 use Rattle.std.specs.declared.cmp.Ordering.{Ordering}
 use Rattle.std.specs.declared.cmp.Ordering.TheVariants.{Less, Equal}
-use Rattle.lt_subtag.specs.Lanes.{padded}
+use Rattle.lt_subtag.specs.Lanes.{number}
 use Rattle.lt_tag.specs.Parts.{CoreParts, TagForm}
 use Rattle.lt_tag.specs.Values.{core_of}
 use Rattle.lt_registry.specs.Parts.{EntryParts}
@@ -21,10 +20,6 @@ use Rattle.lt_registry.specs.declared.rows.RangeRow.{RangeRow}
 use Rattle.lt_registry.specs.declared.rows.Stretch.{Stretch}
 use Rattle.lt_registry.specs.declared.kind_index.KindIndex.{KindIndex}
 use Rattle.lt_registry.specs.declared.indexes.Indexes.{Indexes}
-
--- the bytes of a subtag, and zeros up to eight, read as one number, so that numbers are in the order of subtags
-unfoldable pub number : List ℕ → ℕ
-number s = from_be_bytes w64 (padded s)
 
 -- the length of a subtag before its number, so that subtags of one length are together, in their order
 abbrev pub rank : List ℕ → ℕ

@@ -13,7 +13,7 @@ use crate::kind_rows::KindRows;
 use crate::names::is_alphabetic;
 use crate::ranges::{place_in, stretches};
 use crate::rows::{Row, Stretch};
-use crate::subtag_numbers::{number_of, rank_of};
+use crate::subtag_numbers::rank_of;
 use lt_subtag::Subtag;
 use std::alloc::{AllocError, Global};
 
@@ -67,7 +67,7 @@ impl KindIndex {
         requires forms { All IsEntry entries.now }
         ensures { option_copied result ≡ find (λ (e : EntryParts). same.same_kind e.kind self.now.kind && forms.is_named subtag.now e.name) entries.now }
     {
-        let place = self.place(number_of(subtag))?;
+        let place = self.place(subtag.number())?;
         entry_at(entries, place)
     }
 
@@ -87,7 +87,7 @@ impl KindIndex {
     }
 
     /// The first range of the kind that holds a subtag, or None if there is none.
-    #[tactic(auto, using(crate::proofs::RangeLemmas::range_found, crate::proofs::RangeLemmas::none_holds, crate::proofs::NumberLemmas::subtag_few))]
+    #[tactic(auto, using(crate::proofs::RangeLemmas::range_found, crate::proofs::RangeLemmas::none_holds, lt_subtag::proofs::NumberLemmas::subtag_few))]
     fn range<'a>(&self, entries: &'a [Entry], subtag: &Subtag) -> Option<&'a Entry>
         requires index { sorted.IsKindIndex entries.now self.now }
         requires forms { All IsEntry entries.now }

@@ -5,7 +5,7 @@ ghost use Rattle.lt_registry.specs.Sorted as sorted;
 
 use crate::entries::{Entry, EntryName, Kind};
 use crate::rows::{RangeRow, Row};
-use crate::subtag_numbers::{number_of, rank_of};
+use crate::subtag_numbers::rank_of;
 use std::alloc::{AllocError, Global};
 
 /// The rows of a kind in the order of the file.
@@ -48,7 +48,7 @@ impl KindRows {
         }
         match entry.name() {
             EntryName::Single(subtag) => self.singles.push(Row {
-                number: number_of(subtag),
+                number: subtag.number(),
                 place,
             })?,
             EntryName::Range(first, last) => self.ranges.push(RangeRow {

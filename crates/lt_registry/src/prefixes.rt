@@ -8,7 +8,6 @@ ghost use Rattle.lt_registry.specs.Prefixes.{single_of};
 ghost use Rattle.lt_registry.specs.Same.{same_list};
 
 use crate::entries::Prefix;
-use crate::subtag_numbers::number_of;
 use lt_subtag::Subtag;
 use lt_tag::OutOfMemory;
 use std::alloc::Global;
@@ -82,7 +81,7 @@ impl Prefixes {
         requires { AllByRecursion IsPrefix self.now }
         ensures { result ≡ has_prefix self.now subtag.now }
     {
-        self.singles.binary_search(&number_of(subtag)).is_ok()
+        self.singles.binary_search(&subtag.number()).is_ok()
     }
 }
 
@@ -93,7 +92,7 @@ fn singles(alloc: Global, prefixes: &[Prefix]) -> Result<Vec<u64>, OutOfMemory>
     let mut numbers = Vec::new(alloc);
     for prefix in prefixes {
         if let [only] = prefix.subtags() {
-            numbers.push(number_of(only))?;
+            numbers.push(only.number())?;
         }
     }
     Ok(numbers)

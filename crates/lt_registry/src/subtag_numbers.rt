@@ -3,6 +3,7 @@ ghost use Rattle.std.specs.Prelude.{◌≡◌, ◌≤◌, ◌<◌, ◌^◌, true
 ghost use Rattle.std.specs.List.{IsDistinct};
 ghost use Rattle.std.specs.Ordering.{nat_cmp, eq_by_cmp};
 ghost use Rattle.lt_subtag.specs.Bytes.{is_subtag};
+ghost use Rattle.lt_subtag.specs.Lanes as lanes;
 ghost use Rattle.lt_registry.specs.Sorted as sorted;
 ghost use Rattle.lt_registry.specs.Validity.{Distinct};
 
@@ -12,15 +13,6 @@ use lt_subtag::Subtag;
 /// How many numbers there are.
 const NUMBERS: u128 = 1 << 64;
 
-/// The bytes of a subtag, filled up with zeros, as one number. Numbers are in the order of subtags.
-#[tactic(auto, unfolding(crate::specs::Sorted::number))]
-pub(crate) fn number_of(subtag: &Subtag) -> u64
-    ensures value { result ≡ sorted.number subtag.now }
-    ensures subtag { is_subtag subtag.now ≡ true }
-{
-    u64::from_be_bytes(subtag.padded())
-}
-
 /// The rank of a subtag: its length, and after it its number. So subtags of one length are together, in their order.
 #[tactic(auto, using(lt_subtag::proofs::BytesLemmas::subtag_length))]
 pub(crate) fn rank_of(subtag: &Subtag) -> u128
@@ -29,17 +21,17 @@ pub(crate) fn rank_of(subtag: &Subtag) -> u128
     ensures subtag { is_subtag subtag.now ≡ true }
 {
     let length = subtag.bytes().len() as u128;
-    length * NUMBERS + number_of(subtag) as u128
+    length * NUMBERS + subtag.number() as u128
 }
 
 /// The numbers of subtags, at most 256.
 fn numbers_of(subtags: &[Subtag]) -> ArrayVec<u64, 256>
     requires { length subtags.now ≤ 256 }
-    ensures { result.items ≡ map sorted.number subtags.now }
+    ensures { result.items ≡ map lanes.number subtags.now }
 {
     let mut numbers = ArrayVec::new();
     for subtag in subtags {
-        numbers.push(number_of(subtag));
+        numbers.push(subtag.number());
     }
     numbers
 }

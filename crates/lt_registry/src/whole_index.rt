@@ -9,7 +9,6 @@ ghost use Rattle.lt_registry.specs.Sorted as sorted;
 use crate::entries::{Entry, EntryName};
 use crate::indexes::entry_at;
 use crate::rows::Row;
-use crate::subtag_numbers::number_of;
 use lt_tag::Tag;
 use std::alloc::{AllocError, Global};
 use std::cmp::Ordering;
@@ -79,7 +78,7 @@ fn language_number(tag: &Tag) -> u64
     ensures { result ≡ sorted.language_number tag.now }
 {
     match tag.core() {
-        Some(core) => number_of(core.language()),
+        Some(core) => core.language().number(),
         None => 0,
     }
 }

@@ -72,8 +72,7 @@ HasFittingExtlang R e = e.kind ≡ kinds.Extlang → IsFittingExtlang R e
 -- If a variant has a value, that value is registered: one of 2 or 3 letters as a language, a longer one as a variant,
 -- whose own value, if any, is no language (C5; RFC 5646, 3.1.7).
 abbrev pub HasFittingVariantValue : List EntryParts → EntryParts → Type 0
-HasFittingVariantValue R e =
-    e.kind ≡ kinds.Variant → (v : List ℕ) → one_of e.value ≡ Some v →
+HasFittingVariantValue R e = e.kind ≡ kinds.Variant → (v : List ℕ) → one_of e.value ≡ Some v →
     ((is_short v ≡ true) × (is_registered R kinds.Language v ≡ true))
     ⊎ ((is_short v ≡ false) × (is_registered R kinds.Variant v ≡ true) × (language_value R v ≡ None))
 
@@ -86,8 +85,7 @@ HasFinalPrefixes R e =
 
 -- Whatever Prefix a variant names is a langtag and a core alone (C7; RFC 5646, 3.1.8).
 abbrev pub HasLangtagPrefixes : List EntryParts → EntryParts → Type 0
-HasLangtagPrefixes R e =
-    e.kind ≡ kinds.Variant → AllByRecursion
+HasLangtagPrefixes R e = e.kind ≡ kinds.Variant → AllByRecursion
     (λ (p : List (List ℕ)). (c : CoreParts) × IsCore c × (spell_core c ≡ p) × IsNotGrandfathered p) e.prefixes
 
 -- the entry of the second subtag of a core of two, an extlang or a variant (RFC 5646, 2.2.8)

@@ -18,7 +18,7 @@ run_passes p v n le =
     (All-from_get_or (λ x. p x ≡ true) (take n v) 0
     (λ k inside. subst (λ x. p x ≡ true) (sym (get_or-take n v k 0 (omega arith))) (prefix_len_passes p v k 0 (omega arith))))
 
-length_padded : (s : List ℕ) → length s ≤ 8 → length (padded s) ≡ 8
+pub length_padded : (s : List ℕ) → length s ≤ 8 → length (padded s) ≡ 8
 length_padded s few = length-append s (replicate (8 - length s) 0) ∙ omega (arith, length-replicate {A = ℕ} (8 - length s) 0)
 
 front_padded : (s : List ℕ) → length s ≤ 8 → take (length s) (take 8 (padded s)) ≡ s

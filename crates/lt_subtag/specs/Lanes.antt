@@ -1,10 +1,15 @@
 -- A piece of a text as eight bytes that are looked at together.
 use Rattle.std.specs.Prelude.{ℕ, ◌++◌, ◌-◌, ◌==◌, if◌then◌else◌, List, length, replicate}
+use Rattle.std.specs.Int.{from_be_bytes, w64}
 use lib.Count.{count_trailing_zeros}
 
 -- the bytes of a piece, and then zeros up to eight
 abbrev pub padded : List ℕ → List ℕ
 padded s = s ++ replicate (8 - length s) 0
+
+-- a subtag as one number, that of its padded bytes: numbers are in the order of subtags
+unfoldable pub number : List ℕ → ℕ
+number s = from_be_bytes w64 (padded s)
 
 -- the number of the lowest bit that is set in a mask, or `lanes` if none is
 abbrev pub first_set : ℕ → ℕ → ℕ

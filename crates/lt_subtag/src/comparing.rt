@@ -17,7 +17,7 @@ impl PartialEq for Subtag {
     ghost laws = { partial_equiv_from_equiv nat_list_eq_equiv };
 
     fn eq(&self, other: &Subtag) -> bool {
-        self.bytes() == other.bytes()
+        self.number() == other.number()
     }
 }
 
@@ -45,7 +45,7 @@ impl Ord for Subtag {
     ghost matches_eq = { texts_ties };
 
     fn cmp(&self, other: &Subtag) -> Ordering {
-        self.bytes().cmp(other.bytes())
+        self.number().cmp(&other.number())
     }
 }
 

@@ -7,7 +7,7 @@ ghost use Rattle.std.specs.Fmt.{styled_text};
 ghost use Rattle.std.specs.List.{list_all};
 ghost use Rattle.std.specs.Char.{is_ascii_alphanumeric};
 ghost use Rattle.lt_subtag.specs.Bytes.{is_subtag, upper};
-ghost use Rattle.lt_subtag.specs.Lanes.{padded};
+ghost use Rattle.lt_subtag.specs.Lanes.{padded, number};
 ghost use Rattle.lt_subtag.specs.Shapes as shapes;
 ghost use Rattle.lt_subtag.specs.Reading.{subtag_of};
 ghost use Rattle.lt_subtag.specs.Reading as reading;
@@ -154,6 +154,15 @@ impl Subtag {
         ensures subtag { is_subtag self.now ≡ true }
     {
         self.letters
+    }
+
+    /// The lower-case bytes, and zeros after them up to 8, as one number. Numbers are in the order of their subtags.
+    #[tactic(auto, unfolding(crate::specs::Lanes::number))]
+    pub fn number(&self) -> u64
+        ensures number { result ≡ number self.now }
+        ensures subtag { is_subtag self.now ≡ true }
+    {
+        u64::from_be_bytes(self.letters)
     }
 
     /// An equal subtag.

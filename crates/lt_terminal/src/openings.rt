@@ -11,6 +11,9 @@ use std::io::{self, Read};
 /// The most bytes of a file that is kept.
 const MOST_TRACED: usize = 16_777_216;
 
+/// For how many bytes of a file there is room at first, so that a registry of common length is not copied as it grows.
+const FIRST_ROOM: usize = 1_048_576;
+
 /// Why the last file that could not be opened was not, in a line for a person; and the bytes that were read of the first
 /// file and of the second.
 #[derive(Drop)]
@@ -61,7 +64,8 @@ impl Openings {
             &self.first
         };
         self.first.set(first);
-        bytes.set(Some(Vec::new(alloc)));
+        let room = Vec::with_capacity(alloc, FIRST_ROOM);
+        bytes.set(Some(room.unwrap_or(Vec::new(alloc))));
         Traced { inner: file, bytes }
     }
 

@@ -31,7 +31,6 @@ use Rattle.lt_tag.proofs.TagLemmas.{AllByRecursion-weaker}
 use Rattle.lt_rewrite.proofs.Forms.{registered_entry, ExtlangEntry, extlang_entry, replacement_at}
 use Rattle.lt_rewrite.proofs.CoreSteps.{each_step, by_extlang, by_language, by_script, by_region, by_variant, by_variant_language}
 use Rattle.lt_rewrite.proofs.CoreForms.{one_end_one_form}
-use Rattle.lt_check.proofs.Checks.{core_conditions}
 use Rattle.std.proofs.lemmas.List.{map-append}
 use Rattle.lt_rewrite.specs.Extensions.{on_source, on_fields, ExtensionStep, in_unicode, in_transform, ExtensionsStep, inside, among, singleton_cmp}
 use Rattle.lt_rewrite.proofs.PartLists.{all_middle, empty_middle, all_swapped}
@@ -92,7 +91,7 @@ module _ (A B : List EntryParts) (CA : IsChecked A) (CB : IsChecked B) (U : Upgr
   fit_stays : (l : List ℕ) (xs : List (List ℕ)) → ExtlangsFit A l xs → ExtlangsFit B l xs
   fit_stays l [] h = tt
   fit_stays l (x ∷ []) h =
-      let en : ExtlangEntry A x = extlang_entry A (core_conditions A CA.passes) x h.0 in
+      let en : ExtlangEntry A x = extlang_entry A CA.passes.core_conditions x h.0 in
       let k : IsSameExtlang B en.at x = same_extlang x en in
       (stays kinds.Extlang x h.0, ap (λ ps. has_prefix ps l) (prefixes_at B kinds.Extlang x k.newer k.there ∙ k.prefixes ∙ sym (prefixes_at A kinds.Extlang x en.at en.found)) ∙ h.1)
   fit_stays l (x ∷ y ∷ r) h = h
@@ -141,7 +140,7 @@ module _ (A B : List EntryParts) (CA : IsChecked A) (CB : IsChecked B) (U : Upgr
 
   -- cores that differ in a subtag, of which the chains have one end
   one_form : (f : List ℕ → Option (List ℕ)) (at : List ℕ → CoreParts) → ((s t : List ℕ) → f s ≡ Some t → CoreStep B (at s) (at t)) → (s t : List ℕ) → SameEnd f s t → core_end B CB (at s) ≡ core_end B CB (at t)
-  one_form f at step s t h = one_end_one_form B (core_conditions B CB.passes) f at step s t h.end h.left h.right
+  one_form f at step s t h = one_end_one_form B CB.passes.core_conditions f at step s t h.end h.left h.right
 
   language_same : (c : CoreParts) (a b : List ℕ) → SameEnd (preferred_value B kinds.Language) a b → c.extlangs ≡ [] → core_end B CB (record c { language = a }) ≡ core_end B CB (record c { language = b })
   language_same c a b h alone = one_form (preferred_value B kinds.Language) (λ u. record c { language = u }) (λ s t e. by_language B (record c { language = s }) t alone e) a b h
@@ -187,7 +186,7 @@ module _ (A B : List EntryParts) (CA : IsChecked A) (CB : IsChecked B) (U : Upgr
   old_core_step : (c d : CoreParts) → IsProperCore A c → CoreStep A c d → core_end B CB c ≡ core_end B CB d
   old_core_step c d P = each_step A c (λ d. core_end B CB c ≡ core_end B CB d) (record {
     extlang = λ x one.
-        let en : ExtlangEntry A x = extlang_entry A (core_conditions A CA.passes) x (subst (ExtlangsFit A c.language) one P.extlangs).0 in
+        let en : ExtlangEntry A x = extlang_entry A CA.passes.core_conditions x (subst (ExtlangsFit A c.language) one P.extlangs).0 in
         let k : IsSameExtlang B en.at x = same_extlang x en in
         (cores_formed B CB).kept c (record c { language = replacement B x; extlangs = [] }) (by_extlang B c x one)
         ∙ ap (λ u. core_end B CB (record c { language = u; extlangs = [] })) (replacement_at B x k.newer k.there)
@@ -215,17 +214,17 @@ module _ (A B : List EntryParts) (CA : IsChecked A) (CB : IsChecked B) (U : Upgr
   -- ---- an old step keeps the new end form
 
   old_extension_step : (e f : ExtensionParts) → IsProperExtension A e → ExtensionStep A e f → extension_end B CB e ≡ extension_end B CB f
-  old_extension_step e f P (in_unicode p q is_u kept from to s) = (extension_formed B CB.registry (core_conditions B CB.passes)).kept e f (in_unicode p q is_u kept from to s)
+  old_extension_step e f P (in_unicode p q is_u kept from to s) = (extension_formed B CB.registry CB.passes.core_conditions).kept e f (in_unicode p q is_u kept from to s)
   old_extension_step e f P (in_transform p q is_t kept from to (on_source c d begins ends k same_fields)) =
       let source : option_map (core_end B CB) p.source ≡ option_map (core_end B CB) q.source = rw (begins, ends, old_core_step c d (source_proper A e p c P is_t from begins) k) refl in
-      same_source B CB.registry (core_conditions B CB.passes) e f p q is_t (kept ∙ is_t) from to source (sym same_fields)
-  old_extension_step e f P (in_transform p q is_t kept from to (on_fields a k)) = (extension_formed B CB.registry (core_conditions B CB.passes)).kept e f (in_transform p q is_t kept from to (on_fields a k))
+      same_source B CB.registry CB.passes.core_conditions e f p q is_t (kept ∙ is_t) from to source (sym same_fields)
+  old_extension_step e f P (in_transform p q is_t kept from to (on_fields a k)) = (extension_formed B CB.registry CB.passes.core_conditions).kept e f (in_transform p q is_t kept from to (on_fields a k))
 
   old_extensions_step : (es fs : List ExtensionParts) → AllByRecursion (IsProperExtension A) es → ExtensionsStep A es fs → extensions_end B CB es ≡ extensions_end B CB fs
   old_extensions_step es fs P (inside before e f after there result s) =
       let one : extension_end B CB e ≡ extension_end B CB f = old_extension_step e f (all_middle (IsProperExtension A) before e after (subst (AllByRecursion (IsProperExtension A)) there P)) s in
       ap (extensions_end B CB) there
-      ∙ one_by_one B CB.registry (core_conditions B CB.passes) (before ++ e ∷ after) (before ++ f ∷ after)
+      ∙ one_by_one B CB.registry CB.passes.core_conditions (before ++ e ∷ after) (before ++ f ∷ after)
       (map-append (extension_end B CB) before (e ∷ after)
       ∙ ap (λ x. map (extension_end B CB) before ++ x ∷ map (extension_end B CB) after) one
       ∙ sym (map-append (extension_end B CB) before (f ∷ after)))

@@ -78,10 +78,11 @@ fn hash_of(subtag: &Subtag) -> u64 {
     state.finish()
 }
 
-/// Whether a subtag is `hans`, by each of its letter cases.
+/// Whether a subtag is `hans`, by each of its letter cases and by its number.
 fn is_hans(subtag: &Subtag) -> bool {
     subtag.bytes() == b"hans".as_slice()
         && subtag.padded().as_slice() == b"hans\0\0\0\0".as_slice()
+        && subtag.number() == 0x6861_6e73_0000_0000
         && subtag.cased(Case::Title).as_slice() == b"Hans".as_slice()
         && subtag.cased(Case::Upper).as_slice() == b"HANS".as_slice()
 }

@@ -1,5 +1,5 @@
 use Rattle.std.proofs.Common.{◌≡◌, ◌++◌, drop, length, map}
-use Rattle.lt_registry.specs.Sorted.{number}
+use Rattle.lt_subtag.specs.Lanes.{number}
 use Rattle.lt_registry.proofs.subtag_numbers.numbers_of.Given as goal
 
 -- there is a number for each subtag so far, and with those of the subtags that are left they are the numbers of all

@@ -3,7 +3,7 @@ use Rattle.std.specs.List.{swap}
 use Rattle.std.proofs.lemmas.List.{length-set, take_all}
 use Rattle.lt_cache.specs.Recent.{kept}
 use Rattle.lt_cache.proofs.PlaceLemmas.{made_some}
-use Rattle.lt_cache.proofs.recent.Recent.put.Goals as goal
+use Rattle.lt_cache.proofs.recent.Recent.put_short.Goals as goal
 
 pub returns-then-first-len : goal.returns-then-first-len
 returns-then-first-len c =
