@@ -24,11 +24,11 @@ star_word [] h = refl
 star_word (b ∷ []) h = grind (arith, nat_tests)
 star_word (b ∷ c ∷ bs) h = cc
 
-letter_word : (b : ℕ) → is_ascii_alphanumeric b ≡ true → is_word_byte b ≡ true
-letter_word b h = grind (arith, nat_tests)
+word_byte_of_letter : (b : ℕ) → is_ascii_alphanumeric b ≡ true → is_word_byte b ≡ true
+word_byte_of_letter b h = grind (arith, nat_tests)
 
 subtag_word : (p : List ℕ) → IsOk (subtag_of p) → IsWord p
-subtag_word p h = all_imply is_ascii_alphanumeric is_word_byte letter_word p (go (length p == 0) (list_all is_ascii_alphanumeric p) (nat_le (length p) 8) refl h)
+subtag_word p h = all_imply is_ascii_alphanumeric is_word_byte word_byte_of_letter p (go (length p == 0) (list_all is_ascii_alphanumeric p) (nat_le (length p) 8) refl h)
   where
     go : (empty letters short : Bool) → list_all is_ascii_alphanumeric p ≡ letters
         → IsOk (cond empty (Err subtag_faults.Empty) (cond letters (cond short (Ok (folded p)) (Err subtag_faults.TooLong)) (Err subtag_faults.BadByte)))

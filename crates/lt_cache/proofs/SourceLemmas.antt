@@ -35,7 +35,7 @@ use Rattle.lt_rewrite.proofs.PartForms.{t_form, t_formed}
 use Rattle.lt_rewrite.proofs.ExtensionForms.{extension_formed, extensions_ordered, transform_settled}
 use Rattle.lt_tag.proofs.PartsLaws.{t_unique as one_transform}
 use Rattle.std.proofs.lemmas.Bool.Decides.{nat_tests}
-use Rattle.lt_cache.specs.Appending.{FollowsSingleton, IsSeparated}
+use Rattle.lt_cache.specs.Appending.{FollowsSingleton, BeginsWithSeparator}
 use Rattle.lt_cache.proofs.EndLemmas.{CanFollow, core_list, core_no_single, core_rests, extension_alone, has_end, join_append, list_after, list_append, no_single, one_text, spell_rest, text_with, whole_list}
 
 -- ---- the subtags of a source and fields
@@ -194,7 +194,7 @@ unfolding is_separator
 first_separator letter digit rest h = grind (arith, nat_tests)
 
 -- a source and fields after a singleton
-pub transformed : (end rest source fields : List ℕ) → FollowsSingleton rest end → source ++ fields ≡ rest → IsSeparated fields
+pub transformed : (end rest source fields : List ℕ) → FollowsSingleton rest end → source ++ fields ≡ rest → BeginsWithSeparator fields
     → list_all (λ (s : List ℕ). not (length s == 1)) (list_of (take (length fields - 1) (drop 1 fields))) ≡ true → IsTransformed source fields end
 transformed end rest source fields F whole S none = record {
   singleton = F.singleton;

@@ -56,7 +56,7 @@ pub record EndsText (R : List EntryParts) (text end : List ℕ) (count : ℕ) : 
   pub counted : count ≡ length (conventional (list_of front))
 
 -- a hyphen (45), the separator of a field, of a letter and a digit, and a hyphen begin the text (RFC 6497, 2.2)
-pub record IsSeparated (fields : List ℕ) : Type 0 where
+pub record BeginsWithSeparator (fields : List ℕ) : Type 0 where
   pub letter : ℕ
   pub digit : ℕ
   pub rest : List ℕ

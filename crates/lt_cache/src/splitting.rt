@@ -5,7 +5,7 @@ ghost use Rattle.lt_subtag.specs.Bytes.{folded};
 ghost use Rattle.lt_subtag.specs.Shapes as shapes;
 ghost use Rattle.lt_tag.specs.Lists.{list_of, longest_text};
 ghost use Rattle.lt_cache.specs.Ends.{IsEnd, IsTransformed};
-ghost use Rattle.lt_cache.specs.Appending.{FollowsSingleton, IsSeparated};
+ghost use Rattle.lt_cache.specs.Appending.{FollowsSingleton, BeginsWithSeparator};
 
 /// The most bytes of a front: a language of three letters, a script and a region of three digits.
 pub(crate) const LONGEST_FRONT: usize = 12;
@@ -45,7 +45,7 @@ fn is_separator(letter: u8, digit: u8) -> bool
 #[inline(always)]
 fn split_fields(text: &[u8]) -> Option<(&[u8], &[u8])>
     ensures whole { IfSome result (λ parts. parts.0.now ++ parts.1.now ≡ text.now) }
-    ensures fields { IfSome result (λ parts. IsSeparated parts.1.now) }
+    ensures fields { IfSome result (λ parts. BeginsWithSeparator parts.1.now) }
 {
     for at in 2..text.len().saturating_sub(3).min(LONGEST_FRONT + 1) {
         if text[at] == b'-' && text[at + 3] == b'-' && is_separator(text[at + 1], text[at + 2]) {
