@@ -40,7 +40,7 @@ pub struct Recent {
     /// None until an answer is put.
     places: Vec<Option<Kept>>,
     /// How many answers in a row were to be put while none came again.
-    new: u32,
+    unfound: u32,
 }
 
 impl Model for Recent {
@@ -72,7 +72,7 @@ impl Recent {
         Recent {
             alloc,
             places: Vec::new(alloc),
-            new: 0,
+            unfound: 0,
         }
     }
 
@@ -119,7 +119,7 @@ impl Recent {
     pub fn note_again(&mut self)
         ensures { self.new ≡ self.old }
     {
-        self.new = 0;
+        self.unfound = 0;
     }
 
     /// Puts an answer for a line, if both have at most 32 bytes and there is memory for the table; where answers don't come
@@ -129,8 +129,8 @@ impl Recent {
     pub fn put(&mut self, line: &[u8], answer: &[u8], refused: bool)
         ensures { PutsIn self.old self.new line.now answer.now refused }
     {
-        self.new = self.new.wrapping_add(1);
-        if self.new < MANY_NEW || self.new % 8 == 0 {
+        self.unfound = self.unfound.wrapping_add(1);
+        if self.unfound < MANY_NEW || self.unfound % 8 == 0 {
             self.put_short(line, answer, refused);
         }
     }
