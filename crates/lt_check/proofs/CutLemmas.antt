@@ -1,5 +1,5 @@
 -- A text that is cut into subtags that stay is read as their langtag, and shown in conventional case.
-use Rattle.std.proofs.Common.{◌≡◌, ◌≤◌, ℕ, ◌+◌, ◌==◌, ◌++◌, ◌&&◌, Bool, true, false, List, [], ◌∷◌, length, map, take, Option, Some, None, option_map, inl, inr, refl, sym, ap, ◌∙◌, arith, ◌-◌, eqb, ◌||◌, not, find, is_none, IfSome, subst, All}
+use Rattle.std.proofs.Common.{◌≡◌, ◌≤◌, ℕ, ◌==◌, ◌++◌, ◌&&◌, Bool, true, false, List, [], ◌∷◌, length, map, take, Option, Some, None, option_map, inl, inr, refl, sym, ap, ◌∙◌, arith, ◌-◌, eqb, ◌||◌, not, find, is_none, IfSome, subst, All}
 use Rattle.std.specs.Option.{option_map_or}
 use Rattle.std.proofs.lemmas.Bool.{agree_below_at, eqb-true}
 use Rattle.std.proofs.lemmas.Bool.Decides.{nat_tests}

@@ -89,6 +89,7 @@ fn has_fitting_prefixes<L: Lookup>(table: &L, entry: &Entry) -> bool
 }
 
 /// Whether a record meets each condition that is decided by a look at one record after another.
+#[inline(never)]
 fn meets_each<L: Lookup>(alloc: Global, table: &L, shortcuts: &Shortcuts, entry: &Entry) -> bool
     requires { AreShortcuts (L.listed table.now) shortcuts.now }
     ensures { IsTrue result → MeetsByRecord (L.listed table.now) entry.now }
@@ -114,6 +115,7 @@ fn all_meet<L: Lookup>(alloc: Global, table: &L, shortcuts: &Shortcuts) -> bool
 
 /// The first record that does not meet a condition that is decided by a look at one record after another, or None if each
 /// does.
+#[inline(never)]
 fn first_failing<L: Lookup>(
     alloc: Global,
     table: &L,
@@ -150,6 +152,7 @@ fn first_misfit<L: Lookup>(table: &L) -> Option<Finding>
 }
 
 /// What the check finds by the tenth and the eleventh condition, where all records meet those before. None if all meet both.
+#[inline(never)]
 fn first_whole_fault<L: Lookup>(
     alloc: Global,
     table: &L,
@@ -202,6 +205,7 @@ fn lowest_fault<L: Lookup>(
 
 /// What the check finds: the lowest condition that fails, and there the lowest record at fault. None if each record meets
 /// each condition.
+#[inline(never)]
 pub(crate) fn find_fault<L: Lookup>(
     alloc: Global,
     table: &L,

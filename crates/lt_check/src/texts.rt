@@ -163,14 +163,8 @@ impl UsualSubtags {
         ensures few { IfSome result (λ shown. shown.count ≤ 12) }
     {
         match *text {
-            [a, b] => self.shown_two(a, b, &[]),
-            [a, b, c, ..] => {
-                if c == b'-' {
-                    self.shown_two(a, b, &text[2..])
-                } else {
-                    self.shown_three(a, b, c, &text[3..])
-                }
-            }
+            [a, b, ..] if text.len() == 2 || text[2] == b'-' => { self.shown_two(a, b, &text[2..]) }
+            [a, b, c, ..] => self.shown_three(a, b, c, &text[3..]),
             _ => None,
         }
     }

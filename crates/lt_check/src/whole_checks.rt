@@ -52,6 +52,7 @@ pub(crate) fn know_entries<L: Lookup>(table: &L)
 }
 
 /// The core normal form of a proper core, whose text is no grandfathered tag.
+#[inline(never)]
 fn settled<L: Lookup>(
     alloc: Global,
     table: &L,
@@ -95,6 +96,7 @@ fn plain_value_of<L: Lookup>(alloc: Global, table: &L, core: Core) -> Option<&Co
 }
 
 /// Whether a core repeats no variant, and no whole record replaces it as a tag.
+#[inline(never)]
 fn rests<L: Lookup>(alloc: Global, table: &L, core: Core) -> bool
     requires lower { MeetsBelow 10 (L.listed table.now) }
     requires spelled { IsNotGrandfathered (spell_core core) }
@@ -107,6 +109,7 @@ fn rests<L: Lookup>(alloc: Global, table: &L, core: Core) -> bool
 
 /// Whether a tag comes to the core `end`: its core normal form is its own core or `end`, or has a value as a whole whose
 /// core normal form is `end`. True of a tag that is more than a core.
+#[inline(never)]
 fn comes_to<L: Lookup>(
     alloc: Global,
     table: &L,

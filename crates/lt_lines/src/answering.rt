@@ -135,6 +135,40 @@ fn append_reply<L: Lookup>(
     }
 }
 
+/// Appends the answer to a line of which a front was kept, and tells whether it was refused. The line is what is in `kept`
+/// and then `part`, which is kept too.
+#[inline(never)]
+fn append_kept<L: Lookup>(
+    lines: &mut Vec<u8>,
+    alloc: Global,
+    basis: &Basis<'_, L>,
+    form: LineForm,
+    is_first: bool,
+    recent: &mut RecentAnswers,
+    kept: &mut Vec<u8>,
+    part: &[u8],
+) -> Result<bool, OutOfMemory>
+    ensures owed { IfOk result (λ refused. spec.AreRecent (L.listed basis.now.checked.now) form recent.old
+        → spec.AppendsLine (terms (ground_of L.listed basis.now) form) is_first kept.old.items part.now lines.old.items lines.new.items refused) }
+    ensures kept { OnOk result (kept.new.items ≡ kept.old.items ++ spec.part_kept form (vec_len kept.old) part.now) }
+    ensures recent { OnOk result (spec.AreRecent (L.listed basis.now.checked.now) form recent.old → spec.AreRecent (L.listed basis.now.checked.now) form recent.new) }
+{
+    keep(form, kept, part)?;
+    // So that the form of the codes is known.
+    basis.know_codes();
+    append_reply(
+        lines,
+        alloc,
+        basis,
+        form,
+        is_first,
+        recent,
+        &None,
+        kept,
+        kept.len(),
+    )
+}
+
 /// Appends the answer to a line, and tells whether it was refused. The line is what is in `kept` and then the first `count`
 /// bytes of `text`, which are kept too if anything was.
 #[inline(always)]
@@ -162,19 +196,15 @@ fn append_line<L: Lookup>(
             lines, alloc, basis, form, is_first, recent, look, text, count,
         );
     }
-    keep(form, kept, &text[..count])?;
-    // So that the form of the codes is known.
-    basis.know_codes();
-    append_reply(
+    append_kept(
         lines,
         alloc,
         basis,
         form,
         is_first,
         recent,
-        &None,
         kept,
-        kept.len(),
+        &text[..count],
     )
 }
 
@@ -272,7 +302,7 @@ impl Answering {
 
     /// Takes the first `count` bytes of `text` and the line feed after them: answers the row or the record that they end, or
     /// keeps them if the line feed is within quotes. `lacks` is what these bytes are known to lack.
-    #[inline(always)]
+    #[inline(never)]
     fn end_row<L: Lookup>(
         &mut self,
         alloc: Global,

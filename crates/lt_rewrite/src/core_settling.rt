@@ -171,29 +171,29 @@ fn settle_variant_languages<L: Lookup>(table: &L, shortcuts: Option<&Shortcuts>,
     }
 }
 
-/// Replaces each of at most 256 variants by the end of its chain of variants, by shortcuts. It gives the places of the
-/// entries of these ends.
+/// Replaces each of at most 256 variants by the end of its chain of variants, by shortcuts. To `places`, which is empty, it
+/// adds the places of the entries of these ends.
 #[tactic(auto, using(crate::proofs::CoreSettling::none_settled, crate::proofs::CoreSettling::all_final))]
 fn settle_few_variants<L: Lookup>(
     table: &L,
     shortcuts: &Shortcuts,
     core: &mut Core,
-) -> ArrayVec<usize, 256>
+    places: &mut ArrayVec<usize, 256>,
+)
     requires chains { All (HasEndingChain (L.listed table.now)) (L.listed table.now) }
     requires shortcuts { AreShortcuts (L.listed table.now) shortcuts.now }
     requires few { length core.old.variants ≤ 256 }
+    requires empty { places.old.items ≡ [] }
     ensures reached { Star (CoreStep (L.listed table.now)) core.old core.new }
     ensures at_rest { HasFinalVariants (L.listed table.now) core.new }
-    ensures places { ArePlaces (L.listed table.now) core.new.variants result.items }
+    ensures places { ArePlaces (L.listed table.now) core.new.variants places.new.items }
     ensures others { core.new ≡ record core.old { variants = core.new.variants } }
 {
-    let mut places = ArrayVec::new();
     for index in 0..core.variants().len() {
         let (end, place) = settled_variant(table, shortcuts, &core.variants()[index]);
         core.set_variant(index, end);
         places.push(place);
     }
-    places
 }
 
 /// Replaces the variants, at most 256, by the ends of their chains of variants, and the language by the end of its chain,
@@ -210,7 +210,8 @@ fn settle_few_variant_languages<L: Lookup>(table: &L, shortcuts: &Shortcuts, cor
     ensures variants { HasFinalVariants (L.listed table.now) core.new }
     ensures others { core.new ≡ record core.old { language = core.new.language; variants = core.new.variants } }
 {
-    let mut places = settle_few_variants(table, shortcuts, core);
+    let mut places = ArrayVec::new();
+    settle_few_variants(table, shortcuts, core, &mut places);
     settle_language(table, Some(shortcuts), core);
     while let Some((index, language)) = first_variant_language_at(table, &places, core) {
         core.remove_variant(index);

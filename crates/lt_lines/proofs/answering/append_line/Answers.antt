@@ -19,22 +19,6 @@ returns-then-is_empty-clause-owed g c =
       owed = λ last is. rw (nothing_kept c.args.form kept.items last is none) a.owed;
     }) c.append_reply.ensures.owed
 
-pub returns-clause-owed : goal.returns-clause-owed
-returns-clause-owed g c =
-    let G = ground_of g.L.Lookup.listed c.args.basis.now in
-    let part = take c.args.count c.args.text.now in
-    let old = c.args.kept.now in
-    let kept : c.keep.new.kept.items ≡ old.items ++ part_kept c.args.form (length old.items) part =
-    c.in_ok-keep.ensures ∙ ap (λ (n : ℕ). old.items ++ part_kept c.args.form n part) old.ok.0 in
-    let line = c.deref.result.now in
-    let whole = take_all c.len.result line (omega (arith, ap length c.deref.ensures.value, c.len.ensures, c.keep.new.kept.ok.0)) in
-    IfOk-weaker c.append_reply-2.result _ _ (λ refused owes recent. let a = owes recent in record {
-      bytes = a.bytes;
-      grown = a.grown;
-      owed = λ last is. reply_for_kept G c.args.form c.args.is_first (last ++ part) _ c.know_codes.ensures (subst (λ (l : List ℕ). IsReplyTo (terms G c.args.form) c.args.is_first l (reply a.bytes refused))
-          (whole ∙ c.deref.ensures.value ∙ kept_more c.args.form old.items last part c.keep.new.kept.items is kept) a.owed);
-    }) c.append_reply-2.ensures.owed
-
 -- what is kept of the line
 pub returns-then-is_empty-clause-kept : goal.returns-then-is_empty-clause-kept
 returns-then-is_empty-clause-kept g c =
@@ -46,7 +30,5 @@ pub returns-clause-kept : goal.returns-clause-kept
 returns-clause-kept g c =
     let part = take c.args.count c.args.text.now in
     let old = c.args.kept.now in
-    let kept : c.keep.new.kept.items ≡ old.items ++ part_kept c.args.form (length old.items) part =
-    c.in_ok-keep.ensures ∙ ap (λ (n : ℕ). old.items ++ part_kept c.args.form n part) old.ok.0 in
     let some = some_items old.items (vec_len old) old.ok.0 (sym c.is_empty.ensures ∙ c.if-is_empty.false) in
-    on_ok_weaker c.append_reply-2.result (λ _. keeps_some c.args.form old.items part c.keep.new.kept.items some kept) c.append_reply-2.ensures.recent
+    on_ok_weaker c.append_kept.result (λ kept. keeps_some c.args.form old.items part c.append_kept.new.kept.items some (kept ∙ ap (λ (n : ℕ). old.items ++ part_kept c.args.form n part) old.ok.0)) c.append_kept.ensures.kept

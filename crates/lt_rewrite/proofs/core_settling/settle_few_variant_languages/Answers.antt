@@ -14,12 +14,12 @@ loop-index-init g c =
     let vs = ap (λ (d : CoreParts). d.variants) c.settle_language.ensures.others in
     record {
       settled = record {
-        reached = star_trans c.settle_few_variants-places.ensures.reached c.settle_language.ensures.reached;
+        reached = star_trans c.settle_few_variants.ensures.reached c.settle_language.ensures.reached;
         language = c.settle_language.ensures.at_rest;
-        variants = subst (All (λ (v : List ℕ). variant_value R v ≡ None)) (sym vs) c.settle_few_variants-places.ensures.at_rest;
+        variants = subst (All (λ (v : List ℕ). variant_value R v ≡ None)) (sym vs) c.settle_few_variants.ensures.at_rest;
         others = search rules;
       };
-      places = subst (λ us. ArePlaces R us c.settle_few_variants-places.result.items) (sym vs) c.settle_few_variants-places.ensures.places;
+      places = subst (λ us. ArePlaces R us c.settle_few_variants.new.places.items) (sym vs) c.settle_few_variants.ensures.places;
     }
 
 pub loop-index-preserved : goal.loop-index-preserved
