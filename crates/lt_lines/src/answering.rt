@@ -138,7 +138,7 @@ fn append_reply<L: Lookup>(
 /// Appends the answer to a line of which a front was kept, and tells whether it was refused. The line is what is in `kept`
 /// and then `part`, which is kept too.
 #[inline(never)]
-fn append_kept<L: Lookup>(
+fn append_kept_line<L: Lookup>(
     lines: &mut Vec<u8>,
     alloc: Global,
     basis: &Basis<'_, L>,
@@ -196,7 +196,7 @@ fn append_line<L: Lookup>(
             lines, alloc, basis, form, is_first, recent, look, text, count,
         );
     }
-    append_kept(
+    append_kept_line(
         lines,
         alloc,
         basis,

@@ -1,11 +1,9 @@
-use Rattle.std.proofs.Common.{◌≡◌, ◌++◌, ◌∙◌, ℕ, List, sym, ap, subst, arith, length, take, take_all, vec_len}
+use Rattle.std.proofs.Common.{◌++◌, ◌∙◌, ℕ, sym, ap, take, vec_len}
 use Rattle.std.proofs.lemmas.Result.{IfOk-weaker, on_ok_weaker}
 use Rattle.lt_lines.specs.Answering.{part_kept}
-use Rattle.lt_lines.specs.Owed.{IsReplyTo, ground_of, reply, terms}
 use Rattle.lt_lines.proofs.KeptLemmas.{keeps_none, keeps_some}
 use Rattle.lt_stream.proofs.PartLemmas.{no_items, some_items}
-use Rattle.lt_lines.proofs.PartLemmas.{kept_more, nothing_kept}
-use Rattle.lt_lines.proofs.TextLemmas.{reply_for_kept}
+use Rattle.lt_lines.proofs.PartLemmas.{nothing_kept}
 use Rattle.lt_lines.proofs.answering.append_line.Goals as goal
 
 -- the answer to a line is that to a line that goes on so
@@ -31,4 +29,4 @@ returns-clause-kept g c =
     let part = take c.args.count c.args.text.now in
     let old = c.args.kept.now in
     let some = some_items old.items (vec_len old) old.ok.0 (sym c.is_empty.ensures ∙ c.if-is_empty.false) in
-    on_ok_weaker c.append_kept.result (λ kept. keeps_some c.args.form old.items part c.append_kept.new.kept.items some (kept ∙ ap (λ (n : ℕ). old.items ++ part_kept c.args.form n part) old.ok.0)) c.append_kept.ensures.kept
+    on_ok_weaker c.append_kept_line.result (λ kept. keeps_some c.args.form old.items part c.append_kept_line.new.kept.items some (kept ∙ ap (λ (n : ℕ). old.items ++ part_kept c.args.form n part) old.ok.0)) c.append_kept_line.ensures.kept

@@ -4,7 +4,7 @@ use Rattle.lt_lines.specs.Answering.{part_kept}
 use Rattle.lt_lines.specs.Owed.{IsReplyTo, ground_of, reply, terms}
 use Rattle.lt_lines.proofs.PartLemmas.{kept_more}
 use Rattle.lt_lines.proofs.TextLemmas.{reply_for_kept}
-use Rattle.lt_lines.proofs.answering.append_kept.Goals as goal
+use Rattle.lt_lines.proofs.answering.append_kept_line.Goals as goal
 
 -- the answer to what is kept is that to a line that goes on so
 pub returns-clause-owed : goal.returns-clause-owed
