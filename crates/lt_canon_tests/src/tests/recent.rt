@@ -78,6 +78,20 @@ fn keeps_two_lines_of_one_hash(rt: HostRuntime) -> Result<(), Fail> {
 }
 
 #[test]
+fn puts_each_answer_once_one_came_again(rt: HostRuntime) -> Result<(), Fail> {
+    let mut table = Recent::new(rt.alloc());
+    for _time in 0..257usize {
+        table.put(b"de", b"de\n", false);
+    }
+    table.put(b"en", b"en\n", false);
+    assert!(rt; found(rt.alloc(), &table, "en", 2)?.is_none());
+    table.note_again();
+    table.put(b"en", b"en\n", false);
+    assert!(rt; found(rt.alloc(), &table, "en", 2)?.is_some());
+    Ok(())
+}
+
+#[test]
 fn keeps_no_long_line(rt: HostRuntime) -> Result<(), Fail> {
     let mut table = Recent::new(rt.alloc());
     table.put(LONG.as_bytes(), b"de\n", false);
