@@ -122,7 +122,7 @@ passes "each growth refused" "$folder/growths" "$sample"
 cat "$folder/out"
 passes "growths refused under valgrind" valgrind -q --error-exitcode=9 --leak-check=full "$folder/growths" "$sample" 50
 passes "calls within calls" "$folder/nested" "$sample"
-passes "small stacks" "$folder/stacks" "$registry" 20
+passes "small stacks" "$folder/stacks" "$registry" 16
 tail -n 1 "$folder/out"
 passes "threads of 64 kB" "$folder/threads" "$registry" "$folder/tags" 20000 8 65536
 passes "70 threads" "$folder/threads" "$registry" "$folder/tags" 300 70

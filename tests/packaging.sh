@@ -117,6 +117,13 @@ assert {"kit:arrayvec", "kit:clap"} <= set(names)
 END
 
 # ---- Packages of Debian
+# purges PACKAGE: taking it away leaves the registry that was fetched, and purging it doesn't; on a folder in the place of /var/lib.
+purges() {
+    mkdir -p "$folder/var/langtag"
+    dpkg-deb -I "$1" postrm | sed "s#/var/lib/langtag#$folder/var/langtag#g" > "$folder/postrm"
+    sh "$folder/postrm" remove && [ -d "$folder/var/langtag" ] && sh "$folder/postrm" purge && [ ! -e "$folder/var/langtag" ]
+}
+
 for package in "$folder"/dist/*.deb; do
     name=$(basename "$package" | sed 's/_.*//')
     dpkg-deb -c "$package" > "$folder/contents"
@@ -125,6 +132,7 @@ for package in "$folder"/dist/*.deb; do
         "$(grep -vE '^(drwxr-xr-x|-rw-r--r--|-rwxr-xr-x|lrwxrwxrwx) root/root ' "$folder/contents")"
     passes "$name: copyright" grep -q " ./usr/share/doc/$name/copyright$" "$folder/contents"
     is "$name: pages are not compressed" '' "$(grep '\.md\.gz$' "$folder/contents")"
+    [ "$name" != langtag ] || passes "$name: what its timer fetched goes with it" purges "$package"
     [ "$name" != langtag ] || passes "$name: its timer stops with it" grep -q 'stop langtag-registry.timer' <(dpkg-deb -I "$package" prerm)
     passes "$name: changes" grep -q " ./usr/share/doc/$name/changelog.Debian.gz$" "$folder/contents"
     is "$name: its version" "$version-1" "$(dpkg-deb -f "$package" Version)"

@@ -2,7 +2,7 @@
 # Builds bcp47-VERSION.jar with the library that `make lib` built inside, in the folder TARGET (target, if there is
 # none), by the tools of a JDK from 17 on.
 #
-# Usage: build.sh [native]     `native` makes the library alone, for Maven
+# Usage: build.sh [native]     `native` makes the library alone, in src/main/resources, for Maven
 #
 # LUCENE names lucene-core's jar (Debian's, if it names none): where it is there, bcp47-lucene-VERSION.jar is made
 # too. JAVA_HOME names the JDK; BCP47_LIBRARY another libbcp47.a; SOURCE_DATE_EPOCH the time of the files; CC and
@@ -14,6 +14,7 @@ home=${JAVA_HOME:-$(dirname "$(dirname "$(readlink -f "$(command -v javac)")")")
 lucene=${LUCENE:-$(ls /usr/share/java/lucene-core-[89]*.jar 2> /dev/null | head -n 1)}
 target=${TARGET:-target}
 inside=$target/native/bcp47/linux-amd64
+[ "${1:-}" != native ] || inside=src/main/resources/bcp47/linux-amd64
 time=$(date -u -d "@${SOURCE_DATE_EPOCH:-$(date +%s)}" +%Y-%m-%dT%H:%M:%SZ)
 
 # archive NAME FOLDER: the files of a folder as a jar, in the order of their names

@@ -8,19 +8,33 @@
 #include <stdlib.h>
 
 /* Room for the text of any tag, and for its canonical text; a longer one is no tag, which the library says of its front. A range
-   may have any length. */
-enum { ROOM = 4096, STEPS = 1000000 };
+   may have any length. A registry takes about BYTES_OF_ONE bytes for one of its file. */
+enum { ROOM = 4096, STEPS = 1000000, BYTES_OF_ONE = 4 };
 
-/* A registry, which its object holds until it is closed or collected. */
+/* A registry, which its object holds until it is closed or collected, and how many bytes of it the collector was told. */
 typedef struct {
     bcp47_registry *registry;
+    int64_t bytes;
 } holder;
 
 static const napi_type_tag tag_of_holder = {0x8ac1e2d30f4b4d0aULL, 0x9d5e6f7081928374ULL};
 
+/* Tells the collector that so many bytes are held in place of what it was told before. */
+static void tell_bytes(napi_env env, holder *it, int64_t bytes) {
+    int64_t all;
+    napi_adjust_external_memory(env, bytes - it->bytes, &all);
+    it->bytes = bytes;
+}
+
+static void release(napi_env env, holder *it) {
+    bcp47_close(it->registry);
+    it->registry = NULL;
+    tell_bytes(env, it, 0);
+}
+
 static void finalize(napi_env env, void *data, void *hint) {
-    (void)env, (void)hint;
-    bcp47_close(((holder *)data)->registry);
+    (void)hint;
+    release(env, data);
     free(data);
 }
 
@@ -105,16 +119,14 @@ static napi_value open_registry(napi_env env, napi_callback_info info) {
         finalize(env, it, NULL);
         return NULL;
     }
+    tell_bytes(env, it, BYTES_OF_ONE * (int64_t)length);
     return made;
 }
 
 static napi_value close_registry(napi_env env, napi_callback_info info) {
     napi_value object;
     holder *it = takes(env, info, 1, &object) ? held(env, object) : NULL;
-    if (it) {
-        bcp47_close(it->registry);
-        it->registry = NULL;
-    }
+    if (it) release(env, it);
     return NULL;
 }
 

@@ -31,6 +31,12 @@ writes() {
     passes "$name" cmp "$wanted" "$folder/written" || head -n 20 "$folder/told"
 }
 
+# missing WHAT: what tests/packages.sh installs is not there, and so not tested.
+missing() {
+    failed=$((failed + 1))
+    echo "failed: no $1 here"
+}
+
 # counted NAME: how many passed; the status is 1 if any failed.
 counted() {
     echo "$1: $passed passed, $failed failed, $SECONDS s"

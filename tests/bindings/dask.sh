@@ -12,6 +12,6 @@ if $python -c 'import dask.dataframe, distributed' 2> /dev/null; then
     cp "$folder/err" "$folder/said"
     passes "Dask: no worker is killed" sh -c 'cat "$1"; ! grep -q -i -e killing -e Traceback "$1"' - "$folder/said"
 else
-    echo "no Dask here: its example is not tested"
+    missing Dask
 fi
 counted dask

@@ -25,6 +25,6 @@ if command -v go > /dev/null; then
     writes "Go: docs/GO.md's program" "$folder/page/wanted" env -C "$folder/page" go run .
     chmod -R u+w "$folder"
 else
-    echo "no Go here: its package is not tested"
+    missing Go
 fi
 counted go

@@ -36,9 +36,10 @@ if command -v javac > /dev/null; then
     if command -v mvn > /dev/null && [ -d /usr/share/maven-repo/org/apache/maven/plugins/maven-jar-plugin/3.3.0 ]; then
         # Debian's repository, which Maven would write to
         cp -rs /usr/share/maven-repo "$folder/repository"
-        mkdir -p "$folder/maven/target"
+        mkdir "$folder/maven"
         cp -r bindings/java/pom.xml bindings/java/src "$folder/maven"
-        cp -r "$folder/target/native" "$folder/maven/target"
+        mkdir -p "$folder/maven/src/main/resources"
+        cp -r "$folder/target/native/bcp47" "$folder/maven/src/main/resources"
         passes "Java: Maven, offline" env -C "$folder/maven" mvn -o -q -B -Dmaven.repo.local="$folder/repository" package
         writes "Java: Maven's jar answers" "$folder/page/wanted" env -C "$folder/page" java -cp "$(ls "$folder"/maven/target/bcp47-*.jar)" Page.java
     else
@@ -50,13 +51,13 @@ if command -v javac > /dev/null; then
         passes "Lucene: compile the tests" javac --release 17 -cp "$path" -d "$folder/lucene" bindings/java/lucene/test/Search.java
         writes "Lucene: a search" "$folder/ok" java -cp "$path" Search "$sample"
     else
-        echo "no Lucene here: its filter is not tested"
+        missing Lucene
     fi
     passes "java.util.Locale: the package for Python" $python -m pip install -q --no-index --root-user-action=ignore \
         --target "$folder/package" bindings/python
     passes "java.util.Locale matches alike but for known causes" env PYTHONPATH="$folder/package" $python -B bench/peers/matching.py "$registry"
     cat "$folder/out"
 else
-    echo "no JDK here: the package for Java is not tested"
+    missing JDK
 fi
 counted java

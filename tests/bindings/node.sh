@@ -26,12 +26,13 @@ if command -v node > /dev/null && command -v npm > /dev/null && [ -e "${NODE_HEA
     cp "$sample" "$folder/page/registry.txt"
     printf '%s\n' yue true "[ 'he', null ]" true 'BadByte 1 BadByte 1' '2 gsg zh-Hant-TW' > "$folder/page/wanted"
     writes "Node.js: docs/NODE.md's program" "$folder/page/wanted" env -C "$folder/page" node page.mjs
+    passes "Node.js: its licence" cmp LICENSE-MIT "$folder/page/node_modules/bcp47/LICENSE-MIT"
     passes "Node.js: by require" env -C "$folder/page" node -e 'process.exit(`${new (require("bcp47").Tag)("EN")}` === "en" ? 0 : 1)'
     if command -v tsc > /dev/null; then
         cp bindings/node/test/types.ts "$folder/page"
         passes "Node.js: types" env -C "$folder/page" tsc --noEmit --strict --module node16 --moduleResolution node16 --target es2020 --lib es2020,dom types.ts
     else
-        echo "no compiler of TypeScript here: the types for Node.js are not tested"
+        missing "compiler of TypeScript"
     fi
 else
     echo "no Node.js with headers here: its package is not tested"

@@ -153,6 +153,18 @@ test('a registry that is closed', () => {
     assert.throws(ask, { name: 'TypeError', message: 'the registry is closed' });
 });
 
+test('registries that nobody holds are collected before they are many', async () => {
+  const content = readFileSync(new URL('iana-2025-05-15.txt', sample));
+  let held = 0, most = 0;
+  const watch = new FinalizationRegistry(() => held--);
+  for (let i = 0; i < 200; i++) {
+    watch.register(new Registry(content));
+    most = Math.max(most, ++held);
+    await new Promise(setImmediate);
+  }
+  assert.ok(most < 100, `${most} at once`);
+});
+
 test('CommonJS', () => {
   const bcp47 = createRequire(import.meta.url)('../index.js');
   assert.equal(bcp47.Registry, Registry);
