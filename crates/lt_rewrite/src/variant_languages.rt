@@ -78,11 +78,11 @@ fn variant_language_at<'a, L: Lookup>(
     ensures form { IfSome result (λ value. is_language value.now ≡ true) }
 {
     match entry_at(table, place) {
-        Some(entry) => match one_value(entry) {
-            Some(value) if is_short(value) && entry.has_prefix(language) => Some(value),
+        Some(entry) if entry.has_prefix(language) => match one_value(entry) {
+            Some(value) if is_short(value) => Some(value),
             _ => None,
         },
-        None => None,
+        _ => None,
     }
 }
 
