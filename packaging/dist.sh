@@ -83,10 +83,11 @@ else
     echo "no jar: there is no JDK here" >&2
 fi
 name=bcp47-go-$version-x86_64-linux
-mkdir -p "$work/$name/lib"
+mkdir -p "$work/$name"
 cp "$root"/LICENSE* "$root/docs/GO.md" "$root/bindings/go/go.mod" "$work/$name"
 find "$root/bindings/go" -maxdepth 1 -name '*.go' ! -name '*_test.go' -exec cp {} "$work/$name" \;
-cp "$root/bindings/c/bcp47.h" "$root/build/libbcp47.a" "$work/$name/lib"
+# beside the sources, since `go mod vendor` takes the folders of packages alone
+cp "$root/bindings/c/bcp47.h" "$root/build/libbcp47.a" "$work/$name"
 archive "$name"
 
 "$root/packaging/deb.sh" "$to" > /dev/null

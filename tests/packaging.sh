@@ -195,6 +195,10 @@ if command -v go > /dev/null && command -v java > /dev/null; then
     printf 'module page\n\ngo 1.19\n\nrequire bcp47 v0.0.0\n\nreplace bcp47 => %s/module\n' "$folder" > "$folder/page/go.mod"
     passes "the module's program" env -C "$folder/page" GOFLAGS=-mod=mod GOPROXY=off GOCACHE="$folder/cache" go run .
     is "the module answers" 'yue true true BadByte 1 BadByte 1 zh-Hant-TW 3' "$(echo $(cat "$folder/out"))"
+    passes "the module, copied into its user's" env -C "$folder/page" GOPROXY=off go mod vendor
+    rm -r "$folder/module"
+    passes "the copy's program" env -C "$folder/page" GOPROXY=off GOCACHE="$folder/cache" go run -mod=vendor .
+    is "the copy answers" 'yue true true BadByte 1 BadByte 1 zh-Hant-TW 3' "$(echo $(cat "$folder/out"))"
 else
     echo "no JDK or no Go here: their packages are not used"
 fi

@@ -4,10 +4,10 @@
 // registry of language subtags in the format of IANA's. It calls the library for C, which it links statically.
 package bcp47
 
-// The library and its header stand in the folder lib of the module, or where `make lib` built them in the repository.
+// The library and its header stand beside this file in a release, and in the repository where `make lib` built them.
 
-// #cgo CFLAGS: -I${SRCDIR}/lib -I${SRCDIR}/../c
-// #cgo LDFLAGS: -L${SRCDIR}/lib -L${SRCDIR}/../../build -l:libbcp47.a
+// #cgo CFLAGS: -I${SRCDIR} -I${SRCDIR}/../c
+// #cgo LDFLAGS: -L${SRCDIR} -L${SRCDIR}/../../build -l:libbcp47.a
 // #include <bcp47.h>
 // #include <stdlib.h>
 //

@@ -65,6 +65,22 @@ static void ask_others(void) {
     bcp47_verify(registry, text, strlen(text), &step, 1, text, strlen(text));
 }
 
+static void ask_parts(void) {
+    static bcp47_part parts[600];
+    bcp47_parts(text, strlen(text), buffer, room, parts, sizeof parts / sizeof *parts);
+}
+
+static void ask_many(void) {
+    static bcp47_outcome outcomes[2];
+    size_t ends[2] = {strlen(text), strlen(text)};
+    CHECK(bcp47_canonical_many(registry, text, ends, 0, 2, outcomes, buffer, room) == 2);
+}
+
+static void ask_info(void) {
+    bcp47_info info;
+    CHECK(!bcp47_registry_info(registry, &info).status && info.entries > 1000);
+}
+
 static void *run(void *data) {
     (*(void (**)(void))data)();
     return NULL;
@@ -104,10 +120,11 @@ int main(int count, char **words) {
     static const struct {
         const char *name;
         void (*call)(void);
-    } of_none[] = {{"open", ask_open}, {"open refused", ask_open_refused}, {"upgrade_check", ask_upgrade}},
+    } of_none[] = {{"open", ask_open}, {"open refused", ask_open_refused}, {"upgrade_check", ask_upgrade},
+                   {"registry_info", ask_info}},
       of_text[] = {{"canonical", ask_canonical}, {"extlang", ask_extlang},         {"classify", ask_classify},
                    {"explain", ask_explain},     {"explanation", ask_explanation}, {"others", ask_others},
-                   {"show", ask_show}};
+                   {"show", ask_show},           {"parts", ask_parts},             {"canonical_many", ask_many}};
     for (size_t i = 0; i < sizeof of_none / sizeof *of_none; i++) {
         size_t bytes_touched = touched(of_none[i].call);
         if (bytes_touched > most) most = bytes_touched;
