@@ -147,6 +147,8 @@ for package in "$folder"/dist/*.deb; do
         asked=$(dpkg-deb -f "$package" Depends | sed -n 's/.*libc6 (>= \([0-9.]*\)).*/\1/p')
         passes "$name: libc6 (>= $asked) for $needs" dpkg --compare-versions "$asked" ge "$needs"
     done < <(find "$folder/over" -type f \( -name langtag -path '*/bin/*' -o -name '*.so*' \))
+    [ "$name" != python3-bcp47 ] || is "$name: what Python knows of it" "$version" "$(PYTHONPATH=$folder/over/usr/lib/python3/dist-packages \
+        /usr/bin/python3 -c 'from importlib.metadata import version; print(version("bcp47"))')"
     rm -rf "$folder/over"
 done
 is "all packages" 'langtag libbcp47-1 libbcp47-dev postgresql-15-bcp47 python3-bcp47 sqlite3-bcp47' "$(cd "$folder/dist" && echo ./*.deb | sed 's#\./##g; s/_[^ ]*//g')"

@@ -232,7 +232,7 @@ bcp47_outcome bcp47_open(bcp47_registry **registry, const void *bytes, size_t le
     if (!are_apart(bytes, length, line, room)) return ended(BCP47_BAD_CALL);
     bcp47_registry *opened = without_handles(bytes, length);
     if (!opened) return no_memory(line, room);
-    bcp47_outcome outcome = bcp47_handle_open(&opened->slots[0].handle, bytes_of(bytes), length, said, sizeof said);
+    bcp47_outcome outcome = bcp47_handle_open(&opened->slots[0].handle, opened->bytes, length, said, sizeof said);
     if (outcome.status != BCP47_DONE) {
         let_go(opened, 0);
         tell(&outcome, said, line, room);
@@ -244,7 +244,7 @@ bcp47_outcome bcp47_open(bcp47_registry **registry, const void *bytes, size_t le
         return no_memory(line, room);
     }
     opened->info.entries = bcp47_handle_entries(&opened->slots[0].handle);
-    read_date(bytes_of(bytes), length, opened->info.file_date);
+    read_date(opened->bytes, length, opened->info.file_date);
     for (size_t i = 0; i < SLOTS; i++) give(&opened->slots[i]);
     atomic_init(&opened->mark, OPEN);
     *registry = opened;
@@ -503,12 +503,12 @@ bcp47_outcome bcp47_upgrade_check(const bcp47_registry *older, const bcp47_regis
 
 /* ---- many texts */
 
-/* The outcome of one of them, written to what is left of the buffer. */
-static bcp47_outcome write_next(slot *s, const char *texts, size_t begin, size_t end, char *buffer, size_t room) {
+/* The outcome of one of them, written after so many bytes of the buffer, of which it has none. */
+static bcp47_outcome write_next(slot *s, const char *texts, size_t begin, size_t end, char *buffer, size_t used, size_t room) {
     uint8_t nowhere;
     if (end < begin || !are_apart(texts ? texts + begin : NULL, end - begin, buffer, room)) return ended(BCP47_BAD_CALL);
     const char *text = texts ? texts + begin : NULL;
-    return bcp47_handle_canonical(&s->handle, bytes_of(text), end - begin, room_of(buffer, &nowhere), room);
+    return bcp47_handle_canonical(&s->handle, bytes_of(text), end - begin, room_of(buffer, &nowhere) + used, room - used);
 }
 
 size_t bcp47_canonical_many(const bcp47_registry *registry, const char *texts, const size_t *ends, size_t begin,
@@ -519,7 +519,7 @@ size_t bcp47_canonical_many(const bcp47_registry *registry, const char *texts, c
     slot *s = status ? NULL : take(registry);
     if (!status && !s) status = BCP47_BUSY;
     for (i = 0; i < count; i++) {
-        outcomes[i] = status ? ended(status) : write_next(s, texts, begin, ends[i], buffer ? buffer + used : NULL, room - used);
+        outcomes[i] = status ? ended(status) : write_next(s, texts, begin, ends[i], buffer, used, room);
         if (outcomes[i].status == BCP47_BUFFER_TOO_SMALL) break;
         used += outcomes[i].length;
         if (!status) begin = ends[i];

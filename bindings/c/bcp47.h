@@ -20,7 +20,7 @@ typedef struct bcp47_registry bcp47_registry;
 typedef struct {
     int status;    /* how the call ended: BCP47_DONE and so on, which bcp47_status_name names */
     int detail;    /* the number of a fault, which bcp47_fault_name names; for bcp47_classify the class; else 0 */
-    size_t place;  /* of a fault: the subtag, the line, the record or the step, counted from 1; of parts or steps: how many; else 0 */
+    size_t place;  /* of a fault: the subtag, the line, the record or the step, counted from 1; of parts: how many; else 0 */
     size_t length; /* the bytes of the text, also where it does not fit the buffer */
     int text;      /* where bcp47_equal, bcp47_match or bcp47_verify refuses one of its two texts: which, 1 or 2; else 0 */
     int reserved;  /* 0 */

@@ -189,8 +189,11 @@ class registry {
         return detail::nothing_of(bcp47_validate(opened_.get(), tag.data(), tag.size()));
     }
 
-    bool is_valid(std::string_view tag) const noexcept {
-        return bcp47_validate(opened_.get(), tag.data(), tag.size()).status == BCP47_DONE;
+    /* Whether a tag is valid; throws an error where that can't be told, as where memory runs out. */
+    bool is_valid(std::string_view tag) const {
+        auto judged = validate(tag);
+        if (!judged && judged.error().status() != BCP47_NOT_A_TAG && judged.error().status() != BCP47_INVALID) judged.value();
+        return judged.has_value();
     }
 
     /* Whether two tags are equivalent; `outcome.text` of a refusal says which of them it is of, 1 or 2. */

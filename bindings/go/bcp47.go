@@ -256,7 +256,9 @@ func (r *Registry) Explain(tag string, most int) (Explanation, error) {
 	var lines *C.char
 	outcome := C.explanation(raw, tag, C.size_t(most), &lines)
 	if outcome.status == C.BCP47_REPLACEMENT_REPEATS {
-		_, err := r.Canonical(tag) // which names the variant
+		buffer := buffers.Get().(*[room]byte)
+		defer buffers.Put(buffer)
+		_, err := textOf(C.canonical(raw, tag, chars(buffer), room), buffer, tag) // which names the variant
 		return Explanation{}, err
 	}
 	if outcome.status != C.BCP47_DONE {

@@ -38,6 +38,8 @@ archive bcp47 classes
 if [ -n "$lucene" ]; then
     "$home/bin/javac" --release 17 -Xlint:all,-path,-classfile -Werror -cp "$target/classes:$lucene" -d "$target/lucene" \
         lucene/bcp47/lucene/*.java
+    mkdir "$target/lucene/META-INF"
+    cp ../../LICENSE* "$target/lucene/META-INF"
     archive bcp47-lucene lucene
 else
     echo "no lucene-core here: bcp47-lucene is not built" >&2

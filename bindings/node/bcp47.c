@@ -9,7 +9,7 @@
 
 /* Room for the text of any tag, and for its canonical text; a longer one is no tag, which the library says of its front. A range
    may have any length. A registry takes about BYTES_OF_ONE bytes for one of its file. */
-enum { ROOM = 4096, STEPS = 1000000, BYTES_OF_ONE = 4 };
+enum { ROOM = 4096, STEPS = 20000, BYTES_OF_ONE = 4 };
 
 /* A registry, which its object holds until it is closed or collected, and how many bytes of it the collector was told. */
 typedef struct {

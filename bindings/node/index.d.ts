@@ -78,7 +78,7 @@ export class Registry {
    * `zh-*`, is taken as it is written. Throws RefusedTag for the range, or else for the tag.
    */
   matches(range: string | Tag, tag: string | Tag, scheme?: 'basic' | 'extended' | 'lookup'): boolean;
-  /** The steps from a tag to its canonical form, at most so many, and that form. */
+  /** The steps from a tag to its canonical form, at most so many, else 20,000, and that form. A tag can have 57,000. */
   explain(tag: string | Tag, most?: number): { steps: Step[]; canonical: string };
   /**
    * Returns where steps lead from a valid tag, one after another, to the last: that of the last step, if none is given.

@@ -35,10 +35,15 @@ class RefusedRegistry extends Refused {}
 class RefusedUpgrade extends Refused {}
 class RefusedTrace extends Refused {}
 
-/** Throws what a call refuses, and gives what it answers. */
+/** Throws where memory ran out, which is no refusal, and gives what a call answers. */
+function checked(answer) {
+  if (Array.isArray(answer) && answer[0] === OUT_OF_MEMORY) throw new RangeError('out of memory');
+  return answer;
+}
+
+/** Throws what a call refuses, too. */
 function answered(answer, kind, ...tags) {
-  if (!Array.isArray(answer)) return answer;
-  if (answer[0] === OUT_OF_MEMORY) throw new RangeError('out of memory');
+  if (!Array.isArray(checked(answer))) return answer;
   throw new kind(answer, tags[answer[4] === 2 ? 1 : 0]);
 }
 
@@ -70,7 +75,7 @@ class Tag {
   }
 
   get parts() {
-    const answer = native.parts(this.#text);
+    const answer = checked(native.parts(this.#text));
     return Array.from({ length: answer.length / 2 }, (_, i) => ({ kind: answer[2 * i], text: answer[2 * i + 1] }));
   }
 
@@ -117,7 +122,7 @@ class Registry {
     if (typeof tags === 'string') throw new TypeError('many tags are a list, and not one text');
     return [...tags].map((tag) => {
       if (tag === null || tag === undefined) return null;
-      const answer = native.canonical(held, textOf(tag));
+      const answer = checked(native.canonical(held, textOf(tag)));
       return Array.isArray(answer) ? new RefusedTag(answer, tag) : answer;
     });
   }
@@ -127,7 +132,7 @@ class Registry {
   }
 
   isValid(tag) {
-    return !Array.isArray(native.validate(this.#open, textOf(tag)));
+    return !checked(native.validate(this.#open, textOf(tag)));
   }
 
   equivalent(first, second) {
@@ -140,7 +145,7 @@ class Registry {
     return answered(answer, RefusedTag, range, tag);
   }
 
-  explain(tag, most = 1_000_000) {
+  explain(tag, most = 20_000) {
     if (typeof most !== 'number' || Number.isNaN(most)) throw new TypeError('the most steps are a number');
     const answer = native.explain(this.#open, textOf(tag), Math.min(Math.max(most, 0), 0xffffffff));
     // the variant that would be repeated

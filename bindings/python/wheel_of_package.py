@@ -80,6 +80,12 @@ def extension():
         return path.read_bytes()
 
 
+def write_metadata(folder):
+    """Writes what pip and importlib.metadata read of a package, beside it in a folder of modules."""
+    (Path(folder) / INFO).mkdir()
+    (Path(folder) / INFO / "METADATA").write_text(METADATA)
+
+
 def sources():
     """Each file of the package."""
     return [path for path in sorted((HERE / NAME).iterdir()) if path.suffix in (".py", ".pyi") or path.name == "py.typed"]

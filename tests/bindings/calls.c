@@ -393,6 +393,11 @@ static void many(void) {
     CHECK(bcp47_canonical_many(registry, texts, &far, 0, 1, outcomes, buffer, sizeof buffer) == 1 && is_ended(outcomes[0], BCP47_BAD_CALL));
     CHECK(bcp47_canonical_many(registry, texts, NULL, 0, 2, outcomes, buffer, sizeof buffer) == 2);
     CHECK(is_ended(outcomes[0], BCP47_BAD_CALL) && is_ended(outcomes[1], BCP47_BAD_CALL));
+    /* A buffer over a later text, which an answer would be written over. */
+    char both[] = "iwen";
+    size_t of_both[2] = {2, 4};
+    CHECK(bcp47_canonical_many(registry, both, of_both, 0, 2, outcomes, both + 2, sizeof both - 2) == 2);
+    CHECK(outcomes[0].status == BCP47_DONE && is_ended(outcomes[1], BCP47_BAD_CALL));
     CHECK(bcp47_canonical_many(registry, texts, ends, 0, 1, outcomes, NULL, 4) == 1 && is_ended(outcomes[0], BCP47_BAD_CALL));
     CHECK(bcp47_canonical_many(NULL, texts, ends, 0, 2, outcomes, buffer, sizeof buffer) == 2 && is_ended(outcomes[1], BCP47_NOT_OPEN));
     CHECK(bcp47_canonical_many(registry, texts, ends, 0, 2, NULL, buffer, sizeof buffer) == 0);

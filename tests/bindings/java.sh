@@ -36,12 +36,14 @@ if command -v javac > /dev/null; then
     if command -v mvn > /dev/null && [ -d /usr/share/maven-repo/org/apache/maven/plugins/maven-jar-plugin/3.3.0 ]; then
         # Debian's repository, which Maven would write to
         cp -rs /usr/share/maven-repo "$folder/repository"
-        mkdir "$folder/maven"
-        cp -r bindings/java/pom.xml bindings/java/src "$folder/maven"
-        mkdir -p "$folder/maven/src/main/resources"
-        cp -r "$folder/target/native/bcp47" "$folder/maven/src/main/resources"
-        passes "Java: Maven, offline" env -C "$folder/maven" mvn -o -q -B -Dmaven.repo.local="$folder/repository" package
-        writes "Java: Maven's jar answers" "$folder/page/wanted" env -C "$folder/page" java -cp "$(ls "$folder"/maven/target/bcp47-*.jar)" Page.java
+        maven=$folder/maven/bindings/java
+        mkdir -p "$maven"
+        cp LICENSE* "$folder/maven"
+        cp -r bindings/java/pom.xml bindings/java/src "$maven"
+        mkdir -p "$maven/src/main/resources"
+        cp -r "$folder/target/native/bcp47" "$maven/src/main/resources"
+        passes "Java: Maven, offline" env -C "$maven" mvn -o -q -B -Dmaven.repo.local="$folder/repository" package
+        writes "Java: Maven's jar answers" "$folder/page/wanted" env -C "$folder/page" java -cp "$(ls "$maven"/target/bcp47-*.jar)" Page.java
     else
         echo "no Maven with Debian's plugins here: the package for Java is not built by it"
     fi
@@ -53,6 +55,9 @@ if command -v javac > /dev/null; then
     else
         missing Lucene
     fi
+    for made in "$folder"/target/*.jar "$folder"/maven/bindings/java/target/*.jar; do
+        [ ! -e "$made" ] || passes "Java: $(basename "$made") has the licences" test "$(jar -tf "$made" | grep -c '^META-INF/LICENSE')" = 3
+    done
     passes "java.util.Locale: the package for Python" $python -m pip install -q --no-index --root-user-action=ignore \
         --target "$folder/package" bindings/python
     passes "java.util.Locale matches alike but for known causes" env PYTHONPATH="$folder/package" $python -B bench/peers/matching.py "$registry"

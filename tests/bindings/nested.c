@@ -139,6 +139,28 @@ static void fork_within(void) {
     CHECK(waitpid(child, &status, 0) == child && WIFEXITED(status) && WEXITSTATUS(status) == 7);
 }
 
+/* The bytes that were given for a registry, which are written over once they are copied. */
+static char *given;
+static size_t given_length;
+static int copies = 0;
+
+static void write_over(void) {
+    if (copies++) memset(given, '?', given_length);
+}
+
+static void open_and_write_over(const char *path) {
+    char line[BCP47_LINE], buffer[64];
+    bcp47_registry *other;
+    given = read_all(path, &given_length);
+    within = write_over;
+    depth++;
+    CHECK(!bcp47_open(&other, given, given_length, line, sizeof line).status && copies > 1);
+    depth--;
+    CHECK(!bcp47_canonical(other, usual, strlen(usual), buffer, sizeof buffer).status && !strcmp(buffer, "yue"));
+    bcp47_close(other);
+    free(given);
+}
+
 int main(int count, char **words) {
     char buffer[64];
     if (count < 2) return 3;
@@ -157,6 +179,7 @@ int main(int count, char **words) {
     forks = 0;
     within = fork_within;
     CHECK(!ask(unusual, buffer, sizeof buffer).status && forks > 0);
+    open_and_write_over(words[1]);
     within = NULL;
     /* Each slot was given back. */
     CHECK(!ask(usual, buffer, sizeof buffer).status && !strcmp(buffer, "yue"));

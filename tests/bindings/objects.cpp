@@ -104,6 +104,12 @@ int main(int count, char **words) {
     CHECK(moved.is_valid("en") && registry.canonical("en").error().status() == BCP47_NOT_OPEN && !registry.get() && moved.get());
     CHECK(registry.info().entries == 0 && registry.canonical("en").error().line() == "NotOpen");
     CHECK(registry.canonical("en").error().help() == bcp47_status_help(BCP47_NOT_OPEN));
+    try {
+        registry.is_valid("en");
+        CHECK(!"thrown");
+    } catch (const bcp47::error &thrown) {
+        CHECK(thrown.why().status() == BCP47_NOT_OPEN);
+    }
     if (!failures) std::puts("objects: passed");
     return failures != 0;
 }

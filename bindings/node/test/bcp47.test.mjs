@@ -77,6 +77,8 @@ test('explanations', () => {
   assert.deepEqual(registry.explain('en'), { steps: [], canonical: 'en' });
   for (const few of [1, 0, -1]) assert.throws(() => registry.explain('sgn-dd', few), { message: 'TooManySteps' });
   assert.equal(registry.explain('sgn-dd', Infinity).steps.length, 2);
+  const many = Array.from({ length: 210 }, (_, i) => String.fromCharCode(122 - i / 26, 122 - (i % 26))).join('-');
+  assert.throws(() => registry.explain(`en-u-${many}`), { message: 'TooManySteps' });
   for (const wrong of [NaN, 'a', null]) assert.throws(() => registry.explain('sgn-dd', wrong), TypeError);
 });
 
@@ -163,6 +165,19 @@ test('registries that nobody holds are collected before they are many', async ()
     await new Promise(setImmediate);
   }
   assert.ok(most < 100, `${most} at once`);
+});
+
+test('memory that runs out is no answer', () => {
+  const native = createRequire(import.meta.url)('../bcp47.node');
+  const calls = { ...native };
+  const tag = new Tag('en');
+  for (const call of ['canonical', 'validate', 'parts']) native[call] = () => [4, 0, 0, '', 0];
+  try {
+    for (const call of [() => registry.canonicalMany(['en']), () => registry.isValid('en'), () => tag.parts])
+      assert.throws(call, RangeError);
+  } finally {
+    Object.assign(native, calls);
+  }
 });
 
 test('CommonJS', () => {

@@ -380,7 +380,7 @@ class Registry(_bcp47.Registry):
         # What ranges find are fronts of them: the longest text has the most subtags.
         return next((max(those, key=lambda tag: len(self.canonical(tag))) for those in found if those), default)
 
-    def explain(self, tag: Union[str, Tag], most: int = 1_000_000) -> Explanation:
+    def explain(self, tag: Union[str, Tag], most: int = 20_000) -> Explanation:
         """The steps from a tag to its canonical form. Raises RefusedTag, also where there are more than `most`."""
         *lines, last = self._explain_lines(tag, most).splitlines()
         steps = (line.split(" ") for line in lines)

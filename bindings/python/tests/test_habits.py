@@ -416,6 +416,9 @@ class Facts(unittest.TestCase):
         with self.assertRaises(bcp47.RefusedTag) as raised:
             registry.explain("en-u-" + "-".join(f"z{n:02}" for n in range(60, 0, -1)), most=100)
         self.assertEqual(raised.exception.status, "TooManySteps")
+        with self.assertRaises(bcp47.RefusedTag) as raised:
+            registry.explain("en-u-" + "-".join(f"{chr(122 - n // 26)}{chr(122 - n % 26)}" for n in range(210)))
+        self.assertEqual(raised.exception.status, "TooManySteps")
         self.assertEqual(bcp47.__version__.count("."), 2)
         self.assertEqual({*bcp47.__all__} - {*dir(bcp47)}, set())
 

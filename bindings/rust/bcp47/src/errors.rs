@@ -72,8 +72,10 @@ pub enum TagError {
     ReplacementRepeats(String),
     /// The explanation has more steps than were asked for.
     TooManySteps,
-    /// Memory ran out, or more threads than the library serves asked at once.
+    /// Memory ran out.
     Unavailable,
+    /// More threads than the library serves asked at once.
+    Busy,
 }
 
 impl TagError {
@@ -92,6 +94,7 @@ impl TagError {
             TagError::ReplacementRepeats(_) => help_of(sys::BCP47_REPLACEMENT_REPEATS),
             TagError::TooManySteps => help_of(sys::BCP47_TOO_MANY_STEPS),
             TagError::Unavailable => help_of(sys::BCP47_OUT_OF_MEMORY),
+            TagError::Busy => help_of(sys::BCP47_BUSY),
         }
     }
 }
@@ -103,6 +106,7 @@ impl fmt::Display for TagError {
             TagError::ReplacementRepeats(variant) => write!(f, "ReplacementRepeats {variant}"),
             TagError::TooManySteps => f.write_str("TooManySteps"),
             TagError::Unavailable => f.write_str("OutOfMemory"),
+            TagError::Busy => f.write_str("Busy"),
         }
     }
 }
@@ -160,20 +164,25 @@ impl error::Error for OpenError {
 
 /// Why a newer registry is no upgrade: the condition, as `U1`, and the number of the record at fault.
 #[derive(Clone, Debug, PartialEq, Eq, Hash)]
-pub struct UpgradeError(pub(crate) Option<Cause>);
+pub struct UpgradeError(pub(crate) Cause);
 
 impl UpgradeError {
-    /// The condition and the record; none where memory ran out.
+    /// The condition and the record; none where memory ran out, or more threads than the library serves asked at once.
     pub fn cause(&self) -> Option<&Cause> {
-        self.0.as_ref()
+        Some(&self.0).filter(|cause| cause.place > 0)
+    }
+
+    /// What it means, and what to do.
+    pub fn help(&self) -> &'static str {
+        self.0.help
     }
 }
 
 impl fmt::Display for UpgradeError {
     fn fmt(&self, f: &mut fmt::Formatter<'_>) -> fmt::Result {
-        match &self.0 {
+        match self.cause() {
             Some(cause) => cause.fmt(f),
-            None => f.write_str("OutOfMemory"),
+            None => f.write_str(self.0.fault),
         }
     }
 }
@@ -217,6 +226,7 @@ impl error::Error for TraceError {}
 #[cfg(test)]
 mod tests {
     use super::*;
+    use crate::registry::{refusal, Buffer};
 
     #[test]
     fn memory_that_ran_out_is_named() {
@@ -226,5 +236,22 @@ mod tests {
         });
         assert_eq!(cause.fault(), "OutOfMemory");
         assert_eq!(cause.help(), help_of(sys::BCP47_OUT_OF_MEMORY));
+    }
+
+    #[test]
+    fn a_registry_that_too_many_ask_is_named() {
+        let busy = sys::bcp47_outcome {
+            status: sys::BCP47_BUSY,
+            ..Default::default()
+        };
+        let refused = refusal(&busy, &Buffer::new());
+        assert_eq!(refused, TagError::Busy);
+        assert_eq!(refused.to_string(), "Busy");
+        let upgrade = UpgradeError(Cause::of(&busy));
+        assert_eq!(upgrade.cause(), None);
+        assert_eq!(upgrade.to_string(), "Busy");
+        for help in [refused.help(), upgrade.help()] {
+            assert!(help.contains("call again"), "{help}");
+        }
     }
 }

@@ -43,6 +43,7 @@ fn refusal_by(outcome: &sys::bcp47_outcome, variant: impl FnOnce() -> String) ->
         sys::BCP47_INVALID => TagError::Invalid(Cause::of(outcome)),
         sys::BCP47_REPLACEMENT_REPEATS => TagError::ReplacementRepeats(variant()),
         sys::BCP47_TOO_MANY_STEPS => TagError::TooManySteps,
+        sys::BCP47_BUSY => TagError::Busy,
         _ => TagError::Unavailable,
     }
 }
@@ -385,8 +386,7 @@ impl Registry {
         let outcome = unsafe { sys::bcp47_upgrade_check(self.raw.as_ptr(), newer.raw.as_ptr()) };
         match outcome.status {
             sys::BCP47_DONE => Ok(()),
-            sys::BCP47_NO_UPGRADE => Err(UpgradeError(Some(Cause::of(&outcome)))),
-            _ => Err(UpgradeError(None)),
+            _ => Err(UpgradeError(Cause::of(&outcome))),
         }
     }
 

@@ -60,6 +60,7 @@ impl Tag {
                 parts.len(),
             )
         };
+        assert_eq!(outcome.status, sys::BCP47_DONE, "no parts of a tag");
         let part_of = |part: &sys::bcp47_part| Part {
             // SAFETY: the call answers each number.
             kind: name(unsafe { sys::bcp47_part_kind_name(part.kind.into()) }),

@@ -19,7 +19,7 @@ import java.util.Objects;
 public final class Registry implements AutoCloseable {
     private static final Cleaner CLEANER = Cleaner.create();
     /** The most steps of an explanation, if a call names no number. */
-    private static final int STEPS = 1_000_000;
+    private static final int STEPS = 20_000;
 
     private final Held held;
     private final Cleaner.Cleanable cleanable;
@@ -224,7 +224,7 @@ public final class Registry implements AutoCloseable {
     }
 
     /**
-     * The steps from a tag to its canonical form, at most 1,000,000.
+     * The steps from a tag to its canonical form, at most 20,000: a tag can have 57,000.
      *
      * @param tag a tag
      * @return the steps, and the canonical form

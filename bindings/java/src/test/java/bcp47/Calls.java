@@ -1,5 +1,7 @@
 package bcp47;
 
+import static java.util.stream.Collectors.joining;
+
 import java.io.IOException;
 import java.lang.ref.WeakReference;
 import java.net.URL;
@@ -20,6 +22,7 @@ import java.util.concurrent.Executors;
 import java.util.concurrent.Future;
 import java.util.concurrent.atomic.AtomicBoolean;
 import java.util.concurrent.atomic.AtomicInteger;
+import java.util.stream.IntStream;
 
 /** Each call of the package. Argument: examples/sample-registry.txt. */
 final class Calls {
@@ -140,6 +143,9 @@ final class Calls {
         is("Region 2 27 sgn-DE\nWhole 1 44 gsg\n= gsg", explanation.toString());
         is("= en", registry.explain("en", 0).toString());
         is("TooManySteps", thrown(RefusedTag.class, () -> registry.explain("sgn-dd", 1)).getMessage());
+        String many = IntStream.range(0, 210).mapToObj(i -> "-" + (char) ('z' - i / 26) + (char) ('z' - i % 26))
+                .collect(joining("", "en-u", ""));
+        is("TooManySteps", thrown(RefusedTag.class, () -> registry.explain(many)).getMessage());
         registry.verify("sgn-dd", explanation.steps(), "gsg");
         registry.verify("en", List.of(), "en");
         is("WrongEnd", thrown(RefusedTrace.class, nothing(() -> registry.verify("sgn-dd", explanation.steps().subList(0, 1), "gsg"))).getMessage());
