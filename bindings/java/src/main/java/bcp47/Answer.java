@@ -5,12 +5,12 @@ package bcp47;
  * What {@link Registry#canonicalMany} answers to a tag.
  *
  * @param canonical the canonical text, or null where the tag is refused
- * @param fault why it is refused, as <code>BadByte 1</code>, or null where it is not
+ * @param refusal why it is refused, as the message of a {@link RefusedTag}, <code>BadByte 1</code>; null where it is not
  */
-public record Answer(String canonical, String fault) {
-    /** @return the line that the program prints: the canonical text, or <code>! </code> and the fault */
+public record Answer(String canonical, String refusal) {
+    /** @return the line that the program prints: the canonical text, or <code>! </code> and the refusal */
     @Override
     public String toString() {
-        return fault == null ? canonical : "! " + fault;
+        return refusal == null ? canonical : "! " + refusal;
     }
 }

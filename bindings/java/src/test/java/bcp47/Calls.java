@@ -62,7 +62,7 @@ final class Calls {
         is(false, registry.equivalent("zh", "yue"));
         List<Answer> answers = registry.canonicalMany(Arrays.asList("iw", null, "en_US", Tag.of("YUE")));
         is("[he, null, ! BadByte 1, yue]", answers.toString());
-        is("BadByte 1", answers.get(2).fault());
+        is("BadByte 1", answers.get(2).refusal());
     }
 
     private static void ranges(Registry registry) {
@@ -135,7 +135,7 @@ final class Calls {
             RefusedTag repeated = thrown(RefusedTag.class, call);
             is("ReplacementRepeats alalc97/alalc97/0", repeated.getMessage() + "/" + repeated.variant() + "/" + repeated.place());
         }
-        is("ReplacementRepeats alalc97", registry.canonicalMany(List.of(repeats)).get(0).fault());
+        is("ReplacementRepeats alalc97", registry.canonicalMany(List.of(repeats)).get(0).refusal());
     }
 
     private static void explanations(Registry registry) {
