@@ -28,9 +28,6 @@ if command -v cargo > /dev/null; then
     writes "Rust answers as the program" "$shared/wanted" answers "$shared/tags" one
     writes "Rust answers many as the program" "$shared/wanted" answers "$shared/tags" many
     writes "Rust explains as the program" "$shared/explained" answers "$shared/explained-tags" explain
-    for crate in bcp47 bcp47-sys; do
-        passes "Rust: $crate has the licences" test "$(cargo package --list --offline --allow-dirty --manifest-path bindings/rust/$crate/Cargo.toml | grep -c '^LICENSE')" = 2
-    done
     mkdir -p "$folder/page/src"
     printf '[package]\nname = "page"\nversion = "1.0.0"\nedition = "2021"\n[dependencies]\nbcp47 = { path = "%s/bindings/rust/bcp47" }\n' "$root" > "$folder/page/Cargo.toml"
     sed -n '/^```rust$/,/^```$/{/^```/!p}' docs/RUST.md > "$folder/page/src/main.rs"
