@@ -32,12 +32,14 @@ import importlib.machinery
 import importlib.util
 import os
 import re
+import resource
 import shutil
 import stat
 import subprocess
 import sys
 import tempfile
 import threading
+import time
 from concurrent.futures import ThreadPoolExecutor
 
 ROOT = os.path.dirname(os.path.dirname(os.path.abspath(__file__)))
@@ -49,6 +51,8 @@ PRIORITY = []
 MOST, LEAST = 40, 5
 # After how many seconds a pool looks again whether a processor is free.
 LOOK = 1.0
+# What a check writes to its file of stages when it has judged all functions, and after how many seconds to look for it again.
+JUDGED, SOON = "\nstage lines ", 0.05
 NEEDED = {
     "rt": ["Crate", "main", "edits_of", "read_edit", "unread", "need", "processors", "free"],
     "rtlib": ["KIT", "RATTLE", "PARTS", "KEPT", "STALE", "Crate", "crates_below", "guarded"],
@@ -264,10 +268,11 @@ class Round:
                 kept = os.path.join(room, "kept")
                 shutil.copytree(self.crate.kept_work, kept, copy_function=kept_linked)
             words = [rtlib.RATTLE, "check", *crate.words(["--jobs", "1"], keeps=False), "--incremental", kept, *self.asked()]
+            stages = os.path.join(room, "stages")
             with tempfile.TemporaryFile("w+", errors="replace") as out:
-                run = subprocess.Popen([*PRIORITY, *rtlib.guarded(), *words], cwd=room, stdin=subprocess.DEVNULL, stdout=out,
-                                       stderr=subprocess.STDOUT)
-                _, status, used = os.wait4(run.pid, 0)
+                run = subprocess.Popen([*PRIORITY, *rtlib.guarded(), *words, "--stage-times", stages], cwd=room,
+                                       stdin=subprocess.DEVNULL, stdout=out, stderr=subprocess.STDOUT)
+                status, used = waited(run.pid, stages)
                 run.returncode = os.waitstatus_to_exitcode(status)
                 out.seek(0)
                 said = Said(out.read(), crate)
@@ -310,6 +315,23 @@ class Round:
         failed = [it for it in said.not_proved() if it not in ours]
         return ["%s: %s" % (it, (said.of_clauses(it) + said.of_names(it) + [said.status[it]])[0]) for it in failed
                 if said.of_clauses(it) or said.of_names(it) or not (WAITS.search(said.status[it]) or it in said.errors)]
+
+
+def waited(pid, stages):
+    """Waits until a check ends, and returns its status and what it used. Once it has judged all functions, as its file of stages
+    says, it would begin proof files for those that it refused, which takes a fifth of its time and more. Nobody reads them here,
+    so it may open no file any more: it says that it cannot show them, and ends."""
+    is_judged = False
+    while True:
+        ended, status, used = os.wait4(pid, 0 if is_judged else os.WNOHANG)
+        if ended:
+            return status, used
+        with contextlib.suppress(FileNotFoundError):
+            is_judged = JUDGED in text_of(*os.path.split(stages))
+        if is_judged:
+            resource.prlimit(pid, resource.RLIMIT_NOFILE, (0, 0))
+        else:
+            time.sleep(SOON)
 
 
 def rounds_of(edits, crate=None, wave=0):

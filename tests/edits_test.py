@@ -7,6 +7,8 @@ import io
 import os
 import pathlib
 import re
+import subprocess
+import sys
 import tempfile
 import threading
 import time
@@ -145,6 +147,36 @@ class Tried(unittest.TestCase):
         }, lines)
         self.assertEqual((status, lines[-1]), (1, "6 edits: 1 refused at a clause, 1 for a name alone, 4 not refused"))
         self.assertTrue(any(it.startswith("error: made: a function fails that no edit touches: made::third") for it in lines), lines)
+
+
+class Waited(unittest.TestCase):
+    """What is waited for: here a program that writes stages, and then opens a file for two seconds, or until it cannot."""
+    PROGRAM = """\
+import sys, time
+with open(sys.argv[1], "w") as stages:
+    stages.write(sys.argv[2])
+for _ in range(40):
+    try:
+        open(sys.argv[1]).close()
+    except OSError:
+        sys.exit(7)
+    time.sleep(0.05)
+"""
+
+    def status(self, text):
+        with tempfile.TemporaryDirectory() as room:
+            stages = os.path.join(room, "stages")
+            run = subprocess.Popen([sys.executable, "-c", self.PROGRAM, stages, text])
+            status, used = edits.waited(run.pid, stages)
+            run.returncode = os.waitstatus_to_exitcode(status)
+            self.assertGreater(used.ru_utime + used.ru_stime, 0)
+            return run.returncode
+
+    def test_opens_no_file_once_all_is_judged(self):
+        self.assertEqual(self.status("stage session 9.1 9\nstage lines 0.1 9\n"), 7)
+
+    def test_opens_files_until_then(self):
+        self.assertEqual(self.status("stage session 9.1 9\n"), 0)
 
 
 def said(*lines):
