@@ -29,7 +29,7 @@ MOST_MILLISECONDS = 1.0
 MOST_MILLISECONDS_A_STEP = 0.05
 # A shorter time says little of how it grows.
 LEAST_SECONDS = 0.2
-LINES = 200
+LINES = 3000
 RUNS = 9
 # Times on a virtual machine vary, so that of a longer run is the least of so many; and what is past a limit is measured
 # again so many times, after some seconds.
