@@ -43,7 +43,7 @@ fn hash_of<T: Hash>(value: &T) -> u64 {
 }
 
 /// Texts of tags in their order: of two that are one after the other, the first comes first.
-const IN_ORDER: [&str; 14] = [
+const IN_ORDER: &[&str] = &[
     "i-ami",
     "i-bnn",
     "x-a",
@@ -69,7 +69,7 @@ fn is_one_in_capitals(alloc: Global, text: &str) -> Result<bool, Fail> {
 
 #[test]
 fn tags_in_capitals(rt: HostRuntime) -> Result<(), Fail> {
-    for text in &IN_ORDER {
+    for text in IN_ORDER {
         assert!(rt; is_one_in_capitals(rt.alloc(), text)?, "{text}");
     }
     Ok(())

@@ -25,7 +25,7 @@ fn from_bytes_and_from_a_device(rt: HostRuntime) -> Result<(), Fail> {
 }
 
 /// Texts that hold no registry, what is printed of each, and the name of what is wrong.
-const REFUSED: [(&str, &str, &str); 4] = [
+const REFUSED: &[(&str, &str, &str)] = &[
     ("Type: language\nSubtag\n", "jar BadLine line 2", "BadLine"),
     (
         "File-Date: 2025-05-15\n%%\nType: dialect\nSubtag: en\n",
@@ -68,7 +68,7 @@ fn is_refused(alloc: Global, text: &str, line: &str, name: &str) -> Result<bool,
 
 #[test]
 fn what_is_refused(rt: HostRuntime) -> Result<(), Fail> {
-    for (text, line, name) in &REFUSED {
+    for (text, line, name) in REFUSED {
         assert!(rt; is_refused(rt.alloc(), text, line, name)?, "{line}");
     }
     Ok(())

@@ -40,7 +40,7 @@ fn finding(alloc: Global, table: ListTable) -> Result<Option<(&'static str, u32)
 }
 
 /// Records put in the place of one of the sample, and the condition that then fails at that number.
-const CHANGES: [(u32, &str, &str); 12] = [
+const CHANGES: &[(u32, &str, &str)] = &[
     (48, "Type: language\nSubtag: de\n", "C1"),
     (27, "Type: region\nSubtag: DD\nPreferred-Value: ZZ\n", "C2"),
     (6, "Type: language\nSubtag: he\nPreferred-Value: iw\n", "C3"),

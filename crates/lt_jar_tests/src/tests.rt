@@ -49,7 +49,7 @@ fn shown(alloc: Global, jar: &Jar) -> Result<String, AllocError> {
 }
 
 /// Texts with their records.
-const TEXTS: [(&str, &str); 10] = [
+const TEXTS: &[(&str, &str)] = &[
     ("", ""),
     ("%%\n\n%%\n", ""),
     ("A:\n  b \n\tc", "A=b c"),
@@ -74,7 +74,7 @@ fn has_fault(alloc: Global, text: &[u8], name: &str, line: u64) -> bool {
 }
 
 /// Texts with the names and the lines of their faults.
-const FAULTS: [(&[u8], &str, u64); 12] = [
+const FAULTS: &[(&[u8], &str, u64)] = &[
     (
         b"Type: language\nSubtag: en\n%%\n  x",
         "LeadingContinuation",
@@ -116,7 +116,7 @@ fn is_one_field(jar: &Jar, bytes: usize) -> bool {
 
 /// How many letters lines have, their end, and whether they are read: the carriage return counts, and the
 /// line feed does not.
-const LONG_LINES: [(usize, &str, bool); 4] = [
+const LONG_LINES: &[(usize, &str, bool)] = &[
     (65_526, "", true),
     (65_527, "", false),
     (65_525, "\r\n", true),
@@ -178,7 +178,7 @@ fn is_fault_shown(
 
 #[test]
 fn faults_are_shown(rt: HostRuntime) -> Result<(), Fail> {
-    for (text, name, line) in &FAULTS {
+    for (text, name, line) in FAULTS {
         let Err(fault) = read_jar(rt.alloc(), text) else {
             return Err(Fail::from("the text has no fault"));
         };

@@ -13,7 +13,7 @@ use std::test::Fail;
 use tables::registry_of;
 
 /// Texts of one record with the names of their faults.
-const RECORD_FAULTS: [(&str, &str); 14] = [
+const RECORD_FAULTS: &[(&str, &str)] = &[
     ("Subtag: en", "MissingType"),
     ("Type: planet\nSubtag: en", "UnknownType"),
     ("Type: language", "MissingName"),

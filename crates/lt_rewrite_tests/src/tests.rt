@@ -64,7 +64,7 @@ fn settles_to(alloc: Global, table: &ListTable, text: &str, other: &str) -> Resu
 }
 
 /// Texts of cores and of their core normal forms.
-const CORES: [(&str, &str); 5] = [
+const CORES: &[(&str, &str)] = &[
     ("zh-yue-DD", "yue-DE"),
     ("iw-arevela", "he-arevela"),
     ("ja-heploc-alalc97", "ja-alalc97-alalc97"),
@@ -75,7 +75,7 @@ const CORES: [(&str, &str); 5] = [
 #[test]
 fn cores(rt: HostRuntime) -> Result<(), Fail> {
     let table = sample(rt.alloc())?;
-    for (text, other) in &CORES {
+    for (text, other) in CORES {
         assert!(rt; settles_to(rt.alloc(), &table, text, other)?, "{text}");
     }
     Ok(())
@@ -150,7 +150,7 @@ fn extension_settles_to(
 }
 
 /// Texts with one extension, and with its normal form.
-const EXTENSIONS: [(&str, &str); 11] = [
+const EXTENSIONS: &[(&str, &str)] = &[
     (
         "en-u-foo-bar-nu-latn-ca-buddhist",
         "en-u-bar-foo-ca-buddhist-nu-latn",
@@ -277,7 +277,7 @@ fn ends_in(table: &ListTable, kind: Kind, text: &str, end: &str) -> bool {
 }
 
 /// Subtags and the ends of their chains.
-const CHAINS: [(Kind, &str, &str); 4] = [
+const CHAINS: &[(Kind, &str, &str)] = &[
     (Kind::Language, "iw", "he"),
     (Kind::Extlang, "yue", "yue"),
     (Kind::Variant, "arevela", "arevela"),
@@ -288,7 +288,7 @@ const CHAINS: [(Kind, &str, &str); 4] = [
 fn ends_of_chains(rt: HostRuntime) -> Result<(), Fail> {
     let table = sample(rt.alloc())?;
     assert!(rt; first_cycle(&table).is_none());
-    for (kind, text, end) in &CHAINS {
+    for (kind, text, end) in CHAINS {
         assert!(rt; ends_in(&table, *kind, text, end), "{text}");
     }
     Ok(())

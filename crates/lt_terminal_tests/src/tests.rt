@@ -138,7 +138,7 @@ fn told_of(alloc: Global, words: &[&str]) -> (Vec<u8>, Vec<u8>) {
 }
 
 /// Runs over lines, rows and records.
-const COUNTED: [Run; 17] = [
+const COUNTED: &[Run] = &[
     (
         &["canon", "new"],
         "EN\nen\n",
@@ -279,13 +279,13 @@ const COUNTED: [Run; 17] = [
 
 #[test]
 fn runs_over_lines(rt: HostRuntime) {
-    for run in &COUNTED {
+    for run in COUNTED {
         assert!(rt; goes(rt.alloc(), run));
     }
 }
 
 /// Runs that answer one line.
-const SINGLE: [Run; 10] = [
+const SINGLE: &[Run] = &[
     (
         &["classify", "EN"],
         "",
@@ -362,7 +362,7 @@ const SINGLE: [Run; 10] = [
 ];
 
 /// Runs that refuse a record: the words, the front of what they print, and the line that a person is told of the record.
-const PLACED: [(&[&str], &str, &str); 6] = [
+const PLACED: &[(&[&str], &str, &str)] = &[
     (
         &["check", "region"],
         "check C2 record 2\n",
@@ -397,7 +397,7 @@ const PLACED: [(&[&str], &str, &str); 6] = [
 
 #[test]
 fn records_are_told(rt: HostRuntime) {
-    for (words, shown, told) in &PLACED {
+    for (words, shown, told) in PLACED {
         let (people, output) = told_of(rt.alloc(), words);
         assert!(rt; output.as_slice() == shown.as_bytes(), "{shown}");
         assert!(rt; people.as_slice().ends_with(told.as_bytes()), "{told}");
@@ -406,19 +406,19 @@ fn records_are_told(rt: HostRuntime) {
 
 #[test]
 fn summaries_at_no_terminal(rt: HostRuntime) {
-    for run in &COUNTED {
+    for run in COUNTED {
         assert!(rt; goes_told(rt.alloc(), run, &["--summary"], false, run.4));
         assert!(rt; goes_told(rt.alloc(), run, &["--summary"], true, run.4));
         assert!(rt; goes_told(rt.alloc(), run, &[], false, ""));
     }
-    for run in &SINGLE {
+    for run in SINGLE {
         assert!(rt; goes_told(rt.alloc(), run, &[], false, ""));
     }
 }
 
 #[test]
 fn runs_with_one_answer(rt: HostRuntime) {
-    for run in &SINGLE {
+    for run in SINGLE {
         assert!(rt; goes(rt.alloc(), run));
     }
 }
@@ -479,7 +479,7 @@ fn words_that_name_no_command(rt: HostRuntime) {
 }
 
 /// The names of faults that the program prints, and `ok 0`.
-const NAMES: [&str; 64] = [
+const NAMES: &[&str] = &[
     "BadByte",
     "EmptySubtag",
     "LongSubtag",
@@ -591,7 +591,7 @@ fn is_told(name: &str) -> bool {
 
 #[test]
 fn each_name_has_its_message(rt: HostRuntime) {
-    for name in &NAMES {
+    for name in NAMES {
         assert!(rt; is_told(name));
     }
     assert!(rt; message_of(b"C").is_none());

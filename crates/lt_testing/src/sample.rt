@@ -5,7 +5,7 @@ use std::alloc::{AllocError, Global};
 pub type Row = (&'static str, &'static str, &'static str, &'static str);
 
 /// The records after the header, 2 to 47.
-pub const ROWS: [Row; 46] = [
+pub const ROWS: &[Row] = &[
     ("language", "de", "", ""),
     ("language", "en", "", ""),
     ("language", "gan", "", ""),
@@ -97,7 +97,7 @@ pub fn push_record(text: &mut String, row: &Row, end: &str) -> Result<(), AllocE
 fn text_with_field(alloc: Global, end: &str, field: &str) -> Result<String, AllocError> {
     let mut text = String::new(alloc);
     push_line(&mut text, HEADER, "", end)?;
-    for row in &ROWS {
+    for row in ROWS {
         push_record(&mut text, row, end)?;
         if row.1 == "he" {
             text.push_str(field)?;

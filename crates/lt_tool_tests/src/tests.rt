@@ -10,7 +10,7 @@ use std::io::{self, Write};
 use std::test::Fail;
 
 /// Words of `classify`, and the tag that they name.
-const CLASSIFY: [(&[&str], &str); 4] = [
+const CLASSIFY: &[(&[&str], &str)] = &[
     (&["classify", "ZH-yue-hant-hk"], "ZH-yue-hant-hk"),
     (&["classify", ""], ""),
     (&["classify", "help"], "help"),
@@ -24,13 +24,13 @@ fn is_classify(read: &Result<Command, WordsFault>, text: &str) -> bool {
 
 #[test]
 fn words_that_name_a_command(rt: HostRuntime) {
-    for (words, text) in &CLASSIFY {
+    for (words, text) in CLASSIFY {
         assert!(rt; is_classify(&read(rt.alloc(), words), text));
     }
 }
 
 /// Words that name no command.
-const USAGES: [&[&str]; 14] = [
+const USAGES: &[&[&str]] = &[
     &[],
     &["unknown"],
     &["unknown", "en"],
@@ -54,14 +54,14 @@ fn is_usage(read: &Result<Command, WordsFault>) -> bool {
 
 #[test]
 fn words_that_name_none(rt: HostRuntime) {
-    for words in &USAGES {
+    for words in USAGES {
         assert!(rt; is_usage(&read(rt.alloc(), words)));
     }
     assert!(rt; matches!(&read_words(rt.alloc(), &[]), Err(WordsFault::Usage(_))));
 }
 
 /// Words that ask for help, and a line of it.
-const HELPS: [(&[&str], &str); 6] = [
+const HELPS: &[(&[&str], &str)] = &[
     (&["--help"], "Usage: langtag <COMMAND>"),
     (&["-h"], "Usage: langtag <COMMAND>"),
     (&["help"], "Usage: langtag <COMMAND>"),
@@ -80,7 +80,7 @@ fn is_help(read: &Result<Command, WordsFault>, line: &str) -> bool {
 
 #[test]
 fn words_that_ask_for_help(rt: HostRuntime) {
-    for (words, line) in &HELPS {
+    for (words, line) in HELPS {
         assert!(rt; is_help(&read(rt.alloc(), words), line));
     }
 }
@@ -97,7 +97,7 @@ fn words_that_ask_for_the_version(rt: HostRuntime) {
 }
 
 /// Words, and the file that their command names first.
-const FILES: [(&[&str], Option<&str>); 15] = [
+const FILES: &[(&[&str], Option<&str>)] = &[
     (&["classify", "en"], None),
     (&["check", "registry"], Some("registry")),
     (&["canon", "registry"], Some("registry")),
@@ -122,7 +122,7 @@ fn names_file(read: &Result<Command, WordsFault>, file: Option<&str>) -> bool {
 
 #[test]
 fn first_files(rt: HostRuntime) {
-    for (words, file) in &FILES {
+    for (words, file) in FILES {
         assert!(rt; names_file(&read(rt.alloc(), words), *file));
     }
 }
@@ -147,7 +147,7 @@ fn commands_that_read_the_input(rt: HostRuntime) {
 }
 
 /// A text, what `classify` prints of it, and its status.
-const CLASSES: [(&str, &str, u8); 24] = [
+const CLASSES: &[(&str, &str, u8)] = &[
     ("ZH-yue-hant-hk", "langtag zh-yue-Hant-HK\n", 0),
     ("sl-ROZAJ-1994", "langtag sl-rozaj-1994\n", 0),
     ("en-1ABC", "langtag en-1abc\n", 0),
@@ -176,7 +176,7 @@ const CLASSES: [(&str, &str, u8); 24] = [
 
 #[test]
 fn classes(rt: HostRuntime) {
-    for (text, line, status) in &CLASSES {
+    for (text, line, status) in CLASSES {
         assert!(rt;
             prints(rt.alloc(), &["classify", *text], b"", b"", line, *status),
             "{text}"

@@ -16,7 +16,7 @@ use std::process::Abort;
 use std::test::Fail;
 
 /// Texts and their canonical texts.
-const CANONICAL: [(&str, &str); 28] = [
+const CANONICAL: &[(&str, &str)] = &[
     ("zh-yue", "yue"),
     ("YUE", "yue"),
     ("I-KLINGON", "tlh"),
@@ -57,7 +57,7 @@ const CANONICAL: [(&str, &str); 28] = [
 ];
 
 /// Texts that are no tags or not valid, with the names and the places of their faults.
-const FAULTS: [(&str, &str, u32); 19] = [
+const FAULTS: &[(&str, &str, u32)] = &[
     ("zh-min-x-a", "ExtlangPrefix", 2),
     ("zh-gan-yue", "TooManyExtlangs", 3),
     ("fr", "UnknownLanguage", 1),
@@ -103,7 +103,7 @@ fn comes_to<L: Lookup>(alloc: Global, checked: &Checked<L>, text: &[u8], canonic
 
 /// Each text has its canonical text, and that is its own.
 pub(super) fn canonical_texts<L: Lookup>(rt: &impl Abort, alloc: Global, checked: &Checked<L>) {
-    for (text, canonical) in &CANONICAL {
+    for (text, canonical) in CANONICAL {
         let wanted = canonical.as_bytes();
         assert!(rt; comes_to(alloc, checked, text.as_bytes(), wanted), "{text}");
         assert!(rt; comes_to(alloc, checked, wanted, wanted), "{canonical}");
@@ -165,7 +165,7 @@ fn has_fault<L: Lookup>(
 
 /// Each text has the fault of its row.
 pub(super) fn texts_with_faults<L: Lookup>(rt: &impl Abort, alloc: Global, checked: &Checked<L>) {
-    for (text, name, place) in &FAULTS {
+    for (text, name, place) in FAULTS {
         assert!(rt;
             has_fault(alloc, checked, text.as_bytes(), name, *place),
             "{text}"
@@ -268,7 +268,7 @@ pub fn has_form<L: Lookup>(
 }
 
 /// Tags with their canonical forms, or with what they are refused for.
-const FORMS: [(&str, &str); 4] = [
+const FORMS: &[(&str, &str)] = &[
     ("sgn-DD", "gsg"),
     ("fr", "UnknownLanguage"),
     ("ja-heploc-alalc97", "alalc97"),
@@ -285,7 +285,7 @@ pub(super) fn canonical_tags<L: Lookup>(
     checked: &Checked<L>,
 ) -> Result<(), Fail> {
     confluence(checked);
-    for (text, wanted) in &FORMS {
+    for (text, wanted) in FORMS {
         assert!(rt; has_form(alloc, checked, text, wanted)?, "{text}");
     }
     Ok(())
@@ -357,7 +357,7 @@ fn compare_as<L: Lookup>(
 }
 
 /// Pairs of tags, and how they compare.
-const PAIRS: [(&str, &str, &str); 4] = [
+const PAIRS: &[(&str, &str, &str)] = &[
     ("sgn-DD", "GSG", "equivalent"),
     ("sgn-DD-x-a", "gsg-x-a", "different"),
     ("en-u-kn", "en-u-kn-TRUE", "equivalent"),
@@ -370,7 +370,7 @@ pub(super) fn equivalence<L: Lookup>(
     alloc: Global,
     checked: &Checked<L>,
 ) -> Result<(), Fail> {
-    for (first, second, wanted) in &PAIRS {
+    for (first, second, wanted) in PAIRS {
         assert!(rt;
             compare_as(alloc, checked, first, second, wanted)?,
             "{first}"

@@ -9,7 +9,7 @@ use std::test::Fail;
 
 /// Texts in order, and the canonical text of each by the sample, or the name of the refusal. Most have an end that came
 /// before after another front, of which some turn or have a tag with a value, and some are in capitals.
-const TEXTS: [(&str, &str); 21] = [
+const TEXTS: &[(&str, &str)] = &[
     ("de-u-nu-latn", "de-u-nu-latn"),
     ("EN-gb-U-NU-Latn", "en-GB-u-nu-latn"),
     ("ZH-hans-gb-U-NU-Latn", "zh-Hans-GB-u-nu-latn"),
@@ -52,7 +52,7 @@ fn ends_after_other_fronts(rt: HostRuntime) -> Result<(), Fail> {
     let alloc = rt.alloc();
     let checked = checked(alloc, sample(alloc)?)?;
     let mut ends = RecentEnds::new(alloc);
-    for (text, wanted) in &TEXTS {
+    for (text, wanted) in TEXTS {
         let answer = answer(alloc, &checked, &mut ends, text)?;
         assert!(rt; answer.as_slice() == wanted.as_bytes(), "{text}");
     }

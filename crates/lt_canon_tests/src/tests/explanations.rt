@@ -17,7 +17,7 @@ use std::test::Fail;
 type Row = (StepKind, u32, u32, &'static str);
 
 /// Texts, their steps, and the canonical texts.
-const EXPLAINED: [(&str, &[Row], &str); 7] = [
+const EXPLAINED: &[(&str, &[Row], &str)] = &[
     (
         "sgn-dd",
         &[
@@ -198,7 +198,7 @@ pub(super) fn explanations<L: Lookup>(
     alloc: Global,
     checked: &Checked<L>,
 ) -> Result<(), Fail> {
-    for row in &EXPLAINED {
+    for row in EXPLAINED {
         let (text, rows, last) = *row;
         assert!(rt; is_explained(alloc, checked, text, rows, last)?, "{text}");
     }
@@ -251,7 +251,7 @@ fn is_refused<L: Lookup>(alloc: Global, checked: &Checked<L>, text: &str, name: 
 }
 
 /// The lines of the explanation of `SGN-dd` one after another, and whether more follow. The last is given again.
-const GIVEN: [(&str, bool); 4] = [
+const GIVEN: &[(&str, bool)] = &[
     ("Region 2 27 sgn-DE\n", true),
     ("Whole 1 44 gsg\n", true),
     ("= gsg\n", false),
@@ -285,7 +285,7 @@ fn is_next<L: Lookup>(
 /// Whether the lines are given one after another.
 fn are_given<L: Lookup>(alloc: Global, checked: &Checked<L>) -> Result<bool, TextRefusal> {
     let mut left = ExplanationLines::new(alloc, checked, b"SGN-dd")?;
-    for (line, more) in &GIVEN {
+    for (line, more) in GIVEN {
         if !is_next(alloc, &mut left, line, *more) {
             return Ok(false);
         }

@@ -22,7 +22,7 @@ fn checked_sample(alloc: Global) -> Result<Checked<ListTable>, Fail> {
 #[test]
 fn tables_are_checked(rt: HostRuntime) -> Result<(), Fail> {
     assert_eq!(rt; finding(rt.alloc(), sample(rt.alloc())?)?, None);
-    for row in &CHANGES {
+    for row in CHANGES {
         let (number, record, code) = *row;
         let table = sample_with(rt.alloc(), number as usize, record)?;
         assert_eq!(rt; finding(rt.alloc(), table)?, Some((code, number)), "{code}");
@@ -79,7 +79,7 @@ fn traces_are_verified(rt: HostRuntime) -> Result<(), Fail> {
 
 #[test]
 fn upgrades_are_refused(rt: HostRuntime) -> Result<(), Fail> {
-    for row in &FAULTS {
+    for row in FAULTS {
         let (number, record, code) = *row;
         let older = sample(rt.alloc())?;
         let newer = sample_with(rt.alloc(), number as usize, record)?;
@@ -94,7 +94,7 @@ fn upgrades_are_refused(rt: HostRuntime) -> Result<(), Fail> {
 
 #[test]
 fn upgrades_are_taken(rt: HostRuntime) -> Result<(), Fail> {
-    for row in &UPGRADES {
+    for row in UPGRADES {
         let (number, record) = *row;
         let older = sorted_sample(rt.alloc())?;
         let newer = sample_with(rt.alloc(), number, record)?;

@@ -3,7 +3,7 @@ use lt_cache::{Recent, ShortText};
 use std::alloc::{AllocError, Global};
 use std::test::Fail;
 
-const LINES: [(&str, &str, bool); 4] = [
+const LINES: &[(&str, &str, bool)] = &[
     ("zh-yue", "yue\n", false),
     ("", "! EmptySubtag 1\n", true),
     ("EN-us", "en-US\n", false),
@@ -35,14 +35,14 @@ fn found(
 #[test]
 fn finds_what_was_put(rt: HostRuntime) -> Result<(), Fail> {
     let mut table = Recent::new(rt.alloc());
-    for (line, answer, refused) in &LINES {
+    for (line, answer, refused) in LINES {
         assert!(rt;
             found(rt.alloc(), &table, line, line.len())?.is_none(),
             "{line}"
         );
         table.put(line.as_bytes(), answer.as_bytes(), *refused);
     }
-    for (line, answer, refused) in &LINES {
+    for (line, answer, refused) in LINES {
         let there = found(rt.alloc(), &table, line, line.len())?;
         let is_right = there.is_some_and(|(text, no)| text.as_slice() == answer.as_bytes()
             && no == *refused);

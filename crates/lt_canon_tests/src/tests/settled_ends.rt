@@ -9,7 +9,7 @@ use std::test::Fail;
 
 /// Texts, and the canonical text of each by the sample, or the name of the refusal. Keywords are in the order of their
 /// keys, as RFC 6067 has it, and private use is left alone (RFC 5646, 4.5).
-const TEXTS: [(&str, &str); 30] = [
+const TEXTS: &[(&str, &str)] = &[
     ("de-u-nu-latn", "de-u-nu-latn"),
     ("EN-gb-U-CA-Gregory-NU-Latn", "en-GB-u-ca-gregory-nu-latn"),
     ("zh-hans-gb-u-co-pinyin", "zh-Hans-GB-u-co-pinyin"),
@@ -56,7 +56,7 @@ fn answer<L: Lookup>(alloc: Global, checked: &Checked<L>, text: &str) -> Result<
 fn settled_ends(rt: HostRuntime) -> Result<(), Fail> {
     let alloc = rt.alloc();
     let checked = checked(alloc, sample(alloc)?)?;
-    for (text, wanted) in &TEXTS {
+    for (text, wanted) in TEXTS {
         let answer = answer(alloc, &checked, text)?;
         assert!(rt;
             answer.strip_prefix(b"before ") == Some(wanted.as_bytes()),

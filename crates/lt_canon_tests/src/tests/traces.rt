@@ -35,7 +35,7 @@ const UNKNOWN: TraceFault = TraceFault::Invalid(ValidFault {
 });
 
 /// Tags, the record of the first of two steps, the end, and what is said of the trace.
-const TRACES: [(&str, u32, &str, Result<(), TraceFault>); 4] = [
+const TRACES: &[(&str, u32, &str, Result<(), TraceFault>)] = &[
     ("sgn-DD", 27, "gsg", Ok(())),
     ("sgn-DD", 27, "sgn-DE", Err(TraceFault::WrongEnd)),
     ("sgn-DD", 28, "gsg", Err(TraceFault::NoSuchStep(1))),
@@ -69,7 +69,7 @@ pub(super) fn traces<L: Lookup>(
     alloc: Global,
     checked: &Checked<L>,
 ) -> Result<(), Fail> {
-    for row in &TRACES {
+    for row in TRACES {
         let (text, number, last, wanted) = *row;
         assert!(rt;
             is_verified(alloc, checked, text, number, last, wanted)?,

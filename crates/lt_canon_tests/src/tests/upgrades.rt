@@ -37,7 +37,7 @@ pub(super) fn fault<A: Lookup + Drop, B: Lookup + Drop>(
 
 /// Records put in the place of one of the sample, an empty one to take it out, and the condition that then
 /// fails at that number. No two ranges together cover an old one, nor does one of another length or kind.
-pub(super) const FAULTS: [(u32, &str, &str); 12] = [
+pub(super) const FAULTS: &[(u32, &str, &str)] = &[
     (23, "", "U1"),
     (30, "Type: region\nSubtag: XA..XY\n", "U1"),
     (
@@ -74,7 +74,7 @@ pub(super) const FAULTS: [(u32, &str, &str); 12] = [
 
 /// Records put in the place of one of the sample, or after the last, after which each condition holds.
 /// The range that covers an old one need not be the first that holds its ends.
-pub(super) const UPGRADES: [(usize, &str); 6] = [
+pub(super) const UPGRADES: &[(usize, &str)] = &[
     (0, ""),
     (48, "Type: language\nSubtag: fr\n"),
     (30, "Type: region\nSubtag: WZ..XZ\n"),

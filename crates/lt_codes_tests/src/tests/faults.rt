@@ -3,7 +3,7 @@ use super::table_of;
 use std::test::Fail;
 
 /// Texts, why they are refused, and the line.
-const TEXTS: [(&[u8], &str, u64); 16] = [
+const TEXTS: &[(&[u8], &str, u64)] = &[
     (b"ger", "BadRow", 1),
     (b"ger|deu|de|German", "BadRow", 1),
     (b"ger|deu|de|German|allemand|x", "BadRow", 1),
@@ -40,7 +40,7 @@ const TEXTS: [(&[u8], &str, u64); 16] = [
 
 #[test]
 fn each_is_refused_by_its_line(rt: HostRuntime) -> Result<(), Fail> {
-    for (text, name, line) in &TEXTS {
+    for (text, name, line) in TEXTS {
         match table_of(rt.alloc(), text) {
             Ok(_) => assert!(rt; false, "{name} in line {line}"),
             Err(fault) => {

@@ -4,7 +4,7 @@ use lt_codes::TableFaultKind;
 use std::test::Fail;
 
 /// Texts, and what is read in their place.
-const TEXTS: [(&str, &str); 16] = [
+const TEXTS: &[(&str, &str)] = &[
     ("ger", "de"),
     ("deu", "de"),
     ("GER-at", "de-at"),
@@ -26,7 +26,7 @@ const TEXTS: [(&str, &str); 16] = [
 #[test]
 fn first_subtags_are_replaced(rt: HostRuntime) -> Result<(), Fail> {
     let table = table_of(rt.alloc(), ROWS.as_bytes()).map_err(|fault| fault.kind.name())?;
-    for (text, wanted) in &TEXTS {
+    for (text, wanted) in TEXTS {
         let read = replaced(rt.alloc(), &table, text)?;
         assert_eq!(rt; read.as_slice(), wanted.as_bytes());
     }

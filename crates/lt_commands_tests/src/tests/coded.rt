@@ -12,7 +12,7 @@ ger|deu|de|German|allemand\nheb||he|Hebrew|h\xC3\xA9breu\nqaa-qtz|||Reserved for
 sgn|||Sign Languages|langues des signes\n";
 
 /// Lines, and what `codes` answers to each.
-const LINES: [(&str, &str); 22] = [
+const LINES: &[(&str, &str)] = &[
     ("ger", "de"),
     ("deu", "de"),
     ("de", "de"),
@@ -58,7 +58,7 @@ fn prints(
 fn lines_by_codes(rt: HostRuntime) -> Result<(), Fail> {
     let sample = sample_text(rt.alloc())?;
     let words = ["codes", "table", "registry"];
-    for (line, answer) in &LINES {
+    for (line, answer) in LINES {
         let files = (sample.as_bytes(), TABLE);
         let owed = format!(in rt.alloc(); "{answer}\n")?;
         let status = u8::from(answer.starts_with("! "));
@@ -74,7 +74,7 @@ fn lines_by_codes(rt: HostRuntime) -> Result<(), Fail> {
 fn all_lines_by_codes(rt: HostRuntime) -> Result<(), Fail> {
     let sample = sample_text(rt.alloc())?;
     let (mut lines, mut owed) = (Vec::new(rt.alloc()), String::new(rt.alloc()));
-    for (line, answer) in &LINES {
+    for (line, answer) in LINES {
         lines.extend_from_slice(line.as_bytes())?;
         lines.push(b'\n')?;
         owed.push_str(answer)?;
@@ -102,7 +102,7 @@ fn all_lines_by_codes(rt: HostRuntime) -> Result<(), Fail> {
 }
 
 /// Words, the input, what is printed, and the status.
-const ROWS: [(&[&str], &str, &str, u8); 6] = [
+const ROWS: &[(&[&str], &str, &str, u8)] = &[
     (
         &["tsv", "registry", "2", "--codes", "table"],
         "1\tger-DD\tx\r\n2\tfre\n3\n4\tger_DE",
@@ -159,7 +159,7 @@ const ROWS: [(&[&str], &str, &str, u8); 6] = [
 #[test]
 fn rows_by_codes(rt: HostRuntime) -> Result<(), Fail> {
     let sample = sample_text(rt.alloc())?;
-    for (words, rows, shown, end) in &ROWS {
+    for (words, rows, shown, end) in ROWS {
         let files = (sample.as_bytes(), TABLE);
         assert!(rt;
             prints(rt.alloc(), words, files, rows.as_bytes(), shown, *end),
@@ -170,7 +170,7 @@ fn rows_by_codes(rt: HostRuntime) -> Result<(), Fail> {
 }
 
 /// Tables that are refused, and what is printed.
-const REFUSED: [(&[u8], &str); 5] = [
+const REFUSED: &[(&[u8], &str)] = &[
     (b"File-Date: 2025-05-15", "codes BadRow line 1\n"),
     (b"ger|deu|de|German|\xFF", "codes NotUtf8 line 1\n"),
     (
@@ -187,7 +187,7 @@ const REFUSED: [(&[u8], &str); 5] = [
 #[test]
 fn tables_that_are_refused(rt: HostRuntime) -> Result<(), Fail> {
     let sample = sample_text(rt.alloc())?;
-    for (table, shown) in &REFUSED {
+    for (table, shown) in REFUSED {
         for words in [
             &["codes", "table", "registry"] as &[&str],
             &["tsv", "registry", "2", "--codes", "table"],

@@ -138,7 +138,7 @@ fn each_write_of_a_run_failing(rt: HostRuntime) -> Result<(), Fail> {
 const ENDED: &str = "yue\n! UnknownLanguage 1\n! EmptySubtag 1\n";
 
 /// What a run has written that reads 4 bytes at a time, if the read of this number fails.
-const READS: [(u64, &str); 6] = [
+const READS: &[(u64, &str)] = &[
     (1, ""),
     (2, ""),
     (3, "yue\n"),
@@ -169,7 +169,7 @@ fn stops_at_read(
 fn each_read_of_a_run_failing(rt: HostRuntime) -> Result<(), Fail> {
     let checked = checked_sample(rt.alloc())?;
     let registry = sample_text(rt.alloc())?;
-    for (call, owed) in &READS {
+    for (call, owed) in READS {
         assert!(rt;
             stops_at_read(rt.alloc(), &checked, &registry, *call, owed),
             "{call}"

@@ -7,7 +7,7 @@ use std::test::Fail;
 const LINES: &[u8] = b"de-Latn-DE\r\niw\nfr\n\nde-DD\nyue-Hans";
 
 /// Words, and what is printed of these lines.
-const RUNS: [(&[&str], &str); 8] = [
+const RUNS: &[(&[&str], &str)] = &[
     (&["match", "registry", "de-de"], "de-DD\n"),
     (
         &["match", "--extended", "registry", "de-de"],
@@ -33,7 +33,7 @@ const RUNS: [(&[&str], &str); 8] = [
 #[test]
 fn lines_that_match(rt: HostRuntime) -> Result<(), Fail> {
     let sample = sample_text(rt.alloc())?;
-    for (words, shown) in &RUNS {
+    for (words, shown) in RUNS {
         assert!(rt;
             prints(rt.alloc(), words, sample.as_bytes(), LINES, shown, 0),
             "{shown}"
@@ -59,7 +59,7 @@ fn no_line_that_matches(rt: HostRuntime) -> Result<(), Fail> {
 }
 
 /// Ranges that are refused, and what is said of them.
-const REFUSED: [(&str, &str); 5] = [
+const REFUSED: &[(&str, &str)] = &[
     ("", "! Empty range 2\n"),
     ("de_DE", "! BadByte range 2\n"),
     ("*-abcdefghi", "! TooLong range 2\n"),
@@ -84,7 +84,7 @@ fn is_refused(alloc: Global, registry: &str, range: &str, said: &str) -> bool {
 #[test]
 fn ranges_that_are_refused(rt: HostRuntime) -> Result<(), Fail> {
     let sample = sample_text(rt.alloc())?;
-    for (range, said) in &REFUSED {
+    for (range, said) in REFUSED {
         assert!(rt; is_refused(rt.alloc(), &sample, range, said), "{range}");
     }
     Ok(())

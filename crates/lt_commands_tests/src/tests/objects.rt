@@ -10,7 +10,7 @@ use std::io::{Read, Write};
 use std::test::Fail;
 
 /// The objects of the lines.
-const OBJECTS: [&str; 4] = [
+const OBJECTS: &[&str] = &[
     r#"{"input":"zh-yue","bytes":null,"canonical":"yue","fault":null,"place":null,"variant":null,"class":"langtag","language":"zh","extlangs":["yue"],"script":null,"region":null,"variants":[],"extensions":[],"private":[]}"#,
     r#"{"input":"fr","bytes":null,"canonical":null,"fault":"UnknownLanguage","place":1,"variant":null,"class":"langtag","language":"fr","extlangs":[],"script":null,"region":null,"variants":[],"extensions":[],"private":[]}"#,
     r#"{"input":"","bytes":null,"canonical":null,"fault":"EmptySubtag","place":1,"variant":null,"class":null,"language":null,"extlangs":[],"script":null,"region":null,"variants":[],"extensions":[],"private":[]}"#,
@@ -95,7 +95,7 @@ fn json_fails<R: Read + Drop, W: Write>(
 }
 
 /// The read that fails where 4 bytes are read at a time, and how many lines are answered then.
-const READS: [(u64, usize); 6] = [(1, 0), (2, 0), (3, 1), (4, 3), (5, 3), (6, 3)];
+const READS: &[(u64, usize)] = &[(1, 0), (2, 0), (3, 1), (4, 3), (5, 3), (6, 3)];
 
 /// Whether the command stops at this read, and has answered so many lines.
 fn stops_at_read(alloc: Global, file: &str, call: u64, count: usize) -> Result<bool, AllocError> {
@@ -109,7 +109,7 @@ fn stops_at_read(alloc: Global, file: &str, call: u64, count: usize) -> Result<b
 #[test]
 fn reads_that_fail(rt: HostRuntime) -> Result<(), Fail> {
     let sample = sample_text(rt.alloc())?;
-    for (call, count) in &READS {
+    for (call, count) in READS {
         assert!(rt;
             stops_at_read(rt.alloc(), &sample, *call, *count)?,
             "{call}"

@@ -96,7 +96,7 @@ fn lines_are_answered(rt: HostRuntime) -> Result<(), Fail> {
 
 /// The length of the pieces that a reader gives, the call at which it fails, what is written of a run over its
 /// lines, and whether the run reaches their end.
-const READS: [(usize, u64, &str, bool); 9] = [
+const READS: &[(usize, u64, &str, bool)] = &[
     (1, 64, OWED, true),
     (2, 64, OWED, true),
     (3, 64, OWED, true),
@@ -127,7 +127,7 @@ fn answers(
 #[test]
 fn lines_in_pieces(rt: HostRuntime) -> Result<(), Fail> {
     let checked = checked_sample(rt.alloc())?;
-    for (piece, call, owed, at_end) in &READS {
+    for (piece, call, owed, at_end) in READS {
         let reader = Pieces::once(LINES, *piece).failing_at(*call);
         assert!(rt; answers(rt.alloc(), &checked, reader, owed, *at_end));
     }
@@ -160,7 +160,7 @@ impl Write for Narrow<'_> {
 }
 
 /// The writes before one fails, and what was written of a run then.
-const WRITES: [(usize, &str); 4] = [
+const WRITES: &[(usize, &str)] = &[
     (0, ""),
     (1, "yue\n! UnknownLan"),
     (2, "yue\n! UnknownLanguage 1\n! EmptyS"),
@@ -181,7 +181,7 @@ fn stops(alloc: Global, checked: &Checked<SortedTable>, calls_left: usize, owed:
 #[test]
 fn writes_of_a_run_that_fail(rt: HostRuntime) -> Result<(), Fail> {
     let checked = checked_sample(rt.alloc())?;
-    for (calls_left, owed) in &WRITES {
+    for (calls_left, owed) in WRITES {
         assert!(rt; stops(rt.alloc(), &checked, *calls_left, owed));
     }
     Ok(())

@@ -7,7 +7,7 @@ use std::alloc::Global;
 use std::test::Fail;
 
 /// The words of `show` for people, what is printed, and the status.
-const TABLES: [(&[&str], &str, u8); 6] = [
+const TABLES: &[(&[&str], &str, u8)] = &[
     (
         &["show", "registry", "ZH-yue"],
         "zh-yue
@@ -139,7 +139,7 @@ const OBJECTS: [(&[&str], &str, u8); 3] = [
 #[test]
 fn tables_of_tags(rt: HostRuntime) -> Result<(), Fail> {
     let sample = sample_text(rt.alloc())?;
-    for (words, shown, status) in &TABLES {
+    for (words, shown, status) in TABLES {
         assert!(rt;
             prints(rt.alloc(), words, sample.as_bytes(), b"", shown, *status),
             "{shown}"
@@ -276,7 +276,7 @@ fn writes_that_fail(rt: HostRuntime) -> Result<(), Fail> {
 }
 
 /// The words, the call that fails of a writer that takes 16 bytes in a call, and what was taken before.
-const WRITES: [(&[&str], u64, &str); 6] = [
+const WRITES: &[(&[&str], u64, &str)] = &[
     (&["show", "registry", "de"], 1, ""),
     (&["show", "registry", "de"], 2, "de\n1    Language"),
     (
@@ -312,7 +312,7 @@ fn stops_at_write(alloc: Global, words: &[&str], file: &str, call: u64, taken: &
 #[test]
 fn each_write_failing(rt: HostRuntime) -> Result<(), Fail> {
     let sample = sample_text(rt.alloc())?;
-    for (words, call, taken) in &WRITES {
+    for (words, call, taken) in WRITES {
         assert!(rt;
             stops_at_write(rt.alloc(), words, &sample, *call, taken),
             "{taken}"

@@ -10,7 +10,7 @@ use std::test::Fail;
 /// Two tags, what `equal` prints of them, and its status.
 type Pair = (&'static str, &'static str, &'static str, u8);
 
-const PAIRS: [Pair; 7] = [
+const PAIRS: &[Pair] = &[
     ("YUE", "zh-yue", "equal\n", 0),
     ("sgn-DD", "GSG", "equal\n", 0),
     ("en-u-kn", "en-u-kn-TRUE", "equal\n", 0),
@@ -26,7 +26,7 @@ const PAIRS: [Pair; 7] = [
 ];
 
 /// A tag, what `extlang` prints of it, and its status.
-const FORMS: [(&str, &str, u8); 5] = [
+const FORMS: &[(&str, &str, u8)] = &[
     ("cmn-hans", "zh-cmn-Hans\n", 0),
     ("min", "ms-min\n", 0),
     ("en", "en\n", 0),
@@ -37,7 +37,7 @@ const FORMS: [(&str, &str, u8); 5] = [
 #[test]
 fn pairs_of_tags(rt: HostRuntime) -> Result<(), Fail> {
     let sample = sample_text(rt.alloc())?;
-    for (tag, other, line, status) in &PAIRS {
+    for (tag, other, line, status) in PAIRS {
         let words = ["equal", "registry", *tag, *other];
         assert!(rt; prints(rt.alloc(), &words, sample.as_bytes(), b"", line, *status));
     }
@@ -47,7 +47,7 @@ fn pairs_of_tags(rt: HostRuntime) -> Result<(), Fail> {
 #[test]
 fn extlang_forms(rt: HostRuntime) -> Result<(), Fail> {
     let sample = sample_text(rt.alloc())?;
-    for (tag, line, status) in &FORMS {
+    for (tag, line, status) in FORMS {
         let words = ["extlang", "registry", *tag];
         assert!(rt; prints(rt.alloc(), &words, sample.as_bytes(), b"", line, *status));
     }
@@ -71,7 +71,7 @@ fn words_of_a_pair(rt: HostRuntime) {
 }
 
 /// A tag, what `explain` prints of it, and its status.
-const EXPLANATIONS: [(&str, &str, u8); 6] = [
+const EXPLANATIONS: &[(&str, &str, u8)] = &[
     ("sgn-dd", "Region 2 27 sgn-DE\nWhole 1 44 gsg\n= gsg\n", 0),
     (
         "hy-arevela-arevmda",
@@ -100,7 +100,7 @@ const EXPLANATIONS: [(&str, &str, u8); 6] = [
 #[test]
 fn explanations(rt: HostRuntime) -> Result<(), Fail> {
     let sample = sample_text(rt.alloc())?;
-    for (tag, lines, status) in &EXPLANATIONS {
+    for (tag, lines, status) in EXPLANATIONS {
         let words = ["explain", "registry", *tag];
         assert!(rt; prints(rt.alloc(), &words, sample.as_bytes(), b"", lines, *status));
     }

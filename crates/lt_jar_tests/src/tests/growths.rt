@@ -40,7 +40,7 @@ fn is_read<P: Fn(&Result<Jar, JarFault>) -> bool>(
 
 /// The lines that take memory: of each of `TEXTS`, and of each of `FAULTS`. A last line that nothing ends is
 /// kept, whatever it is.
-const LINES: [Lines; 7] = [
+const LINES: &[Lines] = &[
     &[],
     &[],
     &[1, 2, 3],
@@ -50,7 +50,7 @@ const LINES: [Lines; 7] = [
     &[1, 2, 3, 4],
 ];
 
-const LINES_OF_FAULTS: [Lines; 8] = [&[1, 2, 3, 4], &[1], &[1, 2], &[1], &[1], &[1], &[], &[1, 3]];
+const LINES_OF_FAULTS: &[Lines] = &[&[1, 2, 3, 4], &[1], &[1, 2], &[1], &[1], &[1], &[], &[1, 3]];
 
 /// Whether a jar has these records, as `records_of` gives them.
 fn has_records(alloc: Global, jar: &Jar, records: &str) -> bool {
@@ -60,14 +60,14 @@ fn has_records(alloc: Global, jar: &Jar, records: &str) -> bool {
 #[test]
 fn records_are_read(rt: HostRuntime) -> Result<(), Fail> {
     let alloc = rt.alloc();
-    for ((text, records), lines) in TEXTS.iter().zip(&LINES) {
+    for ((text, records), lines) in TEXTS.iter().zip(LINES) {
         let is_jar = is_read(alloc, text.as_bytes(), lines, |answer| match answer {
             Ok(jar) => has_records(alloc, jar, records),
             Err(_) => false,
         })?;
         assert!(rt; is_jar, "{text}");
     }
-    for ((text, name, line), lines) in FAULTS.iter().zip(&LINES_OF_FAULTS) {
+    for ((text, name, line), lines) in FAULTS.iter().zip(LINES_OF_FAULTS) {
         let is_fault = is_read(alloc, text, lines, |answer| match answer {
             Ok(_) => false,
             Err(fault) => fault.kind.name() == *name && fault.line == *line,
@@ -78,7 +78,7 @@ fn records_are_read(rt: HostRuntime) -> Result<(), Fail> {
 }
 
 /// Texts that only their last line makes take memory, with its number.
-const LAST_LINES: [(&[u8], Lines); 4] = [
+const LAST_LINES: &[(&[u8], Lines)] = &[
     (b"A: b", &[1]),
     (b"\n%%\n \nA: b", &[4]),
     (b"%%\n\n%%\n\n\n\nA: b", &[7]),
@@ -87,7 +87,7 @@ const LAST_LINES: [(&[u8], Lines); 4] = [
 
 #[test]
 fn memory_runs_out_at_the_last_line(rt: HostRuntime) -> Result<(), Fail> {
-    for (text, lines) in &LAST_LINES {
+    for (text, lines) in LAST_LINES {
         let is_told = is_read(rt.alloc(), text, lines, |answer| !is_out_of_memory(answer))?;
         assert!(rt; is_told);
     }
@@ -183,7 +183,7 @@ fn is_long_line(
 
 #[test]
 fn the_longest_lines_are_read(rt: HostRuntime) -> Result<(), Fail> {
-    for (letters, end, is_read_whole) in &LONG_LINES {
+    for (letters, end, is_read_whole) in LONG_LINES {
         assert!(rt;
             is_long_line(rt.alloc(), *letters, end, *is_read_whole)?,
             "{letters}"
@@ -328,7 +328,7 @@ const ONE_RECORD: [(&[u8], Fields, Option<JarFault>); 2] = [
 
 #[test]
 fn records_are_lent(rt: HostRuntime) {
-    for size in &SIZES {
+    for size in SIZES {
         for (text, fields, end) in &ONE_RECORD {
             assert!(rt;
                 is_read_in_pieces(rt.alloc(), text, *size, fields, *end),

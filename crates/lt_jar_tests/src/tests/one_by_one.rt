@@ -7,7 +7,7 @@ use std::io::{Read, Write};
 use std::test::Fail;
 
 /// The sizes of the pieces in which a text is given.
-pub const SIZES: [usize; 5] = [1, 2, 3, 7, 1_000_000];
+pub const SIZES: &[usize] = &[1, 2, 3, 7, 1_000_000];
 
 /// Puts the fields of a record after the text, as `shown` has them.
 fn push_record(text: &mut String, record: RecordRef<'_>) -> Result<(), AllocError> {
@@ -57,7 +57,7 @@ fn lent_in_pieces(alloc: Global, text: &[u8], size: usize) -> Result<String, Fai
 
 /// Whether these records of a text are lent, whatever the size of its pieces.
 fn lends_records(alloc: Global, text: &[u8], records: &str) -> Result<bool, Fail> {
-    for size in &SIZES {
+    for size in SIZES {
         if lent_in_pieces(alloc, text, *size)?.as_str() != records {
             return Ok(false);
         }
@@ -68,7 +68,7 @@ fn lends_records(alloc: Global, text: &[u8], records: &str) -> Result<bool, Fail
 /// Whether a text has the fault of this name at this line, whatever the size of its pieces.
 fn lends_fault(alloc: Global, text: &[u8], name: &str, line: u64) -> Result<bool, Fail> {
     let told = format!(in alloc; "!{name} {line}")?;
-    for size in &SIZES {
+    for size in SIZES {
         if !lent_in_pieces(alloc, text, *size)?
             .as_str()
             .ends_with(told.as_str())
@@ -81,13 +81,13 @@ fn lends_fault(alloc: Global, text: &[u8], name: &str, line: u64) -> Result<bool
 
 #[test]
 fn texts_in_pieces(rt: HostRuntime) -> Result<(), Fail> {
-    for (text, records) in &TEXTS {
+    for (text, records) in TEXTS {
         assert!(rt;
             lends_records(rt.alloc(), text.as_bytes(), records)?,
             "{text}"
         );
     }
-    for (text, name, line) in &FAULTS {
+    for (text, name, line) in FAULTS {
         assert!(rt; lends_fault(rt.alloc(), text, name, *line)?, "{name}");
     }
     Ok(())
@@ -105,7 +105,7 @@ fn lends_longest(alloc: Global, size: usize) -> Result<bool, Fail> {
 
 #[test]
 fn longest_line_in_pieces(rt: HostRuntime) -> Result<(), Fail> {
-    for size in &SIZES {
+    for size in SIZES {
         assert!(rt; lends_longest(rt.alloc(), *size)?, "{size}");
     }
     Ok(())

@@ -2,7 +2,7 @@
 use lt_jar::first_place;
 
 /// Texts with the place of their first hyphen.
-const PLACES: [(&str, Option<usize>); 8] = [
+const PLACES: &[(&str, Option<usize>)] = &[
     ("", None),
     ("-", Some(0)),
     ("a-b-c", Some(1)),
@@ -15,7 +15,7 @@ const PLACES: [(&str, Option<usize>); 8] = [
 
 #[test]
 fn places_of_the_first_hyphen(rt: HostRuntime) {
-    for (text, place) in &PLACES {
+    for (text, place) in PLACES {
         assert!(rt; first_place(b'-', text.as_bytes()) == *place, "{text}");
     }
 }

@@ -10,7 +10,7 @@ use std::test::Fail;
 const INPUT: &[u8] = b"zh-yue\nde\nfr\r\nyue";
 
 /// The length of a piece, the call that fails, how many lines are answered then, and whether one of them is refused.
-const READS: [(usize, u64, usize, bool); 7] = [
+const READS: &[(usize, u64, usize, bool)] = &[
     (7, 1, 0, false),
     (7, 2, 1, false),
     (7, 3, 3, true),
@@ -37,7 +37,7 @@ fn reads_that_fail(rt: HostRuntime) -> Result<(), Fail> {
     let checked = checked_table(rt.alloc())?;
     let all = owed(rt.alloc(), &checked);
     assert!(rt; lines_in(&all) == 4);
-    for (piece, call, lines, is_refused) in &READS {
+    for (piece, call, lines, is_refused) in READS {
         let reader = Pieces::once(INPUT, *piece).failing_at(*call);
         let mut output = Vec::new(rt.alloc());
         let (refused, end) = answer(rt.alloc(), &checked, reader, &mut output);

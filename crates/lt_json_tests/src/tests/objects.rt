@@ -11,7 +11,7 @@ type Row = (&'static [u8], &'static str, bool);
 const NO_PARTS: &str =
     r#""class":null,"language":null,"extlangs":[],"script":null,"region":null,"variants":[],"extensions":[],"private":[]}"#;
 
-const ROWS: [Row; 14] = [
+const ROWS: &[Row] = &[
     (
         b"zh-cmn-hans-gb",
         r#"{"input":"zh-cmn-hans-gb","bytes":null,"canonical":"cmn-Hans-GB","fault":null,"place":null,"variant":null,"class":"langtag","language":"zh","extlangs":["cmn"],"script":"Hans","region":"GB","variants":[],"extensions":[],"private":[]}"#,
@@ -87,7 +87,7 @@ const ROWS: [Row; 14] = [
 #[test]
 fn objects_of_rows(rt: HostRuntime) -> Result<(), Fail> {
     let checked = checked_table(rt.alloc())?;
-    for (text, object, is_refused) in &ROWS {
+    for (text, object, is_refused) in ROWS {
         let mut objects = Vec::new(rt.alloc());
         let refused = append_object(&mut objects, rt.alloc(), &checked, text)?;
         let found = std::str::from_utf8(&objects)?;

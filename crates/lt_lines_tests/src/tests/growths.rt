@@ -333,7 +333,7 @@ fn lines_are_objects(rt: HostRuntime) -> Result<(), Fail> {
 }
 
 /// Words, and what the answer to them begins with as text.
-const WORDS: [(&[&str], &str); 19] = [
+const WORDS: &[(&[&str], &str)] = &[
     (&["classify", "en"], "Ok(Classify(\"en\"))"),
     (&["check", "registry"], "Ok(Check(\"registry\"))"),
     (
@@ -424,7 +424,7 @@ fn are_read(alloc: Global, words: &[&str], start: &str) -> Result<bool, AllocErr
 
 #[test]
 fn words_are_read(rt: HostRuntime) -> Result<(), Fail> {
-    for (words, start) in &WORDS {
+    for (words, start) in WORDS {
         assert!(rt; are_read(rt.alloc(), words, start)?, "{start}");
     }
     Ok(())

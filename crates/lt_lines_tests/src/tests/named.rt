@@ -7,7 +7,7 @@ use std::io::Cursor;
 use std::test::Fail;
 
 /// Words, the input, what is printed, what is said, and the status.
-const RUNS: [(&[&str], &[u8], &str, &str, u8); 22] = [
+const RUNS: &[(&[&str], &[u8], &str, &str, u8)] = &[
     (
         &["csv", "registry", "tag"],
         b"id,tag\n1,iw\n2,en_US\n3\n",
@@ -203,7 +203,7 @@ fn is_so(ended: &Option<Ended>, printed: &[u8], said: &[u8], status: u8) -> bool
 #[test]
 fn names_are_found(rt: HostRuntime) -> Result<(), Fail> {
     let sample = sample_text(rt.alloc())?;
-    for (words, input, printed, said, status) in &RUNS {
+    for (words, input, printed, said, status) in RUNS {
         for piece in [1usize, 2, 3, 64] {
             let ended = run(rt.alloc(), words, &sample, input, piece, 1000);
             assert!(rt;

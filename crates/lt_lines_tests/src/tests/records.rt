@@ -10,7 +10,7 @@ use std::io::Cursor;
 use std::test::Fail;
 
 /// Headings, and what `csv` makes of them.
-const HEADINGS: [(&[u8], &str); 4] = [
+const HEADINGS: &[(&[u8], &str)] = &[
     (b"", ""),
     (b"id,tag", "id,tag,langtag_fault\n"),
     (b"iw,iw\r\n", "iw,iw,langtag_fault\r\n"),
@@ -18,7 +18,7 @@ const HEADINGS: [(&[u8], &str); 4] = [
 ];
 
 /// Records after a heading, what `csv` makes of them by their second fields, and its status.
-const RECORDS: [(&str, &str, u8); 27] = [
+const RECORDS: &[(&str, &str, u8)] = &[
     ("1,\"zh-yue\",b\n", "1,\"yue\",b,\n", 0),
     ("1,DE", "1,de,\n", 0),
     ("1,iw\r\n2,iw\n", "1,he,\r\n2,he,\n", 0),
@@ -77,7 +77,7 @@ fn makes(alloc: Global, registry: &str, records: &[u8], shown: &str, status: u8)
 #[test]
 fn headings_stay(rt: HostRuntime) -> Result<(), Fail> {
     let sample = sample_text(rt.alloc())?;
-    for (heading, shown) in &HEADINGS {
+    for (heading, shown) in HEADINGS {
         assert!(rt; makes(rt.alloc(), &sample, heading, shown, 0));
     }
     Ok(())
@@ -86,7 +86,7 @@ fn headings_stay(rt: HostRuntime) -> Result<(), Fail> {
 #[test]
 fn records_are_answered(rt: HostRuntime) -> Result<(), Fail> {
     let sample = sample_text(rt.alloc())?;
-    for (records, shown, status) in &RECORDS {
+    for (records, shown, status) in RECORDS {
         let records = format!(in rt.alloc(); "id,tag\n{records}")?;
         let shown = format!(in rt.alloc(); "id,tag,langtag_fault\n{shown}")?;
         assert!(rt; makes(rt.alloc(), &sample, records.as_bytes(), &shown, *status));
@@ -95,7 +95,7 @@ fn records_are_answered(rt: HostRuntime) -> Result<(), Fail> {
 }
 
 /// Records of which the last ends within quotes, what `csv` makes of those before, and what it says.
-const OPEN: [(&str, &str, &str); 4] = [
+const OPEN: &[(&str, &str, &str)] = &[
     ("\"id", "", "! BadCsv line 1\n"),
     (
         "id,tag\n1,\"",
@@ -137,7 +137,7 @@ fn breaks_off(alloc: Global, registry: &str, records: &str, shown: &str, said: &
 #[test]
 fn ends_within_quotes(rt: HostRuntime) -> Result<(), Fail> {
     let sample = sample_text(rt.alloc())?;
-    for (records, shown, said) in &OPEN {
+    for (records, shown, said) in OPEN {
         assert!(rt; breaks_off(rt.alloc(), &sample, records, shown, said));
     }
     Ok(())
@@ -150,7 +150,7 @@ pub(super) const OWED: &str =
     "id,tag,langtag_fault\r\n\"1\n,\",yue,\r\n2,fr,UnknownLanguage 1\n3,NoColumn\n4,gsg,\n";
 
 /// The length of the pieces, the call at which the reader fails, how much is written, and whether the end is reached.
-const READS: [(usize, u64, usize, bool); 7] = [
+const READS: &[(usize, u64, usize, bool)] = &[
     (1, 64, 75, true),
     (3, 64, 75, true),
     (64, 64, 75, true),
@@ -179,7 +179,7 @@ fn answers(
 #[test]
 fn records_in_pieces(rt: HostRuntime) -> Result<(), Fail> {
     let checked = checked_sample(rt.alloc())?;
-    for (piece, call, written, at_end) in &READS {
+    for (piece, call, written, at_end) in READS {
         let reader = Pieces::once(LINES, *piece).failing_at(*call);
         assert!(rt; answers(rt.alloc(), &checked, reader, *written, *at_end));
     }
@@ -205,7 +205,7 @@ fn writes_of_records_that_fail(rt: HostRuntime) -> Result<(), Fail> {
 }
 
 /// Words of options, records, what `csv` makes of them by their second fields, and its status.
-const DELIMITED: [(&[&str], &str, &str, u8); 7] = [
+const DELIMITED: &[(&[&str], &str, &str, u8)] = &[
     (
         &["csv", "registry", "2", "--delimiter", ";"],
         "id;tag\n1,5;iw\n\"a;b\";\"zh-yue\"\n3;fr\n4\n",
@@ -253,7 +253,7 @@ const DELIMITED: [(&[&str], &str, &str, u8); 7] = [
 #[test]
 fn delimiters_are_named(rt: HostRuntime) -> Result<(), Fail> {
     let sample = sample_text(rt.alloc())?;
-    for (words, records, shown, status) in &DELIMITED {
+    for (words, records, shown, status) in DELIMITED {
         assert!(rt;
             prints(
                 rt.alloc(),
@@ -269,11 +269,11 @@ fn delimiters_are_named(rt: HostRuntime) -> Result<(), Fail> {
 }
 
 /// What is no delimiter.
-const NO_DELIMITERS: [&str; 9] = ["", "\"", "\n", "\r", ";;", "ä", "\u{80}", "TAB", "\\t"];
+const NO_DELIMITERS: &[&str] = &["", "\"", "\n", "\r", ";;", "ä", "\u{80}", "TAB", "\\t"];
 
 #[test]
 fn words_that_are_no_delimiter(rt: HostRuntime) {
-    for text in &NO_DELIMITERS {
+    for text in NO_DELIMITERS {
         let words = ["csv", "registry", "2", "--delimiter", *text];
         assert!(rt; matches!(read(rt.alloc(), &words), Err(WordsFault::Usage(_))));
     }

@@ -10,7 +10,7 @@ use std::io::Cursor;
 use std::test::Fail;
 
 /// Rows, what `tsv` makes of them by their second fields, and its status.
-const ROWS: [(&[u8], &str, u8); 15] = [
+const ROWS: &[(&[u8], &str, u8)] = &[
     (b"1\tzh-yue\tbook\n", "1\tyue\tbook\t\n", 0),
     (b"1\tiw", "1\the\t\n", 0),
     (b"1\tiw\r\n", "1\the\t\r\n", 0),
@@ -37,7 +37,7 @@ fn makes(alloc: Global, registry: &str, column: &str, row: &[u8], shown: &str, s
 #[test]
 fn rows_are_answered(rt: HostRuntime) -> Result<(), Fail> {
     let sample = sample_text(rt.alloc())?;
-    for (row, shown, status) in &ROWS {
+    for (row, shown, status) in ROWS {
         assert!(rt; makes(rt.alloc(), &sample, "2", row, shown, *status));
     }
     Ok(())
@@ -56,10 +56,10 @@ fn other_columns(rt: HostRuntime) -> Result<(), Fail> {
 }
 
 /// What is no number of a column, and no name of one.
-const NO_NUMBERS: [&str; 4] = ["0", "000", "+0", "18446744073709551616"];
+const NO_NUMBERS: &[&str] = &["0", "000", "+0", "18446744073709551616"];
 
 /// What is a name.
-const NAMES: [&str; 6] = ["", "two", "2.0", "2 ", "+", "0x2"];
+const NAMES: &[&str] = &["", "two", "2.0", "2 ", "+", "0x2"];
 
 /// Whether the words name a command whose column has this name.
 fn has_name(read: &Result<Command, WordsFault>, name: &str) -> bool {
@@ -73,7 +73,7 @@ fn has_name(read: &Result<Command, WordsFault>, name: &str) -> bool {
 
 #[test]
 fn words_that_are_no_column(rt: HostRuntime) {
-    for column in &NO_NUMBERS {
+    for column in NO_NUMBERS {
         for words in [
             ["csv", "registry", *column, "--keep"],
             ["tsv", "registry", *column, "--keep"],
@@ -86,7 +86,7 @@ fn words_that_are_no_column(rt: HostRuntime) {
 
 #[test]
 fn words_that_are_a_name(rt: HostRuntime) {
-    for name in &NAMES {
+    for name in NAMES {
         assert!(rt; has_name(&read(rt.alloc(), &["csv", "registry", *name]), name));
         let words = ["tsv", "--heading", "registry", *name];
         assert!(rt; has_name(&read(rt.alloc(), &words), name));
@@ -101,7 +101,7 @@ const LINES: &[u8] = b"1\tzh-yue\tx\r\n2\tfr\n3\n4\tsgn-dd";
 const OWED: &str = "1\tyue\tx\t\r\n2\tfr\tUnknownLanguage 1\n3\tNoColumn\n4\tgsg\t\n";
 
 /// The length of the pieces, the call at which the reader fails, what is written, and whether the end is reached.
-const READS: [(usize, u64, &str, bool); 8] = [
+const READS: &[(usize, u64, &str, bool)] = &[
     (1, 64, OWED, true),
     (2, 64, OWED, true),
     (5, 64, OWED, true),
@@ -136,7 +136,7 @@ fn answers(
 #[test]
 fn rows_in_pieces(rt: HostRuntime) -> Result<(), Fail> {
     let checked = checked_sample(rt.alloc())?;
-    for (piece, call, owed, at_end) in &READS {
+    for (piece, call, owed, at_end) in READS {
         let reader = Pieces::once(LINES, *piece).failing_at(*call);
         assert!(rt; answers(rt.alloc(), &checked, reader, owed, *at_end));
     }

@@ -21,7 +21,7 @@ const KEPT_AFTER_HEADING: RowForm = RowForm {
 };
 
 /// What texts are, what is answered to them, and how many lines are refused.
-const TEXTS: [(LineForm, &[u8], &[u8], u64); 9] = [
+const TEXTS: &[(LineForm, &[u8], &[u8], u64)] = &[
     (LineForm::Row(KEPT), b"", b"", 0),
     (
         LineForm::Row(KEPT),
@@ -85,7 +85,7 @@ fn answers(
 #[test]
 fn rows_are_kept(rt: HostRuntime) -> Result<(), Fail> {
     let checked = checked_sample(rt.alloc())?;
-    for (form, text, shown, refused) in &TEXTS {
+    for (form, text, shown, refused) in TEXTS {
         assert!(rt; answers(rt.alloc(), &checked, *form, text, shown, *refused));
     }
     Ok(())

@@ -7,7 +7,7 @@ use std::alloc::Global;
 use std::test::Fail;
 
 /// What texts are, what is answered to them, and how many lines are refused.
-const TEXTS: [(LineForm, &[u8], &[u8], u64); 7] = [
+const TEXTS: &[(LineForm, &[u8], &[u8], u64)] = &[
     (
         SECOND_OF_RECORD,
         b"h\n1\rx,iw\n2,iw\r\n3,\"\r\"",
@@ -56,7 +56,7 @@ fn is_wide(alloc: Global, checked: &Checked<SortedTable>, form: LineForm, text: 
 #[test]
 fn returns_and_marks(rt: HostRuntime) -> Result<(), Fail> {
     let checked = checked_sample(rt.alloc())?;
-    for (form, text, shown, refused) in &TEXTS {
+    for (form, text, shown, refused) in TEXTS {
         assert!(rt; answers(rt.alloc(), &checked, *form, text, shown, *refused));
     }
     for form in [LineForm::Tag, FIRST_OF_ROW, SECOND_OF_RECORD] {

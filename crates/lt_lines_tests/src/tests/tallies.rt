@@ -52,7 +52,7 @@ fn counts<R: Read + Drop>(
 }
 
 /// Lines of each form, and what is counted of them.
-const RUNS: [(LineForm, &[u8], &[Row<'static>]); 9] = [
+const RUNS: &[(LineForm, &[u8], &[Row<'static>])] = &[
     (LineForm::Tag, b"", &[]),
     (LineForm::Tag, b"de\nzh-yue\n", &[]),
     (
@@ -108,7 +108,7 @@ const RUNS: [(LineForm, &[u8], &[Row<'static>]); 9] = [
 #[test]
 fn refused_lines_are_counted(rt: HostRuntime) -> Result<(), Fail> {
     let checked = checked_sample(rt.alloc())?;
-    for (form, lines, rows) in &RUNS {
+    for (form, lines, rows) in RUNS {
         assert!(rt; counts(rt.alloc(), &checked, *form, *lines, rows));
         for size in 1..5 {
             assert!(rt; counts(rt.alloc(), &checked, *form, Pieces::once(lines, size), rows));

@@ -9,7 +9,7 @@ use std::alloc::Global;
 use std::test::Fail;
 
 /// Ranges and tags, and whether the range matches the tag by basic filtering, by extended filtering and by lookup.
-const ROWS: [(&str, &str, bool, bool, bool); 16] = [
+const ROWS: &[(&str, &str, bool, bool, bool)] = &[
     ("zh-yue", "yue", true, true, true),
     ("yue", "zh-yue-Hans", true, true, false),
     ("zh-yue-Hans", "yue", false, false, true),
@@ -47,7 +47,7 @@ fn matches(
 #[test]
 fn equivalent_is_alike(rt: HostRuntime) -> Result<(), Fail> {
     let checked = checked_sample(rt.alloc())?;
-    for (range, tag, basic, extended, lookup) in &ROWS {
+    for (range, tag, basic, extended, lookup) in ROWS {
         let found = matches(rt.alloc(), &checked, range, tag)?;
         assert!(rt; found == (*basic, *extended, *lookup), "{range} {tag}");
     }

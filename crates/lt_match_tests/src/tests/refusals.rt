@@ -7,7 +7,7 @@ use std::alloc::Global;
 use std::test::Fail;
 
 /// Texts and the names of their refusals.
-const ROWS: [(&str, &str); 5] = [
+const ROWS: &[(&str, &str)] = &[
     ("", "Empty"),
     ("de_DE", "BadByte"),
     ("*-abcdefghi", "TooLong"),
@@ -24,7 +24,7 @@ fn refusal_name(alloc: Global, checked: &Checked<SortedTable>, text: &str) -> Op
 #[test]
 fn refusals_have_names(rt: HostRuntime) -> Result<(), Fail> {
     let checked = checked_sample(rt.alloc())?;
-    for (text, name) in &ROWS {
+    for (text, name) in ROWS {
         let found = refusal_name(rt.alloc(), &checked, text);
         assert!(rt; found == Some(*name), "{text}");
     }

@@ -14,7 +14,7 @@ use std::test::Fail;
 pub type SubtagRow = (Kind, &'static str, Option<u32>);
 
 /// Subtags of the sample.
-pub const SUBTAGS: [SubtagRow; 5] = [
+pub const SUBTAGS: &[SubtagRow] = &[
     (Kind::Language, "iw", Some(9)),
     (Kind::Region, "xb", Some(30)),
     (Kind::Region, "us", None),
@@ -92,7 +92,7 @@ fn finds_each_whole<L: Lookup>(
 }
 
 /// Texts of tags with the names and the places of their faults, or none.
-pub const JUDGED: [(&str, Option<(&str, u32)>); 27] = [
+pub const JUDGED: &[(&str, Option<(&str, u32)>)] = &[
     ("zh-min-x-a", Some(("ExtlangPrefix", 2))),
     ("zh-gan-yue", Some(("TooManyExtlangs", 3))),
     ("fr", Some(("UnknownLanguage", 1))),
@@ -123,7 +123,7 @@ pub const JUDGED: [(&str, Option<(&str, u32)>); 27] = [
 ];
 
 /// Texts of tags, and whether they are proper.
-pub const PROPER: [(&str, bool); 7] = [
+pub const PROPER: &[(&str, bool)] = &[
     ("de-1901-1901", true),
     ("en-t-de-1901-1901", true),
     ("fr", false),
@@ -171,7 +171,7 @@ fn has_sample<L: Lookup>(alloc: Global, table: &L) -> Result<bool, TagFault> {
     Ok(
         table.entries().len() == 46
             && finds_hebrew(table)
-            && finds_each(table, &SUBTAGS)
+            && finds_each(table, SUBTAGS)
             && finds_each_whole(alloc, table, &WHOLE_TAGS)?,
     )
 }
@@ -199,7 +199,7 @@ fn the_sample_has_its_entries(rt: HostRuntime) -> Result<(), Fail> {
 #[test]
 fn the_sample_judges_tags(rt: HostRuntime) -> Result<(), Fail> {
     let table = sample_table(rt.alloc())?;
-    for (text, told) in &JUDGED {
+    for (text, told) in JUDGED {
         assert!(rt; judges(rt.alloc(), &table, text, *told)?, "{text}");
     }
     Ok(())
@@ -208,7 +208,7 @@ fn the_sample_judges_tags(rt: HostRuntime) -> Result<(), Fail> {
 #[test]
 fn the_sample_tells_proper_tags(rt: HostRuntime) -> Result<(), Fail> {
     let table = sample_table(rt.alloc())?;
-    for (text, told) in &PROPER {
+    for (text, told) in PROPER {
         assert!(rt; tells_proper(rt.alloc(), &table, text, *told)?, "{text}");
     }
     Ok(())
@@ -219,7 +219,7 @@ const REGIONS: &[u8] =
     b"Type: region\nSubtag: XA..XZ\n%%\nType: region\nSubtag: XB\n%%\nType: region\nSubtag: XA..XC";
 
 /// Subtags of those regions.
-const IN_REGIONS: [SubtagRow; 4] = [
+const IN_REGIONS: &[SubtagRow] = &[
     (Kind::Region, "xa", Some(1)),
     (Kind::Region, "xb", Some(2)),
     (Kind::Region, "xc", Some(1)),
@@ -228,8 +228,8 @@ const IN_REGIONS: [SubtagRow; 4] = [
 
 #[test]
 fn singles_before_ranges(rt: HostRuntime) -> Result<(), Fail> {
-    assert!(rt; finds_each(&list_table(rt.alloc(), REGIONS)?, &IN_REGIONS));
-    assert!(rt; finds_each(&sorted_table(rt.alloc(), REGIONS)?, &IN_REGIONS));
+    assert!(rt; finds_each(&list_table(rt.alloc(), REGIONS)?, IN_REGIONS));
+    assert!(rt; finds_each(&sorted_table(rt.alloc(), REGIONS)?, IN_REGIONS));
     Ok(())
 }
 
@@ -262,7 +262,7 @@ fn the_first_of_equal_names(rt: HostRuntime) -> Result<(), Fail> {
     Ok(())
 }
 
-const KINDS: [Kind; 7] = [
+const KINDS: &[Kind] = &[
     Kind::Language,
     Kind::Extlang,
     Kind::Script,
@@ -274,7 +274,7 @@ const KINDS: [Kind; 7] = [
 
 /// Whether both tables know the same entries of a subtag, whatever the kind.
 fn agree_on_subtag(list: &ListTable, sorted: &SortedTable, subtag: &Subtag) -> bool {
-    for kind in &KINDS {
+    for kind in KINDS {
         if entry_number(list, *kind, subtag) != entry_number(sorted, *kind, subtag) {
             return false;
         }
@@ -306,11 +306,11 @@ fn agree_on_entries(list: &ListTable, sorted: &SortedTable) -> bool {
 }
 
 /// Subtags that single records of the sample do not name.
-const OTHER_SUBTAGS: [&str; 6] = ["fr", "abcde", "zzz", "qpz", "qtzz", "a"];
+const OTHER_SUBTAGS: &[&str] = &["fr", "abcde", "zzz", "qpz", "qtzz", "a"];
 
 /// Whether both tables know the same entries of those subtags.
 fn agree_on_others(list: &ListTable, sorted: &SortedTable) -> bool {
-    for text in &OTHER_SUBTAGS {
+    for text in OTHER_SUBTAGS {
         match Subtag::read(text.as_bytes()) {
             Ok(subtag) if agree_on_subtag(list, sorted, &subtag) => {}
             _ => return false,

@@ -5,7 +5,7 @@ use std::alloc::Global;
 use std::test::Fail;
 
 /// Tags, and whether their variants are distinct.
-const ROWS: [(&str, bool); 6] = [
+const ROWS: &[(&str, bool)] = &[
     ("de", true),
     ("sl-rozaj-biske-1994", true),
     ("sl-rozaj-biske-Rozaj", false),
@@ -25,7 +25,7 @@ const ROWS: [(&str, bool); 6] = [
 
 /// Whether each tag is told as its row says.
 fn tells_each(alloc: Global) -> Result<bool, TagFault> {
-    for (text, distinct) in &ROWS {
+    for (text, distinct) in ROWS {
         let tag = read_tag(alloc, text.as_bytes())?;
         let variants = match tag.core() {
             Some(core) => core.variants(),

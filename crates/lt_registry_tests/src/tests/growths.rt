@@ -52,7 +52,7 @@ fn is_made<P: Fn(&Result<Registry, RecordFault>) -> bool>(
 
 #[test]
 fn entries_are_made(rt: HostRuntime) -> Result<(), Fail> {
-    for (text, name) in &RECORD_FAULTS {
+    for (text, name) in RECORD_FAULTS {
         let is_fault = is_made(rt.alloc(), text, (1, 1), |answer| match answer {
             Ok(_) => false,
             Err(fault) => fault.kind.name() == *name && fault.number == 1,
@@ -128,7 +128,7 @@ fn is_read<P: Fn(&Result<Registry, RegistryFault>) -> bool>(
 }
 
 /// Texts with the lines and the records at which memory may run out, and their faults.
-const FAULTS: [(&str, (Span, Span), RegistryFault); 4] = [
+const FAULTS: &[(&str, (Span, Span), RegistryFault)] = &[
     (
         "Type: language\nSubtag: en\n%%\n  x",
         ((1, 4), (1, 1)),
@@ -165,7 +165,7 @@ const FAULTS: [(&str, (Span, Span), RegistryFault); 4] = [
 
 #[test]
 fn registries_with_faults_are_read(rt: HostRuntime) -> Result<(), Fail> {
-    for (text, spans, told) in &FAULTS {
+    for (text, spans, told) in FAULTS {
         for size in &[7, 1_000_000usize] {
             let is_fault = is_read(rt.alloc(), text, *size, *spans, |answer| match answer {
                 Ok(_) => false,
@@ -203,7 +203,7 @@ fn finds_sample(alloc: Global, table: &SortedTable) -> Result<bool, TagFault> {
             return Ok(false);
         }
     }
-    Ok(table.entries().len() == 46 && finds_each(table, &SUBTAGS))
+    Ok(table.entries().len() == 46 && finds_each(table, SUBTAGS))
 }
 
 /// The table of a registry; where a growth was refused, of the registry that was handed back, which has
@@ -277,7 +277,7 @@ fn is_text_judged(
 #[test]
 fn tags_are_judged(rt: HostRuntime) -> Result<(), Fail> {
     let table = ListTable::new(sample(rt.alloc())?);
-    for (text, told) in &JUDGED {
+    for (text, told) in JUDGED {
         assert!(rt; is_text_judged(rt.alloc(), &table, text, *told)?, "{text}");
     }
     Ok(())
@@ -292,7 +292,7 @@ fn is_text_proper(alloc: Global, table: &ListTable, text: &str, told: bool) -> R
 #[test]
 fn tags_are_told_proper(rt: HostRuntime) -> Result<(), Fail> {
     let table = ListTable::new(sample(rt.alloc())?);
-    for (text, told) in &PROPER {
+    for (text, told) in PROPER {
         assert!(rt; is_text_proper(rt.alloc(), &table, text, *told)?, "{text}");
     }
     Ok(())
@@ -300,7 +300,7 @@ fn tags_are_told_proper(rt: HostRuntime) -> Result<(), Fail> {
 
 /// Whether a table finds the subtags of the sample, and the first of its whole tags.
 fn finds_by_no_growth<L: Lookup>(table: &L, tag: &Tag, number: Option<u32>) -> bool {
-    finds_each(table, &SUBTAGS) && whole_number(table, tag) == number && table.entries().len() == 46
+    finds_each(table, SUBTAGS) && whole_number(table, tag) == number && table.entries().len() == 46
 }
 
 /// Whether a table does so for a tag that it has, and for one that it has not.

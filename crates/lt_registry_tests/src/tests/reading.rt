@@ -8,7 +8,7 @@ use std::alloc::{AllocError, Global};
 use std::test::Fail;
 
 /// The sizes of the pieces in which a text is given.
-const SIZES: [usize; 5] = [1, 2, 3, 7, 1_000_000];
+const SIZES: &[usize] = &[1, 2, 3, 7, 1_000_000];
 
 /// The number of entries that are read from a device, or the fault as it is shown.
 fn answer(alloc: Global, mut device: Device<Pieces<'_>>) -> Result<String, Fail> {
@@ -23,7 +23,7 @@ fn answer(alloc: Global, mut device: Device<Pieces<'_>>) -> Result<String, Fail>
 
 /// Whether a text has this answer, whatever the size of its pieces.
 fn answers(alloc: Global, text: &[u8], told: &str) -> Result<bool, Fail> {
-    for size in &SIZES {
+    for size in SIZES {
         let device = Device::new(Pieces::once(text, *size));
         if answer(alloc, device)?.as_str() != told {
             return Ok(false);
@@ -33,7 +33,7 @@ fn answers(alloc: Global, text: &[u8], told: &str) -> Result<bool, Fail> {
 }
 
 /// Texts and their answers: the lowest record at fault, but a fault of the jar before it.
-const TEXTS: [(&[u8], &str); 14] = [
+const TEXTS: &[(&[u8], &str)] = &[
     (b"", "ok 0"),
     (b"%%\n\n%%\n", "ok 0"),
     (
@@ -70,10 +70,10 @@ const TEXTS: [(&[u8], &str); 14] = [
 
 #[test]
 fn texts_in_pieces(rt: HostRuntime) -> Result<(), Fail> {
-    for (text, told) in &TEXTS {
+    for (text, told) in TEXTS {
         assert!(rt; answers(rt.alloc(), text, told)?, "{told}");
     }
-    for (text, name) in &RECORD_FAULTS {
+    for (text, name) in RECORD_FAULTS {
         let told = format!(in rt.alloc(); "{name} 1")?;
         assert!(rt;
             answers(rt.alloc(), text.as_bytes(), told.as_str())?,
@@ -99,7 +99,7 @@ fn registry_in_pieces(alloc: Global, text: &[u8], size: usize) -> Result<String,
 fn letters_in_pieces(rt: HostRuntime) -> Result<(), Fail> {
     let whole = registry_in_pieces(rt.alloc(), LETTERS.as_bytes(), 1_000_000)?;
     assert!(rt; answers(rt.alloc(), LETTERS.as_bytes(), "ok 2")?);
-    for size in &SIZES {
+    for size in SIZES {
         let told = registry_in_pieces(rt.alloc(), LETTERS.as_bytes(), *size)?;
         assert!(rt; told.as_str() == whole.as_str(), "{size}");
     }
@@ -159,7 +159,7 @@ fn an_entry_that_is_read(rt: HostRuntime) -> Result<(), Fail> {
 }
 
 /// Calls that fail, and the lines that are then being read; the record is at fault.
-const FAILING_CALLS: [(u64, &str); 4] = [
+const FAILING_CALLS: &[(u64, &str)] = &[
     (1, "Read in line 1"),
     (3, "Read in line 1"),
     (4, "Read in line 3"),
@@ -169,7 +169,7 @@ const FAILING_CALLS: [(u64, &str); 4] = [
 #[test]
 fn readers_that_fail(rt: HostRuntime) -> Result<(), Fail> {
     let text = b"Subtag: en\n%%\nType: language";
-    for (call, told) in &FAILING_CALLS {
+    for (call, told) in FAILING_CALLS {
         let device = Device::new(Pieces::once(text, 5).failing_at(*call));
         assert!(rt; answer(rt.alloc(), device)?.as_str() == *told, "{told}");
     }

@@ -77,7 +77,7 @@ fn leads<L: Lookup>(
 
 /// Steps from tags: the kind, the place and the number, and the tag to which the step leads or the
 /// name of the fault.
-const STEPS: [(&str, StepKind, u32, u32, &str); 14] = [
+const STEPS: &[(&str, StepKind, u32, u32, &str)] = &[
     ("zh-yue", StepKind::Extlang, 2, 23, "yue"),
     ("zh-yue", StepKind::Language, 1, 17, "NoSuchStep"),
     (
@@ -120,7 +120,7 @@ const STEPS: [(&str, StepKind, u32, u32, &str); 14] = [
 
 /// Each step leads where its row says.
 pub(super) fn steps_lead<L: Lookup>(rt: &impl Abort, alloc: Global, table: &L) -> Result<(), Fail> {
-    for row in &STEPS {
+    for row in STEPS {
         let (text, kind, place, number, wanted) = *row;
         let step = Step {
             kind,

@@ -8,7 +8,7 @@ use std::test::Fail;
 /// A tag, and the kinds, places and records of the steps on its core.
 type Row = (&'static str, &'static [(StepKind, u32, u32)]);
 
-pub(super) const ROWS: [Row; 5] = [
+pub(super) const ROWS: &[Row] = &[
     (
         "zh-yue-DD",
         &[(StepKind::Extlang, 2, 23), (StepKind::Region, 2, 27)],

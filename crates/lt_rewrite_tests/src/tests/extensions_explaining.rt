@@ -14,7 +14,7 @@ use std::test::Fail;
 /// A tag of one subtag before its extensions, and the kinds, places and records of the steps on these.
 type Row = (&'static str, &'static [(StepKind, u32, u32)]);
 
-pub(super) const ROWS: [Row; 4] = [
+pub(super) const ROWS: &[Row] = &[
     (
         "de-u-foo-bar-co-true-ca-gregory-t-iw-x0-abc-m0-def",
         &[

@@ -16,7 +16,7 @@ use std::test::Fail;
 #[test]
 fn parts_of_extensions_are_settled(rt: HostRuntime) -> Result<(), Fail> {
     let table = sample(rt.alloc())?;
-    for (text, other) in &EXTENSIONS {
+    for (text, other) in EXTENSIONS {
         assert!(rt;
             extension_settles_to(rt.alloc(), &table, text, other)?,
             "{text}"
@@ -43,7 +43,7 @@ fn steps_are_applied(rt: HostRuntime) -> Result<(), Fail> {
 #[test]
 fn steps_on_cores_are_told(rt: HostRuntime) -> Result<(), Fail> {
     let table = sample(rt.alloc())?;
-    for (text, wanted) in &core_explaining::ROWS {
+    for (text, wanted) in core_explaining::ROWS {
         let steps = core_explaining::explained(rt.alloc(), &table, text)?;
         assert!(rt; are_steps(&steps, wanted), "{text}");
     }
@@ -53,7 +53,7 @@ fn steps_on_cores_are_told(rt: HostRuntime) -> Result<(), Fail> {
 #[test]
 fn steps_on_extensions_are_told(rt: HostRuntime) -> Result<(), Fail> {
     let table = sample(rt.alloc())?;
-    for (text, wanted) in &extensions_explaining::ROWS {
+    for (text, wanted) in extensions_explaining::ROWS {
         let steps = extensions_explaining::explained(rt.alloc(), &table, text)?;
         assert!(rt; are_steps(&steps, wanted), "{text}");
     }
@@ -63,7 +63,7 @@ fn steps_on_extensions_are_told(rt: HostRuntime) -> Result<(), Fail> {
 #[test]
 fn shortcuts_lead_to_ends(rt: HostRuntime) -> Result<(), Fail> {
     let table = sample(rt.alloc())?;
-    for (kind, text, end) in &CHAINS {
+    for (kind, text, end) in CHAINS {
         assert!(rt;
             chain_ends_in(rt.alloc(), &table, *kind, text, end)?,
             "{text}"

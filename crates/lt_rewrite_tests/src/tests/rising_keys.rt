@@ -4,7 +4,7 @@ use lt_subtag::Subtag;
 
 /// Last keys, a subtag that follows each, and the last key then: a key may not fall or come again, and `true` is no type
 /// that stays (RFC 6067, 2.1.1).
-const KEYS: [(&str, &str, Option<&str>); 5] = [
+const KEYS: &[(&str, &str, Option<&str>)] = &[
     ("co", "nu", Some("nu")),
     ("co", "phonebk", Some("co")),
     ("co", "ca", None),
@@ -29,7 +29,7 @@ fn leads_to(last: &str, subtag: &str, then: Option<&str>) -> bool {
 
 #[test]
 fn keys_in_order(rt: HostRuntime) {
-    for (last, subtag, then) in &KEYS {
+    for (last, subtag, then) in KEYS {
         assert!(rt; leads_to(last, subtag, *then), "{last} {subtag}");
     }
 }

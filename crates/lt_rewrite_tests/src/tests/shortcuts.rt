@@ -39,7 +39,7 @@ fn settled_core(alloc: Global, table: &ListTable, text: &str) -> Result<Core, Fa
 #[test]
 fn cores(rt: HostRuntime) -> Result<(), Fail> {
     let table = sample(rt.alloc())?;
-    for (text, other) in &CORES {
+    for (text, other) in CORES {
         let settled = settled_core(rt.alloc(), &table, text)?;
         assert!(rt; same_core(&settled, &core_of(rt.alloc(), other)?), "{text}");
     }

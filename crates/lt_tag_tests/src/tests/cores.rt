@@ -97,7 +97,7 @@ fn setters_change_the_part(rt: HostRuntime) -> Result<(), TagFault> {
 }
 
 /// Texts with the number of the grandfathered tag whose list their core spells.
-const LITERALS: [(&str, Option<u8>); 5] = [
+const LITERALS: &[(&str, Option<u8>)] = &[
     ("zh-min-x-a", Some(24)),
     ("zh-min-nan-x-a", Some(25)),
     ("zh-min-nan-cmn-x-a", None),
@@ -116,7 +116,7 @@ fn has_literal(alloc: Global, text: &str, number: Option<u8>) -> Result<bool, Ta
 
 #[test]
 fn literal_knows_grandfathered_lists(rt: HostRuntime) -> Result<(), TagFault> {
-    for (text, number) in &LITERALS {
+    for (text, number) in LITERALS {
         assert!(rt; has_literal(rt.alloc(), text, *number)?, "{text}");
     }
     Ok(())

@@ -17,7 +17,7 @@ fn prints_tag(alloc: Global, text: &str, shown: &str) -> bool {
 
 #[test]
 fn whole_tags(rt: HostRuntime) {
-    for (text, shown) in &TEXTS {
+    for (text, shown) in TEXTS {
         assert!(rt; prints_tag(rt.alloc(), text, shown), "{text}");
     }
 }

@@ -55,10 +55,10 @@ fn is_at_fault(alloc: Global, text: &str, name: &str, place: u32) -> Result<bool
 
 #[test]
 fn tags_are_read(rt: HostRuntime) -> Result<(), Fail> {
-    for (text, written) in &TEXTS {
+    for (text, written) in TEXTS {
         assert!(rt; is_read(rt.alloc(), text, written)?, "{text}");
     }
-    for (text, name, place) in &FAULTS {
+    for (text, name, place) in FAULTS {
         assert!(rt; is_at_fault(rt.alloc(), text, name, *place)?, "{text}");
     }
     Ok(())
@@ -100,7 +100,7 @@ fn is_text(alloc: Global, text: &str, written: &str) -> Result<bool, Fail> {
 
 #[test]
 fn tags_are_written(rt: HostRuntime) -> Result<(), Fail> {
-    for (text, written) in &TEXTS {
+    for (text, written) in TEXTS {
         assert!(rt; is_text(rt.alloc(), text, written)?, "{text}");
     }
     Ok(())
@@ -156,7 +156,7 @@ fn tags_are_copied(rt: HostRuntime) -> Result<(), Fail> {
     for text in &["de-1901-x-a", "x-a", "i-lux"] {
         assert!(rt; text_is_copied(rt.alloc(), text)?, "{text}");
     }
-    for (text, _) in &TEXTS {
+    for (text, _) in TEXTS {
         assert!(rt; text_is_copied(rt.alloc(), text)?, "{text}");
     }
     Ok(())
@@ -201,7 +201,7 @@ fn transform_words(alloc: Global, parts: &TParts) -> Result<Vec<u8>, OutOfMemory
 }
 
 /// Texts with the words of the parts of their `u` extension.
-const UNICODE: [(&str, &str); 4] = [
+const UNICODE: &[(&str, &str)] = &[
     (
         "en-u-foo-bar-nu-latn-ca-buddhist",
         " attribute foo attribute bar key nu type latn key ca type buddhist",
@@ -275,14 +275,14 @@ fn unicode_text(alloc: Global, text: &str, words: &str) -> Result<bool, Fail> {
 
 #[test]
 fn unicode_extensions(rt: HostRuntime) -> Result<(), Fail> {
-    for (text, words) in &UNICODE {
+    for (text, words) in UNICODE {
         assert!(rt; unicode_text(rt.alloc(), text, words)?, "{text}");
     }
     Ok(())
 }
 
 /// Texts with the words of the parts of their `t` extension.
-const TRANSFORMS: [(&str, &str); 6] = [
+const TRANSFORMS: &[(&str, &str)] = &[
     (
         "en-t-zh-yue-m0-names-a0-xyz",
         " language zh extlang yue separator m0 value names separator a0 value xyz",
@@ -307,7 +307,7 @@ const TRANSFORMS: [(&str, &str); 6] = [
 ];
 
 /// Texts whose first extension, a `t`, has no parts.
-const NO_PARTS: [&str; 8] = [
+const NO_PARTS: &[&str] = &[
     "en-t-m0",
     "en-t-zh-yue-m0",
     "en-t-m0-a0-aaa",
@@ -400,7 +400,7 @@ fn transform_text(alloc: Global, text: &str, words: &str) -> Result<bool, Fail> 
 
 #[test]
 fn transforms(rt: HostRuntime) -> Result<(), Fail> {
-    for (text, words) in &TRANSFORMS {
+    for (text, words) in TRANSFORMS {
         assert!(rt; transform_text(rt.alloc(), text, words)?, "{text}");
     }
     Ok(())
@@ -416,7 +416,7 @@ fn has_no_parts(alloc: Global, tag: &Tag) -> Result<bool, Fail> {
 
 #[test]
 fn transforms_without_parts(rt: HostRuntime) -> Result<(), Fail> {
-    for text in &NO_PARTS {
+    for text in NO_PARTS {
         assert!(rt;
             has_no_parts(rt.alloc(), &tag_of(rt.alloc(), text)?)?,
             "{text}"

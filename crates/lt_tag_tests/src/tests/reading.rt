@@ -4,7 +4,7 @@ use lt_tag::{Class, TagFault, cut_piece, first_hyphen, read_tag};
 use std::alloc::{AllocError, Global};
 
 /// Texts with the names and the places of their faults.
-pub const FAULTS: [(&str, &str, u32); 22] = [
+pub const FAULTS: &[(&str, &str, u32)] = &[
     ("", "EmptySubtag", 1),
     ("en-", "EmptySubtag", 2),
     ("en--us", "EmptySubtag", 2),
@@ -39,7 +39,7 @@ fn has_fault(alloc: Global, text: &[u8], name: &str, place: u32) -> bool {
 }
 
 /// Texts, the place of the first hyphen of each, and what is before and after that.
-const CUTS: [(&str, Option<usize>, &str, Option<&str>); 4] = [
+const CUTS: &[(&str, Option<usize>, &str, Option<&str>)] = &[
     ("zh-Hant-CN", Some(2), "zh", Some("Hant-CN")),
     ("en_US", None, "en_US", None),
     ("-", Some(0), "", Some("")),
@@ -48,7 +48,7 @@ const CUTS: [(&str, Option<usize>, &str, Option<&str>); 4] = [
 
 #[test]
 fn texts_are_cut(rt: HostRuntime) {
-    for (text, hyphen, piece, rest) in &CUTS {
+    for (text, hyphen, piece, rest) in CUTS {
         let (first, after) = cut_piece(text.as_bytes());
         let is_after = match (after, rest) {
             (Some(after), Some(rest)) => after == rest.as_bytes(),
@@ -121,7 +121,7 @@ fn longer_texts(rt: HostRuntime) -> Result<(), AllocError> {
 }
 
 /// Texts with their classes and the numbers of those that are grandfathered.
-const CLASSES: [(&str, Class, Option<u8>); 11] = [
+const CLASSES: &[(&str, Class, Option<u8>)] = &[
     ("en-gb-OED", Class::Grandfathered, Some(1)),
     ("SGN-be-fr", Class::Grandfathered, Some(15)),
     ("zh-MIN", Class::Grandfathered, Some(24)),
@@ -138,14 +138,14 @@ const CLASSES: [(&str, Class, Option<u8>); 11] = [
 
 #[test]
 fn classes(rt: HostRuntime) -> Result<(), TagFault> {
-    for (text, class, number) in &CLASSES {
+    for (text, class, number) in CLASSES {
         assert!(rt; has_class(rt.alloc(), text, *class, *number)?, "{text}");
     }
     Ok(())
 }
 
 /// Texts with the parts of their tags.
-const PARTS: [(&str, &str); 11] = [
+const PARTS: &[(&str, &str)] = &[
     (
         "ZH-yue-hant-hk",
         " language zh extlang yue script hant region hk",
@@ -173,7 +173,7 @@ const PARTS: [(&str, &str); 11] = [
 
 #[test]
 fn parts_of_tags(rt: HostRuntime) -> Result<(), TagFault> {
-    for (text, words) in &PARTS {
+    for (text, words) in PARTS {
         assert!(rt; has_words(rt.alloc(), text, words)?, "{text}");
     }
     Ok(())

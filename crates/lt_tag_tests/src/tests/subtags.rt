@@ -20,7 +20,7 @@ fn texts_of_no_subtag(rt: HostRuntime) {
 }
 
 /// Subtags, and whether each is a language, extlang, script, region, variant, key, separator and singleton.
-const SHAPES: [(&str, [bool; 8]); 8] = [
+const SHAPES: &[(&str, [bool; 8])] = &[
     (
         "hANS",
         [true, false, true, false, false, false, false, false],
@@ -62,7 +62,7 @@ fn shapes(subtag: &Subtag) -> [bool; 8] {
 
 #[test]
 fn shapes_of_subtags(rt: HostRuntime) {
-    for (text, wanted) in &SHAPES {
+    for (text, wanted) in SHAPES {
         let subtag = Subtag::read(text.as_bytes());
         assert!(rt;
             matches!(&subtag, Ok(subtag) if shapes(subtag) == *wanted),

@@ -4,7 +4,7 @@ use lt_tag::{OutOfMemory, Tag, TagFault, append_tag, read_tag, write_tag};
 use std::alloc::Global;
 
 /// Texts with their tags as they are printed.
-pub const TEXTS: [(&str, &str); 16] = [
+pub const TEXTS: &[(&str, &str)] = &[
     ("ZH-yue-hant-hk", "zh-yue-Hant-HK"),
     ("sl-ROZAJ-1994", "sl-rozaj-1994"),
     ("en-1ABC", "en-1abc"),
@@ -52,7 +52,7 @@ fn appends_behind_text(rt: HostRuntime) -> Result<(), TagFault> {
 }
 
 /// The texts of the grandfathered tags in the order of their numbers.
-const GRANDFATHERED: [&str; 26] = [
+const GRANDFATHERED: &[&str] = &[
     "en-GB-oed",
     "i-ami",
     "i-bnn",
@@ -89,7 +89,7 @@ fn is_grandfathered(alloc: Global, text: &str, number: u8) -> Result<bool, TagFa
 
 #[test]
 fn prints_grandfathered_tags(rt: HostRuntime) -> Result<(), TagFault> {
-    for (number, text) in (1..=26).zip(&GRANDFATHERED) {
+    for (number, text) in (1..=26).zip(GRANDFATHERED) {
         assert!(rt; is_grandfathered(rt.alloc(), text, number)?, "{text}");
     }
     Ok(())

@@ -43,7 +43,7 @@ fn runs(alloc: Global, words: &[&str], shown: &str, said: &str, end: Status) -> 
 }
 
 /// Words, what a run by them prints and says to the errors, and how it ends.
-const RUNS: [(&[&str], &str, &str, Status); 13] = [
+const RUNS: &[(&[&str], &str, &str, Status)] = &[
     (&["classify", "EN"], "langtag en\n", "", Status::Done),
     (&["check", "old"], "ok 2\n", "", Status::Done),
     (
@@ -101,7 +101,7 @@ const RUNS: [(&[&str], &str, &str, Status); 13] = [
 
 #[test]
 fn runs_of_the_program(rt: HostRuntime) {
-    for (words, shown, said, end) in &RUNS {
+    for (words, shown, said, end) in RUNS {
         assert!(rt; runs(rt.alloc(), words, shown, said, *end));
     }
 }
@@ -160,7 +160,7 @@ fn words_that_fail(rt: HostRuntime) {
 }
 
 /// Words that are no text, and what is said of their bytes.
-const NO_TEXTS: [(&[u8], &str); 6] = [
+const NO_TEXTS: &[(&[u8], &str)] = &[
     (b"\xff", "\\xff"),
     (b"zh-\xe4", "zh-\\xe4"),
     (b"\x1b\x80\\", "\\x1b\\x80\\x5c"),
@@ -171,7 +171,7 @@ const NO_TEXTS: [(&[u8], &str); 6] = [
 
 #[test]
 fn words_that_are_no_text(rt: HostRuntime) -> Result<(), Fail> {
-    for (bytes, shown) in &NO_TEXTS {
+    for (bytes, shown) in NO_TEXTS {
         let said = format!(in rt.alloc();
             "error: word 12 is not UTF-8: {shown}\n\nFor more information, try '--help'.\n"
         )?;

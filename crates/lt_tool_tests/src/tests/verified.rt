@@ -10,7 +10,7 @@ use std::test::Fail;
 type Judged = (&'static str, &'static [u8], &'static str, u8);
 
 /// Explanations, with the last line feed or without it.
-const RIGHT: [Judged; 5] = [
+const RIGHT: &[Judged] = &[
     (
         "sgn-dd",
         b"Region 2 27 sgn-DE\nWhole 1 44 gsg\n= gsg\n",
@@ -30,7 +30,7 @@ const RIGHT: [Judged; 5] = [
 ];
 
 /// Lines that are those of no step, or of one with the text of another tag.
-const BAD: [Judged; 24] = [
+const BAD: &[Judged] = &[
     ("sgn-dd", b"", "! BadStep 1\n", 1),
     ("sgn-dd", b"\n", "! BadStep 1\n", 1),
     ("sgn-dd", b"Region 2 27 sgn-DE\n", "! BadStep 2\n", 1),
@@ -78,7 +78,7 @@ const BAD: [Judged; 24] = [
 ];
 
 /// Steps that do not lead on, and ends that are others.
-const WRONG: [Judged; 9] = [
+const WRONG: &[Judged] = &[
     ("sgn-dd", b"Whole 1 44 gsg\n= gsg\n", "! NoSuchStep 1\n", 1),
     ("sgn-dd", b"Region 1 27 sgn-DE\n", "! NoSuchStep 1\n", 1),
     ("sgn-dd", b"Region 2 26 sgn-DE\n", "! NoSuchStep 1\n", 1),
@@ -127,13 +127,13 @@ fn judges(alloc: Global, registry: &str, judged: &Judged) -> bool {
 #[test]
 fn explanations_are_judged(rt: HostRuntime) -> Result<(), Fail> {
     let sample = sample_text(rt.alloc())?;
-    for judged in &RIGHT {
+    for judged in RIGHT {
         assert!(rt; judges(rt.alloc(), &sample, judged));
     }
-    for judged in &BAD {
+    for judged in BAD {
         assert!(rt; judges(rt.alloc(), &sample, judged));
     }
-    for judged in &WRONG {
+    for judged in WRONG {
         assert!(rt; judges(rt.alloc(), &sample, judged));
     }
     for judged in &REFUSED {
@@ -162,7 +162,7 @@ fn words_of_verify(rt: HostRuntime) {
 const LINES: &[u8] = b"Region 2 27 sgn-DE\nWhole 1 44 gsg\n= gsg\n";
 
 /// The length of the pieces, the call at which the reader fails, what is printed and what is said, and the status.
-const READS: [(usize, u64, &str, &str, u8); 6] = [
+const READS: &[(usize, u64, &str, &str, u8)] = &[
     (1, 99, "ok\n", "", 0),
     (2, 99, "ok\n", "", 0),
     (7, 99, "ok\n", "", 0),
@@ -192,7 +192,7 @@ fn judges_pieces(
 #[test]
 fn readers_of_explanations(rt: HostRuntime) -> Result<(), Fail> {
     let sample = sample_text(rt.alloc())?;
-    for (piece, fails_at, printed, said, status) in &READS {
+    for (piece, fails_at, printed, said, status) in READS {
         let reader = Pieces::once(LINES, *piece).failing_at(*fails_at);
         assert!(rt; judges_pieces(rt.alloc(), &sample, reader, printed, said, *status));
     }
@@ -200,7 +200,7 @@ fn readers_of_explanations(rt: HostRuntime) -> Result<(), Fail> {
 }
 
 /// Lines that never end: each is refused after a few reads.
-const ENDLESS: [(&[u8], &str); 4] = [
+const ENDLESS: &[(&[u8], &str)] = &[
     (b"x", "! BadStep 1\n"),
     (b"= ", "! WrongEnd\n"),
     (b"Region 2 27 sgn-DE", "! BadStep 1\n"),
@@ -210,7 +210,7 @@ const ENDLESS: [(&[u8], &str); 4] = [
 #[test]
 fn lines_without_an_end(rt: HostRuntime) -> Result<(), Fail> {
     let sample = sample_text(rt.alloc())?;
-    for (bytes, printed) in &ENDLESS {
+    for (bytes, printed) in ENDLESS {
         let reader = Pieces::for_ever(*bytes, 64);
         assert!(rt; judges_pieces(rt.alloc(), &sample, reader, printed, "", 1));
     }

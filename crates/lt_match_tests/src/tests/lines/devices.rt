@@ -13,7 +13,7 @@ const INPUT: &[u8] = b"yue-HK\nde\nzh-yue\r\nyue";
 const OWED: &[u8] = b"yue-HK\nzh-yue\r\nyue\n";
 
 /// The length of a piece, the call that fails, and what was written then.
-const READS: [(usize, u64, &[u8]); 6] = [
+const READS: &[(usize, u64, &[u8])] = &[
     (7, 1, b""),
     (7, 2, b"yue-HK\n"),
     (7, 3, b"yue-HK\n"),
@@ -37,7 +37,7 @@ fn run(
 #[test]
 fn reads_that_fail(rt: HostRuntime) -> Result<(), Fail> {
     let checked = checked_table(rt.alloc())?;
-    for (piece, call, owed) in &READS {
+    for (piece, call, owed) in READS {
         let reader = Pieces::once(INPUT, *piece).failing_at(*call);
         let (end, output) = run(rt.alloc(), &checked, reader)?;
         assert!(rt;

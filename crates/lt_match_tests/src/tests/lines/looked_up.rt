@@ -10,7 +10,7 @@ use std::alloc::Global;
 use std::test::Fail;
 
 /// Ranges by priority, the input, and the line that is found, if one is.
-const ROWS: [(&[&str], &str, Option<&str>); 19] = [
+const ROWS: &[(&[&str], &str, Option<&str>)] = &[
     // what a range falls back to (RFC 4647, 3.4), from what is cut the least to a default
     (
         &["zh-Hans-HK-x-private1-private2"],
@@ -89,7 +89,7 @@ pub fn has_found(end: &Result<Option<Vec<u8>>, ToolFault>, wanted: Option<&str>)
 #[test]
 fn lines_are_looked_up(rt: HostRuntime) -> Result<(), Fail> {
     let checked = checked_table(rt.alloc())?;
-    for (texts, input, wanted) in &ROWS {
+    for (texts, input, wanted) in ROWS {
         let ranges = ranges_of(rt.alloc(), &checked, texts)?;
         for piece in [1usize, 3, 65_536] {
             let reader = Pieces::once(input.as_bytes(), piece);

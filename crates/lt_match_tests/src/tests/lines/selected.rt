@@ -9,7 +9,7 @@ use std::alloc::{AllocError, Global};
 use std::test::Fail;
 
 /// A scheme, ranges, the input, what is written of it, and how many lines that is.
-const ROWS: [(Scheme, &[&str], &str, &str, u64); 14] = [
+const ROWS: &[(Scheme, &[&str], &str, &str, u64)] = &[
     // RFC 4647, 3.3.1
     (
         Scheme::Basic,
@@ -111,7 +111,7 @@ fn selects(
 #[test]
 fn lines_are_selected(rt: HostRuntime) -> Result<(), Fail> {
     let checked = checked_table(rt.alloc())?;
-    for (scheme, ranges, input, owed, count) in &ROWS {
+    for (scheme, ranges, input, owed, count) in ROWS {
         for piece in [1usize, 2, 7, 65_536] {
             let reader = Pieces::once(input.as_bytes(), piece);
             assert!(rt;

@@ -6,7 +6,7 @@ use std::alloc::Global;
 use std::test::Fail;
 
 /// Texts, the names of their faults, and the numbers of the elements at fault.
-const ROWS: [(&str, &str, usize); 23] = [
+const ROWS: &[(&str, &str, usize)] = &[
     ("en_US", "BadByte", 1),
     ("da, en-", "Empty", 2),
     ("da,,abcdefghi", "TooLong", 3),
@@ -39,7 +39,7 @@ fn fault_of(alloc: Global, text: &str) -> Option<AcceptFault> {
 
 #[test]
 fn leftmost_element_at_fault(rt: HostRuntime) -> Result<(), Fail> {
-    for (text, name, place) in &ROWS {
+    for (text, name, place) in ROWS {
         let Some(fault) = fault_of(rt.alloc(), text) else {
             return Err(Fail::from("a header"));
         };

@@ -7,7 +7,7 @@ use std::alloc::Global;
 use std::test::Fail;
 
 /// Headers, and their ranges with their weights: those that are acceptable, and after a stroke those that are not.
-const ROWS: [(&str, &str); 13] = [
+const ROWS: &[(&str, &str)] = &[
     (
         "da, en-gb;q=0.8, en;q=0.7",
         "da 1000, en-gb 800, en 700, | ",
@@ -64,7 +64,7 @@ fn told(alloc: Global, text: &str) -> Result<String, Fail> {
 
 #[test]
 fn ranges_by_weight(rt: HostRuntime) -> Result<(), Fail> {
-    for (text, wanted) in &ROWS {
+    for (text, wanted) in ROWS {
         let found = told(rt.alloc(), text)?;
         assert!(rt; found.as_str() == *wanted, "{text}");
     }

@@ -28,7 +28,7 @@ fn are_found(alloc: Global, tag: &Tag, words: &str) -> Result<bool, AllocError> 
 #[test]
 fn parts_are_found(rt: HostRuntime) -> Result<(), Fail> {
     let alloc = rt.alloc();
-    for (text, words) in &ROWS {
+    for (text, words) in ROWS {
         let tag = again!(tag_of(alloc, text))?;
         let are_these = again!(are_found(alloc, &tag, words))?;
         assert!(rt; are_these, "{text}");

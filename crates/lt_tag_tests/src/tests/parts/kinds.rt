@@ -5,7 +5,7 @@ use std::test::Fail;
 
 #[test]
 fn parts_have_their_kinds(rt: HostRuntime) -> Result<(), Fail> {
-    for (text, words) in &ROWS {
+    for (text, words) in ROWS {
         let found = parts_in_words(rt.alloc(), text)?;
         assert!(rt; found.as_slice() == words.as_bytes(), "{text}");
     }

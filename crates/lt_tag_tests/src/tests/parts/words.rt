@@ -6,7 +6,7 @@ use std::test::Fail;
 
 /// Texts with the kind of each of their parts and what it is in the text. The tags are those of the RFCs: of RFC
 /// 5646, appendix A, of RFC 6067, 2.2, and of RFC 6497, 2.2 and 2.3, and one of each form that these lack.
-pub const ROWS: [(&str, &str); 24] = [
+pub const ROWS: &[(&str, &str)] = &[
     ("de", "Language de"),
     ("i-ENOCHIAN", "Grandfathered i-enochian"),
     ("en-gb-oed", "Grandfathered en-GB-oed"),

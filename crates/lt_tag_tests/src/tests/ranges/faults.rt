@@ -4,7 +4,7 @@ use lt_testing::again;
 use std::test::Fail;
 
 /// Texts and the names of their faults; a text without one is a range.
-const ROWS: [(&str, &str); 14] = [
+const ROWS: &[(&str, &str)] = &[
     ("", "Empty"),
     ("-en", "Empty"),
     ("en--US", "Empty"),
@@ -23,7 +23,7 @@ const ROWS: [(&str, &str); 14] = [
 
 #[test]
 fn leftmost_piece_at_fault(rt: HostRuntime) -> Result<(), Fail> {
-    for (text, name) in &ROWS {
+    for (text, name) in ROWS {
         let found = match again!(LanguageRange::read(rt.alloc(), text.as_bytes())) {
             Ok(_) => "",
             Err(fault) => fault.name(),

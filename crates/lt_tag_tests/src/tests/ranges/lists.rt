@@ -6,7 +6,7 @@ use std::alloc::Global;
 use std::test::Fail;
 
 /// Tags that are offered.
-const TAGS: [&str; 7] = [
+const TAGS: &[&str] = &[
     "zh-Hant",
     "de-Latn-DE",
     "fr",
@@ -38,7 +38,7 @@ fn is_extended(
 
 #[test]
 fn places_go_by_priority(rt: HostRuntime) -> Result<(), Fail> {
-    let tags = tags_of(rt.alloc(), &TAGS)?;
+    let tags = tags_of(rt.alloc(), TAGS)?;
     let ranges = ranges_of(rt.alloc(), &["fr", "de-DE", "de"])?;
     assert!(rt; is_basic(rt.alloc(), &ranges, &tags, &[2, 4, 3, 5, 1, 6])?);
     assert!(rt; is_extended(rt.alloc(), &ranges, &tags, &[2, 4, 1, 3, 5, 6])?);
@@ -46,7 +46,7 @@ fn places_go_by_priority(rt: HostRuntime) -> Result<(), Fail> {
 }
 
 /// Lists of ranges, and the place of the tag that lookup finds by each.
-const LOOKUPS: [(&[&str], Option<usize>); 6] = [
+const LOOKUPS: &[(&[&str], Option<usize>)] = &[
     (&["fr-FR", "zh-Hant"], Some(2)),
     (&["en", "zh-Hant-CN"], Some(0)),
     (&["de-DE-x-a"], Some(3)),
@@ -62,8 +62,8 @@ fn found(alloc: Global, texts: &[&str], tags: &[TagSubtags]) -> Result<Option<us
 
 #[test]
 fn first_range_that_finds_a_tag(rt: HostRuntime) -> Result<(), Fail> {
-    let tags = tags_of(rt.alloc(), &TAGS)?;
-    for (texts, place) in &LOOKUPS {
+    let tags = tags_of(rt.alloc(), TAGS)?;
+    for (texts, place) in LOOKUPS {
         assert!(rt; found(rt.alloc(), texts, &tags)? == *place, "{place:?}");
     }
     Ok(())
@@ -78,7 +78,7 @@ fn is_a_range(alloc: Global, tag: &TagSubtags) -> Result<bool, Fail> {
 
 #[test]
 fn a_tag_is_a_range(rt: HostRuntime) -> Result<(), Fail> {
-    let tags = tags_of(rt.alloc(), &TAGS)?;
+    let tags = tags_of(rt.alloc(), TAGS)?;
     for (place, tag) in tags.iter().enumerate() {
         assert!(rt; is_a_range(rt.alloc(), tag)?, "{place}");
     }

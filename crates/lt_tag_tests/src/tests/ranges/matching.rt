@@ -5,7 +5,7 @@ use std::test::Fail;
 
 /// Ranges and tags, and whether the range matches the tag by basic filtering, by extended filtering and by lookup. The
 /// rows are the examples of RFC 4647, 3.3.1, 3.3.2 and 3.4, and of each kind of range and tag that these lack one.
-const ROWS: [(&str, &str, bool, bool, bool); 34] = [
+const ROWS: &[(&str, &str, bool, bool, bool)] = &[
     ("de-de", "de-DE-1996", true, true, false),
     ("de-de", "de-Deva", false, false, false),
     ("de-de", "de-Latn-DE", false, true, false),
@@ -85,7 +85,7 @@ fn matches(alloc: Global, range: &str, tag: &str) -> Result<(bool, bool, bool), 
 
 #[test]
 fn ranges_match_tags(rt: HostRuntime) -> Result<(), Fail> {
-    for (range, tag, basic, extended, lookup) in &ROWS {
+    for (range, tag, basic, extended, lookup) in ROWS {
         let found = matches(rt.alloc(), range, tag)?;
         assert!(rt; found == (*basic, *extended, *lookup), "{range} {tag}");
     }

@@ -7,7 +7,7 @@ use std::alloc::Global;
 use std::test::Fail;
 
 /// The tags of which the rows below speak.
-const TAGS: [&str; 23] = [
+const TAGS: &[&str] = &[
     "de",
     "de-DE",
     "de-Deva-DE",
@@ -36,7 +36,7 @@ const TAGS: [&str; 23] = [
 /// Ranges; a mark for each tag, `#` where basic filtering matches it (`MAP_EXTENDED_RANGES`), and the same of extended
 /// filtering (`EXTENDED_FILTERING`); and what lookup finds, or `-`. That is empty where the range has a `*`, which
 /// Java's lookup takes for any text: by RFC 4647, 3.4, `*-latn` finds none, and there it finds `en`.
-const ROWS: [(&str, &str, &str, &str); 19] = [
+const ROWS: &[(&str, &str, &str, &str)] = &[
     (
         "de",
         "#########............##",
@@ -209,8 +209,8 @@ fn is_as_java(
 
 #[test]
 fn matches_as_java(rt: HostRuntime) -> Result<(), Fail> {
-    let tags = tags_of(rt.alloc(), &TAGS)?;
-    for row in &ROWS {
+    let tags = tags_of(rt.alloc(), TAGS)?;
+    for row in ROWS {
         assert!(rt; is_as_java(rt.alloc(), &tags, row)?, "{}", row.0);
     }
     Ok(())
