@@ -56,7 +56,8 @@ counted status parts = record { status = status; detail = 0; place = length part
 
 -- If a text and its parts fit, they are written. Else nothing is, and the status is BufferTooSmall (5). The number of
 -- parts and the text's length are answered in both cases.
-pub record AreDelivered (parts : List PartNumbers) (text : List ℕ) (room filled : List PartNumbers) (before after : List ℕ)
+pub record AreDelivered (parts : List PartNumbers) (text : List ℕ) (room filled : List PartNumbers)
+    (before after : List ℕ)
     (o : Outcome) : Type 0 where
   pub fit : length parts ≤ length room → length text ≤ length before
       → (o ≡ outcome (counted 0 parts) (length text)) × StandIn parts room filled × StandsIn text before after
@@ -73,14 +74,16 @@ pub record HasParts (text : List ℕ) (shown : List ℕ) (parts : List PartNumbe
   pub are_parts : parts ≡ map in_numbers (parts_of tag)
 
 -- the parts of the tag and its text are answered
-pub record AreWritten (text : List ℕ) (room filled : List PartNumbers) (before after : List ℕ) (o : Outcome) : Type 0 where
+pub record AreWritten (text : List ℕ) (room filled : List PartNumbers) (before after : List ℕ)
+    (o : Outcome) : Type 0 where
   pub shown : List ℕ
   pub parts : List PartNumbers
   pub owed : HasParts text shown parts
   pub delivered : AreDelivered parts shown room filled before after o
 
 -- why the text is no tag is answered, and no part is written
-pub record AreNotWritten (text : List ℕ) (room filled : List PartNumbers) (before after : List ℕ) (o : Outcome) : Type 0 where
+pub record AreNotWritten (text : List ℕ) (room filled : List PartNumbers) (before after : List ℕ)
+    (o : Outcome) : Type 0 where
   pub refused : IsRefusedAsOwed (IsReadingRefusal text) before after o
   pub kept : filled ≡ room
 

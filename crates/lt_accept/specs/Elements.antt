@@ -1,5 +1,6 @@
 -- How an element of the header Accept-Language is read: a language range and its weight (RFC 9110, 12.5.4).
-use Rattle.std.specs.Prelude.{ℕ, ◌≡◌, ◌==◌, ◌||◌, Bool, true, false, not, List, [], ◌∷◌, Option, Some, None, Result, Ok, Err}
+use Rattle.std.specs.Prelude.{ℕ, ◌≡◌, ◌==◌, ◌||◌, Bool, true, false, not, List, [], ◌∷◌, Option, Some, None, Result, Ok}
+use Rattle.std.specs.Prelude.{Err}
 use Rattle.std.specs.List.{list_all}
 use Rattle.lt_range.specs.Ranges.{RangeParts}
 use Rattle.lt_range.specs.Reading.{is_star, range_of}

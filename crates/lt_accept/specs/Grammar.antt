@@ -11,8 +11,8 @@ use Rattle.lt_accept.specs.Headers.{comma_pieces}
 abbrev pub IsWhiteSpace : List ℕ → Type 0
 IsWhiteSpace text = list_all is_blank text ≡ true
 
--- language-range = (1*8ALPHA *("-" 1*8alphanum)) / "*" (RFC 4647, 2.1): what is read as a range is one by its grammar, by
--- the law of `lt_range`
+-- language-range = (1*8ALPHA *("-" 1*8alphanum)) / "*" (RFC 4647, 2.1): what is read as a range is one by its grammar,
+-- by the law of `lt_range`
 pub record IsBasicRange (text : List ℕ) : Type 0 where
   pub range : IsOk (range_of text)
   pub basic : is_basic text ≡ true

@@ -32,8 +32,8 @@ pub record IsFields (fields : List ℕ) : Type 0 where
   pub separator : before is_separator (list_of rest) ≡ []
   pub no_singleton : list_all (λ (s : List ℕ). not (length s == 1)) (list_of rest) ≡ true
 
--- the end is a hyphen (45), the singleton t, a hyphen, this source, of which nothing is asked, and these fields (RFC 6497,
--- 2.2)
+-- the end is a hyphen (45), the singleton t, a hyphen, this source, of which nothing is asked, and these fields (RFC
+-- 6497, 2.2)
 pub record IsTransformed (source fields end : List ℕ) : Type 0 where
   pub singleton : ℕ
   pub is_t : to_ascii_lowercase singleton ≡ transform
@@ -62,7 +62,8 @@ pub record TellsEnd (R : List EntryParts) (front end canonical : List ℕ) : Typ
 -- in canonical texts, the same follows each canonical core with the same end (RFC 5646, 4.5)
 abbrev pub EndsAreShared : List EntryParts → Type 0
 EndsAreShared R =
-    (front end canonical : List ℕ) → IsCanonicalCore R front → IsEnd end → IsCanonicalTextOf R (front ++ end) canonical →
+    (front end canonical : List ℕ) → IsCanonicalCore R front → IsEnd end
+    → IsCanonicalTextOf R (front ++ end) canonical →
     TellsEnd R front end canonical
 
 -- `canonical` is what follows the source in the canonical text of each canonical core with a `t` extension of a

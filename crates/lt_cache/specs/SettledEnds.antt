@@ -14,11 +14,12 @@ use Rattle.lt_cache.specs.Ends.{IsEndText}
 abbrev pub is_settled_end : List ℕ → Bool
 is_settled_end (h ∷ s ∷ i ∷ rest) =
     ((h == 45) && (i == 45))
-    && ((((s == 117) || (s == 85)) && keys_rise None (list_of rest)) || (((s == 120) || (s == 88)) && list_all is_subtag (list_of rest)))
+    && ((((s == 117) || (s == 85)) && keys_rise None (list_of rest))
+    || (((s == 120) || (s == 88)) && list_all is_subtag (list_of rest)))
 is_settled_end _ = false
 
--- in a registry that passes the check, what was appended is what follows each canonical core with this end in its canonical
--- text
+-- in a registry that passes the check, what was appended is what follows each canonical core with this end in its
+-- canonical text
 abbrev pub AppendsEndText : (end old new : List ℕ) → Type 0
 AppendsEndText end old new =
     (rest : List ℕ) × ((R : List EntryParts) → IsChecked R → IsEndText R end rest) × (new ≡ old ++ rest)

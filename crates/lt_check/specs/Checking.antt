@@ -5,7 +5,8 @@ use Rattle.lt_registry.specs.declared.entries.EntryName.TheVariants as names
 use Rattle.lt_registry.specs.declared.entries.Kind.TheVariants as kinds
 use Rattle.lt_rewrite.specs.Shortcuts.{ShortcutParts, AreShortcuts}
 use Rattle.lt_check.specs.Flags.{AreFlags}
-use Rattle.lt_rewrite.specs.Conditions.{HasEndingChain, HasFinalPrefixes, HasFittingExtlang, HasFittingVariantValue, HasLangtagPrefixes, HasNoRangeValue, HasRegisteredValue}
+use Rattle.lt_rewrite.specs.Conditions.{HasEndingChain, HasFinalPrefixes, HasFittingExtlang, HasFittingVariantValue}
+use Rattle.lt_rewrite.specs.Conditions.{HasLangtagPrefixes, HasNoRangeValue, HasRegisteredValue}
 use Rattle.lt_check.specs.Conditions.{HasValidWhole, Meets, rank_of, IsAtFault, Passes, IsFinding, IsChecked}
 use Rattle.lt_check.specs.WholeChecks.{MeetsBelow}
 use Rattle.lt_check.specs.declared.conditions.Condition.{Condition}

@@ -8,7 +8,9 @@ use Rattle.lt_registry.specs.Validity.{IsValid, Distinct}
 use Rattle.lt_registry.specs.declared.entries.Kind.TheVariants as kinds
 use Rattle.lt_registry.specs.declared.entries.EntryName.TheVariants as names
 use Rattle.lt_rewrite.specs.CoreSteps.{IsCoreNormalForm}
-use Rattle.lt_rewrite.specs.Conditions.{HasOwnName, HasRegisteredValue, HasEndingChain, HasFittingExtlang, HasFittingVariantValue, HasFinalPrefixes, HasLangtagPrefixes, HasFittingGrandfathered, HasNoRangeValue, MeetsCoreConditions}
+use Rattle.lt_rewrite.specs.Conditions.{HasOwnName, HasRegisteredValue, HasEndingChain, HasFittingExtlang}
+use Rattle.lt_rewrite.specs.Conditions.{HasFittingVariantValue, HasFinalPrefixes, HasLangtagPrefixes}
+use Rattle.lt_rewrite.specs.Conditions.{HasFittingGrandfathered, HasNoRangeValue, MeetsCoreConditions}
 use Rattle.lt_check.specs.declared.conditions.Condition.{Condition}
 use Rattle.lt_check.specs.declared.conditions.Condition.TheVariants as conditions
 use Rattle.lt_tag.specs.Values.{core_alone}

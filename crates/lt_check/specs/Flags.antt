@@ -1,5 +1,6 @@
 -- A flag for each subtag that has a place in a table: whether it stays as it is, so that many tags need no search.
-use Rattle.std.specs.Prelude.{ℕ, ◌≡◌, ◌/◌, ◌%◌, ◌==◌, ◌&&◌, if◌then◌else◌, Bool, not, List, Some, All, bytes_eq, slice_index}
+use Rattle.std.specs.Prelude.{ℕ, ◌≡◌, ◌/◌, ◌%◌, ◌==◌, ◌&&◌, if◌then◌else◌, Bool, not, List, Some, All, bytes_eq}
+use Rattle.std.specs.Prelude.{slice_index}
 use Rattle.std.specs.Int.{bit_at}
 use Rattle.std.specs.List.{list_any}
 use Rattle.lt_subtag.specs.Bytes.{folded}

@@ -1,6 +1,7 @@
 -- How a text is written in conventional case if all its subtags have flags. No public contract cites this; it is shown
 -- to agree with what is read, and with conventional case.
-use Rattle.std.specs.Prelude.{ℕ, ◌+◌, ◌==◌, ◌&&◌, if◌then◌else◌, Bool, true, List, [], ◌∷◌, Option, Some, None, option_map, slice_index, bit_and, bit_or}
+use Rattle.std.specs.Prelude.{ℕ, ◌+◌, ◌==◌, ◌&&◌, if◌then◌else◌, Bool, true, List, [], ◌∷◌, Option, Some, None}
+use Rattle.std.specs.Prelude.{option_map, slice_index, bit_and, bit_or}
 use Rattle.lt_check.specs.Places.{language_2, language_3, script_4, region_2, region_3}
 use Rattle.lt_check.specs.Flags.{flag}
 use Rattle.lt_check.specs.declared.texts.AfterLanguage.{AfterLanguage}

@@ -1,5 +1,6 @@
 -- Subtags that stay as they are, and texts of such subtags alone (RFC 5646, 4.5).
-use Rattle.std.specs.Prelude.{ℕ, ◌≡◌, ◌≤◌, ◌==◌, ◌&&◌, Bool, true, false, not, List, [], length, find, bytes_eq, is_none, is_some, IfSome}
+use Rattle.std.specs.Prelude.{ℕ, ◌≡◌, ◌≤◌, ◌==◌, ◌&&◌, Bool, true, false, not, List, [], length, find, bytes_eq}
+use Rattle.std.specs.Prelude.{is_none, is_some, IfSome}
 use Rattle.std.specs.List.{list_any}
 use Rattle.std.specs.Option.{option_map_or}
 use Rattle.lt_tag.specs.Parts.{CoreParts}

@@ -1,5 +1,6 @@
 -- How the codes of a table are looked up: three letters have a number, at which the place of their code is listed.
-use Rattle.std.specs.Prelude.{◌≡◌, ◌≤◌, ℕ, List, [], ◌∷◌, ◌+◌, ◌-◌, ◌*◌, Option, Some, None, IsSome, if◌then◌else◌, zero, suc, length, slice_get, slice_index}
+use Rattle.std.specs.Prelude.{◌≡◌, ◌≤◌, ℕ, List, [], ◌∷◌, ◌+◌, ◌-◌, ◌*◌, Option, Some, None, IsSome, if◌then◌else◌}
+use Rattle.std.specs.Prelude.{zero, suc, length, slice_get, slice_index}
 use Rattle.std.specs.List.{All}
 use Rattle.std.specs.Char.{is_ascii_alphabetic, to_ascii_lowercase}
 use Rattle.lt_subtag.specs.Bytes.{folded}
@@ -39,4 +40,5 @@ IsPlaceOf codes text (suc i) = (c : Code) × (found_in codes text ≡ Some c) ×
 pub record AreIndexed (codes : List Code) (places : List ℕ) : Type 0 where
   pub each : All IsCode codes
   pub full : length places ≡ numbers
-  pub place : (text : List ℕ) (number : ℕ) → number_of text ≡ Some number → IsPlaceOf codes text (slice_index places number)
+  pub place : (text : List ℕ) (number : ℕ) → number_of text ≡ Some number
+      → IsPlaceOf codes text (slice_index places number)

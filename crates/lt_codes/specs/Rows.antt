@@ -1,5 +1,6 @@
 -- The rows of a table of codes, as of ISO 639-2, and the codes that each adds.
-use Rattle.std.specs.Prelude.{◌≡◌, ◌==◌, ◌&&◌, ℕ, Bool, List, [], ◌∷◌, Option, Some, None, Result, Ok, Err, if◌then◌else◌, is_some, length, option_map, unwrap_or}
+use Rattle.std.specs.Prelude.{◌≡◌, ◌==◌, ◌&&◌, ℕ, Bool, List, [], ◌∷◌, Option, Some, None, Result, Ok, Err}
+use Rattle.std.specs.Prelude.{if◌then◌else◌, is_some, length, option_map, unwrap_or}
 use Rattle.std.specs.List.{after_first, before_first, slice_split}
 use Rattle.std.specs.Option.{option_or}
 use Rattle.lt_subtag.specs.Reading.{subtag_of}
@@ -35,7 +36,8 @@ code_or_none count (byte ∷ field) = option_map Some (code_of count (byte ∷ f
 -- whether a field is two codes of three letters with a hyphen (45) between them, as `qaa-qtz`
 abbrev pub is_range : List ℕ → Bool
 is_range field =
-    is_some (code_of 3 (after_first (λ byte. byte == 45) field)) && is_some (code_of 3 (before_first (λ byte. byte == 45) field))
+    is_some (code_of 3 (after_first (λ byte. byte == 45) field))
+    && is_some (code_of 3 (before_first (λ byte. byte == 45) field))
 
 -- whether a field has no byte
 abbrev pub is_empty : List ℕ → Bool
@@ -62,7 +64,8 @@ code_if (Some code) registered = record { code = code; registered = registered }
 
 -- the codes of a row: the bibliographic one, and the terminologic one, if there is one
 abbrev pub codes_in : Row → List Code
-codes_in row = record { code = row.bibliographic; registered = registered_in row } ∷ code_if row.terminologic (registered_in row)
+codes_in row =
+    record { code = row.bibliographic; registered = registered_in row } ∷ code_if row.terminologic (registered_in row)
 
 -- the codes that a line with these fields adds: none if it is a range, and None if a field lacks its form
 abbrev pub codes_of : (bibliographic terminologic two_letters : List ℕ) → Option (List Code)

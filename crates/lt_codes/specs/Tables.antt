@@ -1,5 +1,6 @@
 -- The table of codes of languages (ISO 639-2) that a text is, line by line, and why it is none.
-use Rattle.std.specs.Prelude.{◌≡◌, ◌≤◌, ◌<◌, ◌+◌, ◌⊎◌, ◌==◌, ℕ, List, [], ◌∷◌, ◌++◌, Option, Some, None, Result, Ok, Err, IfSome, length}
+use Rattle.std.specs.Prelude.{◌≡◌, ◌≤◌, ◌<◌, ◌+◌, ◌⊎◌, ◌==◌, ℕ, List, [], ◌∷◌, ◌++◌, Option, Some, None, Result, Ok}
+use Rattle.std.specs.Prelude.{Err, IfSome, length}
 use Rattle.std.specs.List.{All, count_by}
 use Rattle.std.specs.Str.{IsUtf8}
 use Rattle.lt_jar.specs.Lines.{content_of, lines_of}

@@ -1,5 +1,6 @@
 -- The names that a heading gives to columns, and which columns have a given name.
-use Rattle.std.specs.Prelude.{◌≡◌, ◌≢◌, ◌≤◌, ◌+◌, ◌==◌, ◌&&◌, ℕ, Bool, false, true, List, [], ◌∷◌, ◌++◌, Option, Some, None, codes, if◌then◌else◌, length, string_bytes}
+use Rattle.std.specs.Prelude.{◌≡◌, ◌≢◌, ◌≤◌, ◌+◌, ◌==◌, ◌&&◌, ℕ, Bool, false, true, List, [], ◌∷◌, ◌++◌, Option, Some}
+use Rattle.std.specs.Prelude.{None, codes, if◌then◌else◌, length, string_bytes}
 use Rattle.std.specs.List.{AllByRecursion, flat_map}
 use Rattle.lt_jar.specs.Lines.{content_of}
 use Rattle.lt_rows.specs.Rows.{IsEnded, IsRowField, IsTextIn, separator}
@@ -79,7 +80,8 @@ shown_names names = flat_map shown_name names
 
 -- the line that says how many columns have a name, and lists all names, which are shown already
 abbrev pub shown_line : (whose shown listed : List ℕ) → List ℕ
-shown_line whose shown listed = codes "error: " ++ whose ++ codes " has the name" ++ shown ++ codes "; names:" ++ listed ++ 10 ∷ []
+shown_line whose shown listed =
+    codes "error: " ++ whose ++ codes " has the name" ++ shown ++ codes "; names:" ++ listed ++ 10 ∷ []
 
 -- the line for a name that no column has, or more than one
 abbrev pub name_line : (whose : List ℕ) → (name : List ℕ) → List (List ℕ) → List ℕ

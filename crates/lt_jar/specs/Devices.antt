@@ -1,5 +1,6 @@
 -- What contracts see of a device, a reader or writer that counts its reads and failures.
-use Rattle.std.specs.Prelude.{◌≡◌, ◌<◌, ◌-◌, ◌+◌, ◌^◌, ◌⊎◌, ◌&&◌, ℕ, zero, suc, List, length, min, if◌then◌else◌, nat_lt, nat_eq, Result, Ok, Err}
+use Rattle.std.specs.Prelude.{◌≡◌, ◌<◌, ◌-◌, ◌+◌, ◌^◌, ◌⊎◌, ◌&&◌, ℕ, zero, suc, List, length, min, if◌then◌else◌}
+use Rattle.std.specs.Prelude.{nat_lt, nat_eq, Result, Ok, Err}
 use Rattle.lt_jar.specs.declared.devices.Device.{Device}
 
 -- the reader or the writer in a device

@@ -1,5 +1,6 @@
 -- How records are read line by line, as a function, which contracts compare the code with.
-use Rattle.std.specs.Prelude.{◌≡◌, ◌<◌, ◌+◌, ◌∷◌, ◌++◌, ℕ, List, [], length, get_or, Result, Ok, Err, nat_lt, if◌then◌else◌}
+use Rattle.std.specs.Prelude.{◌≡◌, ◌<◌, ◌+◌, ◌∷◌, ◌++◌, ℕ, List, [], length, get_or, Result, Ok, Err, nat_lt}
+use Rattle.std.specs.Prelude.{if◌then◌else◌}
 use Rattle.std.specs.List.{All, filter}
 use Rattle.std.specs.Str.{is_utf8}
 use Rattle.lt_jar.specs.LineKinds.{IsNamed, Line, Blank, Separator, Continuation, Start, Bad, line_of}
@@ -109,4 +110,5 @@ nothing = ([], [])
 
 -- the line begins a field that has the name of the field at this place, and this body
 abbrev pub BeginsAgain : ℕ → List Field → List ℕ → List ℕ → Type 0
-BeginsAgain place fields line body = (place < length fields) × (line_of line ≡ Start (get_or fields place nothing).0 body)
+BeginsAgain place fields line body =
+    (place < length fields) × (line_of line ≡ Start (get_or fields place nothing).0 body)

@@ -1,5 +1,6 @@
 -- What contracts see of the reader and the writer for tests: what they give and take, and which call fails.
-use Rattle.std.specs.Prelude.{◌≡◌, ℕ, zero, suc, ◌&&◌, List, [], length, drop, min, if◌then◌else◌, nat_eq, nat_le, Option, Some, None}
+use Rattle.std.specs.Prelude.{◌≡◌, ℕ, zero, suc, ◌&&◌, List, [], length, drop, min, if◌then◌else◌, nat_eq, nat_le}
+use Rattle.std.specs.Prelude.{Option, Some, None}
 use Rattle.lt_jar.specs.Devices.{one_more}
 use Rattle.lt_jar.specs.declared.pieces.Pieces.{Pieces}
 use Rattle.lt_jar.specs.declared.pieces.Takes.{Takes}

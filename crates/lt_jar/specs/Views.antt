@@ -5,7 +5,9 @@ use Rattle.lt_jar.specs.Records.{Field}
 use Rattle.lt_jar.specs.Faults as faults
 use Rattle.lt_jar.specs.Reading as reading
 use Rattle.lt_jar.specs.declared.faults.JarFaultKind.{JarFaultKind}
-use Rattle.lt_jar.specs.declared.faults.JarFaultKind.TheVariants.{LineTooLong, NotUtf8, LeadingContinuation, BadLine, TooManyRecords, OutOfMemory, Read, TooManyTurns, Failed}
+use Rattle.lt_jar.specs.declared.faults.JarFaultKind.TheVariants.{LineTooLong, NotUtf8, LeadingContinuation, BadLine}
+use Rattle.lt_jar.specs.declared.faults.JarFaultKind.TheVariants.{TooManyRecords, OutOfMemory, Read, TooManyTurns}
+use Rattle.lt_jar.specs.declared.faults.JarFaultKind.TheVariants.{Failed}
 use Rattle.lt_jar.specs.declared.faults.JarFault.{JarFault}
 use Rattle.lt_jar.specs.declared.lines.LineKind.{LineKind}
 use Rattle.lt_jar.specs.declared.lines.LineKind.TheVariants as kinds

@@ -1,5 +1,6 @@
 -- The JSON object that the command `json` answers to a text.
-use Rattle.std.specs.Prelude.{◌≡◌, ◌↔◌, ℕ, Bool, true, false, IsTrue, List, [], ◌∷◌, ◌++◌, codes, Option, Some, None, Result, Ok, Err}
+use Rattle.std.specs.Prelude.{◌≡◌, ◌↔◌, ℕ, Bool, true, false, IsTrue, List, [], ◌∷◌, ◌++◌, codes, Option, Some, None}
+use Rattle.std.specs.Prelude.{Result, Ok, Err}
 use Rattle.std.specs.Str.{IsUtf8}
 use Rattle.std.specs.Fmt.{decimal}
 use Rattle.hex.specs.Hex.{encode_lower}
@@ -32,7 +33,8 @@ abbrev pub IsAnswerTo : List EntryParts → List ℕ → Answer → Type 0
 IsAnswerTo R text (Ok canonical) = IsCanonicalTextOf R text canonical
 IsAnswerTo R text (Err (refusals.NotATag fault)) = IsTextRefusal R text (refusals.NotATag fault)
 IsAnswerTo R text (Err (refusals.Invalid fault)) = IsTextRefusal R text (refusals.Invalid fault)
-IsAnswerTo R text (Err (refusals.ReplacementRepeats variant)) = IsTextRefusal R text (refusals.ReplacementRepeats variant)
+IsAnswerTo R text (Err (refusals.ReplacementRepeats variant)) =
+    IsTextRefusal R text (refusals.ReplacementRepeats variant)
 IsAnswerTo R text (Err refusals.OutOfMemory) = ⊥
 
 -- whether the text is refused
@@ -93,9 +95,11 @@ pub record AppendsObject (R : List EntryParts) (text old new : List ℕ) (refuse
 
 -- the beginning of the object: a brace (123) and the members for the text, with a comma (44) between them
 abbrev pub opening : (is_text : Bool) → List ℕ → List ℕ
-opening true text = (123 ∷ member_text (member (codes "input") (string text))) ++ (44 ∷ member_text (member (codes "bytes") null))
+opening true text =
+    (123 ∷ member_text (member (codes "input") (string text))) ++ (44 ∷ member_text (member (codes "bytes") null))
 opening false text =
-    (123 ∷ member_text (member (codes "input") null)) ++ (44 ∷ member_text (member (codes "bytes") (string (encode_lower text))))
+    (123 ∷ member_text (member (codes "input") null))
+    ++ (44 ∷ member_text (member (codes "bytes") (string (encode_lower text))))
 
 -- the beginning of the object was appended
 pub record AppendsOpening (text old new : List ℕ) : Type 0 where

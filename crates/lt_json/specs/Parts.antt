@@ -67,7 +67,8 @@ unicode_value parts = object (singleton_member unicode
 -- a field of a `t` extension as an object (RFC 6497, 2.2)
 unfoldable pub field_value : FieldParts → List ℕ
 field_value field =
-    object (member (codes "separator") (string field.separator) ∷ member (codes "values") (subtags_value field.values) ∷ [])
+    object (member (codes "separator") (string field.separator)
+    ∷ member (codes "values") (subtags_value field.values) ∷ [])
 
 -- subtags, each after a hyphen (45)
 abbrev pub after_hyphens : List (List ℕ) → List ℕ

@@ -16,7 +16,8 @@ abbrev pub text_of : List ℕ → List ℕ
 text_of line = content_of (take longest_line line)
 
 -- these bytes are the object for a line, a line feed (10), and what `Others` says of the lines after it
-pub record AreOwed (R : List EntryParts) (line : List ℕ) (Others : List ℕ → Bool → Type 0) (bytes : List ℕ) (refused : Bool)
+pub record AreOwed (R : List EntryParts) (line : List ℕ) (Others : List ℕ → Bool → Type 0) (bytes : List ℕ)
+    (refused : Bool)
     : Type 0 where
   pub object : List ℕ
   pub is_refused : Bool
@@ -37,7 +38,8 @@ AreObjects R (line ∷ lines) bytes refused = AreOwed R line (AreObjects R lines
 abbrev pub AnswersByObjects : {I O : Type 0} → List EntryParts → (I → Option (List ℕ)) → (O → Option (List ℕ))
     → (input input' : Device I) → (output output' : Device O) → (refused : Bool) → Result (Unit {0}) ToolFault → Type 0
 AnswersByObjects R remaining contents input input' output output' refused result =
-    RunsOverLines (λ (refused : Bool) lines bytes. AreObjects R lines bytes refused) remaining contents input input' output output' refused result
+    RunsOverLines (λ (refused : Bool) lines bytes. AreObjects R lines bytes refused)
+    remaining contents input input' output output' refused result
 
 -- the object for the text of a line was appended, and a line feed (10)
 pub record AppendsLine (R : List EntryParts) (front old new : List ℕ) (refused : Bool) : Type 0 where

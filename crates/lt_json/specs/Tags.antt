@@ -30,7 +30,8 @@ members_of_tag tag =
 abbrev pub members_of_none : List Member
 members_of_none =
     member (codes "class") null
-    ∷ (no_core_members ++ (member (codes "extensions") (subtags_value []) ∷ member (codes "private") (subtags_value []) ∷ []))
+    ∷ (no_core_members ++ (member (codes "extensions") (subtags_value [])
+    ∷ member (codes "private") (subtags_value []) ∷ []))
 
 -- the members for the tag that a text is read as, or for none
 abbrev pub tag_members : Option TagForm → List Member

@@ -1,5 +1,6 @@
 -- Strings (RFC 8259, 7), over the bytes of a text of UTF-8.
-use Rattle.std.specs.Prelude.{◌/◌, ◌%◌, ◌+◌, ◌==◌, ◌&&◌, not, ℕ, Bool, List, [], ◌∷◌, ◌++◌, if◌then◌else◌, nat_le, nat_lt}
+use Rattle.std.specs.Prelude.{◌/◌, ◌%◌, ◌+◌, ◌==◌, ◌&&◌, not, ℕ, Bool, List, [], ◌∷◌, ◌++◌, if◌then◌else◌, nat_le}
+use Rattle.std.specs.Prelude.{nat_lt}
 use Rattle.std.specs.List.{flat_map}
 
 -- the last digit of a number to the base 16: 0 to 9 (48 to 57), or a to f (97 to 102)

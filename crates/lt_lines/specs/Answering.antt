@@ -1,5 +1,6 @@
 -- How the state of a run changes while lines come in pieces and are answered. No public contract cites this.
-use Rattle.std.specs.Prelude.{◌≡◌, ◌<◌, ◌≤◌, ◌+◌, ◌-◌, ◌^◌, ◌⊎◌, ℕ, Bool, true, false, List, [], ◌∷◌, ◌++◌, length, take, Option, Some, None, Result, IfErr, IfOk}
+use Rattle.std.specs.Prelude.{◌≡◌, ◌<◌, ◌≤◌, ◌+◌, ◌-◌, ◌^◌, ◌⊎◌, ℕ, Bool, true, false, List, [], ◌∷◌, ◌++◌, length}
+use Rattle.std.specs.Prelude.{take, Option, Some, None, Result, IfErr, IfOk}
 use Rattle.std.specs.List.{All, AllByRecursion}
 use Rattle.std.specs.Io.KnownBytes.{Appends}
 use Rattle.lt_jar.specs.Devices.{HasFailed, failures_of, inner_of}
@@ -13,7 +14,10 @@ use Rattle.lt_lines.specs.Refusals.{IsTold}
 use Rattle.lt_rows.specs.Quotes.{is_quoted, place_at}
 use Rattle.lt_rows.specs.declared.quotes.Place.{Place}
 use Rattle.lt_rows.specs.declared.quotes.Place.TheVariants as places
-use Rattle.lt_lines.specs.Owed.{AreLinesIn, AreReplies, Ground, IsBegun, IsHeadingReply, IsOfGrammar, IsReplyAmong, IsReplyTo, IsRowReply, IsShort, IsTextReply, IsUnit, IsWhole, Reply, Terms, bytes_in, ended, feeds_in, is_open, long_fault, place_of, refused_in, reply, row_line, units_of, with_canonical}
+use Rattle.lt_lines.specs.Owed.{AreLinesIn, AreReplies, Ground, IsBegun, IsHeadingReply, IsOfGrammar, IsReplyAmong}
+use Rattle.lt_lines.specs.Owed.{IsReplyTo, IsRowReply, IsShort, IsTextReply, IsUnit, IsWhole, Reply, Terms, bytes_in}
+use Rattle.lt_lines.specs.Owed.{ended, feeds_in, is_open, long_fault, place_of, refused_in, reply, row_line, units_of}
+use Rattle.lt_lines.specs.Owed.{with_canonical}
 use Rattle.lt_stream.specs.Running.{longest_row}
 use Rattle.lt_stream.specs.DeviceOutput.{IsFrontOf}
 use Rattle.lt_lines.specs.Tallied.{AreTalliesOf, OwesAll, TalliesInQuotes, TalliesTooLong}
@@ -262,9 +266,11 @@ pub record StopsTooLong {W : Type 0} (T : Terms) (piece : List ℕ) (old new : A
       → TalliesTooLong T line new.tallies (bytes ++ piece) (out ++ written)
 
 -- why a piece of the reader's bytes ends a run: a row or record is too long, a write failed, or memory ran out
-abbrev pub IsPieceStop : {W : Type 0} → Terms → List ℕ → (old new : Answering) → Device W → Device W → List ℕ → ToolFault → Type 0
+abbrev pub IsPieceStop : {W : Type 0} → Terms → List ℕ → (old new : Answering) → Device W → Device W → List ℕ
+    → ToolFault → Type 0
 IsPieceStop T piece old new before after written f = StopsTooLong T piece old new before after written f
-    ⊎ (IsStop before after f × ((bytes out : List ℕ) → IsTaken T bytes out old → IsBegun T (bytes ++ piece) (out ++ written)))
+    ⊎ (IsStop before after f ×
+    ((bytes out : List ℕ) → IsTaken T bytes out old → IsBegun T (bytes ++ piece) (out ++ written)))
 
 -- a piece of the reader's bytes was taken in, and all answers that are due were written; or a fault ended the run
 pub record TakesPiece {W : Type 0} (T : Terms) (contents : W → Option (List ℕ)) (piece : List ℕ)

@@ -49,24 +49,28 @@ abbrev pub HasRoomFor : Marked → ℕ → Type 0
 HasRoomFor state count = HasRoom state.answering (length state.front.items + count)
 
 -- why a run over a text ends early: a write or memory failed, the text is UTF-16, or a row or record is too long
-abbrev pub EndsText : {W : Type 0} → Terms → Device W → Device W → (bytes written : List ℕ) → List Tally → ToolFault → Type 0
+abbrev pub EndsText : {W : Type 0} → Terms → Device W → Device W → (bytes written : List ℕ) → List Tally
+    → ToolFault → Type 0
 EndsText T before after bytes written tallies f = (IsStop before after f × IsBegunText T bytes written)
     ⊎ (((f ≡ faults.Utf16) × (failures_of after ≡ failures_of before) × IsWide bytes × (written ≡ []) × (tallies ≡ []))
     ⊎ ((line : ℕ) × (f ≡ long_fault T.form line) × (failures_of after ≡ failures_of before)
     × AfterMark T (TalliesTooLong T line tallies) bytes written))
 
 -- the kept first bytes were split: their mark was written, and what follows it was taken in
-pub record BeginsText {W : Type 0} (T : Terms) (contents : W → Option (List ℕ)) (old new : Marked) (before after : Device W)
+pub record BeginsText {W : Type 0} (T : Terms) (contents : W → Option (List ℕ)) (old new : Marked)
+    (before after : Device W)
     (result : Result (Unit {0}) ToolFault) : Type 0 where
   pub written : List ℕ
   pub appends : Appends (contents (inner_of before)) (contents (inner_of after)) written
   pub mark : List ℕ
   pub text : List ℕ
   pub split : SplitsText T.form old.front.items mark text
-  pub done : IfOk result (λ _. (failures_of after ≡ failures_of before) × (new.answering.owed.items ≡ []) × (new.is_begun ≡ true) × (new.front.items ≡ [])
+  pub done : IfOk result (λ _. (failures_of after ≡ failures_of before) × (new.answering.owed.items ≡ [])
+      × (new.is_begun ≡ true) × (new.front.items ≡ [])
       × ((out : List ℕ) × (written ≡ mark ++ out) × (IsTaken T [] [] old.answering → IsTaken T text out new.answering)))
   pub room : IfOk result (λ _. (count : ℕ) → HasRoomFor old count → HasRoom new.answering count)
-  pub stopped : IfErr result (λ f. (IsWide old.front.items → ⊥) → IsTaken T [] [] old.answering → EndsText T before after old.front.items written new.answering.tallies f)
+  pub stopped : IfErr result (λ f. (IsWide old.front.items → ⊥) → IsTaken T [] [] old.answering
+      → EndsText T before after old.front.items written new.answering.tallies f)
 
 -- a piece of the reader's bytes was taken in, and all answers that are due were written; or a fault ended the run
 pub record TakesText {W : Type 0} (T : Terms) (contents : W → Option (List ℕ)) (piece : List ℕ) (old new : Marked)
@@ -76,7 +80,8 @@ pub record TakesText {W : Type 0} (T : Terms) (contents : W → Option (List ℕ
   pub done : IfOk result (λ _. (failures_of after ≡ failures_of before)
       × ((bytes out : List ℕ) → IsTakenText T bytes out old → old.answering.owed.items ≡ []
       → IsTakenText T (bytes ++ piece) (out ++ written) new × (new.answering.owed.items ≡ [])))
-  pub stopped : IfErr result (λ f. (bytes out : List ℕ) → IsTakenText T bytes out old → EndsText T before after (bytes ++ piece) (out ++ written) new.answering.tallies f)
+  pub stopped : IfErr result (λ f. (bytes out : List ℕ) → IsTakenText T bytes out old
+      → EndsText T before after (bytes ++ piece) (out ++ written) new.answering.tallies f)
 
 -- the text ends within quotes, and the fault names the line in which the unfinished record begins
 pub record EndsTextInQuotes {W : Type 0} (T : Terms) (before after : Device W) (bytes written : List ℕ)
@@ -92,7 +97,8 @@ pub record FinishesText {W : Type 0} (T : Terms) (contents : W → Option (List 
   pub written : List ℕ
   pub appends : Appends (contents (inner_of before)) (contents (inner_of after)) written
   pub done : IfOk result (λ counts. (failures_of after ≡ failures_of before)
-      × ((bytes out : List ℕ) → IsTakenText T bytes out old → AfterMark T (λ text more. OwesAll T text more counts new.answering.tallies) bytes (out ++ written)))
+      × ((bytes out : List ℕ) → IsTakenText T bytes out old
+      → AfterMark T (λ text more. OwesAll T text more counts new.answering.tallies) bytes (out ++ written)))
   pub stopped : IfErr result (λ f. (bytes out : List ℕ) → IsTakenText T bytes out old → old.answering.owed.items ≡ []
       → EndsTextInQuotes T before after bytes (out ++ written) new.answering.tallies f
       ⊎ EndsText T before after bytes (out ++ written) new.answering.tallies f)

@@ -41,7 +41,8 @@ pub record IsStoppedByQuotes {I : Type 0} (T : Terms) (remaining : I → Option 
   pub ends : AfterMark T (TalliesInQuotes T line tallies) read written
 
 -- a row or record is too long; what is owed for those before it was written
-pub record IsStoppedByLength (T : Terms) (read written : List ℕ) (tallies : List Tally) (f : ToolFault) (line : ℕ) : Type 0 where
+pub record IsStoppedByLength (T : Terms) (read written : List ℕ) (tallies : List Tally) (f : ToolFault)
+    (line : ℕ) : Type 0 where
   pub named : f ≡ long_fault T.form line
   pub ends : AfterMark T (TalliesTooLong T line tallies) read written
 
@@ -71,8 +72,8 @@ EndsAs T remaining input input' output output' reads read written tallies (Err f
 EndsAs T remaining input input' output output' reads read written tallies (Err faults.Write) = HasFailed output output'
 EndsAs T remaining input input' output output' reads read written tallies (Err faults.OutOfMemory) = Unit {0}
 
--- A run over the lines of a reader. Whatever ended it, what was written is a front of what is owed. The tallies are those
--- of the lines that were answered, but where a write or memory failed.
+-- A run over the lines of a reader. Whatever ended it, what was written is a front of what is owed. The tallies are
+-- those of the lines that were answered, but where a write or memory failed.
 pub record RunsLines {I O : Type 0} (T : Terms) (remaining : I → Option (List ℕ)) (contents : O → Option (List ℕ))
     (input input' : Device I) (output output' : Device O) (tallies : List Tally)
     (result : Result Counts ToolFault) : Type 0 where

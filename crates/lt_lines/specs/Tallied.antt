@@ -1,5 +1,6 @@
 -- Which lines of a text are refused, by which fault, and how they are counted.
-use Rattle.std.specs.Prelude.{◌≡◌, ◌⊎◌, ◌+◌, ◌<◌, ◌^◌, ℕ, Bool, true, false, List, [], ◌∷◌, ◌++◌, drop, if◌then◌else◌, length, nat_le, take}
+use Rattle.std.specs.Prelude.{◌≡◌, ◌⊎◌, ◌+◌, ◌<◌, ◌^◌, ℕ, Bool, true, false, List, [], ◌∷◌, ◌++◌, drop, if◌then◌else◌}
+use Rattle.std.specs.Prelude.{length, nat_le, take}
 use Rattle.std.specs.List.{before_first}
 use Rattle.lt_jar.specs.Lines.{content_of}
 use Rattle.lt_stream.specs.Tallies.{AreTallies, Refused}
@@ -68,7 +69,8 @@ AreRefused form number (line ∷ lines) (r ∷ replies) refusals =
 AreRefused form number lines replies refusals = refusals ≡ []
 
 -- the tallies of the lines that their answers refuse; the first line has the number 1
-pub record AreTalliesOf (form : LineForm) (lines : List (List ℕ)) (replies : List Reply) (tallies : List Tally) : Type 0 where
+pub record AreTalliesOf (form : LineForm) (lines : List (List ℕ)) (replies : List Reply)
+    (tallies : List Tally) : Type 0 where
   pub refusals : List Refused
   pub are_refused : AreRefused form 1 lines replies refusals
   pub tallied : AreTallies refusals tallies
@@ -80,7 +82,8 @@ pub record OwesAll (T : Terms) (bytes written : List ℕ) (counts : Counts) (tal
 
 -- what is owed up to the last line feed was written, and the tallies count the refused lines of it
 abbrev pub TalliesToLastFeed : Terms → List Tally → (bytes written : List ℕ) → Type 0
-TalliesToLastFeed T tallies bytes written = (o : IsOwedToLastFeed T bytes written) × AreTalliesOf T.form o.lines o.owed tallies
+TalliesToLastFeed T tallies bytes written =
+    (o : IsOwedToLastFeed T bytes written) × AreTalliesOf T.form o.lines o.owed tallies
 
 -- the bytes end within the quotes of a record that begins in this line; what is owed before it was written and tallied
 abbrev pub TalliesInQuotes : Terms → ℕ → List Tally → (bytes written : List ℕ) → Type 0
@@ -89,7 +92,8 @@ TalliesInQuotes T line tallies bytes written =
 
 -- a row or record that begins in this line is too long; what is owed before it was written and tallied
 abbrev pub TalliesTooLong : Terms → ℕ → List Tally → (bytes written : List ℕ) → Type 0
-TalliesTooLong T line tallies bytes written = (e : EndsTooLong T bytes written line) × AreTalliesOf T.form e.lines e.owed tallies
+TalliesTooLong T line tallies bytes written =
+    (e : EndsTooLong T bytes written line) × AreTalliesOf T.form e.lines e.owed tallies
 
 -- ---- the steps
 

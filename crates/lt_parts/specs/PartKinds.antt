@@ -1,7 +1,8 @@
 -- The kind of each part of a tag, in the order of its subtags.
 use Rattle.std.specs.Prelude.{ℕ, ◌==◌, if◌then◌else◌, List, [], ◌∷◌, ◌++◌, map, Option, option_to_list, flat_map}
 use Rattle.std.specs.Option.{option_map_or}
-use Rattle.lt_tag.specs.Parts.{CoreParts, ExtensionParts, TagForm, LangTag, PrivateUse, Grandfathered, KeywordParts, UForm, FieldParts, TForm}
+use Rattle.lt_tag.specs.Parts.{CoreParts, ExtensionParts, TagForm, LangTag, PrivateUse, Grandfathered, KeywordParts}
+use Rattle.lt_tag.specs.Parts.{UForm, FieldParts, TForm}
 use Rattle.lt_tag.specs.Extensions.{unicode, transform}
 use Rattle.lt_tag.specs.Splitting.{unicode_of, transform_of}
 use Rattle.lt_parts.specs.declared.kinds.PartKind.{PartKind}

@@ -1,5 +1,5 @@
--- When a language range matches a tag (RFC 4647, 3.3 and 3.4). Both are lists of subtags in lower case, since letter case
--- is ignored (RFC 4647, 2).
+-- When a language range matches a tag (RFC 4647, 3.3 and 3.4). Both are lists of subtags in lower case, since letter
+-- case is ignored (RFC 4647, 2).
 use Rattle.std.specs.Prelude.{ℕ, ◌≡◌, ◌<◌, ◌⊎◌, ◌-◌, ◌==◌, Bool, true, false, not, List, [], ◌∷◌, ◌++◌, length}
 use Rattle.std.specs.List.{list_all, slice_get, AllByRecursion}
 use Rattle.std.specs.Option.{option_map_or}

@@ -1,5 +1,6 @@
 -- What a text is read as: a language range, or the fault of the first piece with one.
-use Rattle.std.specs.Prelude.{ℕ, ◌≡◌, ◌==◌, Bool, true, false, if◌then◌else◌, List, [], ◌∷◌, ◌++◌, Option, Some, None, option_to_list, Result, Ok, Err}
+use Rattle.std.specs.Prelude.{ℕ, ◌≡◌, ◌==◌, Bool, true, false, if◌then◌else◌, List, [], ◌∷◌, ◌++◌, Option, Some, None}
+use Rattle.std.specs.Prelude.{option_to_list, Result, Ok, Err}
 use Rattle.lt_subtag.specs.Reading.{subtag_of}
 use Rattle.lt_subtag.specs.Shapes.{is_alphabetic}
 use Rattle.lt_subtag.specs.declared.SubtagFault.{SubtagFault}

@@ -1,5 +1,6 @@
 -- What each further record adds to the entries of those before it. No public contract cites this.
-use Rattle.std.specs.Prelude.{ℕ, ◌≡◌, ◌+◌, ◌⊎◌, Bool, true, false, List, [], ◌∷◌, ◌++◌, Option, Some, None, Result, Ok, Err}
+use Rattle.std.specs.Prelude.{ℕ, ◌≡◌, ◌+◌, ◌⊎◌, Bool, true, false, List, [], ◌∷◌, ◌++◌, Option, Some, None, Result, Ok}
+use Rattle.std.specs.Prelude.{Err}
 use Rattle.lt_jar.specs.Records.{Field}
 use Rattle.lt_jar.specs.Sources.{Advances, record_in}
 use Rattle.lt_jar.specs.declared.faults.JarFault.{JarFault}

@@ -1,6 +1,7 @@
--- The first fault of a core, and of extensions, computed from left to right. No public contract cites this; it is shown to agree with the
--- relations of Faults.
-use Rattle.std.specs.Prelude.{ℕ, ◌≡◌, ◌≢◌, ◌+◌, Bool, true, false, not, ◌||◌, List, [], ◌∷◌, ◌++◌, length, Option, Some, None, Result, Ok, Err, bytes_eq, ◌==◌, ◌⊎◌}
+-- The first fault of a core, and of extensions, computed from left to right. No public contract cites this; it is shown
+-- to agree with the relations of Faults.
+use Rattle.std.specs.Prelude.{ℕ, ◌≡◌, ◌≢◌, ◌+◌, Bool, true, false, not, ◌||◌, List, [], ◌∷◌, ◌++◌, length, Option, Some}
+use Rattle.std.specs.Prelude.{None, Result, Ok, Err, bytes_eq, ◌==◌, ◌⊎◌}
 use Rattle.std.specs.List.{list_any}
 use Rattle.lt_tag.specs.Parts.{CoreParts, ExtensionParts}
 use Rattle.lt_registry.specs.Parts.{EntryParts}

@@ -1,5 +1,7 @@
 -- The entries of a registry, and what they say of a subtag or a tag (RFC 5646, 3.1).
-use Rattle.std.specs.Prelude.{ℕ, ◌≡◌, ◌<◌, ◌⊎◌, Bool, true, false, if◌then◌else◌, ◌==◌, nat_lt, nat_le, ◌&&◌, ◌||◌, List, [], ◌∷◌, length, Option, Some, None, find, is_some, bytes_eq, IfSome, All, unwrap_or}
+use Rattle.std.specs.Prelude.{ℕ, ◌≡◌, ◌<◌, ◌⊎◌, Bool, true, false, if◌then◌else◌, ◌==◌, nat_lt, nat_le, ◌&&◌, ◌||◌}
+use Rattle.std.specs.Prelude.{List, [], ◌∷◌, length, Option, Some, None, find, is_some, bytes_eq, IfSome, All}
+use Rattle.std.specs.Prelude.{unwrap_or}
 use Rattle.std.specs.List.{list_all, list_any, AllByRecursion}
 use Rattle.std.specs.Option.{option_and_then, option_map_or, option_or}
 use Rattle.lt_subtag.specs.Bytes.{is_subtag}

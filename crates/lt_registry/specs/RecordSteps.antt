@@ -7,7 +7,9 @@ use Rattle.lt_tag.specs.Parts.{TagForm}
 use Rattle.lt_tag.specs.Faults.{HasTag}
 use Rattle.lt_jar.specs.Records.{Field}
 use Rattle.lt_registry.specs.Entries.{is_whole_kind}
-use Rattle.lt_registry.specs.Records.{is_called, body, type_name, subtag_name, tag_name, value_name, date_name, repeats_field, kind_of, name_field, subtags_named, HasNoTag, IsName, IsValue, prefixes_in, prefixes_of, bodies, prefix_name}
+use Rattle.lt_registry.specs.Records.{is_called, body, type_name, subtag_name, tag_name, value_name, date_name}
+use Rattle.lt_registry.specs.Records.{repeats_field, kind_of, name_field, subtags_named, HasNoTag, IsName, IsValue}
+use Rattle.lt_registry.specs.Records.{prefixes_in, prefixes_of, bodies, prefix_name}
 use Rattle.lt_registry.specs.declared.entries.Kind.{Kind}
 use Rattle.lt_registry.specs.declared.entries.EntryName.{EntryName}
 use Rattle.lt_registry.specs.declared.entries.EntryValue.{EntryValue}

@@ -1,7 +1,9 @@
 -- The entry that a record of a registry gives, and what can be wrong with a record (RFC 5646, 3.1). A record is a
 -- list of fields, each the pair of a name and a body. Letters of either case are the same in a field's name and in a
 -- type; of an entry's fields only Type, Subtag, Tag, Preferred-Value and Prefix are looked at.
-use Rattle.std.specs.Prelude.{ℕ, ◌≡◌, ◌≤◌, ◌+◌, ◌==◌, ◌⊎◌, Bool, true, false, ◌&&◌, ◌||◌, if◌then◌else◌, List, [], ◌∷◌, ◌++◌, length, map, filter, find, drop, Option, Some, None, option_map, is_some, is_none, Result, Ok, Err, codes, nat_lt, count_by}
+use Rattle.std.specs.Prelude.{ℕ, ◌≡◌, ◌≤◌, ◌+◌, ◌==◌, ◌⊎◌, Bool, true, false, ◌&&◌, ◌||◌, if◌then◌else◌, List, [], ◌∷◌}
+use Rattle.std.specs.Prelude.{◌++◌, length, map, filter, find, drop, Option, Some, None, option_map, is_some, is_none}
+use Rattle.std.specs.Prelude.{Result, Ok, Err, codes, nat_lt, count_by}
 use Rattle.std.specs.Str.{str_eq_ignore_ascii_case}
 use Rattle.lt_subtag.specs.Reading.{subtag_of}
 use Rattle.lt_subtag.specs.declared.SubtagFault.{SubtagFault}

@@ -1,5 +1,6 @@
 -- What a step, given by its kind, its place and the number of its record, makes of a tag and of each of its parts.
-use Rattle.std.specs.Prelude.{ℕ, ◌≡◌, ◌<◌, ◌+◌, Bool, true, false, List, Option, Some, None, length, take, flat_map, slice_index_or}
+use Rattle.std.specs.Prelude.{ℕ, ◌≡◌, ◌<◌, ◌+◌, Bool, true, false, List, Option, Some, None, length, take, flat_map}
+use Rattle.std.specs.Prelude.{slice_index_or}
 use Rattle.std.proofs.Common.{Ordering, Equal}
 use Rattle.lt_tag.specs.Parts.{CoreParts, ExtensionParts, KeywordParts, UForm, TForm, TagForm}
 use Rattle.lt_tag.specs.Spelling.{spell_extensions}
@@ -9,7 +10,8 @@ use Rattle.lt_registry.specs.Entries.{entry, preferred_value, whole, whole_value
 use Rattle.lt_registry.specs.declared.entries.Kind.{Kind}
 use Rattle.lt_rewrite.specs.CoreSteps.{CoreStep}
 use Rattle.lt_rewrite.specs.TagSteps.{TagChange}
-use Rattle.lt_rewrite.specs.Labels.{tag_label, core_label, unicode_label, transform_label, extension_label, extensions_label}
+use Rattle.lt_rewrite.specs.Labels.{tag_label, core_label, unicode_label, transform_label, extension_label}
+use Rattle.lt_rewrite.specs.Labels.{extensions_label}
 use Rattle.lt_rewrite.specs.Orderings.{SwapsAt, DropsAt}
 use Rattle.lt_rewrite.specs.Extensions.{DropsTrue, UnicodeStep, TransformStep, ExtensionStep, ExtensionsStep}
 use Rattle.lt_rewrite.specs.declared.steps.Step.{Step}

@@ -1,13 +1,15 @@
 -- The conditions C1 to C8 and C12, each on a record among all. A registry meets a condition if each of its records
 -- does.
-use Rattle.std.specs.Prelude.{ℕ, ◌≡◌, ◌≢◌, ◌<◌, ◌⊎◌, Bool, true, false, if◌then◌else◌, List, [], ◌∷◌, Option, Some, None, All, Contains, unwrap_or}
+use Rattle.std.specs.Prelude.{ℕ, ◌≡◌, ◌≢◌, ◌<◌, ◌⊎◌, Bool, true, false, if◌then◌else◌, List, [], ◌∷◌, Option, Some}
+use Rattle.std.specs.Prelude.{None, All, Contains, unwrap_or}
 use Rattle.std.specs.List.{AllByRecursion}
 use Rattle.lt_tag.specs.Parts.{CoreParts, TagForm, Grandfathered}
 use Rattle.lt_tag.specs.Spelling.{spell_core, IsCore}
 use Rattle.lt_tag.specs.Grandfathered.{IsGrandfathered}
 use Rattle.lt_tag.specs.WellFormed.{IsNotGrandfathered}
 use Rattle.lt_registry.specs.Parts.{EntryParts}
-use Rattle.lt_registry.specs.Entries.{entry, one_of, is_registered, is_short, preferred_value, variant_value, language_value}
+use Rattle.lt_registry.specs.Entries.{entry, one_of, is_registered, is_short, preferred_value, variant_value}
+use Rattle.lt_registry.specs.Entries.{language_value}
 use Rattle.lt_registry.specs.Validity.{IsProperCore, Distinct}
 use Rattle.lt_registry.specs.declared.entries.Kind.{Kind}
 use Rattle.lt_registry.specs.declared.entries.Kind.TheVariants as kinds

@@ -1,5 +1,6 @@
 -- The replacement steps on a core (RFC 5646, 4.5), over the entries of a registry.
-use Rattle.std.specs.Prelude.{ℕ, ◌≡◌, zero, suc, nat_eq, if◌then◌else◌, List, [], length, take, slice_get, slice_set, Option, Some, None, is_none}
+use Rattle.std.specs.Prelude.{ℕ, ◌≡◌, zero, suc, nat_eq, if◌then◌else◌, List, [], length, take, slice_get, slice_set}
+use Rattle.std.specs.Prelude.{Option, Some, None, is_none}
 use Rattle.std.specs.Option.{option_map_or}
 use Rattle.std.specs.List.{list_all, remove}
 use Rattle.lt_tag.specs.Parts.{CoreParts}

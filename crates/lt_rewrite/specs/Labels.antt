@@ -10,9 +10,12 @@ use Rattle.lt_registry.specs.Entries.{entry, whole, number_of}
 use Rattle.lt_registry.specs.Faults.{before_script, before_region, before_variants}
 use Rattle.lt_registry.specs.declared.entries.Kind.{Kind}
 use Rattle.lt_registry.specs.declared.entries.Kind.TheVariants as kinds
-use Rattle.lt_rewrite.specs.CoreSteps.{Spot, at_extlang, at_language, at_script, at_region, at_variant, at_variant_language, CoreStep}
+use Rattle.lt_rewrite.specs.CoreSteps.{Spot, at_extlang, at_language, at_script, at_region, at_variant}
+use Rattle.lt_rewrite.specs.CoreSteps.{at_variant_language, CoreStep}
 use Rattle.lt_rewrite.specs.Orderings.{ListStep, by_swap, by_drop}
-use Rattle.lt_rewrite.specs.Extensions.{UnicodeStep, on_attributes, on_keywords, on_types, TransformStep, on_source, on_fields, ExtensionStep, in_unicode, in_transform, ExtensionsStep, inside, among}
+use Rattle.lt_rewrite.specs.Extensions.{UnicodeStep, on_attributes, on_keywords, on_types, TransformStep, on_source}
+use Rattle.lt_rewrite.specs.Extensions.{on_fields, ExtensionStep, in_unicode, in_transform, ExtensionsStep, inside}
+use Rattle.lt_rewrite.specs.Extensions.{among}
 use Rattle.lt_rewrite.specs.TagSteps.{TagChange, on_core, on_extensions, on_whole, TagStep}
 use Rattle.lt_rewrite.specs.declared.steps.Step.{Step}
 use Rattle.lt_rewrite.specs.declared.steps.StepKind.{StepKind}

@@ -1,9 +1,11 @@
 -- Runs of steps, each of which is the first that leads on: the order is by the rank of the kind, and then by the place.
-use Rattle.std.specs.Prelude.{ℕ, ◌≡◌, ◌+◌, ◌<◌, ◌≤◌, ◌⊎◌, nat_le, if◌then◌else◌, List, [], ◌∷◌, ◌++◌, length, slice_index_or}
+use Rattle.std.specs.Prelude.{ℕ, ◌≡◌, ◌+◌, ◌<◌, ◌≤◌, ◌⊎◌, nat_le, if◌then◌else◌, List, [], ◌∷◌, ◌++◌, length}
+use Rattle.std.specs.Prelude.{slice_index_or}
 use Rattle.std.proofs.Common.{Ordering, Less}
 use Rattle.lt_tag.specs.Parts.{CoreParts, ExtensionParts, KeywordParts, UForm, TForm}
 use Rattle.lt_registry.specs.Parts.{EntryParts}
-use Rattle.lt_rewrite.specs.Applying.{CoreLeads, HasLike, SwapLeads, DropLeads, TrueLeads, UnicodeLeads, TransformLeads, ExtensionsLeads}
+use Rattle.lt_rewrite.specs.Applying.{CoreLeads, HasLike, SwapLeads, DropLeads, TrueLeads, UnicodeLeads, TransformLeads}
+use Rattle.lt_rewrite.specs.Applying.{ExtensionsLeads}
 use Rattle.lt_rewrite.specs.declared.steps.Step.{Step}
 use Rattle.lt_rewrite.specs.declared.steps.StepKind.{StepKind}
 use Rattle.lt_rewrite.specs.declared.steps.StepKind.TheVariants as steps

@@ -1,7 +1,8 @@
 -- Quotes (34): what is within them, and what is outside (RFC 4180, 2). A quote begins quoted text where a field begins,
 -- and where a quote has just ended some: so a quote that is doubled within quotes ends them and begins them again. In
 -- other places a quote is a byte like any other. A field begins after a delimiter: a comma (44) in RFC 4180.
-use Rattle.std.specs.Prelude.{◌≡◌, ◌==◌, ◌||◌, ◌&&◌, ℕ, Bool, true, false, not, List, [], ◌∷◌, ◌++◌, Option, MatchOption, if◌then◌else◌}
+use Rattle.std.specs.Prelude.{◌≡◌, ◌==◌, ◌||◌, ◌&&◌, ℕ, Bool, true, false, not, List, [], ◌∷◌, ◌++◌, Option}
+use Rattle.std.specs.Prelude.{MatchOption, if◌then◌else◌}
 use Rattle.std.specs.Borrow.{Bor}
 use Rattle.lt_jar.specs.Lines.{begin_first}
 use Rattle.lt_rows.specs.declared.quotes.Place.{Place}
@@ -46,5 +47,6 @@ records_from delimiter place (byte ∷ text) =
 -- what is before the first byte `stop` outside of quotes, and what is after it; None where there is no such byte
 abbrev pub SplitsOutside : (delimiter stop : ℕ) → List ℕ → Option (Bor (List ℕ) × Bor (List ℕ)) → Type 0
 SplitsOutside delimiter stop text parts = MatchOption parts (IsFreeOutside delimiter stop places.Fresh text)
-    (λ p. IsFreeOutside delimiter stop places.Fresh p.0.now × (is_quoted (place_at delimiter places.Fresh p.0.now) ≡ false)
+    (λ p. IsFreeOutside delimiter stop places.Fresh p.0.now
+    × (is_quoted (place_at delimiter places.Fresh p.0.now) ≡ false)
     × (text ≡ p.0.now ++ stop ∷ p.1.now))

@@ -1,5 +1,6 @@
 -- Rows of a table: fields with a tab (9) between them, as in TSV, or with a delimiter outside of quotes, as in CSV.
-use Rattle.std.specs.Prelude.{◌≡◌, ◌≢◌, ◌<◌, ◌≤◌, ◌+◌, ◌-◌, ◌⊎◌, ℕ, false, List, [], ◌∷◌, ◌++◌, drop, length, take, Option, MatchOption}
+use Rattle.std.specs.Prelude.{◌≡◌, ◌≢◌, ◌<◌, ◌≤◌, ◌+◌, ◌-◌, ◌⊎◌, ℕ, false, List, [], ◌∷◌, ◌++◌, drop, length, take}
+use Rattle.std.specs.Prelude.{Option, MatchOption}
 use Rattle.std.specs.List.{All, AllByRecursion}
 use Rattle.lt_rows.specs.Quotes.{IsFreeOutside, is_quoted, place_at}
 use Rattle.lt_rows.specs.declared.quotes.Place.TheVariants as places

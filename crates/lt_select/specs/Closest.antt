@@ -1,5 +1,6 @@
 -- The line that lookup finds, of those that were read so far. No public contract cites this.
-use Rattle.std.specs.Prelude.{◌≡◌, ◌<◌, ◌⊎◌, ◌++◌, ◌∷◌, ℕ, List, [], true, length, take, Option, Some, None, slice_index_or}
+use Rattle.std.specs.Prelude.{◌≡◌, ◌<◌, ◌⊎◌, ◌++◌, ◌∷◌, ℕ, List, [], true, length, take, Option, Some, None}
+use Rattle.std.specs.Prelude.{slice_index_or}
 use Rattle.lt_registry.specs.Parts.{EntryParts}
 use Rattle.lt_range.specs.Ranges.{RangeParts}
 use Rattle.lt_range.specs.Matching.{FallsBackTo}
@@ -45,7 +46,8 @@ ClosestAmong ranges lines lists (Some closest) = (place : ℕ) × IsClosest rang
     × (line_at lines place ≡ closest.line.items)
 
 -- the closest of these lines, None if none is found
-pub record Holds (R : List EntryParts) (ranges : List RangeParts) (lines : List (List ℕ)) (closest : Option Closest) : Type 0 where
+pub record Holds (R : List EntryParts) (ranges : List RangeParts) (lines : List (List ℕ))
+    (closest : Option Closest) : Type 0 where
   pub lists : List (List (List ℕ))
   pub have : LinesHave R lines lists
   pub among : ClosestAmong ranges lines lists closest
@@ -56,6 +58,8 @@ TakesLine R ranges kept old new = (lines : List (List ℕ)) (line : List ℕ) �
     → Holds R ranges lines old → Holds R ranges (lines ++ line ∷ []) new
 
 -- the same of a further line whose tag has the subtags `list`
-abbrev pub TakesSubtags : List RangeParts → (list : List (List ℕ)) → (line : List ℕ) → (old new : Option Closest) → Type 0
-TakesSubtags ranges list line old new = (lines : List (List ℕ)) (lists : List (List (List ℕ))) → length lines ≡ length lists
+abbrev pub TakesSubtags : List RangeParts → (list : List (List ℕ)) → (line : List ℕ)
+    → (old new : Option Closest) → Type 0
+TakesSubtags ranges list line old new =
+    (lines : List (List ℕ)) (lists : List (List (List ℕ))) → length lines ≡ length lists
     → ClosestAmong ranges lines lists old → ClosestAmong ranges (lines ++ line ∷ []) (lists ++ list ∷ []) new

@@ -8,5 +8,6 @@ use Rattle.lt_select.specs.declared.schemes.Scheme.{Scheme}
 -- ranges select one list of these lines at most
 abbrev pub SelectionIsDetermined : List EntryParts → Type 0
 SelectionIsDetermined R =
-    (scheme : Scheme) (ranges : List RangeParts) (lines a b : List (List ℕ)) → AreSelected (IsSelected R scheme ranges) lines a
+    (scheme : Scheme) (ranges : List RangeParts) (lines a b : List (List ℕ))
+    → AreSelected (IsSelected R scheme ranges) lines a
     → AreSelected (IsSelected R scheme ranges) lines b → a ≡ b

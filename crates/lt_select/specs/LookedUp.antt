@@ -36,7 +36,8 @@ LinesHave R (line ∷ lines) lists = (list : List (List ℕ)) × (more : List (L
     × (lists ≡ list ∷ more) × LinesHave R lines more
 
 -- lookup finds this line: by the first range that finds any, the first of those that are closest to that range
-pub record FindsLine (R : List EntryParts) (ranges : List RangeParts) (lines : List (List ℕ)) (line : List ℕ) : Type 0 where
+pub record FindsLine (R : List EntryParts) (ranges : List RangeParts) (lines : List (List ℕ))
+    (line : List ℕ) : Type 0 where
   pub lists : List (List (List ℕ))
   pub have : LinesHave R lines lists
   pub place : ℕ

@@ -32,7 +32,8 @@ pub record IsStoppedByTurns {I : Type 0} (P : Selection) (input' : Device I) (re
 -- how the run ended: with how many lines it wrote, or with a fault; an end by OutOfMemory says nothing more
 abbrev pub EndsAs : {I O : Type 0} → Selection → (I → Option (List ℕ)) → (input input' : Device I)
     → (output output' : Device O) → ℕ → (read written : List ℕ) → Result ℕ ToolFault → Type 0
-EndsAs P remaining input input' output output' reads read written (Ok count) = IsDone P remaining input' read written count
+EndsAs P remaining input input' output output' reads read written (Ok count) =
+    IsDone P remaining input' read written count
 EndsAs P remaining input input' output output' reads read written (Err faults.Read) =
     IsStoppedByRead P input input' read written
 EndsAs P remaining input input' output output' reads read written (Err faults.TooManyTurns) =

@@ -14,7 +14,8 @@ fields_of records (suc i) = get_or records i []
 abbrev pub is_shown : List ℕ → Bool
 is_shown name =
     str_eq_ignore_ascii_case name (codes "Description") || (str_eq_ignore_ascii_case name (codes "Deprecated")
-    || (str_eq_ignore_ascii_case name (codes "Preferred-Value") || (str_eq_ignore_ascii_case name (codes "Suppress-Script")
+    || (str_eq_ignore_ascii_case name (codes "Preferred-Value")
+    || (str_eq_ignore_ascii_case name (codes "Suppress-Script")
     || (str_eq_ignore_ascii_case name (codes "Macrolanguage") || (str_eq_ignore_ascii_case name (codes "Scope")
     || str_eq_ignore_ascii_case name (codes "Comments"))))))
 

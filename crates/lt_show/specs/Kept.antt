@@ -44,6 +44,7 @@ IsJarFailure (Ok draft) = ⊥
 IsJarFailure (Err fault) = fault.kind ≡ jars.Read
 
 -- the records of a registry were read from a device, with this answer
-unfoldable pub ReadsDraft : {R : Type 0} → (R → Option (List ℕ)) → (before after : Device R) → Result Draft JarFault → Type 0
+unfoldable pub ReadsDraft : {R : Type 0} → (R → Option (List ℕ)) → (before after : Device R)
+    → Result Draft JarFault → Type 0
 ReadsDraft remaining before after result =
     Reads remaining before after (AnswersDraft remaining result) (IsJarFailure result)

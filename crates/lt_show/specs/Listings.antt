@@ -16,8 +16,8 @@ use Rattle.lt_show.specs.declared.listings.Listing.TheVariants as listings
 use Rattle.lt_show.specs.declared.listings.Subject.{Subject}
 use Rattle.lt_show.specs.declared.listings.Subject.TheVariants as subjects
 
--- the kind of the records that list subtags of this kind, if any do; a source has the parts of a language tag (RFC 6497,
--- 2.2)
+-- the kind of the records that list subtags of this kind, if any do; a source has the parts of a language tag (RFC
+-- 6497, 2.2)
 abbrev pub kind_of : PartKind → Option Kind
 kind_of parts.Language = Some kinds.Language
 kind_of parts.Extlang = Some kinds.Extlang

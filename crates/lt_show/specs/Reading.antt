@@ -12,8 +12,8 @@ use Rattle.lt_show.specs.declared.reading.RecordsFault.TheVariants as faults
 abbrev pub RecordsReading : Type 0
 RecordsReading = Result (List EntryParts × List (List Field)) RecordsFault
 
--- The bytes have these records, of which these are the entries; or they are refused as where the entries are read alone;
--- or memory ran out.
+-- The bytes have these records, of which these are the entries; or they are refused as where the entries are read
+-- alone; or memory ran out.
 abbrev pub AnswersWith : {R : Type 0} → (R → Option (List ℕ)) → RecordsReading → (before after : Device R)
     → List ℕ → ℕ → Type 0
 AnswersWith remaining (Ok both) before after bytes reads =

@@ -30,7 +30,8 @@ part_rows R tag text place (part ∷ parts) = row_of R tag text place part ∷ p
 abbrev pub whole_by : (text : List ℕ) → Option EntryParts → List Row
 whole_by text None = []
 whole_by text (Some e) =
-    record { place = 1; subject = subjects.Whole; start = 0; length = length text; listing = listings.Record e.number } ∷ []
+    record { place = 1; subject = subjects.Whole; start = 0; length = length text; listing = listings.Record e.number }
+    ∷ []
 
 -- the row of a tag that is registered as a whole; a grandfathered tag has that of its one part (RFC 5646, 2.2.8)
 abbrev pub whole_rows : List EntryParts → TagForm → List Row

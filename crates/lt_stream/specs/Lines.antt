@@ -23,7 +23,8 @@ pub record HasLine {A : Type 0} (Q : A → Answered A) (answers : A) : Type 0 wh
   pub few : length lines + 1 < 2 ^ 64
 
 -- bytes were appended that answer each line whose first bytes, at most `longest`, are `front`
-pub record TakesLine {A : Type 0} (Q : A → Answered A) (longest : ℕ) (front owed owed' : List ℕ) (old new : A) : Type 0 where
+pub record TakesLine {A : Type 0} (Q : A → Answered A) (longest : ℕ) (front owed owed' : List ℕ)
+    (old new : A) : Type 0 where
   pub part : List ℕ
   pub grown : owed' ≡ owed ++ part
   pub taken : (line : List ℕ) → IsOneLine line → front ≡ take longest line

@@ -26,7 +26,8 @@ pub record HasRoom {O P : Type 0} (T : P → RunFact O P) (count : ℕ) (now : O
   pub few : length read + count < 2 ^ 63
 
 -- if `T` is true before a piece, it is true after it too, or `S` is true of the run that the piece ends
-abbrev pub TakesPiece : {O P A : Type 0} → (P → RunFact O P) → (P → EndFact O P A) → List ℕ → (before after : O) → (old new : P)
+abbrev pub TakesPiece : {O P A : Type 0} → (P → RunFact O P) → (P → EndFact O P A) → List ℕ → (before after : O)
+    → (old new : P)
     → Result (Option A) ToolFault → Type 0
 TakesPiece {O = O} {P = P} T S piece before after old new (Ok None) =
     (first : P) (start : O) (read : List ℕ) → T first start before read old → T first start after (read ++ piece) new
@@ -38,7 +39,8 @@ TakesPiece {O = O} {P = P} T S piece before after old new (Err fault) =
     → S first start after (read ++ piece) new (Err fault)
 
 -- if `T` is true after the reader's last byte, `F` is true of the run that ends there
-abbrev pub FinishesPieces : {O P A : Type 0} → (P → RunFact O P) → (P → EndFact O P A) → (before after : O) → (old new : P)
+abbrev pub FinishesPieces : {O P A : Type 0} → (P → RunFact O P) → (P → EndFact O P A) → (before after : O)
+    → (old new : P)
     → Result A ToolFault → Type 0
 FinishesPieces {O = O} {P = P} T F before after old new result =
     (first : P) (start : O) (read : List ℕ) → T first start before read old → F first start after read new result

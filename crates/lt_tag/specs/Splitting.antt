@@ -1,6 +1,7 @@
 -- The parts of `u` and `t` extensions, computed from their subtags. The laws of lt_tag show that these are the parts
 -- that spell the subtags, and that there are no others.
-use Rattle.std.specs.Prelude.{ℕ, Bool, ◌&&◌, if◌then◌else◌, List, [], ◌∷◌, length, Option, Some, None, option_map, nat_lt}
+use Rattle.std.specs.Prelude.{ℕ, Bool, ◌&&◌, if◌then◌else◌, List, [], ◌∷◌, length, Option, Some, None, option_map}
+use Rattle.std.specs.Prelude.{nat_lt}
 use Rattle.std.specs.List.{list_all}
 use Rattle.std.specs.Option.{option_map_or}
 use Rattle.lt_subtag.specs.Shapes.{is_language, is_key, is_separator}

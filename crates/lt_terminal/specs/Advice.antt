@@ -1,5 +1,6 @@
 -- What a person is advised to do about a fault that refused a text.
-use Rattle.std.specs.Prelude.{ℕ, ◌+◌, ◌==◌, ◌||◌, ◌++◌, Bool, List, [], ◌∷◌, Option, Some, None, if◌then◌else◌, bytes_eq, codes, drop, find, length, map, nat_eq, nat_lt, option_map}
+use Rattle.std.specs.Prelude.{ℕ, ◌+◌, ◌==◌, ◌||◌, ◌++◌, Bool, List, [], ◌∷◌, Option, Some, None, if◌then◌else◌}
+use Rattle.std.specs.Prelude.{bytes_eq, codes, drop, find, length, map, nat_eq, nat_lt, option_map}
 use Rattle.std.specs.Char.{to_ascii_lowercase}
 use Rattle.std.specs.List.{ends_with}
 use Rattle.std.specs.Option.{option_or}
@@ -7,8 +8,8 @@ use Rattle.lt_codes.specs.Codes.{first_subtag}
 use Rattle.lt_terminal.specs.Codes.{two_letters}
 use Rattle.lt_terminal.specs.Meanings.{is_of, message_of}
 
--- the message with the two-letter code that BCP 47 writes for a three-letter one in any letter case (RFC 5646, 2.2.1), if
--- there is one
+-- the message with the two-letter code that BCP 47 writes for a three-letter one in any letter case (RFC 5646, 2.2.1),
+-- if there is one
 unfoldable pub code_message : List ℕ → Option (List ℕ)
 code_message (a ∷ b ∷ c ∷ []) = find (λ message. is_of message (map to_ascii_lowercase (a ∷ b ∷ c ∷ []))) two_letters
 code_message _ = None

@@ -1,5 +1,5 @@
--- The codes of three letters of ISO 639-2 that BCP 47 does not register (RFC 5646, 2.2.1), since the language has one of two.
--- tools/language_codes.py writes this file.
+-- The codes of three letters of ISO 639-2 that BCP 47 does not register (RFC 5646, 2.2.1), since the language has one
+-- of two. tools/language_codes.py writes this file.
 use Rattle.std.specs.Prelude.{ℕ, List, [], ◌∷◌, codes}
 
 -- the code of two letters beside each

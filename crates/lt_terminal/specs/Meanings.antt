@@ -107,7 +107,8 @@ stream_faults =
 
 -- all messages, in the order in which they are searched
 abbrev pub messages : List (List ℕ)
-messages = tag_faults ++ explanation_faults ++ file_faults ++ record_faults ++ table_faults ++ conditions ++ stream_faults
+messages =
+    tag_faults ++ explanation_faults ++ file_faults ++ record_faults ++ table_faults ++ conditions ++ stream_faults
 
 -- whether this is the message on the fault that a word names
 abbrev pub is_of : (message word : List ℕ) → Bool

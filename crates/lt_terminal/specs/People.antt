@@ -1,5 +1,6 @@
 -- A run of the program for a person at a terminal, who is told after it what it came to.
-use Rattle.std.specs.Prelude.{◌≡◌, ◌⊎◌, ◌==◌, ◌++◌, ◌||◌, ℕ, Bool, true, false, if◌then◌else◌, List, [], ◌∷◌, Option, Some, None, codes, map, nat_eq, take}
+use Rattle.std.specs.Prelude.{◌≡◌, ◌⊎◌, ◌==◌, ◌++◌, ◌||◌, ℕ, Bool, true, false, if◌then◌else◌, List, [], ◌∷◌, Option}
+use Rattle.std.specs.Prelude.{Some, None, codes, map, nat_eq, take}
 use Rattle.std.specs.List.{before_first, slice_split, starts_with}
 use Rattle.std.specs.Option.{option_or}
 use Rattle.lt_jar.specs.Devices.{inner_of}
@@ -103,14 +104,16 @@ pub record AreTold (unit : Option (List ℕ)) (result : ℕ) (answered : Answere
   pub lines_are : lines ≡ told_lines unit result answered place refusal output_front errors_front
 
 -- a person is told the lines that are due
-pub record SaysLines {T : Type 0} (unit : Option (List ℕ)) (result : ℕ) (answered : Answered) (shown said : Option (List ℕ))
+pub record SaysLines {T : Type 0} (unit : Option (List ℕ)) (result : ℕ) (answered : Answered)
+    (shown said : Option (List ℕ))
     (people : Stream T) : Type 0 where
   pub lines : List ℕ
   pub are_told : AreTold unit result answered shown said lines
   pub says : Says people lines
 
 -- what a person is told after a run: nothing, if nobody is told or there is no memory for it, or the lines that are due
-abbrev pub Tells : {T : Type 0} → Option (Option (List ℕ)) → (result : ℕ) → Answered → (shown said : Option (List ℕ)) → Stream T → Type 0
+abbrev pub Tells : {T : Type 0} → Option (Option (List ℕ)) → (result : ℕ) → Answered → (shown said : Option (List ℕ))
+    → Stream T → Type 0
 Tells None result answered shown said people = IsUntouched people
 Tells (Some unit) result answered shown said people =
     IsUntouched people ⊎ SaysLines unit result answered shown said people

@@ -33,7 +33,8 @@ first_told unit first = codes ", first in " ++ unit ++ 32 ∷ decimal first
 -- the line on a fault: how many lines it refused, its name, and the first of them
 abbrev pub tally_line : (unit : List ℕ) → Tally → List ℕ
 tally_line unit tally =
-    decimal tally.lines ++ 32 ∷ tally.fault.items ++ first_told unit tally.first ++ shown_text tally.text.items ++ 10 ∷ []
+    decimal tally.lines ++ 32 ∷ tally.fault.items ++ first_told unit tally.first
+    ++ shown_text tally.text.items ++ 10 ∷ []
 
 -- the line on a fault, and the line of advice on it
 abbrev pub tally_told : (unit : List ℕ) → Tally → List ℕ

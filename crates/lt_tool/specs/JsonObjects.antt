@@ -19,7 +19,8 @@ EndsObjects errors refused (Ok done) result =
 EndsObjects errors refused (Err fault) result = Says errors (fault_said fault) × (result ≡ code_of status.Failed)
 
 -- the lines of the input were answered with JSON objects by a registry `R`, up to the end or a fault
-pub record WritesObjects {I O E : Type 0} (R : List EntryParts) (input : Stream I) (output : Stream O) (errors : Stream E)
+pub record WritesObjects {I O E : Type 0} (R : List EntryParts) (input : Stream I) (output : Stream O)
+    (errors : Stream E)
     (result : ℕ) : Type 0 where
   pub refused : Bool
   pub end : Result (Unit {0}) ToolFault

@@ -20,7 +20,8 @@ IsFoundLine None text end = (text ≡ []) × (end ≡ status.Refused)
 IsFoundLine (Some line) text end = (text ≡ line.items ++ 10 ∷ []) × (end ≡ status.Done)
 
 -- how a run of lookup ends: its result is printed; or a fault ended it, which the errors say, and nothing is printed
-abbrev pub EndsLookup : {O E : Type 0} → Printing → Stream O → Stream E → Result (Option (Vec ℕ Global)) ToolFault → ℕ → Type 0
+abbrev pub EndsLookup : {O E : Type 0} → Printing → Stream O → Stream E
+    → Result (Option (Vec ℕ Global)) ToolFault → ℕ → Type 0
 EndsLookup Prints output errors (Ok found) result = Prints (IsFoundLine found)
 EndsLookup Prints output errors (Err fault) result =
     IsUntouched output × Says errors (fault_said fault) × (result ≡ code_of status.Failed)

@@ -1,5 +1,6 @@
 -- What a run of each command reads and prints, and with which exit status it ends.
-use Rattle.std.specs.Prelude.{◌≡◌, ◌⊎◌, ◌-◌, ℕ, Bool, true, false, List, [], ◌∷◌, ◌++◌, ◌==◌, if◌then◌else◌, Option, Some, Result, Ok, Err, MatchResult, is_some, string_bytes}
+use Rattle.std.specs.Prelude.{◌≡◌, ◌⊎◌, ◌-◌, ℕ, Bool, true, false, List, [], ◌∷◌, ◌++◌, ◌==◌, if◌then◌else◌, Option}
+use Rattle.std.specs.Prelude.{Some, Result, Ok, Err, MatchResult, is_some, string_bytes}
 use Rattle.std.specs.Borrow.{Bor, MutBor}
 use Rattle.std.specs.Io.Chain.{chain_remaining}
 use Rattle.std.specs.Io.KnownBytes.{Keeps}
@@ -141,7 +142,8 @@ bytes_ahead bytes ahead = chain_remaining (λ front. Some front.now) (λ rest. b
 
 -- the lines were answered from a reader of bytes read ahead and then of the device, which together give `all`, where
 -- they are known
-pub record RunsAfter {I O E : Type 0} (form : LineForm) (codes : List Code) (reading : Reading) (bytes : I → Option (List ℕ))
+pub record RunsAfter {I O E : Type 0} (form : LineForm) (codes : List Code) (reading : Reading)
+    (bytes : I → Option (List ℕ))
     (all : Option (List ℕ)) (output : Stream O) (errors : Stream E) (answered : Handed) (result : ℕ) : Type 0 where
   pub before : Device (Ahead I)
   pub after : Device (Ahead I)
@@ -156,10 +158,12 @@ pub record SaysUsage {O E : Type 0} (output : Stream O) (errors : Stream E) (tex
 
 -- How a run ends that looked for a column by its name. If it found the column, it answered the lines of all bytes of
 -- the input. If not, it read no more, and the errors say why.
-abbrev pub EndsNamed : {I O E : Type 0} → Separator → Rows → List Code → Reading → Stream I → (between : Device I) → Stream O
+abbrev pub EndsNamed : {I O E : Type 0} → Separator → Rows → List Code → Reading → Stream I
+    → (between : Device I) → Stream O
     → Stream E → Handed → ℕ → Result FoundColumn ColumnFault → Type 0
 EndsNamed S rows codes reading input between output errors answered result (Ok found) =
-    RunsAfter (line_form S rows found.number) codes reading input.bytes (input.bytes (inner_of input.before)) output errors
+    RunsAfter (line_form S rows found.number) codes reading input.bytes
+    (input.bytes (inner_of input.before)) output errors
     answered result
 EndsNamed S rows codes reading input between output errors answered result (Err (column_faults.Name line)) =
     (input.after ≡ between) × HandsNone answered × SaysUsage output errors (string_bytes line) result
@@ -167,7 +171,8 @@ EndsNamed S rows codes reading input between output errors answered result (Err 
     (input.after ≡ between) × HandsNone answered × IsUntouched output × EndsRun errors (Err f) result
 
 -- the column was looked for by its name in the heading of the input, and the rows were answered by it, or the run ended
-pub record RunsNamed {I O E : Type 0} (S : Separator) (rows : Rows) (name : List ℕ) (codes : List Code) (reading : Reading)
+pub record RunsNamed {I O E : Type 0} (S : Separator) (rows : Rows) (name : List ℕ) (codes : List Code)
+    (reading : Reading)
     (input : Stream I) (output : Stream O) (errors : Stream E) (answered : Handed) (result : ℕ) : Type 0 where
   pub entries : List EntryParts
   pub registry : HoldsRegistry reading entries
@@ -178,7 +183,8 @@ pub record RunsNamed {I O E : Type 0} (S : Separator) (rows : Rows) (name : List
 
 -- the rows of the input were answered by the registry of the file and by these codes, with a column given by number or
 -- by name
-abbrev pub RunsRows : {I O E : Type 0} → Separator → Rows → Column → List Code → Reading → Stream I → Stream O → Stream E → Handed
+abbrev pub RunsRows : {I O E : Type 0} → Separator → Rows → Column → List Code → Reading → Stream I → Stream O
+    → Stream E → Handed
     → ℕ → Type 0
 RunsRows S rows (columns.Number number) codes reading input output errors answered result =
     RunsCanon (line_form S rows number) codes reading input output errors answered result
@@ -188,14 +194,16 @@ RunsRows S rows (columns.Name name) codes reading input output errors answered r
 -- ---- a registry, and a table of codes where one is named
 
 -- the lines of the input were answered as what they are: tags, or rows with a column of tags
-abbrev pub RunsAs : {I O E : Type 0} → Lines → List Code → Reading → Stream I → Stream O → Stream E → Handed → ℕ → Type 0
+abbrev pub RunsAs : {I O E : Type 0} → Lines → List Code → Reading → Stream I → Stream O → Stream E
+    → Handed → ℕ → Type 0
 RunsAs lines.Tags codes reading input output errors answered result =
     RunsCanon forms.Tag codes reading input output errors answered result
 RunsAs (lines.Rows S rows) codes reading input output errors answered result =
     RunsRows S rows.now rows.now.column codes reading input output errors answered result
 
 -- a file is refused: no line of the input is read, and a line of which `IsLine` is true says why
-abbrev pub RefusesRun : {I O E : Type 0} → (List ℕ → Status → Type 0) → Stream I → Stream O → Stream E → Handed → ℕ → Type 0
+abbrev pub RefusesRun : {I O E : Type 0} → (List ℕ → Status → Type 0) → Stream I → Stream O → Stream E
+    → Handed → ℕ → Type 0
 RefusesRun IsLine input output errors answered result =
     IsUntouched input × HandsNone answered × PrintsOrLacks IsLine output errors result
 
@@ -207,7 +215,8 @@ RunsBy true Runs Refuses table = ReadsCodes table (λ reading. MatchResult readi
 
 -- A run over lines reads and judges the registry first, then a table of codes, if one is named. If the registry is
 -- refused, the table is not read.
-abbrev pub AnswersLines : {F G I O E : Type 0} → (List Code → Reading → Type 0) → (named : Bool) → Stream F → Stream G → Stream I
+abbrev pub AnswersLines : {F G I O E : Type 0} → (List Code → Reading → Type 0) → (named : Bool) → Stream F
+    → Stream G → Stream I
     → Stream O → Stream E → Handed → ℕ → Type 0
 AnswersLines Runs named first second input output errors answered result = ReadsFile first (λ reading.
     (IsUntouched second × RefusesRun (RefusesRegistry reading) input output errors answered result)
@@ -238,7 +247,8 @@ ExplainsByFile text output errors result reading =
 
 -- for each command, what its run read of its files and its input, wrote to its output and its errors, handed up of its
 -- lines, and its exit status
-abbrev pub Performs : {F G I O E : Type 0} → Command → Stream F → Stream G → Stream I → Stream O → Stream E → Handed → ℕ → Type 0
+abbrev pub Performs : {F G I O E : Type 0} → Command → Stream F → Stream G → Stream I → Stream O → Stream E
+    → Handed → ℕ → Type 0
 Performs (command.Classify tag) first second input output errors answered result =
     HandsNone answered × IsUntouched first × IsUntouched second × IsUntouched input
     × PrintsOrLacks (Classifies (string_bytes tag)) output errors result
@@ -251,10 +261,12 @@ Performs (command.Codes run table) first second input output errors answered res
     AnswersLines (λ codes reading. RunsCanon forms.Tag codes reading input output errors answered result) true
     first second input output errors answered result
 Performs (command.Tsv run rows) first second input output errors answered result =
-    AnswersLines (λ codes reading. RunsRows separators.Tab rows rows.column codes reading input output errors answered result)
+    AnswersLines (λ codes reading.
+    RunsRows separators.Tab rows rows.column codes reading input output errors answered result)
     (is_some rows.codes) first second input output errors answered result
 Performs (command.Csv run rows delimiter) first second input output errors answered result =
-    AnswersLines (λ codes reading. RunsRows (separators.Delimiter delimiter) rows rows.column codes reading input output errors
+    AnswersLines (λ codes reading.
+    RunsRows (separators.Delimiter delimiter) rows rows.column codes reading input output errors
     answered result) (is_some rows.codes) first second input output errors answered result
 Performs (command.Match name ranges) first second input output errors answered result =
     HandsNone answered × IsUntouched second
@@ -274,13 +286,15 @@ Performs (command.Verify name tag) first second input output errors answered res
     × ReadsFile first (Verifies (λ IsAnswer. PrintsOrLacks IsAnswer output errors result)
     (string_bytes tag) input output errors result)
 Performs (command.Upgrade old new) first second input output errors answered result =
-    HandsNone answered × IsUntouched input × UpgradesFiles first second (λ IsAnswer. PrintsOrLacks IsAnswer output errors result)
+    HandsNone answered × IsUntouched input
+    × UpgradesFiles first second (λ IsAnswer. PrintsOrLacks IsAnswer output errors result)
 Performs (command.Show file tags) first second input output errors answered result =
     HandsNone answered × IsUntouched second × IsUntouched input
     × ReadsKept first (λ reading. PrintsOrLacks (ShowsBy tags reading) output errors result)
 Performs (command.Json name) first second input output errors answered result =
     HandsNone answered × IsUntouched second
-    × ReadsFile first (AnswersInJson (λ IsAnswer. PrintsOrLacks IsAnswer output errors result) input output errors result)
+    × ReadsFile first
+    (AnswersInJson (λ IsAnswer. PrintsOrLacks IsAnswer output errors result) input output errors result)
 
 -- what a run wrote whose words name no command to perform (help, version, wrong usage, no memory), and its exit status
 abbrev pub Reports : {O E : Type 0} → WordsFault → Stream O → Stream E → ℕ → Type 0

@@ -1,5 +1,6 @@
 -- A whole run of the program, from the words of its command line to its exit status.
-use Rattle.std.specs.Prelude.{◌≡◌, ◌≢◌, ◌⊎◌, ℕ, Bool, true, false, List, [], ◌∷◌, ◌++◌, Option, Some, None, String, Vec, Result, Ok, Err, IfErr, IfOk, length, map, codes, string_bytes}
+use Rattle.std.specs.Prelude.{◌≡◌, ◌≢◌, ◌⊎◌, ℕ, Bool, true, false, List, [], ◌∷◌, ◌++◌, Option, Some, None, String, Vec}
+use Rattle.std.specs.Prelude.{Result, Ok, Err, IfErr, IfOk, length, map, codes, string_bytes}
 use Rattle.std.specs.IoError.{error_kind}
 use Rattle.std.specs.Io.KnownBytes.{ReadConsumes}
 use Rattle.std.specs.declared.alloc.Global.{Global}
@@ -212,4 +213,5 @@ pub record RefusesWords {P F I O E : Type 0} (words : GivenWords)
 abbrev pub RunsProgram : {P F N I O E : Type 0} → GivenWords → Opener P F
     → (N → Option (List ℕ)) → Stream I → Stream O → Stream E → Handed → ℕ → Type 0
 RunsProgram words opener of_none input output errors answered result =
-    RunsWords words opener of_none input output errors answered result ⊎ RefusesWords words opener input output errors answered result
+    RunsWords words opener of_none input output errors answered result
+    ⊎ RefusesWords words opener input output errors answered result

@@ -1,5 +1,6 @@
 -- What the command `match` reads and prints: lines of its input that ranges match (RFC 4647).
-use Rattle.std.specs.Prelude.{◌≡◌, ◌⊎◌, ◌==◌, ◌+◌, ℕ, List, [], ◌∷◌, ◌++◌, Option, Some, None, Result, Ok, Err, codes, if◌then◌else◌, length, map, string_bytes}
+use Rattle.std.specs.Prelude.{◌≡◌, ◌⊎◌, ◌==◌, ◌+◌, ℕ, List, [], ◌∷◌, ◌++◌, Option, Some, None, Result, Ok, Err, codes}
+use Rattle.std.specs.Prelude.{if◌then◌else◌, length, map, string_bytes}
 use Rattle.std.specs.Fmt.{decimal}
 use Rattle.lt_registry.specs.Parts.{EntryParts}
 use Rattle.lt_registry.specs.ReadRegistry.{Reading}
@@ -30,7 +31,8 @@ use Rattle.lt_tool.specs.declared.status.Status.TheVariants as status
 abbrev pub AreRanges : List EntryParts → List (List ℕ) → List RangeParts → Type 0
 AreRanges R [] ranges = ranges ≡ []
 AreRanges R (text ∷ texts) ranges =
-    (range : RangeParts) × (more : List RangeParts) × IsCanonicalRange R text range × (ranges ≡ range ∷ more) × AreRanges R texts more
+    (range : RangeParts) × (more : List RangeParts) × IsCanonicalRange R text range × (ranges ≡ range ∷ more)
+    × AreRanges R texts more
 
 -- the first of the texts that is refused as a range: its number, counted from 1, and why; running out of memory aside
 pub record RefusesRange (R : List EntryParts) (texts : List (List ℕ)) (refused : RefusedRange) : Type 0 where
@@ -87,9 +89,11 @@ pub record SelectsBy {I O E : Type 0} (R : List EntryParts) (scheme : Scheme) (r
   pub ends : EndsSelecting errors end result
 
 -- the lines that a scheme of filtering selects were printed, or, where there is no scheme, the line that lookup finds
-abbrev pub MatchesBy : {I O E : Type 0} → Printing → List EntryParts → List RangeParts → Stream I → Stream O → Stream E → ℕ
+abbrev pub MatchesBy : {I O E : Type 0} → Printing → List EntryParts → List RangeParts → Stream I → Stream O
+    → Stream E → ℕ
     → Option Scheme → Type 0
-MatchesBy Prints R ranges input output errors result (Some scheme) = SelectsBy R scheme ranges input output errors result
+MatchesBy Prints R ranges input output errors result (Some scheme) =
+    SelectsBy R scheme ranges input output errors result
 MatchesBy Prints R ranges input output errors result None = LooksUpBy Prints R ranges input output errors result
 
 -- how a run goes on once its ranges were read: lines were matched by them; or one is refused, and no line was read
@@ -118,4 +122,5 @@ pub record SelectsByFile {I O E : Type 0} (Prints : Printing) (ranges : Ranges) 
 -- went on with the ranges
 abbrev pub Selects : {I O E : Type 0} → Printing → Ranges → Stream I → Stream O → Stream E → ℕ → Reading → Type 0
 Selects Prints ranges input output errors result reading =
-    (IsUntouched input × Prints (RefusesRegistry reading)) ⊎ SelectsByFile Prints ranges reading input output errors result
+    (IsUntouched input × Prints (RefusesRegistry reading))
+    ⊎ SelectsByFile Prints ranges reading input output errors result

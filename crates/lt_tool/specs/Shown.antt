@@ -1,5 +1,6 @@
 -- What `show` prints of tags, and how it ends.
-use Rattle.std.specs.Prelude.{◌≡◌, ◌⊎◌, ◌||◌, ℕ, Bool, true, false, List, [], ◌∷◌, ◌++◌, map, Result, Ok, Err, IfOk, string_bytes}
+use Rattle.std.specs.Prelude.{◌≡◌, ◌⊎◌, ◌||◌, ℕ, Bool, true, false, List, [], ◌∷◌, ◌++◌, map, Result, Ok, Err, IfOk}
+use Rattle.std.specs.Prelude.{string_bytes}
 use Rattle.lt_jar.specs.Records.{Field}
 use Rattle.lt_tag.specs.Faults.{HasFault, HasTag}
 use Rattle.lt_tag.specs.Parts.{TagForm}
@@ -45,7 +46,8 @@ pub record AppendsEnding (R : List EntryParts) (text old new : List ℕ) (refuse
   pub grown : new ≡ old ++ ending
 
 -- what is shown of a text that is a tag: its table, its explanation or why it is refused, and an empty line
-pub record ShowsTag (R : List EntryParts) (records : List (List Field)) (text block : List ℕ) (refused : Bool) : Type 0 where
+pub record ShowsTag (R : List EntryParts) (records : List (List Field)) (text block : List ℕ)
+    (refused : Bool) : Type 0 where
   pub tag : TagForm
   pub read : HasTag text tag
   pub ending : List ℕ
@@ -90,7 +92,8 @@ pub record AppendsMembers (R : List EntryParts) (tag : TagForm) (old new : List 
   pub grown : new ≡ old ++ ending
 
 -- the JSON object of a text that is a tag: its rows, then its explanation or its refusal
-pub record ShowsObject (R : List EntryParts) (records : List (List Field)) (text block : List ℕ) (refused : Bool) : Type 0 where
+pub record ShowsObject (R : List EntryParts) (records : List (List Field)) (text block : List ℕ)
+    (refused : Bool) : Type 0 where
   pub tag : TagForm
   pub read : HasTag text tag
   pub ending : List ℕ
@@ -115,7 +118,8 @@ pub record ShowsNoTag (text block : List ℕ) (refused : Bool) : Type 0 where
 -- ---- all of them
 
 -- what is shown of a text, for people or as JSON, and whether the text is refused
-abbrev pub ShowsAs : (json : Bool) → List EntryParts → List (List Field) → (text block : List ℕ) → (refused : Bool) → Type 0
+abbrev pub ShowsAs : (json : Bool) → List EntryParts → List (List Field) → (text block : List ℕ)
+    → (refused : Bool) → Type 0
 ShowsAs false R records text block refused = ShowsTag R records text block refused ⊎ ShowsFault text block refused
 ShowsAs true R records text block refused = ShowsObject R records text block refused ⊎ ShowsNoTag text block refused
 
@@ -181,4 +185,5 @@ pub record ReadsKept {F : Type 0} (file : Stream F) (Holds : kept.RecordsReading
 -- a file was read with its records, and the answer is what `show` prints by it, unless there was no memory for an
 -- answer
 abbrev pub AnswersShown : {F : Type 0} → Stream F → Tags → Result Answer OutOfMemory → Type 0
-AnswersShown file tags answer = ReadsKept file (λ reading. IfOk answer (λ a. ShowsBy tags reading a.line.items a.status))
+AnswersShown file tags answer =
+    ReadsKept file (λ reading. IfOk answer (λ a. ShowsBy tags reading a.line.items a.status))

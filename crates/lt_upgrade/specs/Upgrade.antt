@@ -3,7 +3,8 @@
 use Rattle.std.specs.Prelude.{ℕ, ◌≡◌, ◌<◌, ◌≤◌, true, false, List, Option, Some, All, Contains, length, unwrap_or}
 use Rattle.lt_tag.specs.Parts.{TagForm}
 use Rattle.lt_registry.specs.Parts.{EntryParts}
-use Rattle.lt_registry.specs.Entries.{one_of, entry, preferred_value, language_value, is_registered, is_short, prefixes, has_prefix, letters_le}
+use Rattle.lt_registry.specs.Entries.{one_of, entry, preferred_value, language_value, is_registered, is_short, prefixes}
+use Rattle.lt_registry.specs.Entries.{has_prefix, letters_le}
 use Rattle.lt_registry.specs.declared.entries.Kind.{Kind}
 use Rattle.lt_registry.specs.declared.entries.Kind.TheVariants as kinds
 use Rattle.lt_registry.specs.declared.entries.EntryName.TheVariants as names

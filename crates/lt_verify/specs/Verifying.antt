@@ -116,7 +116,8 @@ pub record IsFollowed (R : List EntryParts) (first : Following) (read : List ℕ
 
 -- the bytes `read` settle this verdict from the beginning, whatever follows; or memory ran out
 abbrev pub Settles : List EntryParts → Following → List ℕ → Result Verdict ToolFault → Type 0
-Settles R first read (Ok v) = (more : List ℕ) → Judges R first.number first.here (lines_of (first.kept.items ++ (read ++ more))) v
+Settles R first read (Ok v) =
+    (more : List ℕ) → Judges R first.number first.here (lines_of (first.kept.items ++ (read ++ more))) v
 Settles R first read (Err f) = f ≡ faults.OutOfMemory
 
 -- this is the verdict on the bytes `read` from the beginning, where nothing follows; or memory ran out

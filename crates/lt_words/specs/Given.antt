@@ -1,5 +1,6 @@
 -- How a word of the command line that is no UTF-8 is reported.
-use Rattle.std.specs.Prelude.{◌≡◌, ◌/◌, ◌%◌, ◌+◌, ◌==◌, ◌&&◌, not, ⊤, ℕ, Bool, List, [], ◌∷◌, ◌++◌, if◌then◌else◌, codes, nat_le, nat_lt, string_bytes}
+use Rattle.std.specs.Prelude.{◌≡◌, ◌/◌, ◌%◌, ◌+◌, ◌==◌, ◌&&◌, not, ⊤, ℕ, Bool, List, [], ◌∷◌, ◌++◌, if◌then◌else◌}
+use Rattle.std.specs.Prelude.{codes, nat_le, nat_lt, string_bytes}
 use Rattle.std.specs.Fmt.{decimal}
 use Rattle.std.specs.List.{flat_map}
 use Rattle.std.specs.Str.{IsUtf8}
@@ -25,7 +26,8 @@ escaped bytes = flat_map escaped_byte bytes
 -- the line for a word that is not UTF-8: its number, and its bytes as they are shown
 abbrev pub word_line : (number : ℕ) → (shown : List ℕ) → List ℕ
 word_line number shown =
-    codes "error: word " ++ decimal number ++ codes " is not UTF-8: " ++ shown ++ codes "\n\nFor more information, try '--help'.\n"
+    codes "error: word " ++ decimal number ++ codes " is not UTF-8: " ++ shown
+    ++ codes "\n\nFor more information, try '--help'.\n"
 
 -- a word is not UTF-8, and the fault is the line that says so; OutOfMemory may be answered of any word
 abbrev pub IsNoText : (number : ℕ) → (bytes : List ℕ) → WordsFault → Type 0

@@ -1,5 +1,6 @@
 -- The command that the words of a command line name, or why they name none.
-use Rattle.std.specs.Prelude.{◌≡◌, ◌<◌, ◌^◌, ◌==◌, ◌&&◌, not, ⊤, ℕ, Bool, true, false, List, [], ◌∷◌, Option, Some, None, if◌then◌else◌, bytes_eq, codes, map, nat_lt, option_map, string_bytes}
+use Rattle.std.specs.Prelude.{◌≡◌, ◌<◌, ◌^◌, ◌==◌, ◌&&◌, not, ⊤, ℕ, Bool, true, false, List, [], ◌∷◌, Option, Some}
+use Rattle.std.specs.Prelude.{None, if◌then◌else◌, bytes_eq, codes, map, nat_lt, option_map, string_bytes}
 use Rattle.std.specs.Option.{option_map_or}
 use Rattle.std.specs.Str.Parse.{IsNumeral, digits_value, without_leading_plus}
 use Rattle.clap.specs.Words.{Row, Text, all_of, first_of, subcommand_of, fault_of, IsAmong}
@@ -64,9 +65,11 @@ AreValues (command.Check file) texts = texts ≡ string_bytes file ∷ []
 AreValues (command.Canon run) texts = texts ≡ string_bytes run.registry ∷ []
 AreValues (command.Codes run table) texts = texts ≡ string_bytes table ∷ string_bytes run.registry ∷ []
 AreValues (command.Tsv run rows) texts =
-    (text : Text) × IsColumn text rows.column × FitsHeading rows.heading rows.column × (texts ≡ string_bytes run.registry ∷ text ∷ [])
+    (text : Text) × IsColumn text rows.column × FitsHeading rows.heading rows.column
+    × (texts ≡ string_bytes run.registry ∷ text ∷ [])
 AreValues (command.Csv run rows delimiter) texts =
-    (text : Text) × IsColumn text rows.column × FitsHeading rows.heading rows.column × (texts ≡ string_bytes run.registry ∷ text ∷ [])
+    (text : Text) × IsColumn text rows.column × FitsHeading rows.heading rows.column
+    × (texts ≡ string_bytes run.registry ∷ text ∷ [])
 AreValues (command.Match file ranges) texts = texts ≡ string_bytes file ∷ []
 AreValues (command.Extlang file tag) texts = texts ≡ string_bytes file ∷ string_bytes tag ∷ []
 AreValues (command.Equal file tag other) texts = texts ≡ string_bytes file ∷ string_bytes tag ∷ string_bytes other ∷ []
@@ -119,7 +122,8 @@ AreRunOptions run rows = run.summary ≡ is_flagged (codes "summary") rows
 -- the options of rows are as the command line gives them
 abbrev pub AreRowOptions : Rows → List Row → Type 0
 AreRowOptions rows found =
-    (rows.keep ≡ is_flagged (codes "keep") found) × (option_map string_bytes rows.codes ≡ first_of (codes "TABLE") found)
+    (rows.keep ≡ is_flagged (codes "keep") found)
+    × (option_map string_bytes rows.codes ≡ first_of (codes "TABLE") found)
 
 -- the options of a command are as the command line gives them; CSV always has a heading
 abbrev pub AreOptions : Command → List Row → Type 0
@@ -128,11 +132,14 @@ AreOptions (command.Codes run table) found = AreRunOptions run found
 AreOptions (command.Tsv run rows) found =
     AreRunOptions run found × (rows.heading ≡ is_flagged (codes "heading") found) × AreRowOptions rows found
 AreOptions (command.Csv run rows delimiter) found =
-    AreRunOptions run found × (rows.heading ≡ true) × (delimiter_given found ≡ Some delimiter) × AreRowOptions rows found
+    AreRunOptions run found × (rows.heading ≡ true) × (delimiter_given found ≡ Some delimiter)
+    × AreRowOptions rows found
 AreOptions (command.Match file ranges) found =
-    (map string_bytes ranges.texts.items ≡ values_given (codes "RANGE") found) × (matching_given found ≡ Some ranges.matching)
+    (map string_bytes ranges.texts.items ≡ values_given (codes "RANGE") found)
+    × (matching_given found ≡ Some ranges.matching)
 AreOptions (command.Show file tags) found =
-    (map string_bytes tags.texts.items ≡ values_given (codes "TAG") found) × (tags.json ≡ is_flagged (codes "json") found)
+    (map string_bytes tags.texts.items ≡ values_given (codes "TAG") found)
+    × (tags.json ≡ is_flagged (codes "json") found)
 AreOptions _ found = ⊤
 
 -- the texts are the values of these required arguments
