@@ -81,7 +81,7 @@ hostile:
 # Refuses each growth of memory in turn, in the tests that are meant for it and in the program. `rt test` proves the tests
 # of a crate, where they changed, and leaves them in out/.
 growth: all
-	set -e; for crate in lt_tag_tests lt_jar_tests lt_registry_tests lt_rewrite_tests lt_canon_tests lt_match_tests lt_lines_tests lt_show_tests lt_json_tests lt_codes_tests; do (cd crates/$$crate && rt test); done
+	set -e; for crate in lt_tag_tests lt_jar_tests lt_registry_tests lt_rewrite_tests lt_canon_tests lt_match_tests lt_lines_tests lt_answers_tests; do (cd crates/$$crate && rt test); done
 	bench/growth.py
 
 # What `make` and `make lib` built, with the manual, pages, completions and a registry; PARTS=program leaves the library out.

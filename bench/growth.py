@@ -24,7 +24,7 @@ from pathlib import Path
 
 ROOT = Path(__file__).resolve().parent.parent
 CRATES = ["lt_tag_tests", "lt_jar_tests", "lt_registry_tests", "lt_rewrite_tests", "lt_canon_tests", "lt_match_tests",
-          "lt_lines_tests", "lt_show_tests", "lt_json_tests", "lt_codes_tests"]
+          "lt_lines_tests", "lt_answers_tests"]
 PROGRAM = ROOT / "build" / "langtag"
 SECONDS = 60
 NONE = "_without_growth"

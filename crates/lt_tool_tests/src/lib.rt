@@ -1,4 +1,4 @@
-//! Tests of the program's calls, over what is public.
+//! Tests of the program's calls and of what a person is told after a run, over what is public.
 #![tactic(auto)]
 
 #[cfg(test)]

@@ -1,5 +1,6 @@
 //! The words of the command line, and what a run prints.
 mod program;
+mod told;
 mod verified;
 
 use lt_jar::Device;
