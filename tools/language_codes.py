@@ -37,8 +37,8 @@ pub(crate) static CODES: [&str; {len(messages)}] = [
 
 def definition(messages):
     lines = "".join(f'    codes "{message}" ∷\n' for message in messages)
-    return f"""-- The codes of three letters of ISO 639-2 that BCP 47 does not register (RFC 5646, 2.2.1), since the language has one of two.
--- tools/language_codes.py writes this file.
+    return f"""-- The codes of three letters of ISO 639-2 that BCP 47 does not register (RFC 5646, 2.2.1), since the language has one
+-- of two. tools/language_codes.py writes this file.
 use Rattle.std.specs.Prelude.{{ℕ, List, [], ◌∷◌, codes}}
 
 -- the code of two letters beside each
