@@ -3,7 +3,8 @@ use lt_jar::Pieces;
 use lt_testing::sample_text;
 use lt_tool::{Command, WordsFault};
 use lt_tool_testing::{Broken, ends, read};
-use std::alloc::Global;
+use std::alloc::{AllocError, Global};
+use std::io::Read;
 use std::test::Fail;
 
 const TABLE: &[u8] =
@@ -38,11 +39,11 @@ const LINES: &[(&str, &str)] = &[
 ];
 
 /// Whether a run by these words, files and lines prints this, says nothing to the errors, and ends so.
-fn prints(
+fn prints<R: Read + Drop>(
     alloc: Global,
     words: &[&str],
     files: (&[u8], &[u8]),
-    lines: &[u8],
+    lines: R,
     shown: &str,
     status: u8,
 ) -> bool {
@@ -195,7 +196,7 @@ fn tables_that_are_refused(rt: HostRuntime) -> Result<(), Fail> {
         ] {
             let files = (sample.as_bytes(), *table);
             assert!(rt;
-                prints(rt.alloc(), words, files, b"ger\n", shown, 2),
+                prints(rt.alloc(), words, files, b"ger\n".as_slice(), shown, 2),
                 "{shown}"
             );
         }
@@ -207,7 +208,7 @@ fn tables_that_are_refused(rt: HostRuntime) -> Result<(), Fail> {
             rt.alloc(),
             &words,
             files,
-            b"ger\n",
+            b"ger\n".as_slice(),
             "jar BadLine line 1\n",
             2
         )
@@ -274,37 +275,46 @@ fn writes_that_fail(rt: HostRuntime) -> Result<(), Fail> {
     Ok(())
 }
 
-#[test]
-fn long_lines_by_codes(rt: HostRuntime) -> Result<(), Fail> {
-    let sample = sample_text(rt.alloc())?;
-    // 1,025 bytes, and 1,024 with `de` in the place of `ger`; then one more
-    let mut tail = String::from_str(rt.alloc(), "-x")?;
+/// Subtags of private use: 1,022 bytes, so that a line of 1,025 has `ger` before them, and one of 1,024 has `de`.
+fn long_tail(alloc: Global) -> Result<String, AllocError> {
+    let mut tail = String::from_str(alloc, "-x")?;
     for _part in 0..113 {
         tail.push_str("-aaaaaaaa")?;
     }
     tail.push_str("-aa")?;
+    Ok(tail)
+}
+
+/// What is answered to a line of `ger` and this tail, which is as long as a line may be, or longer.
+fn long_answer(alloc: Global, tail: &str, is_longer: bool) -> Result<String, AllocError> {
+    if is_longer {
+        return String::from_str(alloc, "! TooLong 0\n");
+    }
+    format!(in alloc; "de{tail}\n")
+}
+
+#[test]
+fn long_lines_by_codes(rt: HostRuntime) -> Result<(), Fail> {
+    let sample = sample_text(rt.alloc())?;
+    let tail = long_tail(rt.alloc())?;
     assert_eq!(rt; tail.len(), 1_022);
-    let words = ["codes", "table", "registry"];
-    for size in [1, 1_024, 1_026, 65_536] {
-        let command = read(rt.alloc(), &words).map_err(|_| Fail::from("none"))?;
-        for (end, shown) in [("\r\n", true), ("a\r\n", false), ("\n", true), ("a", false)] {
-            let text = format!(in rt.alloc(); "ger{tail}{end}")?;
-            let mut output = Vec::new(rt.alloc());
-            let status = ends(
-                rt.alloc(),
-                &command,
-                (sample.as_bytes(), TABLE),
-                Pieces::once(text.as_bytes(), size),
-                &mut output,
-                &mut Vec::new(rt.alloc()),
+    for (end, is_longer) in [("\r\n", false), ("a\r\n", true), ("\n", false), ("a", true)] {
+        let text = format!(in rt.alloc(); "ger{tail}{end}")?;
+        let answer = long_answer(rt.alloc(), &tail, is_longer)?;
+        for size in [1, 1_024, 1_026, 65_536] {
+            let files = (sample.as_bytes(), TABLE);
+            let reader = Pieces::once(text.as_bytes(), size);
+            assert!(rt;
+                prints(
+                    rt.alloc(),
+                    &["codes", "table", "registry"],
+                    files,
+                    reader,
+                    &answer,
+                    u8::from(is_longer)
+                ),
+                "{size}"
             );
-            assert_eq!(rt; status, u8::from(!shown));
-            if shown {
-                let owed = format!(in rt.alloc(); "de{tail}\n")?;
-                assert_eq!(rt; output.as_slice(), owed.as_bytes());
-            } else {
-                assert_eq!(rt; output.as_slice(), b"! TooLong 0\n".as_slice());
-            }
         }
     }
     Ok(())
@@ -320,30 +330,52 @@ fn names_table(read: &Result<Command, WordsFault>) -> bool {
     }
 }
 
+/// Whether the words are those of `codes` by the file `table`, over the file `registry`, with a summary.
+fn reads_codes(alloc: Global, words: &[&str]) -> bool {
+    match read(alloc, words) {
+        Ok(command) => {
+            command.first_file() == Some("registry")
+                && command.second_file() == Some("table")
+                && command.reads_input()
+                && command.has_summary()
+        }
+        Err(_) => false,
+    }
+}
+
+/// Whether the words name rows, and by the table of the file `table` if they have one.
+fn reads_rows(alloc: Global, words: &[&str], has_table: bool) -> bool {
+    let rows = read(alloc, words);
+    let second = if has_table { Some("table") } else { None };
+    names_table(&rows) == has_table
+        && matches!(&rows, Ok(command) if command.second_file() == second)
+}
+
+/// Whether the words name no command.
+fn reads_none(alloc: Global, words: &[&str]) -> bool {
+    read(alloc, words).is_err()
+}
+
 #[test]
 fn words_of_codes(rt: HostRuntime) {
-    let codes = read(rt.alloc(), &["codes", "table", "registry", "--summary"]);
+    assert!(rt; reads_codes(rt.alloc(), &["codes", "table", "registry", "--summary"]));
     assert!(rt;
-        matches!(&codes, Ok(command) if command.first_file() == Some("registry") && command.second_file() == Some("table"))
+        reads_rows(
+            rt.alloc(),
+            &["tsv", "registry", "2", "--codes", "table"],
+            true
+        )
     );
-    assert!(rt; matches!(&codes, Ok(command) if command.reads_input() && command.has_summary()));
-    for words in [
-        &["tsv", "registry", "2", "--codes", "table"] as &[&str],
-        &["csv", "registry", "2", "--codes", "table"],
-    ] {
-        let rows = read(rt.alloc(), words);
-        assert!(rt; names_table(&rows));
-        assert!(rt; matches!(&rows, Ok(command) if command.second_file() == Some("table")));
-    }
-    let rows = read(rt.alloc(), &["tsv", "registry", "2"]);
-    assert!(rt; matches!(&rows, Ok(command) if command.second_file().is_none()));
-    for words in [
-        &["codes", "table"] as &[&str],
-        &["codes", "table", "registry", "more"],
-        &["tsv", "registry", "2", "--codes"],
-        &["canon", "registry", "--codes", "table"],
-    ] {
-        let refused = read(rt.alloc(), words);
-        assert!(rt; refused.is_err());
-    }
+    assert!(rt;
+        reads_rows(
+            rt.alloc(),
+            &["csv", "registry", "2", "--codes", "table"],
+            true
+        )
+    );
+    assert!(rt; reads_rows(rt.alloc(), &["tsv", "registry", "2"], false));
+    assert!(rt; reads_none(rt.alloc(), &["codes", "table"]));
+    assert!(rt; reads_none(rt.alloc(), &["codes", "table", "registry", "more"]));
+    assert!(rt; reads_none(rt.alloc(), &["tsv", "registry", "2", "--codes"]));
+    assert!(rt; reads_none(rt.alloc(), &["canon", "registry", "--codes", "table"]));
 }
