@@ -1,9 +1,10 @@
 //! Records of CSV, of which one field is a tag.
+use super::rows::is_misused;
 use lt_canon::Checked;
 use lt_jar::Pieces;
 use lt_registry::SortedTable;
 use lt_testing::sample_text;
-use lt_tool::{Status, ToolFault, WordsFault};
+use lt_tool::{Status, ToolFault};
 use lt_tool_testing::{SECOND_OF_RECORD, answer_lines, checked_sample, ends, prints, read};
 use std::alloc::Global;
 use std::io::Cursor;
@@ -275,7 +276,7 @@ const NO_DELIMITERS: &[&str] = &["", "\"", "\n", "\r", ";;", "ä", "\u{80}", "TA
 fn words_that_are_no_delimiter(rt: HostRuntime) {
     for text in NO_DELIMITERS {
         let words = ["csv", "registry", "2", "--delimiter", *text];
-        assert!(rt; matches!(read(rt.alloc(), &words), Err(WordsFault::Usage(_))));
+        assert!(rt; is_misused(rt.alloc(), &words));
     }
     let twice = [
         "csv",
@@ -286,9 +287,9 @@ fn words_that_are_no_delimiter(rt: HostRuntime) {
         "--delimiter",
         ";",
     ];
-    assert!(rt; matches!(read(rt.alloc(), &twice), Err(WordsFault::Usage(_))));
+    assert!(rt; is_misused(rt.alloc(), &twice));
     for command in ["tsv", "canon", "check"] {
         let words = [command, "registry", "2", "--delimiter", ";"];
-        assert!(rt; matches!(read(rt.alloc(), &words), Err(WordsFault::Usage(_))));
+        assert!(rt; is_misused(rt.alloc(), &words));
     }
 }

@@ -61,14 +61,19 @@ const NO_NUMBERS: &[&str] = &["0", "000", "+0", "18446744073709551616"];
 /// What is a name.
 const NAMES: &[&str] = &["", "two", "2.0", "2 ", "+", "0x2"];
 
-/// Whether the words name a command whose column has this name.
-fn has_name(read: &Result<Command, WordsFault>, name: &str) -> bool {
-    match read {
+/// Whether the words name rows, and their column by this name.
+fn reads_name(alloc: Global, words: &[&str], name: &str) -> bool {
+    match &read(alloc, words) {
         Ok(Command::Csv(_, rows, _)) | Ok(Command::Tsv(_, rows)) => {
             matches!(&rows.column, Column::Name(own) if own.as_str() == name)
         }
         _ => false,
     }
+}
+
+/// Whether the words are not those of a command.
+pub(super) fn is_misused(alloc: Global, words: &[&str]) -> bool {
+    matches!(read(alloc, words), Err(WordsFault::Usage(_)))
 }
 
 #[test]
@@ -79,7 +84,7 @@ fn words_that_are_no_column(rt: HostRuntime) {
             ["tsv", "registry", *column, "--keep"],
             ["tsv", "registry", *column, "--heading"],
         ] {
-            assert!(rt; matches!(read(rt.alloc(), &words), Err(WordsFault::Usage(_))));
+            assert!(rt; is_misused(rt.alloc(), &words));
         }
     }
 }
@@ -87,11 +92,9 @@ fn words_that_are_no_column(rt: HostRuntime) {
 #[test]
 fn words_that_are_a_name(rt: HostRuntime) {
     for name in NAMES {
-        assert!(rt; has_name(&read(rt.alloc(), &["csv", "registry", *name]), name));
-        let words = ["tsv", "--heading", "registry", *name];
-        assert!(rt; has_name(&read(rt.alloc(), &words), name));
-        let words = ["tsv", "registry", *name];
-        assert!(rt; matches!(read(rt.alloc(), &words), Err(WordsFault::Usage(_))));
+        assert!(rt; reads_name(rt.alloc(), &["csv", "registry", *name], name));
+        assert!(rt; reads_name(rt.alloc(), &["tsv", "--heading", "registry", *name], name));
+        assert!(rt; is_misused(rt.alloc(), &["tsv", "registry", *name]));
     }
 }
 
