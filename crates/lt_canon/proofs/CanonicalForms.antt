@@ -32,7 +32,7 @@ use Rattle.lt_canon.specs.Equivalence.{IsEquivalenceAnswer, IsSecondRefusal}
 use Rattle.lt_tag.specs.Spelling.{spell_core, IsCore}
 use Rattle.lt_tag.specs.Values.{core_of, extensions_of, private_of, core_alone}
 use Rattle.lt_registry.proofs.ValidityLaws.{valid_law}
-use Rattle.lt_registry.specs.Entries.{whole_value, one_of, preferred_value, entry, prefixes, replacement, is_registered}
+use Rattle.lt_registry.specs.Entries.{whole_value, one_of, preferred_value, prefixes, replacement, is_registered}
 use Rattle.lt_canon.specs.Refusals.{NamesFault, NamesRepeat, IsRefusedWith}
 use Rattle.lt_canon.specs.declared.refusals.Refusal.{Refusal}
 use Rattle.lt_canon.specs.declared.refusals.Refusal.TheVariants as refusals
@@ -51,9 +51,8 @@ use Rattle.lt_rewrite.proofs.NameForms.{language_form, extlang_form as extlang_n
 use Rattle.lt_canon.specs.ExtlangForm.{prefix_of, behind, extlang_form, IsExtlangFormOf}
 use Rattle.lt_canon.specs.ExtlangLaws.{ExtlangFormsLeadBack}
 use Rattle.lt_canon.specs.Texts.{IsTextRefusal, RefusesTextOnlyRepeats}
-use Rattle.lt_rewrite.proofs.StepLaws.{fits}
 use Rattle.lt_tag.specs.Texts.{text_of}
-use Rattle.lt_canon.proofs.RepeatedVariants.{core_repeats, end_canonical, equivalence_is_equality, form_is_end, one, reached_canonical, same_form_text}
+use Rattle.lt_canon.proofs.RepeatedVariants.{core_repeats, end_canonical, equivalence_is_equality, form_is_end, reached_canonical, same_form_text}
 
 -- equal texts of canonical forms tell equivalent tags
 pub text_equality : (R : List EntryParts) → EquivalenceIsEquality R → EquivalenceIsEqualText R

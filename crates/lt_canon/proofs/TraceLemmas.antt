@@ -26,7 +26,6 @@ use Rattle.lt_tag.specs.Values.{IsTagValue, core_of, extensions_of, private_of, 
 use Rattle.lt_registry.proofs.ValidityLaws.{valid_law}
 use Rattle.lt_registry.specs.Entries.{whole_value, entry, tag_of, whole, number_of}
 use Rattle.lt_rewrite.specs.Laws.{AreOneStep}
-use Rattle.lt_canon.specs.ExtlangForm.{behind}
 use Rattle.std.proofs.lemmas.List.{take_more, drop_more, take-append-drop, length-take-le}
 use Rattle.lt_registry.specs.declared.faults.ValidRefusal.{ValidRefusal}
 use Rattle.lt_rewrite.proofs.Stars.{star_path}
@@ -47,7 +46,7 @@ use Rattle.lt_rewrite.specs.declared.steps.StepKind.TheVariants as steps
 use Rattle.lt_canon.specs.Explaining.{rank_in, is_of_source, HasOneExplanation, IsExplanation, RestsOnCore, LeadsToRest}
 use Rattle.lt_tag.specs.Splitting.{spell_source}
 use Rattle.lt_rewrite.proofs.FirstSteps.{adds_none, adds_more, adds_all, run_lift}
-use Rattle.lt_canon.proofs.RepeatedVariants.{form_is_end, one}
+use Rattle.lt_canon.proofs.RepeatedVariants.{form_is_end}
 use Rattle.lt_canon.proofs.CanonicalForms.{core, form_some, langtag_of, refused, transforms_have_parts}
 use Rattle.lt_canon.proofs.UsualForms.{trace_determined}
 

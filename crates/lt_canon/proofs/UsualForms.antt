@@ -1,5 +1,5 @@
 -- Langtags whose subtags stay as they are, which are their own canonical forms.
-use Rattle.std.proofs.Common.{◌≡◌, ℕ, ◌+◌, inr, List, [], ◌∷◌, ◌++◌, Some, None, refl, sym, ap, ◌∙◌, subst, false, arith, Bool, Err, Ok, All, rules}
+use Rattle.std.proofs.Common.{◌≡◌, ℕ, inr, List, [], ◌∷◌, ◌++◌, Some, None, refl, sym, ap, ◌∙◌, subst, false, arith, Bool, Err, Ok, All, rules}
 use Rattle.std.specs.Prelude.{MatchResult, Result}
 use Rattle.lt_tag.specs.Parts.{CoreParts, TagForm}
 use Rattle.lt_registry.specs.Parts.{EntryParts}
@@ -38,8 +38,7 @@ use Rattle.lt_rewrite.specs.Labels.{IsTrace}
 use Rattle.lt_rewrite.specs.declared.steps.Step.{Step}
 use Rattle.lt_rewrite.proofs.StepLaws.{steps_determined}
 use Rattle.lt_canon.specs.TraceLaws.{TracesReachTheirEnd, TracesHaveOneEnd}
-use Rattle.lt_rewrite.specs.declared.steps.StepKind.TheVariants as steps
-use Rattle.lt_canon.proofs.CanonicalForms.{core, settled_canonical}
+use Rattle.lt_canon.proofs.CanonicalForms.{settled_canonical}
 
 -- the test of a usual core tells what the check of the core tells
 usual_told : (R : List EntryParts) (c : CoreParts) → IsUsual c → (r : Result Bool ValidFault) → core_valued R c ≡ r → MatchResult r (λ _. core_check R false 0 c ≡ Ok tt) (λ fault. core_check R false 0 c ≡ Err fault)

@@ -1,5 +1,5 @@
 -- The first row of a text that comes in pieces.
-use Rattle.std.proofs.Common.{◌≡◌, ◌+◌, ◌++◌, ◌∙◌, ◌⊎◌, inl, inr, ℕ, List, [], Bool, Option, Some, None, Result, Ok, Err, true, false, length, take, sym, ap, refl, subst, append_assoc, append-nil}
+use Rattle.std.proofs.Common.{◌≡◌, ◌++◌, ◌∙◌, ◌⊎◌, inl, inr, ℕ, List, [], Bool, Option, Some, None, Result, Ok, Err, true, false, length, take, sym, ap, refl, subst, append_assoc, append-nil}
 use Rattle.std.proofs.Math.Seq.{take-append_seam}
 use Rattle.lt_rows.specs.Marks.{IsWide, MayBeMark, SplitsMark}
 use Rattle.lt_rows.proofs.MarkLemmas.{short_narrow, split_more, wide_more}

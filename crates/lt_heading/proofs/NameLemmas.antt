@@ -1,11 +1,10 @@
 -- Names, one after another.
-use Rattle.std.proofs.Common.{◌≡◌, ◌≢◌, ◌≤◌, ◌<◌, ◌+◌, ◌++◌, ◌∷◌, ◌∙◌, ℕ, Bool, true, false, List, [], inl, inr, length, sym, ap, refl, subst, arith, append_assoc, length-append}
-use Rattle.std.specs.List.{AllByRecursion, flat_map}
+use Rattle.std.proofs.Common.{◌≡◌, ◌≢◌, ◌+◌, ◌++◌, ◌∷◌, ◌∙◌, ℕ, Bool, true, false, List, [], inl, inr, length, sym, ap, refl, subst, arith, append_assoc, length-append}
 use Rattle.std.proofs.lemmas.List.{flat_map_more, nil_from_length}
 use Rattle.lt_rows.specs.Rows.{HasField, IsAfterField, IsClosed, IsEnded, IsRowField, separated, separator}
 use Rattle.lt_rows.specs.declared.rows.Separator.{Separator}
 use Rattle.lt_rows.proofs.RowLemmas.{each-last}
-use Rattle.lt_heading.specs.Names.{AreNames, IsFound, IsNameOf, IsOnly, IsRepeated, Lacks, LooksSo, found_then, shown_name, shown_names}
+use Rattle.lt_heading.specs.Names.{AreNames, IsFound, IsNameOf, IsRepeated, LooksSo, found_then, shown_name, shown_names}
 use Rattle.lt_heading.specs.declared.names.Found.{Found}
 use Rattle.lt_heading.specs.declared.names.Found.TheVariants as founds
 

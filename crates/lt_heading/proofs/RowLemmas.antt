@@ -1,10 +1,9 @@
 -- Rows and line feeds, by what parts fields.
-use Rattle.std.proofs.Common.{◌≡◌, ◌≢◌, ◌≤◌, ◌<◌, ◌++◌, ◌∷◌, ◌∙◌, ℕ, List, [], true, false, length, ap, refl, arith}
+use Rattle.std.proofs.Common.{◌≡◌, ◌≢◌, ◌<◌, ◌++◌, ◌∷◌, ℕ, List, [], true, false, length, refl, arith}
 use Rattle.std.proofs.lemmas.List.Elements.{All-append}
 use Rattle.lt_jar.specs.Lines.{IsOneLine}
 use Rattle.lt_jar.proofs.CutLemmas.{lines_of-ended, lines_of-last}
-use Rattle.lt_rows.specs.Quotes.{is_quoted, place_at}
-use Rattle.lt_rows.specs.declared.quotes.Place.{Place}
+use Rattle.lt_rows.specs.Quotes.{place_at}
 use Rattle.lt_rows.specs.declared.quotes.Place.TheVariants as places
 use Rattle.lt_rows.specs.declared.rows.Separator.{Separator}
 use Rattle.lt_rows.specs.declared.rows.Separator.TheVariants as separators

@@ -1,13 +1,11 @@
 -- Pieces of a text that is one row so far.
-use Rattle.std.proofs.Common.{◌≡◌, ◌≤◌, ◌<◌, ◌++◌, ◌∷◌, ◌∙◌, ◌⊎◌, inl, inr, ℕ, List, [], Option, Some, None, Result, Ok, Err, true, false, length, sym, ap, refl, subst, arith, append_assoc, append-nil}
+use Rattle.std.proofs.Common.{◌≡◌, ◌++◌, ◌∷◌, ◌∙◌, inl, inr, ℕ, List, [], Some, None, Ok, Err, true, false, length, sym, ap, refl, append_assoc, append-nil}
 use Rattle.lt_jar.specs.Lines.{IsOneLine}
 use Rattle.lt_rows.specs.Quotes.{is_quoted}
 use Rattle.lt_rows.specs.declared.quotes.Place.{Place}
-use Rattle.lt_rows.specs.declared.quotes.Place.TheVariants as places
 use Rattle.lt_rows.specs.declared.rows.Separator.{Separator}
 use Rattle.lt_stream.specs.declared.faults.ToolFault.{ToolFault}
-use Rattle.lt_stream.specs.declared.faults.ToolFault.TheVariants as faults
-use Rattle.lt_heading.specs.Headings.{AppendsPart, BeginsLong, IsOneRow, IsRowSoFar, IsWholeRow, TakesText, is_open, long_fault, place_then}
+use Rattle.lt_heading.specs.Headings.{AppendsPart, IsRowSoFar, IsWholeRow, TakesText, is_open}
 use Rattle.lt_heading.proofs.RowLemmas.{feed_within, one_more, place_more}
 
 -- the front of the piece was appended, and the text is one row so far

@@ -1,5 +1,5 @@
 -- The values of extensions, by the parts that were found.
-use Rattle.std.proofs.Common.{◌≡◌, ℕ, List, sym, ◌∙◌, ap, refl, arith, ◌≢◌}
+use Rattle.std.proofs.Common.{◌≡◌, refl, arith, ◌≢◌}
 use Rattle.std.specs.Prelude.{Option, Some, None}
 use Rattle.std.proofs.lemmas.Bool.Decides.{nat_tests}
 use Rattle.lt_tag.specs.Parts.{ExtensionParts, TForm, UForm}

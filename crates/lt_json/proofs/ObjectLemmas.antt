@@ -1,13 +1,11 @@
 -- Objects, by the members that were appended.
-use Rattle.std.proofs.Common.{◌≡◌, ◌≢◌, ◌≤◌, ℕ, Bool, true, false, List, [], ◌∷◌, ◌++◌, length, refl, sym, ◌∙◌, ap, append_assoc}
+use Rattle.std.proofs.Common.{◌≡◌, ◌≤◌, ℕ, Bool, true, false, List, [], ◌∷◌, ◌++◌, length, refl, sym, ◌∙◌, ap, append_assoc}
 use Rattle.std.specs.Prelude.{codes, Some, None, Ok, Err}
-use Rattle.std.proofs.lemmas.List.Concat.{flat_map-append}
 use Rattle.lt_tag.specs.Parts.{TagForm}
-use Rattle.lt_tag.specs.Faults.{HasFault, HasList, HasTag, IsFault}
+use Rattle.lt_tag.specs.Faults.{IsFault}
 use Rattle.lt_tag.specs.Lists.{list_of, longest_text}
 use Rattle.lt_tag.specs.WellFormed.{IsTag, spell}
 use Rattle.lt_tag.specs.declared.faults.TagFault.{TagFault}
-use Rattle.lt_tag.specs.declared.faults.TagFaultKind.{TagFaultKind}
 use Rattle.lt_tag.specs.declared.faults.TagFaultKind.TheVariants as kinds
 use Rattle.lt_tag.proofs.FaultLemmas.{fault_excludes_tag}
 use Rattle.lt_registry.specs.Parts.{EntryParts}
@@ -18,7 +16,7 @@ use Rattle.lt_json_text.specs.Values.{Member, member, member_text, more_members,
 use Rattle.lt_json_text.specs.Strings.{string}
 use Rattle.hex.specs.Hex.{encode_lower}
 use Rattle.lt_json_text.proofs.ChainLemmas.{more, more_after, object_is, two_members}
-use Rattle.lt_json.specs.Objects.{AppendsAnswer, AppendsObject, AppendsOpening, AppendsTag, IsAnswerTo, answer_members, input_members, is_refused, opening}
+use Rattle.lt_json.specs.Objects.{AppendsAnswer, AppendsObject, AppendsOpening, AppendsTag, IsAnswerTo, answer_members, input_members, opening}
 use Rattle.lt_json.specs.Tags.{members_of_none, members_of_tag, tag_members}
 
 -- the members of a tag: the first, those of its core, and two more

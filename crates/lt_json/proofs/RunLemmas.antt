@@ -1,5 +1,5 @@
 -- Lines that are answered by objects.
-use Rattle.std.proofs.Common.{◌≡◌, ℕ, Bool, true, false, List, [], ◌∷◌, ◌++◌, refl, sym, ◌∙◌, ap, subst, append_assoc, take}
+use Rattle.std.proofs.Common.{◌≡◌, ℕ, Bool, true, false, List, [], ◌∷◌, ◌++◌, refl, ◌∙◌, ap, append_assoc}
 use Rattle.std.specs.Prelude.{◌||◌, Option, Result, Ok, Err}
 use Rattle.lt_jar.specs.Lines.{content_of, lines_of}
 use Rattle.lt_jar.specs.declared.devices.Device.{Device}
@@ -8,7 +8,7 @@ use Rattle.lt_stream.specs.Lines.{Answered, EndsAs, IsAnsweredToLastFeed, IsBegu
 use Rattle.lt_stream.specs.declared.faults.ToolFault.{ToolFault}
 use Rattle.lt_stream.specs.declared.faults.ToolFault.TheVariants as faults
 use Rattle.lt_json.specs.Objects.{AppendsObject, IsObjectFor}
-use Rattle.lt_json.specs.Running.{AppendsLine, AreObjects, AreOwed, longest_line, text_of}
+use Rattle.lt_json.specs.Running.{AppendsLine, AreObjects, text_of}
 
 -- the object of a line, and a line feed
 pub line_appended : (R : List EntryParts) (front old mid new : List ℕ) (refused : Bool) → AppendsObject R (content_of front) old mid refused → new ≡ mid ++ 10 ∷ [] → AppendsLine R front old new refused

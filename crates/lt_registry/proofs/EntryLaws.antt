@@ -27,7 +27,7 @@ use Rattle.lt_registry.proofs.SplitListLemmas.{all_more}
 use Rattle.lt_registry.proofs.ListLemmas.{take_turn, whole_turn}
 use Rattle.lt_registry.proofs.ReadingLaws.{HasReadSoFar, read_ended, read_more, read_none, read_stops}
 use Rattle.lt_registry.proofs.RecordTexts.{after}
-use Rattle.lt_registry.proofs.RecordLaws.{entry_faultless, one_entry, past, ranked, ranked_again}
+use Rattle.lt_registry.proofs.RecordLaws.{entry_faultless, one_entry, ranked, ranked_again}
 
 -- The entries of records, and a registry that is read record by record.
 

@@ -1,7 +1,6 @@
 -- The numbers of subtags, by which they are ordered and found.
-use Rattle.std.proofs.Common.{Ordering, ◌≡◌, ◌≢◌, ℕ, zero, suc, ◌+◌, ◌-◌, ◌*◌, ◌^◌, ◌<◌, ◌≤◌, Bool, true, false, ◌||◌, cond, eqb, ltb, leb, List, [], ◌∷◌, ◌++◌, length, length-append, map, replicate, get_or, true≢false, refl, sym, ap, ◌∙◌, arith, inl, inr, ◌&&◌, Result, Ok, Err}
-use Rattle.std.specs.Prelude.{bytes_eq, filter}
-use Rattle.std.specs.Int.{to_be_bytes, from_be_bytes, w64}
+use Rattle.std.proofs.Common.{Ordering, ◌≡◌, ◌≢◌, ℕ, ◌+◌, ◌*◌, ◌^◌, ◌<◌, ◌≤◌, Bool, true, false, ◌||◌, eqb, ltb, leb, List, [], ◌∷◌, length, map, get_or, true≢false, refl, sym, ap, ◌∙◌, arith, inl, inr, ◌&&◌, Result, Ok, Err}
+use Rattle.std.specs.Prelude.{bytes_eq}
 use Rattle.std.specs.List.{list_all, AllByRecursion, AllAdjacentBelow, IsDistinct, list_any, filter_map}
 use Rattle.std.specs.List.Sorted.{IsPermutation, IsBinarySearchResult, IsSorted}
 use Rattle.std.specs.Ordering.{nat_cmp, eq_by_cmp, is_le}
@@ -9,14 +8,12 @@ use Rattle.std.specs.Cmp.Lexicographic.{slice_cmp}
 use Rattle.std.specs.Cmp.{nat_cmp_is}
 use Rattle.std.specs.declared.cmp.Ordering.TheVariants.{Less}
 use Rattle.std.specs.Char.{is_ascii_lowercase, is_ascii_digit}
-use Rattle.std.proofs.lemmas.Bool.{and_parts, cases_eq, cases_lt, eqb-true, ltb-true, eq-eqb, ne_eqb, lt-ltb, le-ltb, le-leb, lt-leb}
+use Rattle.std.proofs.lemmas.Bool.{and_parts, cases_lt, ltb-true, eq-eqb, ne_eqb}
 use Rattle.std.proofs.Math.Bool.{and-true, and-false}
 use Rattle.std.proofs.lemmas.Bool.Decides.{nat_tests}
 use Rattle.std.proofs.lemmas.Cmp.{nat_cmp_total, eq_by_cmp_equiv, same_from_slice_cmp}
-use Rattle.std.proofs.lemmas.List.{length-replicate, length-append}
 use Rattle.std.proofs.lemmas.List.Sorted.{IsPermutation-sym, searched, sorted_far, list_any-IsPermutation, ranks_by}
 use Rattle.std.proofs.lemmas.Map.Keys.{IsDistinct-IsPermutation, IsDistinct-from_sorted, sorted_from_all_adjacent, ge_from_not_lt}
-use Rattle.std.proofs.lemmas.Nat.{be_bytes_8}
 use Rattle.std.specs.Result.{is_ok}
 use Rattle.std.proofs.lemmas.Grind.{get_or_default_zero}
 use Rattle.std.proofs.lemmas.List.Folds.{list_any_none, list_any-from_Any}
@@ -26,7 +23,6 @@ use Rattle.lt_subtag.specs.Shapes.{is_variant}
 use Rattle.lt_subtag.proofs.NumberLemmas.{IsFew, subtag_few, number_below, numbers_ordered, numbers_equal}
 use Rattle.lt_tag.proofs.Apart.{extlang_is, script_is, region_is}
 use Rattle.lt_tag.proofs.ShapeLemmas.{all_weaker, language_long}
-use Rattle.std.proofs.lemmas.Slice.Eq.{bytes_eq-Decides}
 use Rattle.lt_registry.specs.Entries.{has_form, letters_le, IsPrefix, has_prefix}
 use Rattle.lt_registry.specs.Validity.{Distinct}
 use Rattle.lt_subtag.specs.Lanes.{number}

@@ -1,5 +1,5 @@
 -- The core normal form: each subtag at the end of its chain, and VariantLanguage steps taken.
-use Rattle.std.proofs.Common.{◌≡◌, ℕ, zero, suc, Bool, true, false, List, [], ◌∷◌, ◌++◌, Option, Some, None, refl, sym, ap, ◌∙◌, subst, length, arith, ◌+◌, map, cond, not, is_some, filter, get_or, ◌-◌, inl, inr}
+use Rattle.std.proofs.Common.{◌≡◌, ℕ, zero, suc, Bool, true, false, List, [], ◌∷◌, ◌++◌, Option, Some, None, refl, sym, ap, ◌∙◌, subst, length, arith, map, cond, not, is_some, filter, get_or, inl, inr}
 use Rattle.std.specs.List.{AllByRecursion}
 use Rattle.std.specs.Option.{option_map}
 use Rattle.std.proofs.lemmas.Bool.{cond-true, cond_both}
@@ -21,7 +21,7 @@ use Rattle.lt_rewrite.proofs.Chains.{IsEnd, end_same, end_next, end_keeps}
 use Rattle.lt_rewrite.proofs.Stars.{star_trans}
 use Rattle.lt_rewrite.proofs.Entries.{chains_end, variant_languages_final, no_language, variant_language_is}
 use Rattle.lt_rewrite.proofs.NormalForms.{IsFormOf, star_form, form_is_normal, normal_is_form}
-use Rattle.lt_rewrite.proofs.CoreSteps.{AtRest, Pick, Picked, alone, along, by_extlang, by_region, by_script, by_variant, by_variant_language, distinct_filter, distinct_unmap, distinct_without, each_step, filter_without, language_reached, merge, one_leftmost, pick, rests, step}
+use Rattle.lt_rewrite.proofs.CoreSteps.{AtRest, Pick, Picked, along, by_extlang, by_region, by_script, by_variant, by_variant_language, distinct_filter, distinct_unmap, distinct_without, each_step, filter_without, language_reached, merge, one_leftmost, pick, rests, step}
 
 -- The core normal form: each subtag at the end of its chain, and VariantLanguage steps taken.
 

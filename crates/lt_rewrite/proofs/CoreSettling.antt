@@ -1,5 +1,5 @@
 -- What the parts of the code that settle a core reach, and where they rest.
-use Rattle.std.proofs.Common.{rules, ◌≡◌, ℕ, suc, List, [], ◌∷◌, ◌++◌, Option, Some, None, refl, sym, ap, ◌∙◌, subst, length, take, drop, arith, ◌≤◌, ◌+◌, ◌<◌, get_or, set, All, Bor, ◌-◌}
+use Rattle.std.proofs.Common.{rules, ◌≡◌, ℕ, suc, List, [], ◌∷◌, ◌++◌, Option, Some, None, refl, sym, ap, ◌∙◌, subst, length, take, drop, arith, ◌≤◌, ◌+◌, ◌<◌, get_or, set, All, Bor}
 use Rattle.std.specs.List.{AllByRecursion, remove}
 use Rattle.std.specs.Option.{option_copied}
 use Rattle.std.proofs.lemmas.List.{set_split, length-set, take_all, take_more_set}
@@ -14,7 +14,7 @@ use Rattle.lt_rewrite.specs.Conditions.{next_value}
 use Rattle.lt_rewrite.specs.CoreSettling.{HasFinalLanguage, HasFinalScript, HasFinalRegion, HasFinalVariants, HasNoVariantLanguage, IsFirstVariantLanguage}
 use Rattle.lt_rewrite.proofs.PartLists.{round, if_some_is}
 use Rattle.lt_rewrite.proofs.Stars.{star_trans}
-use Rattle.lt_rewrite.proofs.CoreSteps.{alone, along, by_extlang, by_variant, by_variant_language, rests, sole, step}
+use Rattle.lt_rewrite.proofs.CoreSteps.{along, by_extlang, by_variant, by_variant_language, rests, sole}
 use Rattle.lt_rewrite.proofs.CoreForms.{last}
 
 -- What the parts of the code that settle a core reach, and where they rest. Only the chains' ends are used.

@@ -1,5 +1,5 @@
 -- A core step by the part that it replaces, and what single steps reach.
-use Rattle.std.proofs.Common.{rules, ◌≡◌, ℕ, suc, Bool, true, false, eqb, List, [], ◌∷◌, ◌++◌, Option, Some, None, refl, sym, ap, ◌∙◌, subst, length, take, drop, is_none, arith, ◌≤◌, ◌+◌, map, append_assoc, cond, ◌≢◌, not, filter, get_or, set, Bor, ◌-◌, ◌⊎◌, inl, inr}
+use Rattle.std.proofs.Common.{rules, ◌≡◌, ℕ, suc, Bool, true, false, eqb, List, [], ◌∷◌, ◌++◌, Option, Some, None, refl, sym, ap, ◌∙◌, subst, length, take, drop, is_none, arith, ◌≤◌, map, append_assoc, cond, ◌≢◌, not, filter, get_or, set, Bor, ◌⊎◌, inl, inr}
 use Rattle.std.specs.Prelude.{slice_get, if◌then◌else◌, option_to_list}
 use Rattle.std.specs.List.{AllByRecursion, list_all}
 use Rattle.std.specs.Option.{option_copied}

@@ -1,11 +1,11 @@
 -- Sorted ranges, and that what they cover decides the conditions on an upgrade that speak of ranges.
-use Rattle.std.proofs.Common.{◌≡◌, ◌↔◌, ℕ, Bool, true, false, ◌&&◌, List, [], ◌∷◌, length, refl, sym, ap, ◌∙◌, ◌==◌, ◌<◌, IsTrue, inl, inr, ◌-◌, All, arith, ◌||◌, zero, suc, ◌≤◌, get_or, eqb, not, Contains, Ordering, Less, Equal, Greater}
+use Rattle.std.proofs.Common.{◌≡◌, ◌↔◌, ℕ, Bool, true, false, ◌&&◌, List, [], ◌∷◌, length, refl, sym, ap, ◌∙◌, ◌==◌, ◌<◌, IsTrue, inl, inr, All, arith, ◌||◌, zero, suc, ◌≤◌, get_or, eqb, not, Contains, Ordering, Less, Equal, Greater}
 use Rattle.std.specs.Cmp.{both_ways, IsTotalOrder, unsigned_ties}
 use Rattle.std.specs.List.{list_any, AllByRecursion, dedup, dedup_from, cons_option, AllPairs}
 use Rattle.std.proofs.lemmas.Bool.{and_parts, and_from, eqb-true, eq-eqb, true≢false, cond_both, cases_lt, true_from_ne_false, false_from_ne_true, not-false, and_right}
 use Rattle.std.proofs.lemmas.List.Folds.{Any-from_list_any, list_any-from_Any, list_any_at}
 use Rattle.lt_registry.specs.Parts.{EntryParts}
-use Rattle.lt_registry.specs.Entries.{entry, letters_le, FitsName, IsEntry}
+use Rattle.lt_registry.specs.Entries.{letters_le, FitsName, IsEntry}
 use Rattle.lt_registry.specs.Same.{same_kind}
 use Rattle.lt_registry.specs.declared.entries.Kind.{Kind}
 use Rattle.lt_registry.specs.declared.entries.EntryName.{EntryName}
@@ -14,7 +14,6 @@ use Rattle.lt_upgrade.specs.UpgradeChecking.{covers, some_covers}
 use Rattle.lt_rewrite.proofs.Entries.{same_kind_is, same_kind_itself}
 use Rattle.std.proofs.lemmas.List.Elements.{All-from_recursion, recursion_from_All}
 use Rattle.std.proofs.lemmas.Cmp.{nat_list_cmp_total, upto, then_total, on_total, nat_cmp_total}
-use Rattle.lt_rewrite.specs.Extensions.{inside}
 use Rattle.std.specs.List.Sorted.{IsSortedBy, IsPartitionedBy, IsPartitionPoint, IsPermutation}
 use Rattle.std.specs.Ordering.{ordering_reverse, is_le, is_lt, is_gt, nat_cmp, ordering_then, is_eq}
 use Rattle.std.proofs.lemmas.List.Sorted.{ranks_by, sorted_far, list_any-IsPermutation}

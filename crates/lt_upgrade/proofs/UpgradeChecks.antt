@@ -7,13 +7,13 @@ use Rattle.std.proofs.lemmas.Bool.{and_parts, and_from}
 use Rattle.std.proofs.lemmas.List.Folds.{Any-from_list_any, list_any_at}
 use Rattle.std.proofs.lemmas.Slice.Eq.{bytes_eq-Decides}
 use Rattle.lt_registry.specs.Parts.{EntryParts}
-use Rattle.lt_registry.specs.Entries.{preferred_value, one_of, entry, is_short, is_registered, language_value, has_prefix, FitsName, IsEntry, is_whole_kind, tag_of, whole_value, NumbersRise, prefixes}
+use Rattle.lt_registry.specs.Entries.{preferred_value, one_of, entry, is_short, is_registered, language_value, has_prefix, FitsName, IsEntry, is_whole_kind, tag_of, whole_value, NumbersRise}
 use Rattle.lt_registry.specs.Same.{same_list}
 use Rattle.lt_registry.specs.declared.entries.Kind.{Kind}
 use Rattle.lt_rewrite.specs.CoreSteps.{EndsIn}
 use Rattle.lt_rewrite.specs.Conditions.{next_value, HasFittingGrandfathered}
 use Rattle.lt_rewrite.specs.ChainEnds.{ChainEnds, ChainEndsIn}
-use Rattle.lt_upgrade.specs.Upgrade.{SameEnd, StaysRegistered, KeepsKind, KeepsEnds, IsSameExtlang, IsSameVariantLanguage, HadVariantLanguage, MeetInCanonical, MeetsUpgrade, records_of, upgrade_rank_of}
+use Rattle.lt_upgrade.specs.Upgrade.{SameEnd, KeepsKind, KeepsEnds, IsSameExtlang, IsSameVariantLanguage, HadVariantLanguage, MeetInCanonical, MeetsUpgrade, records_of, upgrade_rank_of}
 use Rattle.lt_upgrade.specs.UpgradeChecking.{is_among, IsFirstAtUpgradeFault, MeetsUpgradeBelow}
 use Rattle.lt_check.proofs.Deciding.{Decides-true, Decides-list, Decides-all}
 use Rattle.lt_check.proofs.RecordChecks.{one_end}
@@ -34,7 +34,6 @@ use Rattle.lt_canon.proofs.TagForm.{core_end, tag_end, end_form, core_normal, co
 use Rattle.lt_canon.proofs.TagRepeats.{repeats_at_end, form_is_end}
 use Rattle.lt_upgrade.specs.declared.conditions.UpgradeCondition.{UpgradeCondition}
 use Rattle.lt_check.proofs.FirstFaults.{below_or_not, lower_before, IsAt, contains_at}
-use Rattle.lt_rewrite.specs.Extensions.{among}
 use Rattle.lt_rewrite.proofs.NormalForms.{star_keeps}
 use Rattle.lt_registry.specs.declared.entries.Kind.TheVariants as kinds
 use Rattle.lt_registry.specs.declared.entries.EntryName.TheVariants as names

@@ -1,11 +1,11 @@
 -- What follows for tags from an upgrade.
-use Rattle.std.proofs.Common.{◌≡◌, ℕ, Bool, true, false, ◌&&◌, cond, List, [], ◌∷◌, length, Option, Some, None, refl, sym, ap, ◌∙◌, subst, ◌==◌, is_some, inl, inr, ◌+◌, ◌-◌, All, arith, ◌⊎◌, find, ◌++◌, map, zero, suc, take, drop, Contains, option_map}
+use Rattle.std.proofs.Common.{◌≡◌, ℕ, Bool, true, false, ◌&&◌, cond, List, [], ◌∷◌, length, Option, Some, None, refl, sym, ap, ◌∙◌, subst, ◌==◌, is_some, inl, inr, ◌+◌, All, arith, ◌⊎◌, find, ◌++◌, map, zero, suc, take, drop, Contains, option_map}
 use Rattle.std.specs.List.{AllByRecursion}
 use Rattle.std.specs.Option.{option_or, unwrap_or}
 use Rattle.std.proofs.lemmas.Bool.{and_parts, and_from, eqb-true, eq-eqb}
 use Rattle.std.proofs.lemmas.Slice.Eq.{bytes_eq-Decides}
 use Rattle.lt_registry.specs.Parts.{EntryParts}
-use Rattle.lt_registry.specs.Entries.{preferred_value, one_of, entry, is_registered, language_value, has_prefix, letters_le, whole_value, NumbersRise, is_named, holds, prefixes, variant_value, replacement}
+use Rattle.lt_registry.specs.Entries.{preferred_value, one_of, is_registered, language_value, has_prefix, letters_le, whole_value, NumbersRise, is_named, holds, prefixes, variant_value, replacement}
 use Rattle.lt_registry.specs.Same.{same_kind}
 use Rattle.lt_registry.specs.declared.entries.Kind.{Kind}
 use Rattle.lt_registry.specs.declared.entries.EntryName.{EntryName}

@@ -1,5 +1,5 @@
 -- Lines that are judged piece by piece, as a reader gives them.
-use Rattle.std.proofs.Common.{IsErrAnd, ◌≡◌, ◌≢◌, ◌<◌, ◌^◌, ◌++◌, ◌∷◌, ◌∙◌, ℕ, List, [], Option, Some, sym, ap, refl, arith, ◌+◌, inl, inr, length, append_assoc, length-append, None, subst, append-nil, codes, Ok, Err, Result, ◌-◌}
+use Rattle.std.proofs.Common.{IsErrAnd, ◌≡◌, ◌≢◌, ◌<◌, ◌^◌, ◌++◌, ◌∷◌, ◌∙◌, ℕ, List, [], Option, Some, sym, ap, refl, arith, ◌+◌, inl, inr, length, append_assoc, length-append, None, subst, append-nil, codes, Ok, Err, Result}
 use Rattle.std.proofs.lemmas.List.Elements.{All-append, All-cons, All-nil}
 use Rattle.lt_rewrite.specs.declared.steps.Step.{Step}
 use Rattle.lt_verify.specs.StepLines.{end_line}
@@ -9,7 +9,6 @@ use Rattle.lt_verify.specs.Judging.{Judges, IsProperIf, SettlesFront, FlowIs}
 use Rattle.lt_verify.specs.Verdicts.{IsVerdict, Lead}
 use Rattle.lt_verify.specs.declared.verdicts.Verdict.{Verdict}
 use Rattle.lt_verify.specs.Laws.{NumbersFit, ExplanationsAreRight}
-use Rattle.lt_registry.specs.Entries.{whole}
 use Rattle.lt_jar.proofs.CutLemmas.{lines_of-ended, first_goes_on, lines_of-last}
 use Rattle.lt_jar.specs.Lines.{IsOneLine, lines_of}
 use Rattle.lt_tag.proofs.OneTagLemmas.{one_tag_of_text}

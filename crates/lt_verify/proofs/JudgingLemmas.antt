@@ -1,5 +1,5 @@
 -- What is judged of a line is its verdict, and nothing else is.
-use Rattle.std.proofs.Common.{drop, ◌≡◌, ◌≢◌, ◌<◌, ◌^◌, ◌++◌, ◌∷◌, ◌∙◌, ◌==◌, ℕ, List, [], Option, Some, Bool, true, sym, ap, refl, arith, map, get_or, ◌≤◌, ◌+◌, inl, inr, length, append_assoc, length-append, decimal, None, subst, append-nil, false, Ordering, flat_map, option_to_list, ◌-◌}
+use Rattle.std.proofs.Common.{drop, ◌≡◌, ◌≢◌, ◌<◌, ◌^◌, ◌++◌, ◌∷◌, ◌∙◌, ◌==◌, ℕ, List, [], Option, Some, Bool, true, sym, ap, refl, arith, map, get_or, ◌≤◌, ◌+◌, inl, inr, length, append_assoc, length-append, decimal, None, subst, append-nil, false, Ordering, flat_map, option_to_list}
 use Rattle.std.specs.List.{list_all, join_with_byte}
 use Rattle.std.proofs.lemmas.Fmt.{decimal_injective}
 use Rattle.std.proofs.lemmas.List.Elements.{All-append, All-cons, All-nil}

@@ -1,5 +1,5 @@
 -- The words of the lines of an explanation, and the kinds of its steps.
-use Rattle.std.proofs.Common.{take, drop, take-append-drop, ◌≡◌, ◌≢◌, ◌<◌, ◌^◌, ◌++◌, ◌∷◌, ◌∙◌, ◌==◌, ℕ, List, [], Option, Some, Bool, true, sym, ap, refl, arith, not, map, get_or, find, ◌≤◌, ◌+◌, inl, inr, leb, length, append_assoc, length-append, bytes_eq, decimal, leb-true, subst, min, ◌-◌}
+use Rattle.std.proofs.Common.{take, drop, take-append-drop, ◌≡◌, ◌≢◌, ◌<◌, ◌^◌, ◌++◌, ◌∷◌, ◌∙◌, ◌==◌, ℕ, List, [], Option, Some, Bool, true, sym, ap, refl, arith, not, map, get_or, find, ◌≤◌, inl, inr, leb, length, append_assoc, length-append, bytes_eq, decimal, leb-true, subst, min, ◌-◌}
 use Rattle.std.specs.List.{list_all}
 use Rattle.std.proofs.lemmas.Fmt.{decimal_is_IsNumeral, length-decimal-le}
 use Rattle.std.proofs.lemmas.Str.Parse.{digit_at}

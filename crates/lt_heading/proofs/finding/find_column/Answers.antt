@@ -1,6 +1,5 @@
-use Rattle.std.proofs.Common.{◌≡◌, ◌∙◌, List, ℕ, Option, ap}
+use Rattle.std.proofs.Common.{◌∙◌, ap}
 use Rattle.lt_heading.specs.Headings.{heading_in}
-use Rattle.lt_heading.specs.Names.{AreNamesIn, IsFound, IsOnly}
 use Rattle.lt_heading.proofs.finding.find_column.Goals as goal
 
 pub returns : goal.returns

@@ -1,4 +1,4 @@
-use Rattle.std.proofs.Common.{◌≡◌, ◌≤◌, ◌<◌, ◌∙◌, length, take, sym, ap, arith, length-take}
+use Rattle.std.proofs.Common.{◌≡◌, ◌<◌, ◌∙◌, length, take, sym, ap, arith}
 use Rattle.std.proofs.lemmas.Result.{err_from_is_err_and}
 use Rattle.lt_stream.proofs.ReadLemmas.{ReadsPiece, refilled}
 use Rattle.lt_heading.proofs.ReadLemmas.{read_ended, read_failed, read_finished, read_first, read_lacks, read_next, read_stopped, read_turns}

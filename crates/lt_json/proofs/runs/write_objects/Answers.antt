@@ -1,4 +1,4 @@
-use Rattle.std.proofs.Common.{Bool, subst}
+use Rattle.std.proofs.Common.{subst}
 use Rattle.lt_json.specs.Running.{AreObjects}
 use Rattle.lt_json.proofs.RunLemmas.{run_mapped}
 use Rattle.lt_json.proofs.runs.write_objects.Goals as goal

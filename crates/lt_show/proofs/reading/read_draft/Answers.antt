@@ -1,4 +1,4 @@
-use Rattle.std.proofs.Common.{◌∙◌, sym, ap, Ok, rules, subst}
+use Rattle.std.proofs.Common.{◌∙◌, ap, Ok, rules}
 use Rattle.std.proofs.lemmas.Result.{err_from_is_err_and}
 use Rattle.lt_show.proofs.KeptLemmas.{kept_ended, kept_more, kept_stops}
 use Rattle.lt_show.proofs.reading.read_draft.Goals as goal
