@@ -13,49 +13,57 @@ use Rattle.lt_subtag.specs.Lanes.{padded, number}
 use Rattle.lt_subtag.proofs.BytesLemmas.{subtag_length}
 use Rattle.lt_subtag.proofs.RunLemmas.{length_padded}
 
--- at most eight letters and digits
+-- at most eight bytes, each a lower-case letter or a digit; unlike a subtag it may be empty
 pub record IsFew (s : List ℕ) : Type 0 where
   pub bytes : list_all is_subtag_byte s ≡ true
   pub few : length s ≤ 8
 
+-- a subtag has at most eight bytes, lower-case letters and digits
 pub subtag_few : (s : List ℕ) → is_subtag s ≡ true → IsFew s
 unfolding is_subtag
 subtag_few s h = record { bytes = (and_parts (list_all is_subtag_byte s) _ h).0; few = (subtag_length s h).1 }
 
+-- a byte of a subtag is above 0, which is the padding, and below 256
 byte_bounds : (b : ℕ) → is_subtag_byte b ≡ true → (0 < b) × (b < 256)
 byte_bounds b h = (grind (arith, nat_tests), grind (arith, nat_tests))
 
+-- each number of a list is below 256
 abbrev AreBytes : List ℕ → Type 0
 AreBytes bs = AllByRecursion (λ (b : ℕ). b < 256) bs
 
+-- the bytes of s and n zeros after them are below 256
 filled_bytes : (s : List ℕ) (n : ℕ) → list_all is_subtag_byte s ≡ true → AreBytes (s ++ replicate n 0)
 filled_bytes [] zero h = tt
 filled_bytes [] (suc n) h = (omega arith, filled_bytes [] n h)
 filled_bytes (b ∷ s) n h = let both = and_parts (is_subtag_byte b) (list_all is_subtag_byte s) h in ((byte_bounds b both.0).1, filled_bytes s n both.1)
 
+-- what is at an index of a list of bytes is below 256; past its end it is 0
 byte_below : (bs : List ℕ) (i : ℕ) → AreBytes bs → get_or bs i 0 < 256
 byte_below [] i h = omega arith
 byte_below (b ∷ bs) zero h = h.0
 byte_below (b ∷ bs) (suc i) h = byte_below bs i h.1
 
+-- each byte of a padded subtag is below 256
 small : (s : List ℕ) → IsFew s → (i : ℕ) → get_or (padded s) i 0 < 256
 small s h i = byte_below (padded s) i (filled_bytes s (8 - length s) h.bytes)
 
+-- the number of a subtag fits in 64 bits
 pub number_below : (s : List ℕ) → IsFew s → number s < 2 ^ 64
 unfolding number
 number_below s h = let at = small s h in omega (arith, at 0, at 1, at 2, at 3, at 4, at 5, at 6, at 7)
 
--- bytes as one number, after those that made v
+-- the number that bytes make, the most significant first, after those that made the number v
 abbrev through : ℕ → List ℕ → ℕ
 through v [] = v
 through v (b ∷ bs) = through (v * 256 + b) bs
 
+-- the smaller of two numbers u and v stays the smaller, whatever equally many bytes follow each
 through_below : (u v : ℕ) (s t : List ℕ) → u < v → length s ≡ length t → AreBytes s → through u s < through v t
 through_below u v [] [] low one are = low
 through_below u v (x ∷ s) (y ∷ t) low one are = through_below (u * 256 + x) (v * 256 + y) s t (omega (arith, low, are.0)) (omega (arith, one)) are.1
 through_below u v _ _ low one are = absurd (omega (arith, one))
 
--- of two lists of equally many bytes, the first that differs decides
+-- the order of two lists of equally many bytes is that of the numbers they make after the same number u
 through_ordered : (u : ℕ) (s t : List ℕ) → length s ≡ length t → AreBytes s → AreBytes t → slice_cmp nat_cmp s t ≡ nat_cmp (through u s) (through u t)
 through_ordered u [] [] one are too = nat_cmp_is u u Equal refl
 through_ordered u (x ∷ s) (y ∷ t) one are too =
@@ -78,7 +86,7 @@ through_ordered u (x ∷ s) (y ∷ t) one are too =
     ]
 through_ordered u _ _ one are too = absurd (omega (arith, one))
 
--- zeros, which no subtag has, come before any byte
+-- m zeros after s and n after t, up to one length, keep their order: no subtag has a zero, which comes before any byte
 filled_ordered : (s t : List ℕ) (m n : ℕ) → list_all is_subtag_byte s ≡ true → list_all is_subtag_byte t ≡ true → length s + m ≡ length t + n
     → slice_cmp nat_cmp s t ≡ slice_cmp nat_cmp (s ++ replicate m 0) (t ++ replicate n 0)
 filled_ordered [] [] zero zero h k one = refl
@@ -91,12 +99,13 @@ filled_ordered (x ∷ s) (y ∷ t) m n h k one =
     ap (ordering_then (nat_cmp x y)) (filled_ordered s t m n (and_parts (is_subtag_byte x) _ h).1 (and_parts (is_subtag_byte y) _ k).1 (omega (arith, one)))
 filled_ordered _ _ m n h k one = absurd (omega (arith, one))
 
--- each byte, and zeros after the last
+-- the eight padded bytes one by one: past the end of s they are 0
 filled_by_index : (s : List ℕ) → length s ≤ 8
     → padded s ≡ get_or s 0 0 ∷ get_or s 1 0 ∷ get_or s 2 0 ∷ get_or s 3 0 ∷ get_or s 4 0 ∷ get_or s 5 0 ∷ get_or s 6 0 ∷ get_or s 7 0 ∷ []
 filled_by_index (a ∷ b ∷ c ∷ d ∷ e ∷ f ∷ g ∷ h ∷ i ∷ s) l = absurd (omega (arith, l))
 filled_by_index _ l = refl
 
+-- the number of a subtag is what `through` makes of its padded bytes
 number_through : (s : List ℕ) → length s ≤ 8 → number s ≡ through 0 (padded s)
 unfolding number
 number_through s l = rw (filled_by_index s l) (omega arith)
@@ -108,6 +117,6 @@ numbers_ordered s t h k =
     ∙ through_ordered 0 (padded s) (padded t) (length_padded s h.few ∙ sym (length_padded t k.few)) (filled_bytes s (8 - length s) h.bytes) (filled_bytes t (8 - length t) k.bytes)
     ∙ ap (λ n. nat_cmp n (through 0 (padded t))) (sym (number_through s h.few)) ∙ ap (nat_cmp (number s)) (sym (number_through t k.few))
 
--- and so is their equality
+-- subtags are equal exactly if their numbers are
 pub numbers_equal : (s t : List ℕ) → IsFew s → IsFew t → eqb (number s) (number t) ≡ pointwise nat_eq s t
 numbers_equal s t h k = unsigned_ties (number s) (number t) ∙ ap is_eq (sym (numbers_ordered s t h k)) ∙ sym (texts_ties s t)

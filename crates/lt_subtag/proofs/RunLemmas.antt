@@ -10,7 +10,7 @@ use Rattle.lt_subtag.specs.Bytes.{is_subtag, folded}
 use Rattle.lt_subtag.proofs.BytesLemmas.{piece_folds}
 use Rattle.lt_subtag.specs.Lanes.{padded}
 
--- each byte of a run passes
+-- the first n elements of v pass p, if the front of v that passes p is at least that long
 pub run_passes : (p : ℕ → Bool) (v : List ℕ) (n : ℕ) → n ≤ prefix_len p v → list_all p (take n v) ≡ true
 run_passes p v n le =
     let long = length-take-le n v (omega (arith, prefix_len-le-length p v)) in
@@ -18,16 +18,20 @@ run_passes p v n le =
     (All-from_get_or (λ x. p x ≡ true) (take n v) 0
     (λ k inside. subst (λ x. p x ≡ true) (sym (get_or-take n v k 0 (omega arith))) (prefix_len_passes p v k 0 (omega arith))))
 
+-- up to eight bytes, padded, are eight
 pub length_padded : (s : List ℕ) → length s ≤ 8 → length (padded s) ≡ 8
 length_padded s few = length-append s (replicate (8 - length s) 0) ∙ omega (arith, length-replicate {A = ℕ} (8 - length s) 0)
 
+-- the front of a padded piece is the piece
 front_padded : (s : List ℕ) → length s ≤ 8 → take (length s) (take 8 (padded s)) ≡ s
 front_padded s few = take-take (length s) 8 (padded s) few ∙ take_at s (replicate (8 - length s) 0) (length s) refl
 
+-- r is the number of letters and digits at the front of the padded piece s; if s ends by there, all its bytes are such
 pub padded_passes : (s : List ℕ) (r : ℕ) → length s ≤ 8 → r ≡ prefix_len is_ascii_alphanumeric (take 8 (padded s)) → length s ≤ r → list_all is_ascii_alphanumeric s ≡ true
 padded_passes s r few is le =
     subst (λ xs. list_all is_ascii_alphanumeric xs ≡ true) (front_padded s few) (run_passes is_ascii_alphanumeric (take 8 (padded s)) (length s) (omega arith))
 
+-- if r ends before s does, a byte of s is neither a letter nor a digit
 pub padded_fails : (s : List ℕ) (r : ℕ) → length s ≤ 8 → r ≡ prefix_len is_ascii_alphanumeric (take 8 (padded s)) → r < length s → list_all is_ascii_alphanumeric s ≡ false
 padded_fails s r few is lt =
     let v = take 8 (padded s) in
@@ -36,6 +40,7 @@ padded_fails s r few is lt =
     let at = get_or-take 8 (padded s) r 0 (omega arith) ∙ get_or_append_left s (replicate (8 - length s) 0) 0 r lt in
     list_all_at is_ascii_alphanumeric s r 0 lt (subst (λ x. is_ascii_alphanumeric x ≡ false) at stop)
 
+-- lower case leaves zeros as they are
 zeros_fold : (n : ℕ) → folded (replicate n 0) ≡ replicate n 0
 zeros_fold zero = refl
 zeros_fold (suc n) = ap (λ zs. 0 ∷ zs) (zeros_fold n)
@@ -47,12 +52,13 @@ folded_padded s few =
     ap folded (take_all 8 (padded s) (omega (arith, length_padded s few))) ∙ map-append to_ascii_lowercase s (replicate n 0)
     ∙ ap (λ zs. folded s ++ zs) (zeros_fold n) ∙ ap (λ k. folded s ++ replicate (8 - k) 0) (sym (length-map s to_ascii_lowercase))
 
--- the bytes of a padded piece in lower case
+-- the front of `letters`, the padded piece s in lower case, is s in lower case
 pub read_front : (s letters : List ℕ) → letters ≡ padded (folded s) → take (length s) letters ≡ folded s
 read_front s letters is =
     ap (take (length s)) is ∙ take_at (folded s) (replicate (8 - length (folded s)) 0) (length s) (length-map s to_ascii_lowercase)
 
--- letters and digits in lower case, padded, are a subtag and zeros after it
+-- the invariant of `Subtag` for a piece s of 1 to 8 letters and digits: `letters`, its padded lower case, has the
+-- subtag at its front and zeros after it
 pub read_holds : (s letters : List ℕ) → letters ≡ padded (folded s) → list_all is_ascii_alphanumeric s ≡ true → 0 < length s → length s ≤ 8
     → (length s ≤ 8) × (is_subtag (take (length s) letters) ≡ true) × (letters ≡ padded (take (length s) letters))
 read_holds s letters is good some few =

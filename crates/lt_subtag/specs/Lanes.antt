@@ -7,10 +7,11 @@ use lib.Count.{count_trailing_zeros}
 abbrev pub padded : List ℕ → List ℕ
 padded s = s ++ replicate (8 - length s) 0
 
--- a subtag as one number, that of its padded bytes: numbers are in the order of subtags
+-- a subtag as one number, whose most significant byte is the first of the padded ones: numbers are in the order of
+-- subtags
 unfoldable pub number : List ℕ → ℕ
 number s = from_be_bytes w64 (padded s)
 
--- the number of the lowest bit that is set in a mask, or `lanes` if none is
+-- the index, from 0, of the lowest bit that is set in the mask of a vector of `lanes` lanes, or `lanes` if none is
 abbrev pub first_set : ℕ → ℕ → ℕ
 first_set mask lanes = if mask == 0 then lanes else count_trailing_zeros 64 mask

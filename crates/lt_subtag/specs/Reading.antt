@@ -8,7 +8,7 @@ use Rattle.lt_subtag.specs.declared.SubtagFault.TheVariants as faults
 use Rattle.lt_subtag.specs.declared.Case.{Case}
 use Rattle.lt_subtag.specs.declared.Case.TheVariants as cases
 
--- the subtag that a piece of a text is, or the first fault of that piece (RFC 5646, 2.1)
+-- the subtag that a piece of a text is, or its first fault in the order Empty, BadByte, TooLong (RFC 5646, 2.1)
 abbrev pub subtag_of : List ℕ → Result (List ℕ) SubtagFault
 subtag_of piece =
     if length piece == 0 then Err faults.Empty

@@ -16,7 +16,9 @@ impl PartialEq for Subtag {
 
     ghost laws = { partial_equiv_from_equiv nat_list_eq_equiv };
 
+    /// Whether the lower-case bytes are equal.
     fn eq(&self, other: &Subtag) -> bool {
+        // One comparison of numbers in place of one of each byte.
         self.number() == other.number()
     }
 }
@@ -44,7 +46,9 @@ impl Ord for Subtag {
 
     ghost matches_eq = { texts_ties };
 
+    /// The order of the lower-case bytes, where a subtag that begins another comes before it.
     fn cmp(&self, other: &Subtag) -> Ordering {
+        // Numbers are in the order of the bytes, and take one comparison.
         self.number().cmp(&other.number())
     }
 }
@@ -54,6 +58,7 @@ impl Hash for Subtag {
 
     ghost respects_eq = { Prim.search (hashing, rules) };
 
+    /// Feeds the lower-case bytes to the hasher, so that equal subtags hash alike.
     fn hash<H: Hasher>(&self, state: &mut H) {
         self.bytes().hash(state);
     }

@@ -7,7 +7,7 @@ ghost use Rattle.lt_subtag.specs.Lanes.{padded, first_set};
 
 use std::simd::prelude::*;
 
-/// The index of the lowest bit that is set, or `lanes` if none is.
+/// The index, from 0, of the lowest bit set in the mask of a vector of `lanes` lanes, or `lanes` if none is.
 #[inline(always)]
 fn first_set(mask: u64, lanes: usize) -> usize
     ensures { result ≡ first_set mask lanes }
@@ -19,7 +19,7 @@ fn first_set(mask: u64, lanes: usize) -> usize
     }
 }
 
-/// The bytes, and zeros after them up to eight.
+/// The bytes, at most eight, and zeros after them up to eight.
 #[inline(always)]
 fn pad(bytes: &[u8]) -> [u8; 8]
     requires { length bytes.now ≤ 8 }
@@ -37,6 +37,8 @@ fn run_of_8(text: &[u8]) -> usize
     ensures { result ≡ prefix_len is_ascii_alphanumeric (take 8 text.now) }
 {
     let v = u8x8::from_slice(text);
+    // Bit 0x20 makes a capital a small letter. The differences wrap, so only letters are below 26, and only digits
+    // below 10.
     let no_letter = ((v | u8x8::splat(0x20)) - u8x8::splat(b'a')).simd_ge(u8x8::splat(26));
     let no_digit = (v - u8x8::splat(b'0')).simd_ge(u8x8::splat(10));
     first_set((no_letter & no_digit).to_bitmask(), 8)
@@ -49,11 +51,13 @@ fn fold_8(text: &[u8]) -> [u8; 8]
     ensures { result ≡ folded (take 8 text.now) }
 {
     let v = u8x8::from_slice(text);
+    // The difference wraps, so only a capital is below 26. Bit 0x20 makes a capital a small letter.
     let no_capital = (v - u8x8::splat(b'A')).simd_ge(u8x8::splat(26));
     no_capital.select(v, v | u8x8::splat(0x20)).to_array()
 }
 
-/// The bytes with their letters in lower case and zeros after them, or None if one is neither a letter nor a digit.
+/// At most eight bytes with their letters in lower case, and zeros after them up to eight. None if one is neither a
+/// letter nor a digit.
 #[inline(always)]
 pub(crate) fn fold(bytes: &[u8]) -> Option<[u8; 8]>
     requires { length bytes.now ≤ 8 }

@@ -49,6 +49,7 @@ impl SubtagFault {
 impl fmt::Display for SubtagFault {
     ghost output = { λ fault. Some (reading.name_of fault) };
 
+    /// Writes the fault's name.
     fn fmt<W: fmt::Write>(&self, f: &mut fmt::Formatter<W>) -> fmt::Result {
         f.write_str(self.name())
     }
@@ -73,6 +74,7 @@ pub enum Case {
 pub struct Subtag {
     /// The lower-case bytes, and zeros after them, so that a copy is of eight bytes whatever their number.
     letters: [u8; 8],
+    /// How many bytes the subtag has, from 1 to 8.
     count: u8,
 }
 
@@ -107,8 +109,9 @@ impl fmt::Display for Subtag {
 
     ghost styled_output = { λ subtag spec. Some (styled_text spec subtag) };
 
-    /// Writes the lower-case bytes.
+    /// Writes the lower-case bytes, with the formatter's width, fill and precision.
     fn fmt<W: fmt::Write>(&self, f: &mut fmt::Formatter<W>) -> fmt::Result {
+        // Letters and digits are ASCII, so this gives a text.
         let text = str::from_utf8(self.bytes()).map_err(|_| fmt::Error)?;
         f.pad(text)
     }
@@ -148,7 +151,7 @@ impl Subtag {
         &self.letters[..usize::from(self.count)]
     }
 
-    /// The lower-case bytes, and zeros after them up to 8. Arrays are in the order of their subtags.
+    /// The lower-case bytes, and zeros after them up to 8. These arrays are in the order of the subtags.
     pub fn padded(&self) -> [u8; 8]
         ensures padded { result ≡ padded self.now }
         ensures subtag { is_subtag self.now ≡ true }
@@ -156,7 +159,8 @@ impl Subtag {
         self.letters
     }
 
-    /// The lower-case bytes, and zeros after them up to 8, as one number. Numbers are in the order of their subtags.
+    /// The lower-case bytes, and zeros after them up to 8, as one number whose most significant byte is the first.
+    /// These numbers are in the order of the subtags.
     #[tactic(auto, unfolding(crate::specs::Lanes::number))]
     pub fn number(&self) -> u64
         ensures number { result ≡ number self.now }
@@ -175,7 +179,7 @@ impl Subtag {
         }
     }
 
-    /// The bytes with the letters in a case (RFC 5646, 2.1.1).
+    /// The bytes with their letters in the given case (RFC 5646, 2.1.1).
     #[tactic(auto, using(crate::proofs::BytesLemmas::subtag_length))]
     pub fn cased(&self, case: Case) -> ArrayVec<u8, 8>
         ensures { result.items ≡ reading.cased case self.now }
@@ -295,7 +299,7 @@ fn long_fault(bytes: &[u8]) -> SubtagFault
     }
 }
 
-/// The bytes with the first `capitals` of them in upper case.
+/// At most 8 bytes, with the letters among the first `capitals` of them in upper case and the others as they are.
 fn capitalised(bytes: &[u8], capitals: usize) -> ArrayVec<u8, 8>
     requires short { length bytes.now ≤ 8 }
     requires within { capitals ≤ length bytes.now }

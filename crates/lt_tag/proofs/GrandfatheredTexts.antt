@@ -1,4 +1,5 @@
--- Grandfathered lists: the pieces of a text compared with one, the first four subtags of a list, and the texts that have one.
+-- Grandfathered lists: the pieces of a text compared with one, the first four subtags of a list, and the texts that
+-- have one.
 use Rattle.std.proofs.Common.{◌≡◌, ℕ, ◌≤◌, ◌<◌, ◌+◌, Bool, true, false, not, List, [], ◌∷◌, ◌++◌, length, take, drop, get_or, refl, sym, ap, ◌∙◌, arith, Bor, ◌-◌, zero, suc, map}
 use Rattle.std.specs.Prelude.{Option, Some, None, IsTrue, is_some, nat_le, IfSome, IfNone, slice_get, slice_index_or, sum_by}
 use Rattle.std.proofs.lemmas.List.{append_assoc, append-nil, append_cancel_left, take-append-drop, take_all, drop_more, length-take, get_or-map, length-map, length-append}
@@ -22,17 +23,19 @@ use Rattle.lt_tag.proofs.LetterLemmas.{join_pieces, list_of_is, to_HasList}
 use Rattle.std.proofs.lemmas.List.Sums.{sum_by-cons}
 use Rattle.std.proofs.lemmas.Bool.Decides.{nat_tests}
 
--- what is at a place, where the list is known from there on
+-- in a list that goes on with x at index i, the subtag s that is read there is x
 pub next_is : (list : List (List ℕ)) (i : ℕ) (s x : List ℕ) (more : List (List ℕ)) → i < length list → s ≡ get_or list i s → list ≡ take i list ++ x ∷ more → s ≡ x
 next_is list i s x more within read e =
     let rest : drop i list ≡ x ∷ more = append_cancel_left (take i list) (drop i list) (x ∷ more) (take-append-drop i list ∙ e) in
     let here : drop i list ≡ get_or list i s ∷ drop (i + 1) list = drop_more list i s within in
     read ∙ head_is (get_or list i s) x (drop (i + 1) list) more (sym here ∙ rest)
 
+-- the pieces ps begin with the first i subtags of a list, and go on with p, the next subtag s, and then with `more`:
+-- they begin with the first i + 1
 pub one_more : (ps list : List (List ℕ)) (i : ℕ) (s p : List ℕ) (more : List (List ℕ)) → i < length list → s ≡ get_or list i s → s ≡ p → ps ≡ take i list ++ p ∷ more → ps ≡ take (i + 1) list ++ more
 one_more ps list i s p more within read same e = rw ((take_at_read list i s within).1, append_assoc (take i list), ← read, same) e
 
--- no subtag is left: the pieces are the same if none of them is left
+-- no subtag of the list is left: it equals the pieces ps exactly if no piece is left either, that is, if r
 pub at_end : (list ps : List (List ℕ)) (i : ℕ) (rest : Option (Bor (List ℕ))) (r : Bool) → length list ≤ i → ps ≡ take i list ++ pieces_left rest → is_some rest ≡ not r
     → (IsTrue r → list ≡ ps) × (list ≡ ps → IsTrue r)
 at_end list ps i None true n e h = (λ _. rw (e, append-nil (take i list)) (sym (take_all i list n)), λ _. refl)
@@ -43,93 +46,101 @@ at_end list ps i (Some rest) false n e h =
 
 -- ---- the first four subtags
 
+-- each of the 26 texts has at most 3 pieces
 short_in_table : list_all (λ (t : List ℕ). nat_le (length (pieces t)) 3) grandfathered_texts ≡ true
 unfolding grandfathered_texts
 short_in_table = refl
 
+-- the list of a grandfathered tag has at most 3 subtags
 pub short : (number : ℕ) → 1 ≤ number → number ≤ 26 → length (grandfathered_list number) ≤ 3
 unfolding grandfathered_list
 short number first last =
     leb-true _ 3 (list_all-at (λ (t : List ℕ). nat_le (length (pieces t)) 3) grandfathered_texts (number - 1) short_in_table (omega (arith, table_length)))
 
--- what the first four subtags are
+-- a list whose first four subtags are those of a grandfathered tag has no others
 pub from_front : (list : List (List ℕ)) (number : ℕ) → IsGrandfathered (take 4 list) number → IsGrandfathered list number
 from_front list number g =
     let few = short number g.first g.last in
     let same : length (take 4 list) ≡ length (grandfathered_list number) = ap length g.same in
     record { first = g.first; last = g.last; same = sym (take_all 4 list (omega (arith, length-take 4 list))) ∙ g.same }
 
+-- the first four subtags of a grandfathered list are the whole list
 pub to_front : (list : List (List ℕ)) (number : ℕ) → IsGrandfathered list number → IsGrandfathered (take 4 list) number
 to_front list number g =
     let few = short number g.first g.last in
     let same : length list ≡ length (grandfathered_list number) = ap length g.same in
     record { first = g.first; last = g.last; same = take_all 4 list (omega arith) ∙ g.same }
 
--- cutting before more is added changes nothing
+-- cutting to n before more is added, and again after, is cutting once after
 pub take-take_append : {X : Type 0} (n : ℕ) (xs ys : List X) → take n (take n xs ++ ys) ≡ take n (xs ++ ys)
 take-take_append zero xs ys = refl
 take-take_append (suc n) [] ys = refl
 take-take_append (suc n) (x ∷ xs) ys = ap (◌∷◌ x) (take-take_append n xs ys)
 
+-- the number found for `front`, the first four subtags of a list, is that of the list
 pub literal_found : (o : Option ℕ) (front list : List (List ℕ)) → front ≡ take 4 list → IfSome o (λ n. IsGrandfathered front n) → IfSome o (λ n. IsGrandfathered list n)
 literal_found None front list e h = h
 literal_found (Some n) front list e h = from_front list n (rw (← e) h)
 
+-- where none is found for `front`, the first four subtags of a list, the list has none
 pub literal_none : (o : Option ℕ) (front list : List (List ℕ)) → front ≡ take 4 list → IfNone o (IsNotGrandfathered front) → IfNone o (IsNotGrandfathered list)
 literal_none None front list e h = λ n g. h n (rw e (to_front list n g))
 literal_none (Some n) front list e h = h
 
 -- ---- a text has the list of a grandfathered tag exactly if it is that text in some letter case
 
--- the text of a number
+-- the text of the grandfathered tag with this number
 abbrev known : ℕ → List ℕ
 known number = slice_index_or grandfathered_texts (number - 1) []
 
+-- the 26 texts are in lower case
 lower_table : map folded grandfathered_texts ≡ grandfathered_texts
 unfolding grandfathered_texts
 lower_table = refl
 
+-- the text of each number is in lower case
 folded-known : (number : ℕ) → 1 ≤ number → number ≤ 26 → folded (known number) ≡ known number
 folded-known number first last =
     sym (get_or-map folded grandfathered_texts (number - 1) [] [] (omega (arith, table_length))) ∙ ap (λ (z : List (List ℕ)). slice_index_or z (number - 1) []) lower_table
 
--- a text that is that of a number
+-- a text that is, in some letter case, the text of a number has that number's list
 pub match_found : (text : List ℕ) (number : ℕ) → 1 ≤ number → number ≤ 26 → folded text ≡ folded (known number) → IsGrandfathered (list_of text) number
 unfolding grandfathered_list
 match_found text number first last h =
     record { first = first; last = last; same = list_of_is text ∙ ap pieces (h ∙ folded-known number first last) }
 
--- a text that has the list of a number
+-- a text that has the list of a number is that number's text in some letter case
 pub match_needed : (text : List ℕ) (number : ℕ) → IsGrandfathered (list_of text) number → folded text ≡ folded (known number)
 unfolding grandfathered_list
 match_needed text number g =
     sym (join_pieces (folded text)) ∙ ap (join_with_byte 45) (sym (list_of_is text) ∙ g.same) ∙ join_pieces (known number) ∙ sym (folded-known number g.first g.last)
 
--- a text that is grandfathered has a list
+-- each piece of a text that has a grandfathered list is a subtag
 pub match_listed : (text : List ℕ) (number : ℕ) → IsGrandfathered (list_of text) number → HasList text
 match_listed text number g = to_HasList text (ap (list_all is_subtag) g.same ∙ tag_subtags (Grandfathered number) (g.first, g.last))
 
+-- a byte put on the first piece adds one to the bytes of the pieces
 sum-onto_first : (b : ℕ) (ps : List (List ℕ)) → 0 < length ps → sum_by length (onto_first b ps) + length (onto_first b ps) ≡ sum_by length ps + length ps + 1
 sum-onto_first b [] n = absurd (omega arith)
 sum-onto_first b (p ∷ ps) n = omega (arith, sum_by-cons (λ (x : List ℕ). length x) (b ∷ p) ps, sum_by-cons (λ (x : List ℕ). length x) p ps)
 
--- the pieces have the bytes of the text but its hyphens
+-- the bytes of the pieces and the number of pieces: one more than the text has bytes, since a hyphen is between any two
 pub sum-pieces : (text : List ℕ) → sum_by length (pieces text) + length (pieces text) ≡ length text + 1
 sum-pieces [] = refl
 sum-pieces (b ∷ bs) =
     grind (arith, nat_tests, sum-pieces bs, sum_by-cons (λ (x : List ℕ). length x) [] (pieces bs), sum-onto_first b (pieces bs), some_pieces bs)
 
--- how long the text of a list is
+-- the bytes and the number of the subtags of a grandfathered list: one more than its text has bytes
 pub list_length : (list : List (List ℕ)) (number : ℕ) → IsGrandfathered list number → sum_by length list + length list ≡ length (known number) + 1
 unfolding grandfathered_list
 list_length list number g = ap (λ (l : List (List ℕ)). sum_by length l + length l) g.same ∙ sum-pieces (known number)
 
--- the length and the first letter of each text
+-- each of the 26 texts passes `begins_listed` by its length and its first byte
 begin_listed : list_all (λ (t : List ℕ). begins_listed (length t) (slice_index_or t 0 0)) grandfathered_texts ≡ true
 unfolding grandfathered_texts
 begin_listed = refl
 
--- and of each text that has the list of one
+-- so does each text that has the list of one of them, by its first byte in lower case
 text_begins : (text : List ℕ) (number : ℕ) → IsGrandfathered (list_of text) number → begins_listed (length text) (to_ascii_lowercase (slice_index_or text 0 0)) ≡ true
 text_begins text number g =
     let same : folded text ≡ known number = match_needed text number g ∙ folded-known number g.first g.last in
@@ -140,10 +151,12 @@ text_begins text number g =
     first_folded [] = refl
     first_folded (b ∷ bs) = refl
 
+-- a text whose first byte is `first`, and which has a grandfathered list, passes `begins_listed`
 pub first_begins : (text : List ℕ) (number first : ℕ) → Some first ≡ slice_get text 0 → IsGrandfathered (list_of text) number → begins_listed (length text) (to_ascii_lowercase first) ≡ true
 first_begins [] number first h g = cc
 first_begins (b ∷ bs) number first h g = let same : first ≡ b = cc in rw same (text_begins (b ∷ bs) number g)
 
+-- an empty text has no grandfathered list
 pub none_begins : (text : List ℕ) (number : ℕ) → None ≡ slice_get text 0 → IsGrandfathered (list_of text) number → ⊥
 none_begins [] number h g = let impossible : false ≡ true = text_begins [] number g in cc
 none_begins (b ∷ bs) number h g = cc

@@ -15,20 +15,23 @@ use Rattle.lt_tag.proofs.TagLemmas.{list_all-at}
 use Rattle.lt_tag.proofs.TextLemmas.{some_pieces}
 use Rattle.lt_tag.proofs.AgainLemmas.{subtags_again}
 
--- pieces joined by hyphens give the text
+-- a byte put on the first piece is in front of the text that hyphens (45) join
 join_onto : (b : ℕ) (ps : List (List ℕ)) → 0 < length ps → join_with_byte 45 (onto_first b ps) ≡ b ∷ join_with_byte 45 ps
 join_onto b [] n = absurd (omega arith)
 join_onto b (p ∷ []) n = refl
 join_onto b (p ∷ q ∷ ps) n = refl
 
+-- an empty piece in front puts a hyphen in front of the text that hyphens join
 join_empty : (ps : List (List ℕ)) → 0 < length ps → join_with_byte 45 ([] ∷ ps) ≡ 45 ∷ join_with_byte 45 ps
 join_empty [] n = absurd (omega arith)
 join_empty (p ∷ ps) n = refl
 
+-- the pieces of a text joined by hyphens are the text
 pub join_pieces : (text : List ℕ) → join_with_byte 45 (pieces text) ≡ text
 join_pieces [] = refl
 join_pieces (b ∷ bs) = grind (arith, nat_tests, some_pieces bs, join_pieces bs, join_empty (pieces bs), join_onto b (pieces bs))
 
+-- a byte put on the first piece before all are made lower case is as one put on it, in lower case, after
 folded_onto : (b : ℕ) (ps : List (List ℕ)) → map folded (onto_first b ps) ≡ onto_first (to_ascii_lowercase b) (map folded ps)
 folded_onto b [] = refl
 folded_onto b (p ∷ ps) = refl
@@ -38,38 +41,46 @@ pub list_of_is : (text : List ℕ) → list_of text ≡ pieces (folded text)
 list_of_is [] = refl
 list_of_is (b ∷ bs) = grind (arith, nat_tests, list_of_is bs, folded_onto b (pieces bs))
 
+-- texts with the same list differ in letter case alone
 pub same_letters : (a b : List ℕ) → list_of a ≡ list_of b → folded a ≡ folded b
 same_letters a b e =
     sym (join_pieces (folded a)) ∙ ap (join_with_byte 45) (sym (list_of_is a) ∙ e ∙ list_of_is b) ∙ join_pieces (folded b)
 
+-- texts that differ in letter case alone have the same list
 pub same_list : (a b : List ℕ) → folded a ≡ folded b → list_of a ≡ list_of b
 same_list a b e = list_of_is a ∙ ap pieces e ∙ sym (list_of_is b)
 
+-- a piece that in lower case has bytes of subtags alone is ASCII letters and digits
 bytes_from_lower : (p : List ℕ) → list_all is_subtag_byte (folded p) ≡ true → list_all is_ascii_alphanumeric p ≡ true
 bytes_from_lower [] h = refl
 bytes_from_lower (b ∷ p) h = grind (arith, nat_tests, bytes_from_lower p)
 
+-- a piece of ASCII letters and digits has in lower case bytes of subtags alone
 bytes_to_lower : (p : List ℕ) → list_all is_ascii_alphanumeric p ≡ true → list_all is_subtag_byte (folded p) ≡ true
 bytes_to_lower [] h = refl
 bytes_to_lower (b ∷ p) h = grind (arith, nat_tests, bytes_to_lower p)
 
+-- a piece that is a subtag in lower case is read as one
 piece_is : (p : List ℕ) → is_subtag (folded p) ≡ true → IsOk (subtag_of p)
 unfolding is_subtag
 piece_is p h = grind (arith, nat_tests, length-map p to_ascii_lowercase, bytes_from_lower p)
 
+-- a piece that is read as a subtag is one in lower case
 piece_folds : (p : List ℕ) → IsOk (subtag_of p) → is_subtag (folded p) ≡ true
 unfolding is_subtag
 piece_folds p h = grind (arith, nat_tests, length-map p to_ascii_lowercase, bytes_to_lower p)
 
+-- pieces that are each read as a subtag are subtags in lower case
 pieces_folded : (ps : List (List ℕ)) → ((i : ℕ) → i < length ps → IsOk (subtag_of (slice_index_or ps i []))) → list_all is_subtag (map folded ps) ≡ true
 pieces_folded [] h = refl
 pieces_folded (p ∷ ps) h =
     and_from (is_subtag (folded p)) (list_all is_subtag (map folded ps)) (piece_folds p (h 0 (omega arith))) (pieces_folded ps (λ i n. h (suc i) (omega arith)))
 
--- a text has a list exactly if its list is one of subtags
+-- the list of a text is one of subtags if each piece is read as a subtag
 pub from_HasList : (text : List ℕ) → HasList text → list_all is_subtag (list_of text) ≡ true
 from_HasList text h = pieces_folded (pieces text) h
 
+-- each piece of a text is read as a subtag if its list is one of subtags
 pub to_HasList : (text : List ℕ) → list_all is_subtag (list_of text) ≡ true → HasList text
 to_HasList text h i n =
     let ps = pieces text in
@@ -77,10 +88,11 @@ to_HasList text h i n =
     let here : slice_index_or (map folded ps) i [] ≡ folded (slice_index_or ps i []) = get_or-map folded ps i [] [] n in
     piece_is (slice_index_or ps i []) (ap is_subtag (sym here) ∙ list_all-at is_subtag (map folded ps) i h long)
 
--- what a text with a list prints has that list
+-- the list of a text, printed in conventional case, is read as that list
 pub printed_again : (text : List ℕ) → HasList text → list_of (conventional (list_of text)) ≡ list_of text
 printed_again text h = subtags_again (list_of text) (omega (arith, length-map (pieces text) folded, some_pieces text)) (from_HasList text h)
 
+-- two texts of subtags are printed alike exactly if they differ in letter case alone
 pub printed_alike : (a b : List ℕ) → HasList a → HasList b → (conventional (list_of a) ≡ conventional (list_of b)) ↔ (folded a ≡ folded b)
 printed_alike a b h k = (
   λ e. same_letters a b (sym (printed_again a h) ∙ ap list_of e ∙ printed_again b k),

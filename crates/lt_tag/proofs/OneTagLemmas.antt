@@ -24,16 +24,19 @@ abbrev all_differ : List (List ℕ) → Bool
 all_differ [] = true
 all_differ (t ∷ ts) = list_all (λ (u : List ℕ). not (pointwise eqb t u)) ts && all_differ ts
 
+-- the 26 grandfathered texts differ
 table_differs : all_differ grandfathered_texts ≡ true
 unfolding grandfathered_texts
 table_differs = refl
 
+-- a text that differs from each text of a list is at no index of it
 no_later : (t : List ℕ) (ts : List (List ℕ)) (i : ℕ) → list_all (λ (u : List ℕ). not (pointwise eqb t u)) ts ≡ true → i < length ts → t ≡ slice_index_or ts i [] → ⊥
 no_later t ts i h n e =
     let other = list_all-at (λ (u : List ℕ). not (pointwise eqb t u)) ts i h n in
     let whole = (bytes_decides t (slice_index_or ts i [])).1 e in
     cc
 
+-- in a list whose texts differ a text is at one index alone
 one_place : (ts : List (List ℕ)) (i j : ℕ) → all_differ ts ≡ true → i < length ts → j < length ts → slice_index_or ts i [] ≡ slice_index_or ts j [] → i ≡ j
 one_place [] i j h m n e = absurd (omega arith)
 one_place (t ∷ ts) zero zero h m n e = refl
@@ -50,18 +53,21 @@ one_list a b first last low high e =
     let place : a - 1 ≡ b - 1 = one_place grandfathered_texts (a - 1) (b - 1) table_differs (omega (arith, table_length)) (omega (arith, table_length)) texts in
     omega arith
 
+-- a list is that of one grandfathered tag at most
 pub one_number : (list : List (List ℕ)) (a b : ℕ) → IsGrandfathered list a → IsGrandfathered list b → a ≡ b
 one_number list a b g k = one_list a b g.first g.last k.first k.last (sym g.same ∙ k.same)
 
--- an x is first
+-- the first subtag of a list is `x`
 abbrev x_first : List (List ℕ) → Bool
 x_first [] = false
 x_first (s ∷ ss) = is_x s
 
+-- none of the 26 grandfathered texts begins with the subtag `x`
 table_no_x : list_all (λ (t : List ℕ). not (x_first (pieces t))) grandfathered_texts ≡ true
 unfolding grandfathered_texts
 table_no_x = refl
 
+-- no private use tag spells a grandfathered list
 no_private : (subtags : List (List ℕ)) (number : ℕ) → 1 ≤ number → number ≤ 26 → x_subtag ∷ subtags ≡ grandfathered_list number → ⊥
 unfolding grandfathered_list
 no_private subtags number first last e =
@@ -69,6 +75,7 @@ no_private subtags number first last e =
     let some = ap x_first (sym e) in
     cc
 
+-- a list is spelled by one tag at most
 pub one_tag : (a b : TagForm) → IsTag a → IsTag b → spell a ≡ spell b → a ≡ b
 one_tag (LangTag c es ps) (Grandfathered n) h k e = absurd (h.1 n (record { first = k.0; last = k.1; same = e }))
 one_tag (PrivateUse ps) (Grandfathered n) h k e = absurd (no_private ps n k.0 k.1 e)
@@ -80,16 +87,19 @@ one_tag (LangTag c es ps) (PrivateUse qs) h k e = one_shaped (LangTag c es ps) (
 one_tag (PrivateUse ps) (LangTag d fs qs) h k e = one_shaped (PrivateUse ps) (LangTag d fs qs) h k.0 e
 one_tag (PrivateUse ps) (PrivateUse qs) h k e = one_shaped (PrivateUse ps) (PrivateUse qs) h k e
 
+-- a text is read as one tag at most
 pub one_tag_of_text : (text : List ℕ) (a b : TagForm) → HasTag text a → HasTag text b → a ≡ b
 one_tag_of_text text a b h k = one_tag a b h.tag k.tag (h.spelled ∙ sym k.spelled)
 
--- the text of a tag has the tag's list
+-- the text of a tag in conventional case has the list that the tag spells
 pub text_of_tag : (tag : TagForm) → IsTag tag → HasList (conventional (spell tag)) × (list_of (conventional (spell tag)) ≡ spell tag)
 text_of_tag tag k = (to_HasList (conventional (spell tag)) (ap (list_all is_subtag) (tag_again tag k) ∙ tag_subtags tag k), tag_again tag k)
 
+-- the text of a tag is read as that tag, if it is not too long
 pub read_again : (tag : TagForm) → IsTag tag → length (conventional (spell tag)) ≤ longest_text → HasTag (conventional (spell tag)) tag
 read_again tag k short = record { short = short; tag = k; spelled = sym (text_of_tag tag k).1 }
 
+-- two tags have the same text exactly if they are equal
 pub same_text : (a b : TagForm) → IsTag a → IsTag b → (conventional (spell a) ≡ conventional (spell b)) ↔ (a ≡ b)
 same_text a b h k = (
   λ e. one_tag a b h k (sym (tag_again a h) ∙ ap list_of e ∙ tag_again b k),

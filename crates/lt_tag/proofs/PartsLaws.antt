@@ -12,18 +12,21 @@ use Rattle.lt_tag.proofs.ListLemmas.{chosen}
 use Rattle.lt_tag.proofs.PartsLemmas.{u_extension, u_again, u_found, core_found, core_again, t_again, t_found, IsFound}
 use Rattle.std.proofs.lemmas.Bool.Decides.{nat_tests}
 
+-- equal options hold equal values
 some_same : {X : Type 0} (x y : X) → ◌≡◌ {A = Option X} (Some x) (Some y) → x ≡ y
 some_same x y h = cc
 
+-- the subtags of any extension are spelled by parts of a `u` extension
 pub has_parts : (e : ExtensionParts) → IsExtension e → (p : UForm) × IsUnicode e.subtags p
 has_parts e h =
     let p : UForm = record { attributes = before is_key e.subtags; keywords = keywords_of e.subtags } in
     (p, u_found e.subtags p h.subtags h.some refl refl)
 
--- equal parts make equal values
+-- the parts of a `u` extension by its attributes and keywords, so that these decide whether two are equal
 abbrev u_form : List (List ℕ) → List KeywordParts → UForm
 u_form attributes keywords = record { attributes = attributes; keywords = keywords }
 
+-- subtags are spelled by the parts of one `u` extension at most
 pub u_unique : (ss : List (List ℕ)) (p q : UForm) → IsUnicode ss p → IsUnicode ss q → p ≡ q
 u_unique ss p q h k =
     let e : spell_u p ≡ spell_u q = h.spelled ∙ sym k.spelled in
@@ -32,6 +35,7 @@ u_unique ss p q h k =
     let same : u_form p.attributes p.keywords ≡ u_form q.attributes q.keywords = cc in
     same
 
+-- subtags are spelled by the parts of one `t` extension at most
 pub t_unique : (ss : List (List ℕ)) (p q : TForm) → IsTransform ss p → IsTransform ss q → p ≡ q
 t_unique ss p q h k =
     let e : spell_t p ≡ spell_t q = h.spelled ∙ sym k.spelled in
@@ -40,9 +44,11 @@ t_unique ss p q h k =
     let same : with_fields p.fields p.source ≡ with_fields q.fields q.source = cc in
     same
 
+-- `core_of_list` gives a core exactly if the core is shaped and spells the subtags
 pub core_decided : (ss : List (List ℕ)) (core : CoreParts) → (core_of_list ss ≡ Some core) ↔ (IsCore core × (spell_core core ≡ ss))
 core_decided ss core = (core_found ss core, λ k. ap core_of_list (sym k.1) ∙ core_again core k.0)
 
+-- the parts that `unicode_of` gives have their forms and spell the subtags
 u_forward : (ss : List (List ℕ)) (p : UForm) → unicode_of ss ≡ Some p → IsUnicode ss p
 unfolding unicode_of
 u_forward ss p h =
@@ -50,15 +56,19 @@ u_forward ss p h =
     let e : u_form (before is_key ss) (keywords_of ss) ≡ p = grind (arith, nat_tests) in
     u_found ss p (grind (arith, nat_tests)) (grind (arith, nat_tests)) (ap (λ (z : UForm). z.attributes) (sym e)) (ap (λ (z : UForm). z.keywords) (sym e))
 
+-- of what parts with their forms spell, `unicode_of` gives these parts
 u_backward : (p : UForm) → IsU p → unicode_of (spell_u p) ≡ Some p
 unfolding unicode_of
 u_backward p h =
     let test : (nat_lt 0 (length (spell_u p)) && list_all is_extension_subtag (spell_u p)) ≡ true = and_from _ _ (lt-ltb 0 (length (spell_u p)) h.some) (u_extension p h) in
     rw (test, (u_again p h).0, (u_again p h).1) refl
 
+-- `unicode_of` gives parts exactly if they have their forms and spell the subtags
 pub u_decided : (ss : List (List ℕ)) (p : UForm) → (unicode_of ss ≡ Some p) ↔ IsUnicode ss p
 u_decided ss p = (u_forward ss p, λ k. ap unicode_of (sym k.spelled) ∙ u_backward p k.shaped)
 
+-- o is the source that the subtags before the first separator give: if o and the fields make the parts p, and the
+-- fields have values, p is found in the subtags
 t_at : (ss : List (List ℕ)) (p : TForm) (o : Option (Option CoreParts)) → source_of_list (before is_separator ss) ≡ o → option_map (with_fields (fields_of ss)) o ≡ Some p → list_all has_values (fields_of ss) ≡ true → 0 < length ss
     → IsFound ss p
 t_at ss p None e h v n = cc
@@ -66,6 +76,7 @@ t_at ss p (Some source) e h v n =
     let same : with_fields (fields_of ss) source ≡ p = some_same _ _ h in
     record { source = e ∙ ap (λ (z : TForm). Some z.source) same; fields = ap (λ (z : TForm). z.fields) same; values = v; some = n }
 
+-- the parts that `transform_of` gives have their forms and spell the subtags
 t_forward : (ss : List (List ℕ)) (p : TForm) → transform_of ss ≡ Some p → IsTransform ss p
 unfolding transform_of
 t_forward ss p h =
@@ -74,6 +85,7 @@ t_forward ss p h =
       | inr a ↦ let impossible : None ≡ Some p = a.1 in cc
     ]
 
+-- of what parts with their forms spell, `transform_of` gives these parts
 t_backward : (p : TForm) → IsT p → transform_of (spell_t p) ≡ Some p
 unfolding transform_of
 t_backward p h =
@@ -81,5 +93,6 @@ t_backward p h =
     let test : (nat_lt 0 (length (spell_t p)) && list_all has_values (fields_of (spell_t p))) ≡ true = and_from _ _ (lt-ltb 0 (length (spell_t p)) again.some) again.values in
     rw (test, again.source, again.fields) refl
 
+-- `transform_of` gives parts exactly if they have their forms and spell the subtags
 pub t_decided : (ss : List (List ℕ)) (p : TForm) → (transform_of ss ≡ Some p) ↔ IsTransform ss p
 t_decided ss p = (t_forward ss p, λ k. ap transform_of (sym k.spelled) ∙ t_backward p k.shaped)

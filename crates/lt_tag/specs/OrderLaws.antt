@@ -110,7 +110,8 @@ tags_apart (Grandfathered m) (Grandfathered n) e = ap Grandfathered (nat_cmp-IsA
 pub the_same : {A : Type 0} {R : A → A → Ordering} → IsAntisymmetric R → (x y : A) → eq_by_cmp R x y ≡ true → x ≡ y
 the_same {R = R} apart x y e = apart x y ((Equal-is (R x y)).0 e)
 
--- by a total order that tells any two apart, exactly what is the same is equal
+-- where the order R is total and tells any two apart, b, whether x and y are equal by it, is true exactly if they are
+-- the same
 pub same_exactly : {A : Type 0} {R : A → A → Ordering} → IsTotalOrder R
     → IsAntisymmetric R → (x y : A) (b : Bool) → b ≡ eq_by_cmp R x y → IsTrue b ↔ (x ≡ y)
 same_exactly {R = R} total apart x y b e = (

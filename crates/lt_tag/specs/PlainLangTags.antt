@@ -8,7 +8,7 @@ use Rattle.lt_tag.specs.WellFormed.{IsNotGrandfathered}
 use Rattle.lt_tag.specs.declared.plain_langtags.Room.{Room}
 use Rattle.lt_tag.specs.declared.plain_langtags.Room.TheVariants as rooms
 
--- the list is that of a langtag without extensions and private use
+-- the list is spelled by a shaped core, and is not that of a grandfathered tag
 pub record IsPlainLangTag (list : List (List ℕ)) : Type 0 where
   pub core : CoreParts
   pub shaped : IsCore core
@@ -25,7 +25,7 @@ room_of core =
     if takes_script core then rooms.Extlangs (extlangs_left core)
     else (if takes_region core then rooms.Region else rooms.Variants)
 
--- what may follow once a further subtag is there; None if that may not follow
+-- what may follow the subtag s, where the first argument tells what may come at its place; None if s itself may not
 abbrev pub room_after : Room → List ℕ → Option Room
 room_after (rooms.Extlangs left) s =
     if is_extlang s && nat_lt 0 left then Some (rooms.Extlangs (left - 1))

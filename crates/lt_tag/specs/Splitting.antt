@@ -37,7 +37,7 @@ unfoldable pub core_of_list : List (List ℕ) → Option CoreParts
 core_of_list [] = None
 core_of_list (s ∷ ss) = if is_language s then grown_by (of_language s) ss else None
 
--- the source that subtags spell, if there is one: without a subtag there is no source
+-- the source that subtags spell: no source (Some None) without a subtag, and None if they spell no core
 abbrev pub source_of_list : List (List ℕ) → Option (Option CoreParts)
 source_of_list [] = Some None
 source_of_list (s ∷ ss) = option_map Some (core_of_list (s ∷ ss))
@@ -57,7 +57,7 @@ unicode_of subtags =
     then Some (record { attributes = before is_key subtags; keywords = keywords_of subtags })
     else None
 
--- the parts of a `t` extension: a source, if there is one, and fields
+-- the parts of a `t` extension: fields, and a source, if there is one
 abbrev pub with_fields : List FieldParts → Option CoreParts → TForm
 with_fields fields source = record { source = source; fields = fields }
 

@@ -16,14 +16,16 @@ use lt_subtag::Subtag;
 use std::cmp::Ordering;
 use std::hash::{Hash, Hasher};
 
-/// The order of two lists of subtags.
+/// The order of two lists of subtags: that of the first subtags that differ; a list that begins the other comes
+/// before it.
 fn compare_lists(left: &[Subtag], right: &[Subtag]) -> Ordering
     ensures { result ≡ list_cmp left.now right.now }
 {
     left.cmp(right)
 }
 
-/// The order of two lists of extensions.
+/// The order of two lists of extensions: that of the first extensions that differ; a list that begins the other
+/// comes before it.
 fn compare_extensions(left: &[Extension], right: &[Extension]) -> Ordering
     ensures { result ≡ slice_cmp extension_cmp left.now right.now }
 {
@@ -49,6 +51,7 @@ impl PartialEq for Core {
 
     ghost laws = { partial_equiv_from_equiv (eq_by_cmp_equiv core_total) };
 
+    /// Whether all parts are equal.
     fn eq(&self, other: &Core) -> bool {
         self.cmp(other) == Ordering::Equal
     }
@@ -77,6 +80,8 @@ impl Ord for Core {
 
     ghost matches_eq = { λ a b. refl };
 
+    /// By language, extlangs, script, region and variants, in this order. No script, and no region, comes before
+    /// any.
     fn cmp(&self, other: &Core) -> Ordering {
         self.language()
             .cmp(other.language())
@@ -92,6 +97,7 @@ impl Hash for Core {
 
     ghost respects_eq = { λ a b h. ap core_writes (the_same cores_apart a b h) };
 
+    /// Feeds the parts to the hasher, in the order in which `cmp` compares them. Equal cores hash alike.
     fn hash<H: Hasher>(&self, state: &mut H) {
         self.language().hash(state);
         self.extlangs().hash(state);
@@ -106,6 +112,7 @@ impl PartialEq for Extension {
 
     ghost laws = { partial_equiv_from_equiv (eq_by_cmp_equiv extension_total) };
 
+    /// Whether the singletons and the subtags are equal.
     fn eq(&self, other: &Extension) -> bool {
         self.cmp(other) == Ordering::Equal
     }
@@ -134,6 +141,7 @@ impl Ord for Extension {
 
     ghost matches_eq = { λ a b. refl };
 
+    /// By the singleton, then by the subtags.
     fn cmp(&self, other: &Extension) -> Ordering {
         self.singleton()
             .cmp(&other.singleton())
@@ -146,6 +154,7 @@ impl Hash for Extension {
 
     ghost respects_eq = { λ a b h. ap extension_writes (the_same extensions_apart a b h) };
 
+    /// Feeds the singleton and the subtags to the hasher. Equal extensions hash alike.
     fn hash<H: Hasher>(&self, state: &mut H) {
         self.singleton().hash(state);
         self.subtags().hash(state);
@@ -157,6 +166,7 @@ impl PartialEq for Tag {
 
     ghost laws = { partial_equiv_from_equiv (eq_by_cmp_equiv tag_total) };
 
+    /// Whether all parts are equal. A langtag, a private use tag and a grandfathered tag are never equal.
     fn eq(&self, other: &Tag) -> bool {
         self.cmp(other) == Ordering::Equal
     }
@@ -185,6 +195,8 @@ impl Ord for Tag {
 
     ghost matches_eq = { λ a b. refl };
 
+    /// By core, extensions, private use and the number of a grandfathered tag, in this order. A tag without a core
+    /// comes before any with one.
     fn cmp(&self, other: &Tag) -> Ordering {
         compare_optional_cores(self.core(), other.core())
             .then_with(|| compare_extensions(self.extensions(), other.extensions()))
@@ -198,6 +210,7 @@ impl Hash for Tag {
 
     ghost respects_eq = { λ a b h. ap tag_writes (the_same tags_apart a b h) };
 
+    /// Feeds the parts to the hasher, in the order in which `cmp` compares them. Equal tags hash alike.
     fn hash<H: Hasher>(&self, state: &mut H) {
         self.core().hash(state);
         self.extensions().hash(state);

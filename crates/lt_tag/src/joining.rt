@@ -12,7 +12,8 @@ use crate::splitting::append;
 use lt_subtag::Subtag;
 use std::alloc::Global;
 
-/// Adds the subtags of keywords at the end.
+/// Adds the subtags of keywords, each key and its types, at the end of a list. The only refusal is running out of
+/// memory.
 fn append_keywords(list: &mut Vec<Subtag>, keywords: &[Keyword]) -> Result<(), OutOfMemory>
     ensures { OnOk result (list.new.items ≡ list.old.items ++ flat_map spell_keyword keywords.now) }
 {
@@ -23,7 +24,8 @@ fn append_keywords(list: &mut Vec<Subtag>, keywords: &[Keyword]) -> Result<(), O
     Ok(())
 }
 
-/// Adds the subtags of fields at the end.
+/// Adds the subtags of fields, each separator and its values, at the end of a list. The only refusal is running out
+/// of memory.
 fn append_fields(list: &mut Vec<Subtag>, fields: &[Field]) -> Result<(), OutOfMemory>
     ensures { OnOk result (list.new.items ≡ list.old.items ++ flat_map spell_field fields.now) }
 {
@@ -34,7 +36,7 @@ fn append_fields(list: &mut Vec<Subtag>, fields: &[Field]) -> Result<(), OutOfMe
     Ok(())
 }
 
-/// Adds the subtags of a core at the end.
+/// Adds the subtags of a core, in their order, at the end of a list. The only refusal is running out of memory.
 fn append_core(list: &mut Vec<Subtag>, core: &Core) -> Result<(), OutOfMemory>
     ensures { OnOk result (list.new.items ≡ list.old.items ++ spell_core core.now) }
 {

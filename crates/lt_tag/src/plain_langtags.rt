@@ -17,7 +17,7 @@ enum Room {
 }
 
 impl Room {
-    /// What may follow behind this subtag. None if the subtag itself may not be there.
+    /// What may follow a subtag, where `self` is what may come at its place. None if the subtag itself may not.
     fn after(self, subtag: &Subtag) -> Option<Room>
         ensures { result ≡ room_after self subtag.now }
     {
@@ -45,6 +45,7 @@ pub fn is_plain_langtag(subtags: &[Subtag]) -> bool
     if !language.is_language() {
         return false;
     }
+    // Only a language of 2 or 3 letters has extlangs, at most 3 (RFC 5646, 2.1).
     let extlangs = if language.bytes().len() <= 3 { 3 } else { 0 };
     let mut room = Room::Extlangs(extlangs);
     for subtag in others {

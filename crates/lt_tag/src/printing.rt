@@ -13,6 +13,7 @@ use std::fmt;
 impl fmt::Display for Core {
     ghost output = { λ core. Some (conventional (spell_core core)) };
 
+    /// Writes the core in conventional case.
     fn fmt<W: fmt::Write>(&self, f: &mut fmt::Formatter<W>) -> fmt::Result {
         Style::new().put_core(f, self)
     }
@@ -21,6 +22,7 @@ impl fmt::Display for Core {
 impl fmt::Display for Extension {
     ghost output = { λ extension. Some (conventional (spell_extension extension)) };
 
+    /// Writes the extension, its singleton first, in lower case.
     fn fmt<W: fmt::Write>(&self, f: &mut fmt::Formatter<W>) -> fmt::Result {
         Style::new().put_extension(f, self)
     }
@@ -29,6 +31,7 @@ impl fmt::Display for Extension {
 impl fmt::Display for Tag {
     ghost output = { λ tag. Some (conventional (spell tag)) };
 
+    /// Writes the tag in conventional case.
     fn fmt<W: fmt::Write>(&self, f: &mut fmt::Formatter<W>) -> fmt::Result {
         Style::new().put_tag(f, self)
     }

@@ -14,7 +14,7 @@ pub(crate) trait Sink {
     /// Relates the sink before it took bytes, those bytes, and the sink after it.
     ghost took: { Self → List ℕ → Self → Type 0 };
 
-    /// The bytes that it is known to hold.
+    /// The bytes that it is known to hold; of a formatter none are known.
     ghost held: { Self → List ℕ };
 
     /// Takes bytes, after those before. What it held it holds still, also where it refuses them.
@@ -22,7 +22,7 @@ pub(crate) trait Sink {
         ensures took { OnOk result (took self.old bytes.now self.new) }
         ensures kept { IsKept (held self.old) (held self.new) };
 
-    /// Takes the first `count` of nine bytes, as `add` does.
+    /// Takes the first `count` of nine bytes, as `add` does. Nine bytes are room for a hyphen and a subtag.
     fn add_front(&mut self, bytes: &[u8; 9], count: usize) -> Result<(), Self::Refusal>
         requires { count ≤ 9 }
         ensures took { OnOk result (took self.old (take count bytes.now) self.new) }

@@ -72,7 +72,7 @@ fn are_values(subtags: &[Subtag]) -> bool
     !subtags.is_empty() && are_long(subtags)
 }
 
-/// Adds copies of subtags at the end.
+/// Adds copies of subtags at the end of a list. The only refusal is running out of memory.
 pub(crate) fn append(list: &mut Vec<Subtag>, subtags: &[Subtag]) -> Result<(), OutOfMemory>
     ensures { OnOk result (list.new.items ≡ list.old.items ++ subtags.now) }
 {
@@ -82,7 +82,8 @@ pub(crate) fn append(list: &mut Vec<Subtag>, subtags: &[Subtag]) -> Result<(), O
     Ok(())
 }
 
-/// The keywords of a `u` extension, from the first key on.
+/// The keywords among the subtags of a `u` extension: each key, with the subtags up to the next key as its types.
+/// What is before the first key is left out. The only refusal is running out of memory.
 #[tactic(auto, using(crate::proofs::SplitLemmas::length_onward))]
 fn read_keywords(alloc: Global, subtags: &[Subtag]) -> Result<Vec<Keyword>, OutOfMemory>
     ensures { IfOk result (λ keywords. keywords.items ≡ keywords_of subtags.now) }
@@ -100,8 +101,9 @@ fn read_keywords(alloc: Global, subtags: &[Subtag]) -> Result<Vec<Keyword>, OutO
     Ok(keywords)
 }
 
-/// The fields of a `t` extension, from the first separator on. Refused with `BadTransform` if one has no values, or a value
-/// that doesn't have 3 to 8 letters or digits.
+/// The fields among the subtags of a `t` extension: each separator, with the subtags up to the next separator as
+/// its values. What is before the first separator is left out. Refused with `BadTransform` if a field has no
+/// values, or a value that doesn't have 3 to 8 letters or digits, and with `OutOfMemory`.
 #[tactic(auto, using(crate::proofs::SplitLemmas::length_onward))]
 fn read_fields(alloc: Global, subtags: &[Subtag]) -> Result<Vec<Field>, TransformFault>
     ensures fields { IfOk result (λ fields. fields.items ≡ fields_of subtags.now) }
@@ -124,7 +126,8 @@ fn read_fields(alloc: Global, subtags: &[Subtag]) -> Result<Vec<Field>, Transfor
     Ok(fields)
 }
 
-/// The source that subtags are, or None without a subtag. Refused with `BadTransform` if they aren't those of a core.
+/// The source that subtags spell, or None without a subtag. Refused with `BadTransform` if they aren't those of a
+/// core, and with `OutOfMemory`.
 fn read_source(alloc: Global, subtags: &[Subtag]) -> Result<Option<Core>, TransformFault>
     requires { length subtags.now ≤ longest_text }
     ensures source { IfOk result (λ source. source_of_list subtags.now ≡ Some source) }
@@ -181,10 +184,10 @@ pub fn split_t(alloc: Global, extension: &Extension) -> Result<TParts, Transform
     })
 }
 
-/// Running out of memory as a fault of a `t` extension.
 impl From<OutOfMemory> for TransformFault {
     ghost from_gives = { λ _ fault. fault ≡ no_memory };
 
+    /// Running out of memory as a fault of a `t` extension.
     fn from(_error: OutOfMemory) -> TransformFault {
         TransformFault::OutOfMemory
     }
@@ -193,6 +196,7 @@ impl From<OutOfMemory> for TransformFault {
 impl<T: Drop> From<AllocFailed<T>> for TransformFault {
     ghost from_gives = { λ _ fault. fault ≡ no_memory };
 
+    /// Running out of memory as a fault of a `t` extension.
     fn from(_error: AllocFailed<T>) -> TransformFault {
         TransformFault::OutOfMemory
     }
