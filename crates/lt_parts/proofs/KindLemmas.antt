@@ -20,12 +20,12 @@ transform_kinds e parts h k =
     let found : transform_of e.subtags ≡ Some parts = (t_decided e.subtags parts).1 k in
     rw (h, found) refl
 
--- what no value is, is none
+-- an option that has no value is None
 none_is : {A : Type 0} (o : Option A) → ((a : A) → o ≡ Some a → ⊥) → o ≡ None
 none_is None h = refl
 none_is (Some a) h = absurd (h a refl)
 
--- or, where it has none, plain
+-- the subtags of a `t` extension that has no parts are all ExtensionSubtag
 pub no_transform_kinds : (e : ExtensionParts) → e.singleton ≡ transform → ((parts : TForm) → IsTransform e.subtags parts → ⊥) → subtag_kinds e ≡ each kinds.ExtensionSubtag e.subtags
 no_transform_kinds e h k =
     let found : transform_of e.subtags ≡ None = none_is _ (λ parts f. k parts ((t_decided e.subtags parts).0 f)) in

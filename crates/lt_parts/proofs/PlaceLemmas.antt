@@ -10,18 +10,21 @@ use Rattle.lt_parts.specs.Places.{placed}
 use Rattle.lt_parts.specs.declared.kinds.PartKind.{PartKind}
 use Rattle.lt_parts.specs.declared.placing.Part.{Part}
 
--- the first hyphen
+-- the index of the first hyphen (45), if there is one
 abbrev hyphen : List ℕ → Option ℕ
 hyphen text = position (λ b. b == 45) text
 
+-- the part of this kind, with `size` bytes from `start` on
 abbrev part : PartKind → ℕ → ℕ → Part
 part kind start size = record { kind = kind; start = start; length = size }
 
+-- without texts there are no parts
 pub none_placed : (start : ℕ) (ks : List PartKind) → placed start ks [] ≡ []
 none_placed start [] = refl
 none_placed start (k ∷ ks) = refl
 
--- the parts from a hyphen on
+-- what is left of a text from `start` on, where a hyphen is `h` bytes further: a part up to the hyphen, and the parts
+-- after it; `i` is the index of the next kind
 placed_cut : (kinds : List PartKind) (text : List ℕ) (i start h : ℕ) (d : PartKind) → i < length kinds → hyphen (drop start text) ≡ Some h
     → placed start (drop i kinds) (pieces (drop start text)) ≡ part (get_or kinds i d) start h ∷ placed (start + (h + 1)) (drop (i + 1) kinds) (pieces (drop (start + (h + 1)) text))
 placed_cut kinds text i start h d lt found =
@@ -39,7 +42,7 @@ placed_cut kinds text i start h d lt found =
     ∙ ap (λ n. part k start h ∷ placed n ks (pieces (drop (h + 1) rest))) sum
     ∙ ap (λ (x : List ℕ). part k start h ∷ placed (start + (h + 1)) ks (pieces x)) (drop-drop (h + 1) start text)
 
--- the last part
+-- what is left of a text from `start` on, where no hyphen is in it: one part
 placed_last : (kinds : List PartKind) (text : List ℕ) (i start : ℕ) (d : PartKind) → i < length kinds → hyphen (drop start text) ≡ None
     → placed start (drop i kinds) (pieces (drop start text)) ≡ part (get_or kinds i d) start (length (drop start text)) ∷ []
 placed_last kinds text i start d lt found =
@@ -50,12 +53,14 @@ placed_last kinds text i start d lt found =
     ∙ ap (λ (x : List (List ℕ)). placed start (k ∷ ks) x) (pieces_one rest found)
     ∙ ap (λ (x : List Part). part k start (length rest) ∷ x) (none_placed (start + length rest + 1) ks)
 
--- the parts so far, and those of what is left, are all
+-- `parts` are those of the first `i` kinds, and the text after them begins at `start`: with the parts of what is left,
+-- they are all
 pub record Reached (kinds : List PartKind) (text : List ℕ) (i start : ℕ) (parts : List Part) : Type 0 where
   pub within : start ≤ length text
   pub all : parts ++ placed start (drop i kinds) (pieces (drop start text)) ≡ placed 0 kinds (pieces text)
 
--- one part was placed, before a hyphen or at the end
+-- one part was placed: `end` is the next hyphen's index in what is left, `size` the part's length, and `more` the parts
+-- with it
 pub record Places (kinds : List PartKind) (text : List ℕ) (i start : ℕ) (parts : List Part) (end : Option ℕ) (size : ℕ) (more : List Part) : Type 0 where
   pub kind : PartKind
   pub there : i < length kinds
@@ -64,6 +69,7 @@ pub record Places (kinds : List PartKind) (text : List ℕ) (i start : ℕ) (par
   pub is_size : size ≡ unwrap_or end (length (take (length text - start) (drop start text)))
   pub pushed : more ≡ parts ++ part (get_or kinds i kind) start size ∷ []
 
+-- if a hyphen ends the part, what is left begins after it
 pub reached_next : (kinds : List PartKind) (text : List ℕ) (i start : ℕ) (parts : List Part) (end : Option ℕ) (size : ℕ) (more : List Part) → Places kinds text i start parts end size more → is_some end ≡ true → Reached kinds text (i + 1) (start + (size + 1)) more
 reached_next kinds text i start parts None size more p some = cc
 reached_next kinds text i start parts (Some h) size more p some =
@@ -77,6 +83,7 @@ reached_next kinds text i start parts (Some h) size more p some =
     let next : Reached kinds text (i + 1) (start + (h + 1)) (parts ++ last) = record { within = within; all = all } in
     rw (p.pushed, p.is_size) next
 
+-- if no hyphen ends the part, the parts with it are all
 pub reached_last : (kinds : List PartKind) (text : List ℕ) (i start : ℕ) (parts : List Part) (end : Option ℕ) (size : ℕ) (more : List Part) → Places kinds text i start parts end size more → is_some end ≡ false → more ≡ placed 0 kinds (pieces text)
 reached_last kinds text i start parts (Some h) size more p none = cc
 reached_last kinds text i start parts None size more p none =
@@ -85,6 +92,7 @@ reached_last kinds text i start parts None size more p none =
     ∙ ap (λ n. parts ++ part (get_or kinds i p.kind) start n ∷ []) (p.is_size ∙ ap length (take_rest text start))
     ∙ ap (λ (x : List Part). parts ++ x) (sym (placed_last kinds text i start p.kind p.there found)) ∙ p.before.all
 
+-- past the last kind, the parts so far are all
 pub reached_end : (kinds : List PartKind) (text : List ℕ) (i start : ℕ) (parts : List Part) → Reached kinds text i start parts → length kinds ≤ i → parts ≡ placed 0 kinds (pieces text)
 reached_end kinds text i start parts r past =
     let empty : drop i kinds ≡ [] = drop_of_length-le kinds past in

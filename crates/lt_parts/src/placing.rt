@@ -21,6 +21,7 @@ pub struct Part {
 }
 
 /// The pieces of a text between its hyphens, each as a part of the kind in its place in `kinds`; as many as both have.
+/// The only refusal is running out of memory.
 fn place(alloc: Global, kinds: &[PartKind], text: &[u8]) -> Result<Vec<Part>, OutOfMemory>
     ensures { IfOk result (λ parts. parts.items ≡ placed 0 kinds.now (pieces text.now)) }
 {

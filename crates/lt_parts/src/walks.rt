@@ -12,7 +12,7 @@ use lt_tag::{
 };
 use std::alloc::Global;
 
-/// Adds one kind for each subtag.
+/// Adds `kind` once for each subtag.
 fn append_each(
     kinds: &mut Vec<PartKind>,
     kind: PartKind,
@@ -26,7 +26,7 @@ fn append_each(
     Ok(())
 }
 
-/// The kinds of the subtags of a core.
+/// The kinds of the subtags of a core, in their order.
 fn core_kinds(alloc: Global, core: &Core) -> Result<Vec<PartKind>, OutOfMemory>
     ensures { IfOk result (λ kinds. kinds.items ≡ spec.core_kinds core.now) }
 {
@@ -43,7 +43,7 @@ fn core_kinds(alloc: Global, core: &Core) -> Result<Vec<PartKind>, OutOfMemory>
     Ok(kinds)
 }
 
-/// Adds the kinds of the subtags of keywords.
+/// Adds the kinds of the subtags of keywords: of each its key and its types.
 fn append_keywords(kinds: &mut Vec<PartKind>, keywords: &[Keyword]) -> Result<(), OutOfMemory>
     ensures { OnOk result (kinds.new.items ≡ kinds.old.items ++ flat_map spec.keyword_kinds keywords.now) }
 {
@@ -54,7 +54,7 @@ fn append_keywords(kinds: &mut Vec<PartKind>, keywords: &[Keyword]) -> Result<()
     Ok(())
 }
 
-/// Adds the kinds of the subtags of a `u` extension.
+/// Adds the kinds of the subtags of a `u` extension: attributes, then keywords.
 fn append_u(kinds: &mut Vec<PartKind>, parts: &UParts) -> Result<(), OutOfMemory>
     ensures { OnOk result (kinds.new.items ≡ kinds.old.items ++ spec.u_kinds parts.now) }
 {
@@ -62,7 +62,7 @@ fn append_u(kinds: &mut Vec<PartKind>, parts: &UParts) -> Result<(), OutOfMemory
     append_keywords(kinds, &parts.keywords)
 }
 
-/// Adds the kinds of the subtags of a source.
+/// Adds the kinds of the subtags of a source: those of a core, each turned into the source's.
 fn append_source(alloc: Global, kinds: &mut Vec<PartKind>, source: &Core) -> Result<(), OutOfMemory>
     ensures { OnOk result (kinds.new.items ≡ kinds.old.items ++ map spec.in_source (spec.core_kinds source.now)) }
 {
@@ -72,7 +72,7 @@ fn append_source(alloc: Global, kinds: &mut Vec<PartKind>, source: &Core) -> Res
     Ok(())
 }
 
-/// Adds the kinds of the subtags of fields.
+/// Adds the kinds of the subtags of fields: of each its separator and its values.
 fn append_fields(kinds: &mut Vec<PartKind>, fields: &[Field]) -> Result<(), OutOfMemory>
     ensures { OnOk result (kinds.new.items ≡ kinds.old.items ++ flat_map spec.field_kinds fields.now) }
 {
@@ -83,7 +83,7 @@ fn append_fields(kinds: &mut Vec<PartKind>, fields: &[Field]) -> Result<(), OutO
     Ok(())
 }
 
-/// Adds the kinds of the subtags of a `t` extension.
+/// Adds the kinds of the subtags of a `t` extension: a source, then fields.
 fn append_t(alloc: Global, kinds: &mut Vec<PartKind>, parts: &TParts) -> Result<(), OutOfMemory>
     ensures { OnOk result (kinds.new.items ≡ kinds.old.items ++ spec.t_kinds parts.now) }
 {
@@ -106,8 +106,8 @@ fn append_unicode(
     append_u(kinds, &parts)
 }
 
-/// Adds the kinds of the subtags after the singleton of a `t` extension. One without the form of such has subtags of any
-/// extension.
+/// Adds the kinds of the subtags after the singleton of a `t` extension. If they don't have its form, each is an
+/// `ExtensionSubtag`.
 fn append_transform(
     alloc: Global,
     kinds: &mut Vec<PartKind>,
@@ -125,7 +125,7 @@ fn append_transform(
     }
 }
 
-/// Adds the kinds of the subtags of extensions, with their singletons.
+/// Adds the kinds of extensions: of each its singleton and the subtags after it.
 fn append_extensions(
     alloc: Global,
     kinds: &mut Vec<PartKind>,

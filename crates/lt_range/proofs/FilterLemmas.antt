@@ -5,37 +5,44 @@ use Rattle.std.proofs.Math.ListN.{drop_of_length-le}
 use Rattle.lt_range.specs.Ranges.{RangeParts}
 use Rattle.lt_range.specs.Filtering.{ArePlaces, NoneMatches, Selects}
 
--- the next of a list and what follows it
+-- what is left of a list at the index `i` is the element there and what follows it
 next_is : {X : Type 0} (xs : List X) (i : ℕ) (x : X) → i < length xs → x ≡ get_or xs i x → drop i xs ≡ x ∷ drop (i + 1) xs
 next_is xs i x within is = drop_more xs i x within ∙ ap (λ y. y ∷ drop (i + 1) xs) (sym is)
 
+-- the loop over tags that adds the places of those of which `P` is true
 module _ (P : List (List ℕ) → Type 0) (tags : List (List (List ℕ))) where
-  -- the places so far, and any that are those of the other tags, are those of the tags
+  -- `found` are the places of the first `i` tags: with the places of the other tags, they are those of all
   abbrev pub GoOn : ℕ → List ℕ → Type 0
   GoOn i found = (more : List ℕ) → ArePlaces P i (drop i tags) more → ArePlaces P 0 tags (found ++ more)
 
+  -- if `P` is true of the next tag, its place is added
   pub places_yes : (i : ℕ) (t : List (List ℕ)) (found : List ℕ) → i < length tags → t ≡ get_or tags i t → P t → GoOn i found → GoOn (i + 1) (found ++ i ∷ [])
   places_yes i t found within is p go = λ more h.
       let here : ArePlaces P i (t ∷ drop (i + 1) tags) (i ∷ more) = inl (p, (more, refl, h)) in
       subst (λ (l : List ℕ). ArePlaces P 0 tags l) (sym (append_assoc found (i ∷ []) more))
       (go (i ∷ more) (subst (λ (l : List (List (List ℕ))). ArePlaces P i l (i ∷ more)) (sym (next_is tags i t within is)) here))
 
+  -- if `P` is not true of the next tag, no place is added
   pub places_no : (i : ℕ) (t : List (List ℕ)) (found : List ℕ) → i < length tags → t ≡ get_or tags i t → (P t → ⊥) → GoOn i found → GoOn (i + 1) found
   places_no i t found within is n go = λ more h.
       let here : ArePlaces P i (t ∷ drop (i + 1) tags) more = inr (n, h) in
       go more (subst (λ (l : List (List (List ℕ))). ArePlaces P i l more) (sym (next_is tags i t within is)) here)
 
+  -- past the last tag, the places are those of all
   pub places_end : (i : ℕ) (found : List ℕ) → length tags ≤ i → GoOn i found → ArePlaces P 0 tags found
   places_end i found past go =
       let none : drop i tags ≡ [] = drop_of_length-le tags past in
       subst (λ (l : List ℕ). ArePlaces P 0 tags l) (append-nil found)
       (go [] (subst (λ (l : List (List (List ℕ))). ArePlaces P i l []) (sym none) refl))
 
+-- the loop over the ranges of a priority list; `M` says that a range matches a tag
 module _ (M : RangeParts → List (List ℕ) → Type 0) (ranges : List RangeParts) (tags : List (List (List ℕ))) where
-  -- the places so far, and any that the other ranges select, are those that the ranges select
+  -- `found` are the places that the first `i` ranges select: with those that the other ranges select, they are what all
+  -- select
   abbrev pub SelectsOn : ℕ → List ℕ → Type 0
   SelectsOn i found = (more : List ℕ) → Selects M (take i ranges) (drop i ranges) tags more → Selects M [] ranges tags (found ++ more)
 
+  -- the next range adds the places of the tags that it matches and no range before it does (`here`)
   pub selects_next : (i : ℕ) (r : RangeParts) (found here : List ℕ) → i < length ranges → r ≡ get_or ranges i r
       → ArePlaces (λ tag. M r tag × NoneMatches M (take i ranges) tag) 0 tags here → SelectsOn i found → SelectsOn (i + 1) (found ++ here)
   selects_next i r found here within is places go = λ more h.
@@ -45,6 +52,7 @@ module _ (M : RangeParts → List (List ℕ) → Type 0) (ranges : List RangePar
       subst (λ (l : List ℕ). Selects M [] ranges tags l) (sym (append_assoc found here more))
       (go (here ++ more) (subst (λ (l : List RangeParts). Selects M (take i ranges) l tags (here ++ more)) (sym (next_is ranges i r within is)) step))
 
+  -- past the last range, the places are what all ranges select
   pub selects_end : (i : ℕ) (found : List ℕ) → length ranges ≤ i → SelectsOn i found → Selects M [] ranges tags found
   selects_end i found past go =
       let none : drop i ranges ≡ [] = drop_of_length-le ranges past in

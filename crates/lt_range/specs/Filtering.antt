@@ -26,7 +26,8 @@ ArePlaces P place (t ∷ ts) found =
 abbrev pub NoneMatches : Matching → List RangeParts → List (List ℕ) → Type 0
 NoneMatches M ranges tag = AllByRecursion (λ range. M range tag → ⊥) ranges
 
--- Each range in turn, by priority, selects the tags that it matches and none before it does (RFC 4647, 3.3).
+-- Each range in turn, by priority, selects the tags that it matches and none before it does; those of `before` have had
+-- their turn (RFC 4647, 3.3).
 abbrev pub Selects : Matching → List RangeParts → List RangeParts → List (List (List ℕ)) → List ℕ → Type 0
 Selects M before [] tags found = found ≡ []
 Selects M before (r ∷ rs) tags found = (here rest : List ℕ) × (found ≡ here ++ rest)

@@ -26,7 +26,7 @@ impl Scheme {
         }
     }
 
-    /// Whether no range matches a tag.
+    /// Whether none of the ranges matches a tag by the scheme.
     fn none_matches(self, ranges: &[LanguageRange], tag: &TagSubtags) -> bool
         ensures { IsTrue result ↔ NoneMatches (Matches self) ranges.now tag.now }
     {
@@ -38,7 +38,8 @@ impl Scheme {
         true
     }
 
-    /// Adds the places of the tags that a range matches, without those that a range of `before` matches.
+    /// Adds the places of the tags that a range matches, without those that a range of `before` matches. The only
+    /// refusal is running out of memory.
     fn append_places(
         self,
         places: &mut Vec<usize>,
@@ -56,7 +57,8 @@ impl Scheme {
         Ok(())
     }
 
-    /// The places of the tags that a priority list matches, in the order of its ranges.
+    /// The places of the tags that a priority list matches, in the order of its ranges. The only refusal is running out
+    /// of memory.
     fn filter(
         self,
         alloc: Global,

@@ -5,8 +5,8 @@ ghost use Rattle.lt_range.specs.Lookup.{FindsNone, Finds, IsFound, IsDefault};
 use crate::ranges::LanguageRange;
 use crate::tag_subtags::TagSubtags;
 
-/// The place of the tag that lookup by a range finds: the longest to which it falls back, and the first of these. None if it
-/// finds none.
+/// The place of the tag that lookup by a range finds: the longest to which the range falls back, and the first of
+/// these. None if it finds none.
 fn closest(range: &LanguageRange, tags: &[TagSubtags]) -> Option<usize>
     ensures { MatchOption result (FindsNone tags.now range.now) (Finds range.now tags.now) }
 {

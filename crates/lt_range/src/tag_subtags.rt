@@ -26,7 +26,8 @@ impl Model for TagSubtags {
     ghost view = { λ t. t.subtags.items };
 }
 
-/// The subtags between the hyphens of a text, each piece of which is a subtag.
+/// The subtags between the hyphens of a text, each piece of which is a subtag. The only refusal is running out of
+/// memory.
 fn read_subtags(alloc: Global, text: &[u8]) -> Result<Vec<Subtag>, OutOfMemory>
     requires { HasList text.now }
     ensures { IfOk result (λ subtags. subtags.items ≡ list_of text.now) }

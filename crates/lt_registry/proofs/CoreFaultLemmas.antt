@@ -21,17 +21,21 @@ use Rattle.lt_registry.proofs.VariantFaultLemmas.{Or, SameFaults, Precede, Upto,
 
 -- The check of a core tells the first of its faults.
 
+-- the fault that the language `l` may have, where the core begins after `start` subtags
 abbrev pub LanguagePart : List EntryParts → ℕ → List ℕ → ValidFaultKind → ℕ → Type 0
 LanguagePart R start l = Single faults.UnknownLanguage (start + 1) (is_registered R kinds.Language l ≡ false)
 
--- the first extlang
+-- the faults that the first extlang may have, by its entry `o`: it has none, or the language `l` is none of its
+-- Prefixes
 abbrev pub FirstPart : ℕ → List ℕ → Option EntryParts → ValidFaultKind → ℕ → Type 0
 FirstPart start l o =
     Or (Single faults.UnknownExtlang (start + 2) (is_some o ≡ false)) (Single faults.ExtlangPrefix (start + 2) (has_prefix (option_map_or (λ (e : EntryParts). e.prefixes) o []) l ≡ false))
 
+-- that it has no entry is reported before that the language is none of its Prefixes
 first_precede : (start : ℕ) (l : List ℕ) (o : Option EntryParts) → Precede (Single faults.UnknownExtlang (start + 2) (is_some o ≡ false)) (Single faults.ExtlangPrefix (start + 2) (has_prefix (option_map_or (λ (e : EntryParts). e.prefixes) o []) l ≡ false))
 first_precede start l o = single_precede faults.UnknownExtlang faults.ExtlangPrefix (start + 2) (start + 2) (is_some o ≡ false) (has_prefix (option_map_or (λ (e : EntryParts). e.prefixes) o []) l ≡ false) (omega arith) (λ e. omega arith)
 
+-- the check of the first extlang tells the first of its faults
 first_tells : (start : ℕ) (l : List ℕ) (o : Option EntryParts) → Tells (FirstPart start l o) (prefix_check start l o)
 first_tells start l None =
     first_left (Single faults.UnknownExtlang (start + 2) (false ≡ false)) (Single faults.ExtlangPrefix (start + 2) (has_prefix [] l ≡ false)) faults.UnknownExtlang (start + 2) (first_precede start l None)
@@ -41,21 +45,25 @@ first_tells start l (Some e) =
     (λ k p f. let bad : true ≡ false = f.cause in cc)
     (tells_unless (has_prefix e.prefixes l) faults.ExtlangPrefix (start + 2))
 
--- a further extlang
+-- the list has a subtag: there is a further extlang
 abbrev pub HasMore : List (List ℕ) → Type 0
 HasMore rest = (y : List ℕ) × (ys : List (List ℕ)) × (rest ≡ y ∷ ys)
 
+-- the fault of a core that has a second extlang; `rest` are the extlangs after the first
 abbrev pub SecondPart : ℕ → List (List ℕ) → ValidFaultKind → ℕ → Type 0
 SecondPart start rest = Single faults.TooManyExtlangs (start + 3) (HasMore rest)
 
+-- the check that there is no second extlang tells that fault
 second_tells : (start : ℕ) (rest : List (List ℕ)) → Tells (SecondPart start rest) (second_check start rest)
 second_tells start [] = λ k p f. let bad : [] ≡ f.cause.0 ∷ f.cause.1 = f.cause.2 in cc
 second_tells start (y ∷ ys) = single_first faults.TooManyExtlangs (start + 3) (HasMore (y ∷ ys)) (y, ys, refl)
 
+-- the faults that the extlangs of a core may have, where the core begins after `start` subtags
 abbrev pub ExtlangsPart : List EntryParts → ℕ → List ℕ → List (List ℕ) → ValidFaultKind → ℕ → Type 0
 ExtlangsPart R start l [] k p = ⊥
 ExtlangsPart R start l (x ∷ rest) k p = FirstPart start l (entry R kinds.Extlang x) k p ⊎ SecondPart start rest k p
 
+-- the check of the extlangs tells the first of their faults, which are at the places of extlangs
 extlangs_part : (R : List EntryParts) (start : ℕ) (l : List ℕ) (xs : List (List ℕ)) → Part (start + 1) (start + 1 + length xs) (ExtlangsPart R start l xs) (extlangs_check R start l xs)
 extlangs_part R start l [] = part_none (start + 1) (start + 1 + 0) (ExtlangsPart R start l []) (λ k p f. f)
 extlangs_part R start l (x ∷ rest) =
@@ -64,10 +72,11 @@ extlangs_part R start l (x ∷ rest) =
     (record { past = λ k p f. omega (arith, f.placed); upto = λ k p f. omega (arith, f.placed, ap length f.cause.2); tells = second_tells start rest })
     (omega arith) (omega arith) (omega arith)
 
--- a script or a region
+-- the core has a script or a region (`o`), and it isn't registered
 abbrev pub IsUnknownPart : List EntryParts → Kind → Option (List ℕ) → Type 0
 IsUnknownPart R kind o = (s : List ℕ) × (o ≡ Some s) × (is_registered R kind s ≡ false)
 
+-- the check of a script or a region tells its fault
 part_tells : (R : List EntryParts) (kind : Kind) (fault : ValidFaultKind) (at : ℕ) (o : Option (List ℕ)) → Tells (Single fault at (IsUnknownPart R kind o)) (part_check R kind fault at o)
 part_tells R kind fault at None = λ k p f. let bad : None ≡ Some f.cause.0 = f.cause.1 in cc
 part_tells R kind fault at (Some s) =
@@ -75,23 +84,30 @@ part_tells R kind fault at (Some s) =
     (single_same fault at (is_registered R kind s ≡ false) (IsUnknownPart R kind (Some s)) (λ h. (s, refl, h)) (λ h. let e : s ≡ h.0 = cc in ap (is_registered R kind) e ∙ h.2))
     (tells_unless (is_registered R kind s) fault at)
 
+-- the check of a script or a region that may be at the place after `m` tells its fault, which is at that place
 registered_part : (R : List EntryParts) (kind : Kind) (fault : ValidFaultKind) (m : ℕ) (o : Option (List ℕ)) → Part m (m + length (option_to_list o)) (Single fault (m + 1) (IsUnknownPart R kind o)) (part_check R kind fault (m + 1) o)
 registered_part R kind fault m o = record { past = λ k p f. omega (arith, f.placed); upto = λ k p f. omega (arith, ap (λ z. length (option_to_list z)) f.cause.1, f.placed); tells = part_tells R kind fault (m + 1) o }
 
--- all the faults of a core, part by part
+-- all the faults of the core `c`, which begins after `start` subtags, part by part; `r`: variants may repeat
 module _ (R : List EntryParts) (r : Bool) (start : ℕ) (c : CoreParts) where
+  -- the fault that the script may have
   abbrev pub ScriptPart : ValidFaultKind → ℕ → Type 0
   ScriptPart = Single faults.UnknownScript (start + before_script c + 1) (IsUnknownPart R kinds.Script c.script)
 
+  -- the fault that the region may have
   abbrev pub RegionPart : ValidFaultKind → ℕ → Type 0
   RegionPart = Single faults.UnknownRegion (start + before_region c + 1) (IsUnknownPart R kinds.Region c.region)
 
+  -- the faults that the variants may have
   abbrev pub VariantsPart : ValidFaultKind → ℕ → Type 0
   VariantsPart = VariantFault R r (start + before_variants c + 1) [] c.variants
 
+  -- the faults that the parts of the core have
   abbrev pub CorePart : ValidFaultKind → ℕ → Type 0
   CorePart = Or (LanguagePart R start c.language) (Or (ExtlangsPart R start c.language c.extlangs) (Or ScriptPart (Or RegionPart VariantsPart)))
 
+  -- the check of a core tells the first fault of its parts, and each of these is at the place of one of the core's
+  -- subtags
   parts : Part start (start + before_variants c + length c.variants) CorePart (core_check R r start c)
   unfolding core_check
   parts =
@@ -102,18 +118,23 @@ module _ (R : List EntryParts) (r : Bool) (start : ℕ) (c : CoreParts) where
       (part_then (registered_part R kinds.Region faults.UnknownRegion (start + before_region c) c.region) (variants_part R r (start + before_variants c) [] c.variants)
       (omega arith) (omega arith) (omega arith)) (omega arith) (omega arith) (omega arith)) (omega arith) (omega arith) (omega arith)) (omega arith) (omega arith) (omega arith)
 
+  -- the faults of the core that count, as `HasCoreFault` states them; DuplicateVariant does only if variants may not
+  -- repeat
   abbrev pub CoreFault : ValidFaultKind → ℕ → Type 0
   CoreFault = Counted r (HasCoreFault R start c)
 
+  -- a fault that is not DuplicateVariant counts
   of_kind : (k l : ValidFaultKind) (p : ℕ) → k ≡ l → l ≢ faults.DuplicateVariant → HasCoreFault R start c l p → CoreFault k p
   of_kind k l p e ne h = (subst (λ z. HasCoreFault R start c z p) (sym e) h, λ t f. ne (sym e ∙ f))
 
+  -- a fault of the extlangs, as their check tells it, is one of the core that counts
   extlang_shown : (xs : List (List ℕ)) → c.extlangs ≡ xs → (k : ValidFaultKind) (p : ℕ) → ExtlangsPart R start c.language xs k p → CoreFault k p
   extlang_shown [] e k p f = absurd f
   extlang_shown (x ∷ rest) e k p (inl (inl f)) = of_kind k faults.UnknownExtlang p f.kinded (λ w. cc) (x, rest, e, f.placed, f.cause)
   extlang_shown (x ∷ rest) e k p (inl (inr f)) = of_kind k faults.ExtlangPrefix p f.kinded (λ w. cc) (x, rest, e, f.placed, f.cause)
   extlang_shown (x ∷ rest) e k p (inr f) = of_kind k faults.TooManyExtlangs p f.kinded (λ w. cc) (x, f.cause.0, f.cause.1, e ∙ ap (λ ys. x ∷ ys) f.cause.2, f.placed)
 
+  -- a fault of a variant, as its check tells it, is one of the core that counts
   variant_shown : (k : ValidFaultKind) (p : ℕ) → IsVariantAt R r (start + before_variants c + 1) [] c.variants k p → CoreFault k p
   variant_shown k p at = by at.fault
     where
@@ -128,6 +149,7 @@ module _ (R : List EntryParts) (r : Bool) (start : ℕ) (c : CoreParts) where
           let fault : HasCoreFault R start c faults.DuplicateVariant p = (two.0, at.variant, two.1, at.after, split, omega (arith, u.placed, long)) in
           (subst (λ z. HasCoreFault R start c z p) (sym u.kinded) fault, λ t f. let bad : true ≡ false = sym t ∙ again.0 in cc)
 
+  -- a fault of a part, as the check tells it, is one of the core that counts
   part_shown : (k : ValidFaultKind) (p : ℕ) → CorePart k p → CoreFault k p
   part_shown k p (inl f) = of_kind k faults.UnknownLanguage p f.kinded (λ w. cc) (f.placed, f.cause)
   part_shown k p (inr (inl f)) = extlang_shown c.extlangs refl k p f
@@ -135,12 +157,15 @@ module _ (R : List EntryParts) (r : Bool) (start : ℕ) (c : CoreParts) where
   part_shown k p (inr (inr (inr (inl f)))) = of_kind k faults.UnknownRegion p f.kinded (λ w. cc) (f.cause.0, f.cause.1, f.placed, f.cause.2)
   part_shown k p (inr (inr (inr (inr f)))) = variant_shown k p (variants_shown R r (start + before_variants c + 1) [] c.variants k p f)
 
+  -- a fault of the extlangs is one of the core's parts
   in_extlangs : (xs : List (List ℕ)) (k : ValidFaultKind) (p : ℕ) → c.extlangs ≡ xs → ExtlangsPart R start c.language xs k p → CorePart k p
   in_extlangs xs k p e f = inr (inl (subst (λ z. ExtlangsPart R start c.language z k p) (sym e) f))
 
+  -- a fault of the variants is one of the core's parts
   in_variants : (vs : List (List ℕ)) (k : ValidFaultKind) (p : ℕ) → c.variants ≡ vs → VariantFault R r (start + before_variants c + 1) [] vs k p → CorePart k p
   in_variants vs k p e f = inr (inr (inr (inr (subst (λ z. VariantFault R r (start + before_variants c + 1) [] z k p) (sym e) f))))
 
+  -- a fault of the core that counts is one of its parts, as the check tells it
   part_hidden : (k : ValidFaultKind) (p : ℕ) → CoreFault k p → CorePart k p
   part_hidden faults.UnknownLanguage p (h, n) = inl (record { kinded = refl; placed = h.0; cause = h.1 })
   part_hidden faults.UnknownExtlang p (h, n) = in_extlangs (h.0 ∷ h.1) faults.UnknownExtlang p h.2 (inl (inl (record { kinded = refl; placed = h.3; cause = h.4 })))
@@ -157,19 +182,21 @@ module _ (R : List EntryParts) (r : Bool) (start : ℕ) (c : CoreParts) where
       in_variants ((h.0 ++ h.1 ∷ h.2) ++ h.1 ∷ h.3) faults.DuplicateVariant p split (variants_hidden R r (start + before_variants c + 1) [] (h.0 ++ h.1 ∷ h.2) h.1 h.3 faults.DuplicateVariant p (inr (record { kinded = refl; placed = omega (arith, h.5, long); cause = cause })))
   part_hidden _ p (h, n) = absurd h
 
-  -- the check tells the first fault
+  -- the check of the core tells the first of its faults that count
   pub core_tells : Tells CoreFault (core_check R r start c)
   core_tells = tells_same CorePart CoreFault (core_check R r start c) (record { there = part_shown; back = part_hidden }) parts.tells
 
-  -- the places of a core's faults are those of its subtags
+  -- the faults of the core are at places after `start`
   pub core_past : Past start CoreFault
   core_past k p f = parts.past k p (part_hidden k p f)
 
+  -- the faults of the core are not past its last subtag
   pub core_upto : Upto (start + before_variants c + length c.variants) CoreFault
   core_upto k p f = parts.upto k p (part_hidden k p f)
 
 -- The faults of one extension.
 
+-- how many subtags a core has: those before its variants, and these
 pub length_core : (c : CoreParts) → length (spell_core c) ≡ before_variants c + length c.variants
 length_core c =
     let a = length-append c.extlangs (option_to_list c.script ++ (option_to_list c.region ++ c.variants)) in
@@ -177,10 +204,13 @@ length_core c =
     let d = length-append (option_to_list c.region) c.variants in
     omega (arith, a, b, d)
 
+-- the extension `e`, whose singleton is at the place `here`; `r`: variants may repeat
 module _ (R : List EntryParts) (r : Bool) (here : ℕ) (e : ExtensionParts) where
+  -- the faults of the extension that count; DuplicateVariant does only if variants may not repeat
   abbrev pub ExtensionFault : ValidFaultKind → ℕ → Type 0
   ExtensionFault = Counted r (HasExtensionFault R here e)
 
+  -- the faults of a `t` extension with a source are those of the source
   same_source : (parts : TForm) (source : CoreParts) → e.singleton ≡ transform → IsTransform e.subtags parts → parts.source ≡ Some source → SameFaults (CoreFault R r here source) ExtensionFault
   same_source parts source t formed there = record {
     there = λ k p f. (inr (source, record { transforms = t; parts = parts; formed = formed; there = there }, f.0), f.1);
@@ -194,12 +224,14 @@ module _ (R : List EntryParts) (r : Bool) (here : ℕ) (e : ExtensionParts) wher
           let one : Some source ≡ Some other.0 = sym there ∙ ap (λ (z : TForm). z.source) same ∙ other.1.there in
           subst (λ (z : CoreParts). HasCoreFault R here z k p) (sym (same_Some source other.0 one)) other.2
 
+  -- a `t` extension that has parts, and among them no source, has no fault
   no_source : (parts : TForm) → IsTransform e.subtags parts → parts.source ≡ None → (k : ValidFaultKind) (p : ℕ) → ExtensionFault k p → ⊥
   no_source parts formed there k p (inl bad, n) = bad.2.formless parts formed
   no_source parts formed there k p (inr other, n) =
       let same : parts ≡ other.1.parts = t_unique e.subtags parts other.1.parts formed other.1.formed in
       let bad : None ≡ Some other.0 = sym there ∙ ap (λ (z : TForm). z.source) same ∙ other.1.there in cc
 
+  -- the check of the source of a `t` extension, if there is one (`o`), tells the first fault of the extension
   pub source_tells : (parts : TForm) (o : Option CoreParts) → e.singleton ≡ transform → IsTransform e.subtags parts → parts.source ≡ o → Tells ExtensionFault (source_check R r here o)
   source_tells parts None t formed there = no_source parts formed there
   source_tells parts (Some source) t formed there =

@@ -33,8 +33,7 @@ use Rattle.lt_registry.proofs.RecordLaws.{entry_faultless, one_entry, ranked, ra
 
 -- The entries of records, one record after another.
 
--- those of further records
-
+-- the entries of records numbered from `n`, and then those of further records numbered from `m`, are the entries of all
 entries_append : (n m : ℕ) (rs qs : List (List Field)) (es fs : List EntryParts) → m ≡ n + length rs → EntriesFrom n rs es → EntriesFrom m qs fs → EntriesFrom n (rs ++ qs) (es ++ fs)
 unfolding EntriesFrom
 entries_append n m [] qs es fs same h k =
@@ -45,14 +44,13 @@ entries_append n m (r ∷ rs) qs es fs same (inr h) k =
     let x = h.1 in
     inr (h.0, (x.0, x.1 ++ fs, ap (λ zs. zs ++ fs) x.2, x.3, entries_append (n + 1) m rs qs x.1 fs (omega (arith, same)) x.4 k))
 
--- the record at a place
-
+-- a record at fault with the number `i + 1` (`m`) is the record `r` at the index `i`
 same_record : (records : List (List Field)) (i : ℕ) (r : List Field) (k : RecordFaultKind) (m : ℕ) (h : HasFaultAt records k m) → m ≡ i + 1 → r ≡ get_or records i r → h.here ≡ r
 same_record records i r k m h same is =
     let place : length h.before ≡ i = omega (arith, h.numbered, same) in
     sym (is ∙ ap (λ zs. get_or zs i r) h.there ∙ ap (λ z. get_or (h.before ++ h.here ∷ h.after) z r) (sym place) ∙ get_or-append_seam h.before h.here h.after r)
 
--- what is made of the first this many records
+-- `es` are the entries of the first `i` records, in which there is no fault
 pub record Made (records : List (List Field)) (i : ℕ) (es : List EntryParts) : Type 0 where
   pub entries : EntriesFrom 1 (take i records) es
   pub below : AllByRecursion (λ (e : EntryParts). e.number ≤ i) es
@@ -60,17 +58,21 @@ pub record Made (records : List (List Field)) (i : ℕ) (es : List EntryParts) :
   pub forms : All IsEntry es
   pub clean : (k : RecordFaultKind) (m : ℕ) → HasFaultAt records k m → i < m
 
+-- no records have no entries
 pub made_none : (records : List (List Field)) (es : List EntryParts) → es ≡ [] → Made records 0 es
 unfolding EntriesFrom
 made_none records es none = subst (Made records 0) (sym none) (record { entries = refl; below = tt; rising = tt; forms = All-nil IsEntry; clean = λ k m h. omega (arith, h.numbered) })
 
+-- entries whose numbers are at most `i` have numbers that are at most `j`
 below_more : (i j : ℕ) → i ≤ j → (es : List EntryParts) → AllByRecursion (λ (e : EntryParts). e.number ≤ i) es → AllByRecursion (λ (e : EntryParts). e.number ≤ j) es
 below_more i j l es h = AllByRecursion-weaker (λ (e : EntryParts). e.number ≤ i) (λ (e : EntryParts). e.number ≤ j) (λ e k. omega (arith, k, l)) es h
 
+-- entries whose numbers rise and are at most `i` may be followed by one with a greater number
 rising_with : (i : ℕ) (es : List EntryParts) (e : EntryParts) → NumbersRise es → AllByRecursion (λ (x : EntryParts). x.number ≤ i) es → i < e.number → NumbersRise (es ++ e ∷ [])
 rising_with i [] e h b l = (tt, tt)
 rising_with i (x ∷ es) e h b l = (all_more (λ (f : EntryParts). x.number < f.number) es e h.0 (omega (arith, b.0, l)), rising_with i es e h.1 b.1 l)
 
+-- if the first `i` records have no fault and the next is the header or has none, the first `i + 1` have none
 next_clean : (records : List (List Field)) (i : ℕ) (r : List Field) → r ≡ get_or records i r → ((k : RecordFaultKind) (m : ℕ) → HasFaultAt records k m → i < m)
     → (is_header_at (i + 1) r ≡ false → (k : RecordFaultKind) → HasRecordFault r k → ⊥) → (k : RecordFaultKind) (m : ℕ) → HasFaultAt records k m → i + 1 < m
 next_clean records i r is clean none k m h =
@@ -82,12 +84,14 @@ next_clean records i r is clean none k m h =
       | inr other ↦ let past = clean k m h in omega (arith, past, other)
     ]
 
+-- the entries of the records before the index `i`, and then that of the record there, if it gives one (`fs`), are those
+-- of the first `i + 1` records
 made_entries : (records : List (List Field)) (i : ℕ) (r : List Field) (es fs : List EntryParts) → i < length records → r ≡ get_or records i r → Made records i es → EntriesFrom (i + 1) (r ∷ []) fs → EntriesFrom 1 (take (i + 1) records) (es ++ fs)
 made_entries records i r es fs l is made h =
     let long = length-take-le i records (omega (arith, l)) in
     subst (λ zs. EntriesFrom 1 zs (es ++ fs)) (sym (take_turn records i r l is)) (entries_append 1 (i + 1) (take i records) (r ∷ []) es fs (omega (arith, long)) made.entries h)
 
--- the record at a place adds its entry, if it is no header
+-- the record at the index `i` adds its entry, if it is no header, to those of the records before it
 pub made_next : (records : List (List Field)) (i : ℕ) (r : List Field) (old new : List EntryParts) → i < length records → r ≡ get_or records i r → IsAdded r (i + 1) old new → Made records i old → Made records (i + 1) new
 unfolding EntriesFrom
 made_next records i r old new l is (inl skipped) made =
@@ -109,7 +113,7 @@ made_next records i r old new l is (inr added) made =
       clean = next_clean records i r is made.clean (λ judged k f. entry_faultless r (i + 1) put.0 put.1 k f);
     })
 
--- the record at a place gives no entry
+-- if the first `i` records have no fault and the next gives no entry, the records are refused for its fault
 pub made_stops : (records : List (List Field)) (i : ℕ) (r : List Field) (es : List EntryParts) (fault : RecordFault) → i < length records → r ≡ get_or records i r → IsRefusedAt r (i + 1) fault → Made records i es → IsRecordRefusal records fault
 made_stops records i r es fault l is refused made = by refused.refused
   where
@@ -135,6 +139,7 @@ made_stops records i r es fault l is refused made = by refused.refused
 
 -- laws: records give one list of entries, or have one first fault, and not both
 
+-- records numbered from `n` give one list of entries
 entries_same : (n : ℕ) (rs : List (List Field)) (es fs : List EntryParts) → EntriesFrom n rs es → EntriesFrom n rs fs → es ≡ fs
 unfolding EntriesFrom
 entries_same n [] es fs h g = h ∙ sym g
@@ -148,9 +153,11 @@ entries_same n (r ∷ rs) es fs (inr h) (inr g) =
     let rest = entries_same (n + 1) rs x.1 y.1 x.4 y.4 in
     x.2 ∙ ap (λ z. z ∷ x.1) first ∙ ap (λ zs. y.0 ∷ zs) rest ∙ sym y.2
 
+-- the records of a file give one list of entries
 pub one_list : (records : List (List Field)) (es fs : List EntryParts) → HasEntries records es → HasEntries records fs → es ≡ fs
 one_list records es fs h g = entries_same 1 records es fs h g
 
+-- if records numbered from `n` give entries, the record `here` among them, which is not the header, has no fault
 faultless : (n : ℕ) (before : List (List Field)) (here : List Field) (after : List (List Field)) (es : List EntryParts) (m : ℕ) (k : RecordFaultKind) → EntriesFrom n (before ++ here ∷ after) es → m ≡ n + length before → is_header_at m here ≡ false → HasRecordFault here k → ⊥
 unfolding EntriesFrom
 faultless n [] here after es m k (inl h) same judged f =
@@ -160,9 +167,11 @@ faultless n [] here after es m k (inr h) same judged f = entry_faultless here n 
 faultless n (b ∷ before) here after es m k (inl h) same judged f = faultless (n + 1) before here after es m k h.1 (omega (arith, same)) judged f
 faultless n (b ∷ before) here after es m k (inr h) same judged f = faultless (n + 1) before here after h.1.1 m k h.1.4 (omega (arith, same)) judged f
 
+-- records that give entries have no fault
 pub entries_or_fault : (records : List (List Field)) (es : List EntryParts) (k : RecordFaultKind) (m : ℕ) → HasEntries records es → HasFaultAt records k m → ⊥
 entries_or_fault records es k m h f = faultless 1 f.before f.here f.after es m k (subst (λ zs. EntriesFrom 1 zs es) f.there h) (omega (arith, f.numbered)) f.judged f.fault
 
+-- records have at most one first fault
 pub one_record_fault : (records : List (List Field)) (k l : RecordFaultKind) (m n : ℕ) → IsFirstRecordFault records k m → IsFirstRecordFault records l n → (k ≡ l) × (m ≡ n)
 one_record_fault records k l m n a b =
     let le = a.lowest l n b.fault in
@@ -175,8 +184,9 @@ one_record_fault records k l m n a b =
 
 -- The draft of a registry, one record after another.
 
--- a record after others
+-- one record more, after those so far
 
+-- a record `here` before the last one, `r`, is among the records `rs` without that
 record_back : (before : List (List Field)) (here : List Field) (after rs : List (List Field)) (r : List Field) → rs ++ r ∷ [] ≡ before ++ here ∷ after → length before < length rs → (rest : List (List Field)) × (rs ≡ before ++ here ∷ rest)
 record_back before here after [] r e l = absurd (omega (arith, l))
 record_back [] here after (x ∷ rs) r e l = let same : x ≡ here = cc in (rs, ap (λ z. z ∷ rs) same)
@@ -186,12 +196,13 @@ record_back (b ∷ before) here after (x ∷ rs) r e l =
     let found = record_back before here after rs r tail (omega (arith, l)) in
     (found.0, ap (λ z. z ∷ rs) same ∙ ap (λ zs. b ∷ zs) found.1)
 
+-- a fault of a record before the last one, `r`, is one of the records `rs` without that
 fault_back : (rs : List (List Field)) (r : List Field) (k : RecordFaultKind) (m : ℕ) → HasFaultAt (rs ++ r ∷ []) k m → m ≤ length rs → HasFaultAt rs k m
 fault_back rs r k m h l =
     let found = record_back h.before h.here h.after rs r h.there (omega (arith, h.numbered, l)) in
     record { before = h.before; here = h.here; after = found.0; there = found.1; numbered = h.numbered; judged = h.judged; fault = h.fault }
 
--- where the records so far have no fault below a number, none is below it after them
+-- if no record of `rs` with a number below `n` has a fault, none of `rs` and `r` has
 clean_on : (rs : List (List Field)) (r : List Field) (n : ℕ) → n ≤ length rs + 1 → ((k : RecordFaultKind) (m : ℕ) → HasFaultAt rs k m → n ≤ m) → (k : RecordFaultKind) (m : ℕ) → HasFaultAt (rs ++ r ∷ []) k m → n ≤ m
 clean_on rs r n l clean k m h = by_order (cases_lt m n)
   where
@@ -199,6 +210,7 @@ clean_on rs r n l clean k m h = by_order (cases_lt m n)
     by_order (inl low) = clean k m (fault_back rs r k m h (omega (arith, low, l)))
     by_order (inr high) = high
 
+-- what records are refused for stays so with a record more after them
 refusal_on : (rs : List (List Field)) (r : List Field) (fault : RecordFault) → IsRecordRefusal rs fault → IsRecordRefusal (rs ++ r ∷ []) fault
 refusal_on rs r fault (inl memory) =
     let at = memory.1 in
@@ -225,6 +237,7 @@ refusal_on rs r fault (inr first) =
       earliest = λ k h. first.earliest k (fault_back rs r k fault.number h low);
     })
 
+-- what is made of all records `rs` is made of as many of `rs` and `r`
 made_on : (rs : List (List Field)) (r : List Field) (es : List EntryParts) → Made rs (length rs) es → Made (rs ++ r ∷ []) (length rs) es
 made_on rs r es made = record {
   entries = subst (λ zs. EntriesFrom 1 zs es) (take_all (length rs) rs (omega arith) ∙ sym (take-append_seam rs (r ∷ []))) made.entries;
@@ -234,15 +247,18 @@ made_on rs r es made = record {
   clean = λ k m h. let above = clean_on rs r (length rs + 1) (omega arith) (λ j n f. let past = made.clean j n f in omega (arith, past)) k m h in omega (arith, above);
 }
 
--- what the draft has of the records so far
+-- a draft has the entries of the records so far; or, if it has a fault, the records are refused for that
 abbrev pub HasDrafted : List (List Field) → List EntryParts → Option RecordFault → Type 0
 HasDrafted records es None = Made records (length records) es
 HasDrafted records es (Some fault) = IsRecordRefusal records fault
 
+-- the draft has counted these records, and has their entries or what they are refused for
 pub record IsDraftOf (d : Draft) (records : List (List Field)) : Type 0 where
   pub numbered : d.number ≡ length records
   pub drafted : HasDrafted records d.entries.items d.fault
 
+-- a draft that takes the record `r` has then what belongs to all records; `old` and `had` are its entries and its fault
+-- before, `new` and `has` after
 drafted_more : (rs : List (List Field)) (r : List Field) (number : ℕ) (old new : List EntryParts) (had has : Option RecordFault) → number ≡ length rs + 1 → TakesFrom r number old new had has → HasDrafted rs old had → HasDrafted (rs ++ r ∷ []) new has
 drafted_more rs r number old new None None at takes made =
     subst (λ n. Made (rs ++ r ∷ []) n new) (sym (length_push rs r))
@@ -251,31 +267,35 @@ drafted_more rs r number old new None (Some fault) at takes made =
     made_stops (rs ++ r ∷ []) (length rs) r old fault (omega (arith, length_push rs r)) (sym (get_or-append_seam rs r [] r)) (subst (λ n. IsRefusedAt r n fault) at takes) (made_on rs r old made)
 drafted_more rs r number old new (Some first) has at takes made = subst (HasDrafted (rs ++ r ∷ []) new) (sym takes) (refusal_on rs r first made)
 
+-- a draft of some records that takes one more is a draft of all of them
 pub draft_more : (records : List (List Field)) (r : List Field) (old new : Draft) → Takes r old new → IsDraftOf old records → IsDraftOf new (records ++ r ∷ [])
 draft_more records r old new takes is = record {
   numbered = omega (arith, takes.numbered, is.numbered, length_push records r);
   drafted = drafted_more records r new.number old.entries.items new.entries.items old.fault new.fault (omega (arith, takes.numbered, is.numbered)) takes.takes is.drafted;
 }
 
--- A registry that is read record by record.
+-- A registry that is read record by record. `remaining` is what a device has left to read; `first` is the reader at the
+-- start, `old` and `new` are it before and after a call; `before` is the device at the start, `now` and `after` are it
+-- before and after that call.
 
+-- a new draft is one of what a reader has lent that has just begun: no records
 pub draft_none : {R : Type 0} (remaining : R → Option (List ℕ)) (s : JarSource) (device : Device R) (d : Draft) → IsFresh s → d.entries.items ≡ [] → d.number ≡ 0 → d.fault ≡ None
     → HasReadSoFar remaining s s device device (IsDraftOf d)
 draft_none remaining s device d fresh entries number fault =
     read_none remaining s device (IsDraftOf d) fresh (record { numbered = number; drafted = subst (HasDrafted [] d.entries.items) (sym fault) (made_none [] d.entries.items entries) })
 
--- a record more was lent, and the draft took it
+-- a reader lends a record more, and the draft takes it (`d` to `e`): again this is a draft of the records lent
 pub draft_next : {R : Type 0} (remaining : R → Option (List ℕ)) (first old new : JarSource) (before now after : Device R) (d e : Draft) → HasReadSoFar remaining first old before now (IsDraftOf d)
     → Advances remaining old new now after (Ok true) → Takes (record_in new) d e → HasReadSoFar remaining first new before after (IsDraftOf e)
 draft_next remaining first old new before now after d e so advances takes =
     read_more remaining first old new before now after (IsDraftOf d) (IsDraftOf e) so advances (λ records is. draft_more records (record_in new) d e takes is)
 
--- what the draft answers
+-- the answer of a reading: the entries, by `items`, or the fault of a record
 abbrev pub answer_of : {A : Type 0} → Result A RecordFault → (A → List EntryParts) → Result (List EntryParts) RegistryFault
 answer_of (Ok entries) items = Ok (items entries)
 answer_of (Err fault) items = Err (registry_faults.Record fault)
 
--- the text has ended, and the draft has no fault, or has one
+-- if the text has ended, the reading answers the draft's entries, or the fault of a record that the draft has
 pub draft_ended : {R : Type 0} (remaining : R → Option (List ℕ)) (first old new : JarSource) (before now after : Device R) (d : Draft) → HasReadSoFar remaining first old before now (IsDraftOf d)
     → Advances remaining old new now after (Ok false) → ReadsRegistry remaining before after (answer_of (finished d.entries d.fault) (λ v. v.items))
 unfolding ReadsRegistry
@@ -287,7 +307,7 @@ draft_ended remaining first old new before now after d so advances =
     by bytes reads records whole None made = (records, whole, subst (λ rs. EntriesFrom 1 rs d.entries.items) (take_all (length records) records (omega arith)) made.entries)
     by bytes reads records whole (Some fault) refusal = (records, whole, refusal)
 
--- the reader answered a fault
+-- if the reader answers a fault, the reading answers that
 pub draft_stops : {R : Type 0} (remaining : R → Option (List ℕ)) (first old new : JarSource) (before now after : Device R) (d : Draft) (fault : JarFault) → HasReadSoFar remaining first old before now (IsDraftOf d)
     → Advances remaining old new now after (Err fault) → ReadsRegistry remaining before after (Err (registry_faults.Jar fault))
 unfolding ReadsRegistry

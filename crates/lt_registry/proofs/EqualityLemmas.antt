@@ -20,12 +20,15 @@ use Rattle.lt_registry.specs.contracts.entries.EntryNamePartialEq.TheImpl as nam
 use Rattle.lt_registry.specs.contracts.entries.EntryValuePartialEq.TheImpl as value
 use Rattle.lt_registry.specs.contracts.entries.EntryPartialEq.TheImpl as entry
 
+-- whether the order of tags finds two equal decides whether they are the same
 abbrev tag_decides : (t u : TagForm) → Decides (eq_by_cmp tag_cmp t u) (t ≡ u)
 tag_decides t u = same_exactly tag_total tags_apart t u (eq_by_cmp tag_cmp t u) refl
 
+-- `same_list` decides whether two lists of subtags are the same
 pub list_decides : (a b : List (List ℕ)) → Decides (same_list a b) (a ≡ b)
 list_decides a b = slice_eq-Decides bytes_eq-Decides a b (same_list a b) refl
 
+-- `==` decides whether two names of records are the same
 pub name_decides : (a b : EntryName) → Decides (name.ghosts.eq a b) (a ≡ b)
 name_decides (names.Single s) (names.Single t) =
     let d = bytes_eq-Decides s t in ((λ h. ap names.Single (d.0 h)), (λ e. d.1 (cc)))
@@ -36,6 +39,7 @@ name_decides (names.Whole t) (names.Whole u) =
     let d = tag_decides t u in ((λ h. ap names.Whole (d.0 h)), (λ e. d.1 (cc)))
 name_decides _ _ = ((λ h. cc), (λ e. cc))
 
+-- `==` decides whether two values of records are the same
 pub value_decides : (a b : EntryValue) → Decides (value.ghosts.eq a b) (a ≡ b)
 value_decides (values.One s) (values.One t) =
     let d = bytes_eq-Decides s t in ((λ h. ap values.One (d.0 h)), (λ e. d.1 (cc)))
@@ -43,12 +47,14 @@ value_decides (values.Whole t) (values.Whole u) =
     let d = tag_decides t u in ((λ h. ap values.Whole (d.0 h)), (λ e. d.1 (cc)))
 value_decides _ _ = ((λ h. cc), (λ e. cc))
 
+-- `==` decides whether two optional values of records are the same
 option_decides : (a b : Option EntryValue) → Decides (option_eq value.ghosts.eq a b) (a ≡ b)
 option_decides None None = ((λ _. refl), (λ _. refl))
 option_decides (Some a) (Some b) =
     let d = value_decides a b in ((λ h. ap Some (d.0 h)), (λ e. d.1 (cc)))
 option_decides _ _ = ((λ h. cc), (λ e. cc))
 
+-- `==` decides whether two entries are the same
 pub entry_decides : (a b : EntryParts) → Decides (entry.ghosts.eq a b) (a ≡ b)
 entry_decides a b =
     let all = Decides-and _ _ (Decides-eqb a.number b.number)

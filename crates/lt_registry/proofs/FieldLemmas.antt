@@ -19,7 +19,7 @@ use Rattle.lt_registry.specs.declared.fields.FieldName.TheVariants as told
 
 -- A text has one of the names at most.
 
--- a text has no name of another length than one that it has
+-- a text that is the name `n`, letter case aside, is no name of another length
 pub apart : (s n m : List ℕ) → length n ≢ length m → str_eq_ignore_ascii_case s n ≡ true → str_eq_ignore_ascii_case s m ≡ false
 apart s n m far h =
     false_from_ne_true (str_eq_ignore_ascii_case s m) (λ g.
@@ -28,10 +28,12 @@ apart s n m far h =
     let lower : str_to_ascii_lowercase n ≡ str_to_ascii_lowercase m = sym a ∙ b in
     far (omega (arith, ap length lower, length-map n to_ascii_lowercase, length-map m to_ascii_lowercase)))
 
--- the field that five tests tell
+-- which field a name is, by the tests for Type, Subtag, Tag, Preferred-Value and File-Date: the first that holds tells
+-- it
 abbrev told_by : Bool → Bool → Bool → Bool → Bool → FieldName
 told_by a b c d e = if a then told.Type else (if b then told.Subtag else (if c then told.Tag else (if d then told.PreferredValue else (if e then told.FileDate else told.Other))))
 
+-- if the five tests of `told_by` tell Type, the first holds
 pub by_type : (a b c d e : Bool) → told_by a b c d e ≡ told.Type → a ≡ true
 by_type true b c d e h = refl
 by_type false true c d e h = cc
@@ -40,6 +42,7 @@ by_type false false false true e h = cc
 by_type false false false false true h = cc
 by_type false false false false false h = cc
 
+-- if the five tests of `told_by` tell Subtag, the second holds
 pub by_subtag : (a b c d e : Bool) → told_by a b c d e ≡ told.Subtag → b ≡ true
 by_subtag true b c d e h = cc
 by_subtag false true c d e h = refl
@@ -48,6 +51,7 @@ by_subtag false false false true e h = cc
 by_subtag false false false false true h = cc
 by_subtag false false false false false h = cc
 
+-- if the five tests of `told_by` tell Tag, the third holds
 pub by_tag : (a b c d e : Bool) → told_by a b c d e ≡ told.Tag → c ≡ true
 by_tag true b c d e h = cc
 by_tag false true c d e h = cc
@@ -56,6 +60,7 @@ by_tag false false false true e h = cc
 by_tag false false false false true h = cc
 by_tag false false false false false h = cc
 
+-- if the five tests of `told_by` tell Preferred-Value, the fourth holds
 pub by_value : (a b c d e : Bool) → told_by a b c d e ≡ told.PreferredValue → d ≡ true
 by_value true b c d e h = cc
 by_value false true c d e h = cc
@@ -64,6 +69,7 @@ by_value false false false true e h = refl
 by_value false false false false true h = cc
 by_value false false false false false h = cc
 
+-- if the five tests of `told_by` tell File-Date, the fifth holds
 pub by_date : (a b c d e : Bool) → told_by a b c d e ≡ told.FileDate → e ≡ true
 by_date true b c d e h = cc
 by_date false true c d e h = cc
@@ -72,6 +78,7 @@ by_date false false false true e h = cc
 by_date false false false false true h = refl
 by_date false false false false false h = cc
 
+-- if the five tests of `told_by` tell Other, none of them holds
 pub by_none : (a b c d e : Bool) → told_by a b c d e ≡ told.Other → (a ≡ false) × (b ≡ false) × (c ≡ false) × (d ≡ false) × (e ≡ false)
 by_none true b c d e h = cc
 by_none false true c d e h = cc
@@ -82,6 +89,7 @@ by_none false false false false false h = (refl, refl, refl, refl, refl)
 
 -- One field more.
 
+-- mapping the first of two options that has a value is mapping both
 map_or : {A B : Type 0} (g : A → B) (o p : Option A) → option_map g (option_or o p) ≡ option_or (option_map g o) (option_map g p)
 map_or g None p = refl
 map_or g (Some a) p = refl
@@ -90,15 +98,20 @@ or_none : {A : Type 0} (o : Option A) → option_or o None ≡ o
 or_none None = refl
 or_none (Some a) = refl
 
+-- the first of two options that has a value has one, if the second does
 or_some : {A : Type 0} (o : Option A) (a : A) → is_some (option_or o (Some a)) ≡ true
 or_some None a = refl
 or_some (Some b) a = refl
 
+-- mapping an option doesn't change whether it has a value
 map_some : {A B : Type 0} (g : A → B) (o : Option A) → is_some (option_map g o) ≡ is_some o
 map_some g None = refl
 map_some g (Some a) = refl
 
+-- the first element of a list that passes the test `p`, and its place
 module _ {A : Type 0} (p : A → Bool) where
+  -- with an element `y` more, the place of the first that passes is the one in `xs`, or else that of `y` if it passes;
+  -- `i` is the place of the first of `xs`
   place_next : (i : ℕ) (xs : List A) (y : A) → position_from p i (xs ++ y ∷ []) ≡ option_or (position_from p i xs) (cond (p y) (Some (i + length xs)) None)
   place_next i [] y = let same : i ≡ i + 0 = omega arith in ap (λ n. cond (p y) (Some n) None) same
   place_next i (x ∷ xs) y = by (p x) (place_next (i + 1) xs y)
@@ -111,15 +124,18 @@ module _ {A : Type 0} (p : A → Bool) where
       by true rest = refl
       by false rest = rest ∙ ap (λ n. option_or (position_from p (i + 1) xs) (cond (p y) (Some n) None)) same
 
+  -- an element more that fails doesn't change the place of the first that passes
   pub place_same : (xs : List A) (y : A) → p y ≡ false → position_from p 0 xs ≡ position_from p 0 (xs ++ y ∷ [])
   place_same xs y h = sym (place_next 0 xs y ∙ ap (λ b. option_or (position_from p 0 xs) (cond b (Some (0 + length xs)) None)) h ∙ or_none (position_from p 0 xs))
 
+  -- with an element more that passes, at the place `n`, the place of the first that passes is the one in `xs`, or else
+  -- `n`
   pub place_more : (xs : List A) (y : A) (n : ℕ) → length xs ≡ n → p y ≡ true → option_or (position_from p 0 xs) (Some n) ≡ position_from p 0 (xs ++ y ∷ [])
   place_more xs y n l h =
       let at : n ≡ 0 + length xs = omega (arith, l) in
       sym (place_next 0 xs y ∙ ap (λ b. option_or (position_from p 0 xs) (cond b (Some (0 + length xs)) None)) h ∙ ap (λ z. option_or (position_from p 0 xs) (Some z)) (sym at))
 
-  -- what is at the place
+  -- at the place of the first that passes is the element that `find` gives; `i` is the place of the first of `xs`
   there : (i : ℕ) (xs : List A) (k : ℕ) → position_from p i xs ≡ Some k → (i ≤ k) × (find p xs ≡ slice_get xs (k - i))
   there i [] k h = cc
   there i (x ∷ xs) k h = by (p x) (there (i + 1) xs k) h
@@ -134,6 +150,7 @@ module _ {A : Type 0} (p : A → Bool) where
           let next : suc (k - (i + 1)) ≡ k - i = omega (arith, rest.0) in
           (omega (arith, rest.0), rest.1 ∙ ap (slice_get (x ∷ xs)) next)
 
+  -- if no place is found, no element is
   nowhere : (i : ℕ) (xs : List A) → position_from p i xs ≡ None → find p xs ≡ None
   nowhere i [] h = refl
   nowhere i (x ∷ xs) h = by (p x) (nowhere (i + 1) xs) h
@@ -142,6 +159,7 @@ module _ {A : Type 0} (p : A → Bool) where
       by true later h = cc
       by false later h = later h
 
+  -- a place is found exactly if an element is
   some_place : (i : ℕ) (xs : List A) → is_some (position_from p i xs) ≡ is_some (find p xs)
   some_place i [] = refl
   some_place i (x ∷ xs) = by (p x) (some_place (i + 1) xs)
@@ -150,6 +168,7 @@ module _ {A : Type 0} (p : A → Bool) where
       by true rest = refl
       by false rest = rest
 
+  -- a place is found exactly if some element that passes is counted
   some_counted : (i : ℕ) (xs : List A) → is_some (position_from p i xs) ≡ nat_lt 0 (count_by p xs)
   some_counted i [] = refl
   some_counted i (x ∷ xs) = by (p x) (some_counted (i + 1) xs) ∙ ap (nat_lt 0) (sym (sum_by-cons (λ y. cond (p y) 1 0) x xs))
@@ -159,13 +178,14 @@ module _ {A : Type 0} (p : A → Bool) where
       by true rest = grind (arith, nat_tests)
       by false rest = rest ∙ ap (nat_lt 0) (omega arith)
 
+  -- an element more is counted if it passes
   counted_next : (xs : List A) (y : A) → count_by p (xs ++ y ∷ []) ≡ count_by p xs + cond (p y) 1 0
   counted_next xs y =
       let g : A → ℕ = λ x. cond (p x) 1 0 in
       omega (arith, sum_by-append g xs (y ∷ []), sum_by-cons g y [])
 
 module _ (name : List ℕ) (r : List Field) where
-  -- the body at the place of the first field of a name
+  -- the body of the field at the first place of a name is the body of the name
   pub body_there : (place : Option ℕ) → IsPlace name r place → option_map (λ (f : Field). f.1) (option_and_then (slice_get r) place) ≡ body name r
   body_there None h = ap (option_map (λ (f : Field). f.1)) (sym (nowhere (is_called name) 0 r (sym h)))
   body_there (Some k) h =
@@ -173,24 +193,29 @@ module _ (name : List ℕ) (r : List Field) where
       let same : k ≡ k - 0 = omega arith in
       ap (option_map (λ (f : Field). f.1)) (ap (slice_get r) same ∙ sym is.1)
 
-  -- there is a body where there is a place
+  -- a name has a place exactly if it has a body
   pub found_or_none : (place : Option ℕ) → IsPlace name r place → is_some place ≡ is_some (body name r)
   found_or_none place h = ap is_some h ∙ some_place (is_called name) 0 r ∙ sym (map_some (λ (f : Field). f.1) (find (is_called name) r))
 
   module _ (f : Field) where
+    -- with the field `f` more, the body of a name is the one in `r`, or else that of `f` if it has the name
     body_next : body name (r ++ f ∷ []) ≡ option_or (body name r) (option_map (λ (g : Field). g.1) (cond (is_called name f) (Some f) None))
     body_next =
         ap (option_map (λ (g : Field). g.1)) (find-append (is_called name) r (f ∷ [])) ∙ map_or (λ (g : Field). g.1) (find (is_called name) r) (cond (is_called name f) (Some f) None)
 
+    -- with a field more of another name, whether the name has a body stays
     pub some_same : is_called name f ≡ false → is_some (body name (r ++ f ∷ [])) ≡ is_some (body name r)
     some_same h = ap is_some (body_next ∙ ap (λ b. option_or (body name r) (option_map (λ (g : Field). g.1) (cond b (Some f) None))) h ∙ or_none (body name r))
 
+    -- with a field more of the name, the name has a body
     pub some_more : is_called name f ≡ true → is_some (body name (r ++ f ∷ [])) ≡ true
     some_more h = ap is_some (body_next ∙ ap (λ b. option_or (body name r) (option_map (λ (g : Field). g.1) (cond b (Some f) None))) h) ∙ or_some (body name r) f.1
 
+    -- with a field more of another name, whether the name is repeated stays
     pub repeated_same : is_called name f ≡ false → is_repeated name (r ++ f ∷ []) ≡ is_repeated name r
     repeated_same h = ap (nat_lt 1) (counted_next (is_called name) r f ∙ ap (λ b. count_by (is_called name) r + cond b 1 0) h ∙ omega arith)
 
+    -- with a field more of the name, the name is repeated if it was, or if it had a place
     pub repeated_more : (place : Option ℕ) → IsPlace name r place → is_called name f ≡ true → is_repeated name (r ++ f ∷ []) ≡ (is_repeated name r || is_some place)
     repeated_more place l h =
         let some : is_some place ≡ nat_lt 0 (count_by (is_called name) r) = ap is_some l ∙ some_counted (is_called name) 0 r in

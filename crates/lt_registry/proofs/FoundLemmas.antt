@@ -20,27 +20,34 @@ or_false : (a : Bool) → (a || false) ≡ a
 or_false true = refl
 or_false false = refl
 
+-- a test `e` after four others may be joined to the first of them
 or_1 : (a b c d e : Bool) → ((a || (b || (c || d))) || e) ≡ ((a || e) || (b || (c || d)))
 or_1 a b c d true = or_true (a || (b || (c || d))) ∙ sym (ap (λ z. z || (b || (c || d))) (or_true a))
 or_1 a b c d false = or_false (a || (b || (c || d))) ∙ sym (ap (λ z. z || (b || (c || d))) (or_false a))
 
+-- a test `e` after four others may be joined to the second of them
 or_2 : (a b c d e : Bool) → ((a || (b || (c || d))) || e) ≡ (a || ((b || e) || (c || d)))
 or_2 a b c d true = or_true (a || (b || (c || d))) ∙ sym (ap (λ z. a || (z || (c || d))) (or_true b) ∙ or_true a)
 or_2 a b c d false = or_false (a || (b || (c || d))) ∙ sym (ap (λ z. a || (z || (c || d))) (or_false b))
 
+-- a test `e` after four others may be joined to the third of them
 or_3 : (a b c d e : Bool) → ((a || (b || (c || d))) || e) ≡ (a || (b || ((c || e) || d)))
 or_3 a b c d true = or_true (a || (b || (c || d))) ∙ sym (ap (λ z. a || (b || (z || d))) (or_true c) ∙ ap (λ z. a || z) (or_true b) ∙ or_true a)
 or_3 a b c d false = or_false (a || (b || (c || d))) ∙ sym (ap (λ z. a || (b || (z || d))) (or_false c))
 
+-- a test `e` after four others may be joined to the fourth of them
 or_4 : (a b c d e : Bool) → ((a || (b || (c || d))) || e) ≡ (a || (b || (c || (d || e))))
 or_4 a b c d true =
     or_true (a || (b || (c || d))) ∙ sym (ap (λ z. a || (b || (c || z))) (or_true d) ∙ ap (λ z. a || (b || z)) (or_true c) ∙ ap (λ z. a || z) (or_true b) ∙ or_true a)
 or_4 a b c d false = or_false (a || (b || (c || d))) ∙ sym (ap (λ z. a || (b || (c || z))) (or_false d))
 
+-- each of four tests may be replaced by an equal one
 four : (a b c d x y z w : Bool) → x ≡ a → y ≡ b → z ≡ c → w ≡ d → (a || (b || (c || d))) ≡ (x || (y || (z || w)))
 four a b c d x y z w e f g h = cc (e, f, g, h)
 
+-- `old` is what was found among the fields `r`, and the field `f` follows at the place `place`
 module _ (r : List Field) (f : Field) (place : ℕ) (old : Found) (l : length r ≡ place) (h : HasFound r old) where
+  -- after a field Type: its place is found if it is the first such field, else the field is repeated
   pub found_type : field_told f.0 ≡ told.Type → HasFound (r ++ f ∷ []) (record old { kind = option_or old.kind (Some place); repeats = old.repeats || is_some old.kind })
   found_type t =
       let yes : is_called type_name f ≡ true = by_type (is_called type_name f) (is_called subtag_name f) (is_called tag_name f) (is_called value_name f) (is_called date_name f) t in
@@ -58,6 +65,7 @@ module _ (r : List Field) (f : Field) (place : ℕ) (old : Found) (l : length r 
             ∙ four (is_repeated type_name r || is_some old.kind) (is_repeated subtag_name r) (is_repeated tag_name r) (is_repeated value_name r) (is_repeated type_name (r ++ f ∷ [])) (is_repeated subtag_name (r ++ f ∷ [])) (is_repeated tag_name (r ++ f ∷ [])) (is_repeated value_name (r ++ f ∷ [])) (repeated_more type_name r f old.kind h.kind yes) (repeated_same subtag_name r f no_subtag) (repeated_same tag_name r f no_tag) (repeated_same value_name r f no_value);
       }
 
+  -- after a field Subtag: its place is found if it is the first such field, else the field is repeated
   pub found_subtag : field_told f.0 ≡ told.Subtag → HasFound (r ++ f ∷ []) (record old { subtag = option_or old.subtag (Some place); repeats = old.repeats || is_some old.subtag })
   found_subtag t =
       let yes : is_called subtag_name f ≡ true = by_subtag (is_called type_name f) (is_called subtag_name f) (is_called tag_name f) (is_called value_name f) (is_called date_name f) t in
@@ -75,6 +83,7 @@ module _ (r : List Field) (f : Field) (place : ℕ) (old : Found) (l : length r 
             ∙ four (is_repeated type_name r) (is_repeated subtag_name r || is_some old.subtag) (is_repeated tag_name r) (is_repeated value_name r) (is_repeated type_name (r ++ f ∷ [])) (is_repeated subtag_name (r ++ f ∷ [])) (is_repeated tag_name (r ++ f ∷ [])) (is_repeated value_name (r ++ f ∷ [])) (repeated_same type_name r f no_type) (repeated_more subtag_name r f old.subtag h.subtag yes) (repeated_same tag_name r f no_tag) (repeated_same value_name r f no_value);
       }
 
+  -- after a field Tag: its place is found if it is the first such field, else the field is repeated
   pub found_tag : field_told f.0 ≡ told.Tag → HasFound (r ++ f ∷ []) (record old { tag = option_or old.tag (Some place); repeats = old.repeats || is_some old.tag })
   found_tag t =
       let yes : is_called tag_name f ≡ true = by_tag (is_called type_name f) (is_called subtag_name f) (is_called tag_name f) (is_called value_name f) (is_called date_name f) t in
@@ -92,6 +101,7 @@ module _ (r : List Field) (f : Field) (place : ℕ) (old : Found) (l : length r 
             ∙ four (is_repeated type_name r) (is_repeated subtag_name r) (is_repeated tag_name r || is_some old.tag) (is_repeated value_name r) (is_repeated type_name (r ++ f ∷ [])) (is_repeated subtag_name (r ++ f ∷ [])) (is_repeated tag_name (r ++ f ∷ [])) (is_repeated value_name (r ++ f ∷ [])) (repeated_same type_name r f no_type) (repeated_same subtag_name r f no_subtag) (repeated_more tag_name r f old.tag h.tag yes) (repeated_same value_name r f no_value);
       }
 
+  -- after a field Preferred-Value: its place is found if it is the first such field, else the field is repeated
   pub found_value : field_told f.0 ≡ told.PreferredValue → HasFound (r ++ f ∷ []) (record old { value = option_or old.value (Some place); repeats = old.repeats || is_some old.value })
   found_value t =
       let yes : is_called value_name f ≡ true = by_value (is_called type_name f) (is_called subtag_name f) (is_called tag_name f) (is_called value_name f) (is_called date_name f) t in
@@ -109,7 +119,8 @@ module _ (r : List Field) (f : Field) (place : ℕ) (old : Found) (l : length r 
             ∙ four (is_repeated type_name r) (is_repeated subtag_name r) (is_repeated tag_name r) (is_repeated value_name r || is_some old.value) (is_repeated type_name (r ++ f ∷ [])) (is_repeated subtag_name (r ++ f ∷ [])) (is_repeated tag_name (r ++ f ∷ [])) (is_repeated value_name (r ++ f ∷ [])) (repeated_same type_name r f no_type) (repeated_same subtag_name r f no_subtag) (repeated_same tag_name r f no_tag) (repeated_more value_name r f old.value h.value yes);
       }
 
-  -- a date, or a field that does not count
+  -- after a field that is no Type, Subtag, Tag or Preferred-Value: at most whether there is a File-Date (`dated`)
+  -- changes
   passed : is_called type_name f ≡ false → is_called subtag_name f ≡ false → is_called tag_name f ≡ false → is_called value_name f ≡ false → (dated : Bool) → dated ≡ is_some (body date_name (r ++ f ∷ []))
       → HasFound (r ++ f ∷ []) (record old { is_dated = dated })
   passed a b c d dated is = record {
@@ -123,12 +134,14 @@ module _ (r : List Field) (f : Field) (place : ℕ) (old : Found) (l : length r 
         (repeated_same type_name r f a) (repeated_same subtag_name r f b) (repeated_same tag_name r f c) (repeated_same value_name r f d);
   }
 
+  -- after a field File-Date: what is found has that there is one
   pub found_date : field_told f.0 ≡ told.FileDate → HasFound (r ++ f ∷ []) (record old { is_dated = true })
   found_date t =
       let yes : is_called date_name f ≡ true = by_date (is_called type_name f) (is_called subtag_name f) (is_called tag_name f) (is_called value_name f) (is_called date_name f) t in
       passed (apart f.0 date_name type_name (λ w. cc w) yes) (apart f.0 date_name subtag_name (λ w. cc w) yes) (apart f.0 date_name tag_name (λ w. cc w) yes) (apart f.0 date_name value_name (λ w. cc w) yes)
       true (sym (some_more date_name r f yes))
 
+  -- after a field of another name: what is found stays
   pub found_other : field_told f.0 ≡ told.Other → HasFound (r ++ f ∷ []) old
   found_other t =
       let no = by_none (is_called type_name f) (is_called subtag_name f) (is_called tag_name f) (is_called value_name f) (is_called date_name f) t in
@@ -136,6 +149,7 @@ module _ (r : List Field) (f : Field) (place : ℕ) (old : Found) (l : length r 
 
 -- The type of a language, as it is written in most records.
 
+-- a text of the eight bytes of `language` names the kind Language
 pub language_spelled : (s : List ℕ) → length s ≡ 8 → get_or s 0 0 ≡ 108 → get_or s 1 0 ≡ 97 → get_or s 2 0 ≡ 110 → get_or s 3 0 ≡ 103
     → get_or s 4 0 ≡ 117 → get_or s 5 0 ≡ 97 → get_or s 6 0 ≡ 103 → get_or s 7 0 ≡ 101 → kind_of s ≡ Some kinds.Language
 language_spelled [] long = absurd (omega (arith, long))

@@ -11,5 +11,6 @@ drop_turn xs i x l e = drop-cons xs i x l ∙ rw (add-one i, ← e) refl
 pub whole_turn : {A : Type 0} (xs : List A) (i : ℕ) (x : A) → i < length xs → x ≡ get_or xs i x → xs ≡ take i xs ++ x ∷ drop (i + 1) xs
 whole_turn xs i x l e = sym (ap (λ zs. take i xs ++ zs) (sym (drop_turn xs i x l e)) ∙ take-append-drop i xs)
 
+-- the first `i + 1` elements are the first `i` and the one at the index `i`
 pub take_turn : {A : Type 0} (xs : List A) (i : ℕ) (x : A) → i < length xs → x ≡ get_or xs i x → take (i + 1) xs ≡ take i xs ++ x ∷ []
 take_turn xs i x l e = take_more xs i x l ∙ rw (← e) refl

@@ -33,10 +33,11 @@ use Rattle.lt_registry.specs.declared.entries.Kind.TheVariants as kinds
 
 -- The numbers of subtags.
 
+-- at most 8 small letters are `IsFew`: bytes that a subtag has, and few enough for its number
 letters_few : (s : List ℕ) → list_all is_ascii_lowercase s ≡ true → length s ≤ 8 → IsFew s
 letters_few s h l = record { bytes = all_weaker is_ascii_lowercase is_subtag_byte (λ b k. rw k refl) s h; few = l }
 
--- what has the form of a kind is one
+-- what has the form of a kind is `IsFew`: at most 8 bytes, each of which a subtag may have
 pub form_few : (kind : Kind) (s : List ℕ) → has_form kind s ≡ true → IsFew s
 unfolding is_variant
 form_few kinds.Language s h = subtag_few s (language_long s h).subtag
@@ -50,48 +51,57 @@ form_few kinds.Region s h =
 form_few kinds.Variant s h = subtag_few s (and_parts (is_subtag s) _ h).0
 form_few _ s h = cc
 
+-- two tests are equal if each implies the other
 pub same_test : (b c : Bool) → (b ≡ true → c ≡ true) → (c ≡ true → b ≡ true) → b ≡ c
 same_test true c f g = sym (f refl)
 same_test false true f g = g refl
 same_test false false f g = refl
 
+-- letter order is the order of lists of bytes, by which `o` compares `s` and `t`
 is_letters_le : (s t : List ℕ) (o : Ordering) → o ≡ slice_cmp nat_cmp s t → is_le o ≡ letters_le s t
 is_letters_le = same_from_slice_cmp nat_cmp is_le letters_le refl (λ _ _. refl) (λ _ _. refl) (λ x y s t o h. grind (arith, nat_tests))
 
+-- the order of two numbers says that the first is at most the second exactly if the test does
 least_is : (m n : ℕ) → is_le (nat_cmp m n) ≡ leb m n
 least_is m n = grind (arith, nat_tests)
 
--- numbers are in letter order
+-- the letter order of two subtags is the order of their numbers
 numbers_rise_with : (s t : List ℕ) → IsFew s → IsFew t → letters_le s t ≡ leb (number s) (number t)
 numbers_rise_with s t h k =
     sym (is_letters_le s t (slice_cmp nat_cmp s t) refl) ∙ ap is_le (numbers_ordered s t h k)
     ∙ least_is (number s) (number t)
 
--- and ranks by the lengths first
+-- ranks: those of shorter subtags first
 
+-- a shorter subtag has a lesser rank
 pub rank_shorter : (s t : List ℕ) → IsFew s → length s < length t → rank s < rank t
 rank_shorter s t h low = omega (arith, number_below s h, low)
 
+-- the letter order of two subtags of one length is the order of their ranks
 pub ranks_ordered : (s t : List ℕ) → IsFew s → IsFew t → length s ≡ length t → letters_le s t ≡ leb (rank s) (rank t)
 ranks_ordered s t h k one =
     let shifted : leb (length s * 2 ^ 64 + number s) (length s * 2 ^ 64 + number t) ≡ leb (number s) (number t) = grind (arith, nat_tests) in
     numbers_rise_with s t h k ∙ sym (ap (λ l. leb (rank s) (l * 2 ^ 64 + number t)) (sym one) ∙ shifted)
 
--- numbers that differ are those of subtags that do
+-- distinct numbers are those of distinct subtags
 
+-- whether two numbers are equal by their order
 abbrev by_order : ℕ → ℕ → Bool
 by_order = eq_by_cmp nat_cmp
 
+-- if the number of `s` is that of none of `ts`, `s` is none of `ts`
 apart_from : (s : List ℕ) (ts : List (List ℕ)) → AllByRecursion (λ n. by_order (number s) n ≡ false) (map number ts) → AllByRecursion (λ t. t ≢ s) ts
 apart_from s [] d = tt
 apart_from s (t ∷ ts) d =
     ((λ e. true≢false (sym ((eq_by_cmp_equiv nat_cmp_total).refl (number s)) ∙ ap (λ u. by_order (number s) (number u)) (sym e) ∙ d.0)), apart_from s ts d.1)
 
+-- subtags are distinct if their numbers are
 pub subtags_differ : (ss : List (List ℕ)) → IsDistinct by_order (map number ss) → Distinct ss
 unfolding IsDistinct
 subtags_differ [] d = tt
 subtags_differ (s ∷ ss) d = (apart_from s ss d.0, subtags_differ ss d.1)
 
+-- numbers `ms` are distinct if, sorted as `ns`, each is less than the next
 pub rising_differ : (ms ns : List ℕ) → IsPermutation ms ns → AllAdjacentBelow (λ m n. true ≡ ltb m n) ns (length ns) → IsDistinct by_order ms
 rising_differ ms ns moved up =
     IsDistinct-IsPermutation by_order (eq_by_cmp_equiv nat_cmp_total).symm ns ms (IsPermutation-sym ms ns moved)
@@ -99,6 +109,7 @@ rising_differ ms ns moved up =
 
 -- Prefixes of one subtag are found by their numbers.
 
+-- a language `l` is one of the Prefixes `ps` exactly if a Prefix of one subtag has its number
 lists_number : (ps : List (List (List ℕ))) (l : List ℕ) → AllByRecursion IsPrefix ps → is_subtag l ≡ true → has_prefix ps l ≡ list_any (λ n. eqb n (number l)) (filter_map single_of ps)
 lists_number [] l h k = refl
 lists_number ([] ∷ ps) l h k = lists_number ps l h.1 k
@@ -107,10 +118,11 @@ lists_number ((s ∷ []) ∷ ps) l h k =
     ap (λ b. b || has_prefix ps l) same ∙ ap (λ b. eqb (number s) (number l) || b) (lists_number ps l h.1 k)
 lists_number ((s ∷ t ∷ r) ∷ ps) l h k = ap (λ b. b || has_prefix ps l) (and-false (bytes_eq s l)) ∙ lists_number ps l h.1 k
 
--- what is sorted does not fall
+-- in a sorted list no number is greater than one after it
 numbers_rise : (ns : List ℕ) → IsSorted nat_cmp ns → (i j : ℕ) → i ≤ j → j < length ns → get_or ns i 0 ≤ get_or ns j 0
 numbers_rise ns s i j a b = ge_from_not_lt (get_or ns j 0) (get_or ns i 0) (sorted_far _ (ranks_by nat_cmp_total (λ n. n)) ns s i j 0 a b)
 
+-- a binary search in sorted numbers finds `n` exactly if `n` is among them; `r` is its result
 number_found : (ns : List ℕ) (n : ℕ) (r : Result ℕ ℕ) → IsSorted nat_cmp ns → IsBinarySearchResult (λ m. nat_cmp m n) ns r → is_ok r ≡ list_any (λ m. eqb m n) ns
 number_found ns n (Ok i) s h =
     let at = searched ns n (Ok i) h (numbers_rise ns s) in
@@ -119,6 +131,7 @@ number_found ns n (Err i) s h =
     let at = searched ns n (Err i) h (numbers_rise ns s) in
     sym (list_any_none (λ m. eqb m n) ns (λ k d l. other k d l at))
   where
+    -- the search found no `n`: numbers before the index `i` are less, and those from it on greater, so none is `n`
     other : (k d : ℕ) → k < length ns → (i ≤ length ns) × ((k : ℕ) → k < i → get_or ns k 0 < n) × ((k : ℕ) → i ≤ k → k < length ns → n < get_or ns k 0) → eqb (get_or ns k d) n ≡ false
     other k d l at =
         elim (cases_lt k i) [

@@ -1,4 +1,6 @@
--- A text that is read record by record, whatever is made of the records.
+-- A text that is read record by record, whatever is made of the records. `remaining` is what a device has left to read;
+-- `first` is the reader at the start, `old` and `new` are it before and after a call; `before` is the device at the
+-- start, `now` and `after` are it before and after that call.
 use Rattle.std.proofs.Common.{◌≡◌, ℕ, ◌+◌, ◌<◌, ◌≤◌, true, false, List, [], ◌∷◌, ◌++◌, length, Option, refl, sym, ◌∙◌, arith, ◌⊎◌, inl, inr, subst, length-append, Ok, Err, append-nil}
 use Rattle.std.specs.Io.KnownBytes.{IsAtEnd}
 use Rattle.std.proofs.KnownBytes.{Consumes-nil}
@@ -19,13 +21,15 @@ use Rattle.lt_jar.proofs.RestLemmas.{lent_within}
 use Rattle.lt_jar.proofs.SourceLemmas.{more_read}
 use Rattle.lt_registry.specs.ReadRegistry.{IsJarRefusal, IsReadWhole, Reads}
 
--- the text goes on, or has ended
+-- where a reader is whose reads gave `bytes`, of which it lent `records`: the text goes on, or it has ended and the
+-- device is at its end
 abbrev Stands : {R : Type 0} → (R → Option (List ℕ)) → Device R → JarSource → List ℕ → ℕ → List (List Field) → Type 0
 Stands remaining now s bytes reads records =
     ((s.status ≡ state.Open) × HasLent bytes records s × (reads ≤ length bytes) × LastGave s now)
     ⊎ ((s.status ≡ state.Ended) × HasRecords bytes records × IsSound 0 bytes × IsAtEnd (remaining (inner_of now)))
 
--- since its start the reader has lent these records, of which something was made
+-- from `first` to `now` the reader has lent some records and the device, from `before` to `after`, did not fail;
+-- `IsMade` is true of these records
 pub record HasReadSoFar {R : Type 0} (remaining : R → Option (List ℕ)) (first now : JarSource) (before after : Device R)
     (IsMade : List (List Field) → Type 0) : Type 0 where
   pub bytes : List ℕ
@@ -38,7 +42,7 @@ pub record HasReadSoFar {R : Type 0} (remaining : R → Option (List ℕ)) (firs
   pub made : IsMade records
   pub stands : Stands remaining after now bytes reads records
 
--- no record was lent so far
+-- a reader that has just begun has lent no record
 pub read_none : {R : Type 0} (remaining : R → Option (List ℕ)) (s : JarSource) (device : Device R) (IsMade : List (List Field) → Type 0) → IsFresh s → IsMade []
     → HasReadSoFar remaining s s device device IsMade
 read_none remaining s device IsMade fresh made = record {
@@ -53,7 +57,8 @@ read_none remaining s device IsMade fresh made = record {
   stands = inl (fresh.status, lent_start fresh, omega arith, λ some. absurd (omega (arith, some, fresh.turns)));
 }
 
--- a record more was lent, and taken
+-- after a call that lent a record more, `IsNext` is true of all records lent, if that follows from `IsMade` of those
+-- before
 pub read_more : {R : Type 0} (remaining : R → Option (List ℕ)) (first old new : JarSource) (before now after : Device R) (IsMade IsNext : List (List Field) → Type 0) → HasReadSoFar remaining first old before now IsMade
     → Advances remaining old new now after (Ok true) → ((records : List (List Field)) → IsMade records → IsNext (records ++ record_in new ∷ [])) → HasReadSoFar remaining first new before after IsNext
 read_more {R} remaining first old new before now after IsMade IsNext so advances takes = by_stand so.stands
@@ -80,7 +85,7 @@ read_more {R} remaining first old new before now after IsMade IsNext so advances
         }
     by_stand (inr ended) = absurd (let over = (advances.over ended.0).0 in cc)
 
--- the whole text was read
+-- reads that gave some bytes without a failure, of which `Answers` is true, are a reading (`Reads`)
 whole_reads : {R : Type 0} (remaining : R → Option (List ℕ)) (first last : JarSource) (before after : Device R) (Answers : Device R → Device R → List ℕ → ℕ → Type 0) (IsFailure : Type 0) (bytes : List ℕ) (reads : ℕ) → first.turns ≡ 0
     → IsRead remaining first last before after bytes reads → failures_of after ≡ failures_of before → Answers before after bytes reads → Reads remaining before after Answers IsFailure
 whole_reads remaining first last before after Answers IsFailure bytes reads none is works answers = record {
@@ -94,7 +99,7 @@ whole_reads remaining first last before after Answers IsFailure bytes reads none
   rises = λ more. absurd (omega (arith, more, works));
 }
 
--- the text has ended
+-- after a call that found the end of the text, the reading answers what follows from `IsMade` of all its records
 pub read_ended : {R : Type 0} (remaining : R → Option (List ℕ)) (first old new : JarSource) (before now after : Device R) (IsMade : List (List Field) → Type 0) (Answers : Device R → Device R → List ℕ → ℕ → Type 0) (IsFailure : Type 0)
     → HasReadSoFar remaining first old before now IsMade → Advances remaining old new now after (Ok false)
     → ((bytes : List ℕ) (reads : ℕ) (records : List (List Field)) → IsReadWhole remaining before after bytes records → IsMade records → Answers before after bytes reads) → Reads remaining before after Answers IsFailure
@@ -118,15 +123,17 @@ read_ended {R} remaining first old new before now after IsMade Answers IsFailure
         whole_reads remaining first old before after Answers IsFailure so.bytes so.reads so.none
         (subst (λ (z : Device R). IsRead remaining first old before z so.bytes so.reads) same so.is_read) whole.works (answers so.bytes so.reads so.records whole so.made)
 
--- the reader answered a fault
+-- after a call that answered a fault, the reading answers what follows from that; if a read failed, `IsFailure` is true
 pub read_stops : {R : Type 0} (remaining : R → Option (List ℕ)) (first old new : JarSource) (before now after : Device R) (IsMade : List (List Field) → Type 0) (Answers : Device R → Device R → List ℕ → ℕ → Type 0) (IsFailure : Type 0) (fault : JarFault)
     → HasReadSoFar remaining first old before now IsMade → Advances remaining old new now after (Err fault)
     → ((bytes : List ℕ) (reads : ℕ) → IsJarRefusal remaining before after bytes reads fault → Answers before after bytes reads) → (fault.kind ≡ jars.Read → IsFailure) → Reads remaining before after Answers IsFailure
 read_stops {R} remaining first old new before now after IsMade Answers IsFailure fault so advances answers fails = by_stand so.stands
   where
+    -- the line of the fault is the one that the reader keeps
     line : fault.line ≡ line_of_kept new
     line = (advances.fails fault refl).1
 
+    -- the fault of the last call is that of all bytes that were read
     refusal : (lent : HasLent so.bytes so.records old) → so.reads ≤ length so.bytes → LastGave old now → (r : ReadsRecord remaining old new now after (Err fault.kind)) → IsJarRefusal remaining before after (so.bytes ++ r.read) (so.reads + r.reads) fault
     refusal lent gave last r =
         let stops = r.ends in

@@ -22,6 +22,7 @@ use Rattle.lt_registry.proofs.CoreFaultLemmas.{ExtensionFault, fault_at, CoreFau
 
 -- The faults of extensions, one after another.
 
+-- a fault of the extension whose singleton is at `here` is at the singleton or at one of the subtags after it
 head_from : (R : List EntryParts) (here : ℕ) (before : List ExtensionParts) (e : ExtensionParts) (k : ValidFaultKind) (p : ℕ) → HeadFault R here before e k p → (here ≤ p) × (p ≤ here + length e.subtags)
 head_from R here before e k p (inl d) = (omega (arith, d.1), omega (arith, d.1))
 head_from R here before e k p (inr f) =
@@ -30,18 +31,20 @@ head_from R here before e k p (inr f) =
       | inr a ↦ (omega (arith, a.0), a.1)
     ]
 
+-- a fault of extensions, the first of which has its singleton at `here`, is not before that
 pub list_from : (R : List EntryParts) (here : ℕ) (before es : List ExtensionParts) (k : ValidFaultKind) (p : ℕ) → ListFault R here before es k p → here ≤ p
 unfolding ListFault
 list_from R here before [] k p f = absurd f
 list_from R here before (e ∷ after) k p (inl f) = (head_from R here before e k p f).0
 list_from R here before (e ∷ after) k p (inr f) = let l = list_from R (here + (1 + length e.subtags)) (before ++ e ∷ []) after k p f in omega (arith, l)
 
--- the faults from an index on
+-- the faults of the extensions from the index `i` on are those of the extension there and those of the extensions after
+-- it
 pub turn : (R : List EntryParts) (here : ℕ) (es : List ExtensionParts) (i : ℕ) (e : ExtensionParts) → i < length es → e ≡ get_or es i e → SameFaults (ListFault R here (take i es) (drop i es)) (Or (HeadFault R here (take i es) e) (ListFault R (here + (1 + length e.subtags)) (take (i + 1) es) (drop (i + 1) es)))
 unfolding ListFault
 turn R here es i e l is = rw (drop_turn es i e l is, take_turn es i e l is) (record { there = λ k p f. f; back = λ k p f. f })
 
--- a singleton that occurs again is reported first
+-- a singleton that occurs again is reported before the other faults of its extension and before later ones, `G`
 dup_first : (R : List EntryParts) (r : Bool) (here : ℕ) (before : List ExtensionParts) (e : ExtensionParts) (G : Faults) → Past here G → has_singleton before e.singleton ≡ true → IsFirstOf (Counted r (Or (HeadFault R here before e) G)) faults.DuplicateSingleton here
 dup_first R r here before e G past again = record {
   there = (inl (inl (refl, refl, again)), λ t z. cc);
@@ -49,6 +52,7 @@ dup_first R r here before e G past again = record {
   earliest = λ l f. elim f.0 [ inl h ↦ ranked l h | inr g ↦ let a = past l here g in absurd (omega (arith, a)) ];
 }
   where
+    -- a fault at the extension's singleton has at least the rank of DuplicateSingleton, 8
     ranked : (l : ValidFaultKind) → HeadFault R here before e l here → 8 ≤ rank_of l
     ranked l (inl d) = subst (λ z. 8 ≤ rank_of z) (sym d.0) (omega arith)
     ranked l (inr f) =
@@ -57,15 +61,18 @@ dup_first R r here before e G past again = record {
           | inr a ↦ absurd (omega (arith, a.0))
         ]
 
+-- the faults of further extensions are past the subtags of the extension before them
 rest_past : (R : List EntryParts) (here : ℕ) (before after : List ExtensionParts) (e : ExtensionParts) → Past (here + length e.subtags) (ListFault R (here + (1 + length e.subtags)) before after)
 rest_past R here before after e k p f = let l = list_from R (here + (1 + length e.subtags)) before after k p f in omega (arith, l)
 
+-- if no extension before has the singleton, the faults of an extension are those of its form and its source
 same_head : (R : List EntryParts) (r : Bool) (here : ℕ) (before : List ExtensionParts) (e : ExtensionParts) → has_singleton before e.singleton ≡ false → SameFaults (ExtensionFault R r here e) (Counted r (HeadFault R here before e))
 same_head R r here before e new = record {
   there = λ k p f. (inr f.0, f.1);
   back = λ k p f. elim f.0 [ inl d ↦ (let bad : true ≡ false = sym d.2 ∙ new in cc) | inr h ↦ (h, f.1) ];
 }
 
+-- if no extension before has the singleton, the first fault of an extension is the first of it and of later faults, `G`
 ext_first : (R : List EntryParts) (r : Bool) (here : ℕ) (before : List ExtensionParts) (e : ExtensionParts) (G : Faults) (k : ValidFaultKind) (p : ℕ) → Past (here + length e.subtags) G → has_singleton before e.singleton ≡ false → IsFirstOf (ExtensionFault R r here e) k p → IsFirstOf (Counted r (Or (HeadFault R here before e) G)) k p
 ext_first R r here before e G k p past new first =
     first_same (Or (Counted r (HeadFault R here before e)) (Counted r G)) (Counted r (Or (HeadFault R here before e) G)) k p (counted_or r (HeadFault R here before e) G)
@@ -73,25 +80,30 @@ ext_first R r here before e G k p past new first =
     (precede_by (Counted r (HeadFault R here before e)) (Counted r G) (here + length e.subtags) (λ l q f. (head_from R here before e l q f.0).1) (λ l q f. past l q f.0))
     (first_same (ExtensionFault R r here e) (Counted r (HeadFault R here before e)) k p (same_head R r here before e new) first))
 
--- the loop over the extensions
+-- the loop over the extensions `es`, the first of which has its singleton at `first`; `r`: variants may repeat
 module _ (R : List EntryParts) (r : Bool) (first : ℕ) (es : List ExtensionParts) where
+  -- the faults of all extensions that count
   abbrev pub Whole : ValidFaultKind → ℕ → Type 0
   Whole = Counted r (ListFault R first [] es)
 
+  -- the faults that count of the extensions from the index `i` on, the first of which has its singleton at `here`
   abbrev pub From : ℕ → ℕ → ValidFaultKind → ℕ → Type 0
   From here i = Counted r (ListFault R here (take i es) (drop i es))
 
+  -- if the first `i` extensions have no fault, the faults are those of the next and those of the extensions after it
   turned : (here i : ℕ) (e : ExtensionParts) → i < length es → e ≡ get_or es i e → SameFaults Whole (From here i) → SameFaults Whole (Counted r (Or (HeadFault R here (take i es) e) (ListFault R (here + (1 + length e.subtags)) (take (i + 1) es) (drop (i + 1) es))))
   turned here i e l is so_far =
       same_trans Whole (From here i) (Counted r (Or (HeadFault R here (take i es) e) (ListFault R (here + (1 + length e.subtags)) (take (i + 1) es) (drop (i + 1) es)))) so_far
       (same_counted r (ListFault R here (take i es) (drop i es)) (Or (HeadFault R here (take i es) e) (ListFault R (here + (1 + length e.subtags)) (take (i + 1) es) (drop (i + 1) es))) (turn R here es i e l is))
 
+  -- if the next extension has a singleton that was before, the first fault is that it occurs again
   pub told_duplicate : (here i : ℕ) (e : ExtensionParts) → i < length es → e ≡ get_or es i e → SameFaults Whole (From here i) → has_singleton (take i es) e.singleton ≡ true → IsFirstOf Whole faults.DuplicateSingleton here
   told_duplicate here i e l is so_far again =
       let G : Faults = ListFault R (here + (1 + length e.subtags)) (take (i + 1) es) (drop (i + 1) es) in
       let past : Past here G = λ k p f. let a = rest_past R here (take (i + 1) es) (drop (i + 1) es) e k p f in omega (arith, a) in
       first_same (Counted r (Or (HeadFault R here (take i es) e) G)) Whole faults.DuplicateSingleton here (same_back Whole (Counted r (Or (HeadFault R here (take i es) e) G)) (turned here i e l is so_far)) (dup_first R r here (take i es) e G past again)
 
+  -- if the next extension's singleton is new and its check refuses it (`a`), the refusal is that of all extensions
   pub told_extension : (here i : ℕ) (e : ExtensionParts) (a : Result (Unit {0}) ValidRefusal) (refusal : ValidRefusal) → i < length es → e ≡ get_or es i e → SameFaults Whole (From here i) → has_singleton (take i es) e.singleton ≡ false → a ≡ Err refusal → TellsOrLacks (ExtensionFault R r here e) (e.singleton ≡ transform) a → TellsOrLacks Whole (HasTransform es) (Err refusal)
   told_extension here i e a refusal l is so_far new was told = by refusal (subst (TellsOrLacks (ExtensionFault R r here e) (e.singleton ≡ transform)) was told)
     where
@@ -102,6 +114,7 @@ module _ (R : List EntryParts) (r : Bool) (first : ℕ) (es : List ExtensionPart
           (ext_first R r here (take i es) e G fault.kind fault.place (rest_past R here (take (i + 1) es) (drop (i + 1) es) e) new told')
       by refusals.OutOfMemory told' = (take i es, e, drop (i + 1) es, whole_turn es i e l is, told')
 
+  -- if the next extension's singleton is new and it passes (`a`), the first `i + 1` extensions have no fault
   pub stepped : (here i : ℕ) (e : ExtensionParts) (a : Result (Unit {0}) ValidRefusal) → i < length es → e ≡ get_or es i e → SameFaults Whole (From here i) → has_singleton (take i es) e.singleton ≡ false → a ≡ Ok tt → TellsOrLacks (ExtensionFault R r here e) (e.singleton ≡ transform) a → SameFaults Whole (From (here + (1 + length e.subtags)) (i + 1))
   stepped here i e a l is so_far new was told =
       let G : Faults = ListFault R (here + (1 + length e.subtags)) (take (i + 1) es) (drop (i + 1) es) in
@@ -110,13 +123,14 @@ module _ (R : List EntryParts) (r : Bool) (first : ℕ) (es : List ExtensionPart
       same_trans Whole (Counted r (Or H G)) (Counted r G) (turned here i e l is so_far)
       (same_trans (Counted r (Or H G)) (Or (Counted r H) (Counted r G)) (Counted r G) (same_back (Or (Counted r H) (Counted r G)) (Counted r (Or H G)) (counted_or r H G)) (same_second (Counted r H) (Counted r G) none))
 
+  -- past the last extension there is no fault
   pub all_told : (here i : ℕ) → length es ≤ i → SameFaults Whole (From here i) → (k : ValidFaultKind) (p : ℕ) → Whole k p → ⊥
   unfolding ListFault
   all_told here i l so_far k p f = subst (λ zs. ListFault R here (take i es) zs k p) (drop_all i es l) (so_far.there k p f).0
 
 -- The faults of a tag are those of its core and of its extensions from left to right.
 
--- a singleton that is among others
+-- if a singleton is found among extensions, they are split by an extension that has it
 one_singleton : (front : List ExtensionParts) (s : ℕ) → has_singleton front s ≡ true → (b : List ExtensionParts) × (f : ExtensionParts) × (c : List ExtensionParts) × (front ≡ b ++ f ∷ c) × (f.singleton ≡ s)
 one_singleton [] s h = cc
 one_singleton (f ∷ fs) s h =
@@ -125,14 +139,17 @@ one_singleton (f ∷ fs) s h =
       | inr e ↦ let r = one_singleton fs s e in (f ∷ r.0, r.1, r.2, ap (λ ws. f ∷ ws) r.3, r.4)
     ]
 
+-- the singleton of an extension is found among others with that extension between them
 singleton_there : (b c : List ExtensionParts) (f : ExtensionParts) (s : ℕ) → f.singleton ≡ s → has_singleton (b ++ f ∷ c) s ≡ true
 singleton_there [] c f s e = ap (λ x. x || has_singleton c s) (eq-eqb f.singleton s e)
 singleton_there (u ∷ b) c f s e = ap (λ x. eqb u.singleton s || x) (singleton_there b c f s e) ∙ or-true (eqb u.singleton s)
 
+-- an extension more, in front, is one singleton and its subtags more
 length_more : (u : ExtensionParts) (front : List ExtensionParts) → length (spell_extensions (u ∷ front)) ≡ 1 + length u.subtags + length (spell_extensions front)
 length_more u front = let a = length-append u.subtags (spell_extensions front) in omega (arith, a)
 
--- a fault of one of some extensions
+-- the fault `k` at `p` is one of an extension of `es`, the first of which has its singleton at `here` and comes after
+-- those of `before`
 record IsHeadAt (R : List EntryParts) (here : ℕ) (before es : List ExtensionParts) (k : ValidFaultKind) (p : ℕ) : Type 0 where
   front : List ExtensionParts
   extension : ExtensionParts
@@ -140,9 +157,11 @@ record IsHeadAt (R : List EntryParts) (here : ℕ) (before es : List ExtensionPa
   there : es ≡ front ++ extension ∷ after
   fault : HeadFault R (here + length (spell_extensions front)) (before ++ front) extension k p
 
+-- a fault of an extension stays one if its place and the list before it are replaced by equal ones
 moved : (R : List EntryParts) (e : ExtensionParts) (k : ValidFaultKind) (p : ℕ) {m n : ℕ} {bs cs : List ExtensionParts} → m ≡ n → bs ≡ cs → HeadFault R m bs e k p → HeadFault R n cs e k p
 moved R e k p {m} {n} {bs} {cs} number front f = subst (λ z. HeadFault R z cs e k p) number (subst (λ z. HeadFault R m z e k p) front f)
 
+-- a fault of a list of extensions is one of an extension in the list
 shown : (R : List EntryParts) (here : ℕ) (before es : List ExtensionParts) (k : ValidFaultKind) (p : ℕ) → ListFault R here before es k p → IsHeadAt R here before es k p
 unfolding ListFault
 shown R here before [] k p f = absurd f
@@ -154,6 +173,7 @@ shown R here before (e ∷ after) k p (inr f) =
     let same : here + (1 + length e.subtags) + length (spell_extensions at.front) ≡ here + length (spell_extensions (e ∷ at.front)) = omega (arith, length_more e at.front) in
     record { front = e ∷ at.front; extension = at.extension; after = at.after; there = ap (λ ws. e ∷ ws) at.there; fault = moved R at.extension k p same (append_assoc before (e ∷ []) at.front) at.fault }
 
+-- a fault of an extension is one of the list that the extension is in
 hidden : (R : List EntryParts) (here : ℕ) (before front : List ExtensionParts) (e : ExtensionParts) (after : List ExtensionParts) (k : ValidFaultKind) (p : ℕ) → HeadFault R (here + length (spell_extensions front)) (before ++ front) e k p → ListFault R here before (front ++ e ∷ after) k p
 unfolding ListFault
 hidden R here before [] e after k p f =
@@ -163,13 +183,17 @@ hidden R here before (u ∷ front) e after k p f =
     let same : here + length (spell_extensions (u ∷ front)) ≡ here + (1 + length u.subtags) + length (spell_extensions front) = omega (arith, length_more u front) in
     inr (hidden R (here + (1 + length u.subtags)) (before ++ u ∷ []) front e after k p (moved R e k p same (sym (append_assoc before (u ∷ []) front)) f))
 
+-- the faults of a langtag with the core `c` and the extensions `es`
 module _ (R : List EntryParts) (c : CoreParts) (es : List ExtensionParts) where
+  -- the place of the first extension's singleton
   abbrev pub first : ℕ
   first = length (spell_core c) + 1
 
+  -- the faults of the extensions, as `HasFault` states them
   abbrev pub Extensions : ValidFaultKind → ℕ → Type 0
   Extensions k p = IsFaultOfExtension R c es k p ⊎ ((k ≡ faults.DuplicateSingleton) × IsSecondSingleton c es p)
 
+  -- a fault that `ListFault` computes from left to right is one as `HasFault` states it
   list_shown : (k : ValidFaultKind) (p : ℕ) → ListFault R first [] es k p → Extensions k p
   list_shown k p f =
       let at = shown R first [] es k p f in
@@ -184,6 +208,7 @@ module _ (R : List EntryParts) (c : CoreParts) (es : List ExtensionParts) where
             inl (record { before = at.front; extension = at.extension; after = at.after; there = at.there; fault = subst (λ z. HasExtensionFault R z at.extension k p) same h })
       ]
 
+  -- a fault as `HasFault` states it is one that `ListFault` computes from left to right
   list_hidden : (k : ValidFaultKind) (p : ℕ) → Extensions k p → ListFault R first [] es k p
   list_hidden k p (inl a) =
       let same : length (spell_core c) + length (spell_extensions a.before) + 1 ≡ first + length (spell_extensions a.before) = omega arith in
@@ -194,24 +219,30 @@ module _ (R : List EntryParts) (c : CoreParts) (es : List ExtensionParts) where
       subst (λ z. ListFault R first [] z k p) (sym split)
       (hidden R first [] (a.1.before ++ a.1.first ∷ a.1.between) a.1.second a.1.after k p (inl (a.0, omega (arith, a.1.here), singleton_there a.1.before a.1.between a.1.first a.1.second.singleton a.1.alike)))
 
+  -- the faults of core and extensions are the same, computed from left to right or as `HasFault` states them
   parted : SameFaults (Or (HasCoreFault R 0 c) (ListFault R first [] es)) (Or (HasCoreFault R 0 c) Extensions)
   parted = record {
     there = λ k p f. elim f [ inl h ↦ inl h | inr h ↦ inr (list_shown k p h) ];
     back = λ k p f. elim f [ inl h ↦ inl h | inr h ↦ inr (list_hidden k p h) ];
   }
 
+  -- the faults that count; `r`: variants may repeat
   module _ (r : Bool) where
+    -- the faults that count of the core, and of the extensions as `ListFault` computes them from left to right
     abbrev CoreList : ValidFaultKind → ℕ → Type 0
     CoreList = Or (CoreFault R r 0 c) (Counted r (ListFault R first [] es))
 
+    -- the faults that count of the core and of the extensions, as `HasFault` states them
     abbrev TagFault : ValidFaultKind → ℕ → Type 0
     TagFault = Counted r (Or (HasCoreFault R 0 c) Extensions)
 
+    -- the faults that count are the same, computed from left to right or as `HasFault` states them
     both_parts : SameFaults CoreList TagFault
     both_parts =
         same_trans CoreList (Counted r (Or (HasCoreFault R 0 c) (ListFault R first [] es))) TagFault (counted_or r (HasCoreFault R 0 c) (ListFault R first [] es))
         (same_counted r (Or (HasCoreFault R 0 c) (ListFault R first [] es)) (Or (HasCoreFault R 0 c) Extensions) parted)
 
+    -- a fault that the core's check answers is the tag's first
     core_first : (fault : ValidFault) → core_check R r 0 c ≡ Err fault → IsFirstOf TagFault fault.kind fault.place
     core_first fault told =
         let long = length_core c in
@@ -222,19 +253,21 @@ module _ (R : List EntryParts) (c : CoreParts) (es : List ExtensionParts) where
         (λ k p f. let l = list_from R first [] es k p f.0 in omega (arith, l)))
         (subst (Tells (CoreFault R r 0 c)) told (core_tells R r 0 c)))
 
+    -- if the core passes, what the check of the extensions tells is so of the tag; `M`: memory may run out
     extensions_told : (M : Type 0) (a : Result (Unit {0}) ValidRefusal) → core_check R r 0 c ≡ Ok tt → TellsOrLacks (Counted r (ListFault R first [] es)) M a → TellsOrLacks TagFault M a
     extensions_told M a told t =
         let none : (k : ValidFaultKind) (p : ℕ) → CoreFault R r 0 c k p → ⊥ = subst (Tells (CoreFault R r 0 c)) told (core_tells R r 0 c) in
         tells_or_lacks_same (Counted r (ListFault R first [] es)) TagFault M a
         (same_trans (Counted r (ListFault R first [] es)) CoreList TagFault (same_back CoreList (Counted r (ListFault R first [] es)) (same_second (CoreFault R r 0 c) (Counted r (ListFault R first [] es)) none)) both_parts) t
 
--- what the check of a langtag tells
+-- a fault that the core's check answers is the first fault of the tag `t` that counts
 pub tag_core_first : (R : List EntryParts) (r : Bool) (t : TagForm) (c : CoreParts) (fault : ValidFault) → Some c ≡ core_of t → core_check R r 0 c ≡ Err fault → IsFirstOf (Counted r (HasFault R t)) fault.kind fault.place
 tag_core_first R r (LangTag d es ps) c fault is told =
     let same : c ≡ d = cc in
     core_first R d es r fault (ap (core_check R r 0) (sym same) ∙ told)
 tag_core_first R r _ c fault is told = cc
 
+-- if the core passes, what the check of the extensions tells is so of the tag `t`; `M`: memory may run out
 pub tag_extensions_told : (R : List EntryParts) (r : Bool) (t : TagForm) (c : CoreParts) (M : Type 0) (a : Result (Unit {0}) ValidRefusal) → Some c ≡ core_of t → core_check R r 0 c ≡ Ok tt → TellsOrLacks (Counted r (ListFault R (length (spell_core c) + 1) [] (extensions_of t))) M a → TellsOrLacks (Counted r (HasFault R t)) M a
 tag_extensions_told R r (LangTag d es ps) c M a is told t =
     let same : c ≡ d = cc in

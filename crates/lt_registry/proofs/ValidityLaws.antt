@@ -17,16 +17,20 @@ use Rattle.lt_registry.specs.declared.faults.ValidFaultKind.{ValidFaultKind}
 use Rattle.lt_registry.specs.declared.faults.ValidFaultKind.TheVariants as faults
 use Rattle.lt_registry.proofs.SplitListLemmas.{all_from, all_at, distinct_from, distinct_at, distinct_map_from, distinct_map_at}
 
+-- an option's value, if there is one, has the property `P` if each value that it can be has it
 if_some : {A : Type 0} (P : A → Type 0) (o : Option A) → ((s : A) → o ≡ Some s → P s) → IfSome o P
 if_some P None f = tt
 if_some P (Some s) f = f s refl
 
 -- cores
 
+-- the core `c`, which begins after `start` subtags
 module _ (R : List EntryParts) (start : ℕ) (c : CoreParts) where
+  -- the core has no fault but that variants repeat
   abbrev Repeats : Type 0
   Repeats = (k : ValidFaultKind) (p : ℕ) → HasCoreFault R start c k p → k ≡ faults.DuplicateVariant
 
+  -- if a core has no fault but that variants repeat, its extlangs fit the language
   extlangs_from : Repeats → (xs : List (List ℕ)) → c.extlangs ≡ xs → ExtlangsFit R c.language xs
   extlangs_from f [] e = tt
   extlangs_from f (x ∷ []) e = (
@@ -35,6 +39,7 @@ module _ (R : List EntryParts) (start : ℕ) (c : CoreParts) where
   )
   extlangs_from f (x ∷ y ∷ rest) e = let bad = f faults.TooManyExtlangs (start + 3) (x, y, rest, e, refl) in cc
 
+  -- a core without a fault but that variants repeat is proper
   proper_core_from : Repeats → IsProperCore R c
   proper_core_from f = record {
     language = true_from_ne_false (is_registered R kinds.Language c.language) (λ h. let bad = f faults.UnknownLanguage (start + 1) (refl, h) in cc);
@@ -47,10 +52,12 @@ module _ (R : List EntryParts) (start : ℕ) (c : CoreParts) where
         (λ b v a e. true_from_ne_false (is_registered R kinds.Variant v) (λ h. let bad = f faults.UnknownVariant (start + before_variants c + length b + 1) (b, v, a, e, refl, h) in cc));
   }
 
+  -- extlangs that fit are one, which is registered and has the language as one of its Prefixes
   one_extlang : (x : List ℕ) (rest : List (List ℕ)) → ExtlangsFit R c.language (x ∷ rest) → (rest ≡ []) × (is_registered R kinds.Extlang x ≡ true) × (has_prefix (prefixes R kinds.Extlang x) c.language ≡ true)
   one_extlang x [] h = (refl, h.0, h.1)
   one_extlang x (y ∷ rest) h = absurd h
 
+  -- a proper core has no fault but that variants repeat
   proper_core_has : IsProperCore R c → Repeats
   proper_core_has h faults.UnknownLanguage p f = cc (h.language, f.1)
   proper_core_has h faults.UnknownExtlang p f = cc ((one_extlang f.0 f.1 (subst (ExtlangsFit R c.language) f.2 h.extlangs)).1, f.4)
@@ -63,18 +70,24 @@ module _ (R : List EntryParts) (start : ℕ) (c : CoreParts) where
   proper_core_has h faults.DuplicateSingleton p f = absurd f
   proper_core_has h faults.BadTransform p f = absurd f
 
+  -- if the core doesn't have DuplicateVariant, its variants are distinct
   distinct_core_from : ((p : ℕ) → HasCoreFault R start c faults.DuplicateVariant p → ⊥) → Distinct c.variants
   distinct_core_from f = distinct_from c.variants (λ b v x d e. f (start + before_variants c + length b + 1 + length x + 1) (b, v, x, d, e, refl))
 
+  -- if the variants of a core are distinct, it doesn't have DuplicateVariant
   distinct_core_has : Distinct c.variants → (p : ℕ) → HasCoreFault R start c faults.DuplicateVariant p → ⊥
   distinct_core_has h p f = distinct_at c.variants f.0 f.1 f.2 f.3 f.4 h
 
 -- extensions
 
+-- the extension `e`, whose singleton is at the place `here`
 module _ (R : List EntryParts) (here : ℕ) (e : ExtensionParts) where
+  -- the extension has no fault but that variants repeat
   abbrev ExtensionRepeats : Type 0
   ExtensionRepeats = (k : ValidFaultKind) (p : ℕ) → HasExtensionFault R here e k p → k ≡ faults.DuplicateVariant
 
+  -- a `t` extension without a fault but that variants repeat has parts, of which the source is proper; `o` is what its
+  -- subtags split into
   transform_from : ExtensionRepeats → e.singleton ≡ transform → (o : Option TForm) → transform_of e.subtags ≡ o → (p : TForm) × IsTransform e.subtags p × IfSome p.source (IsProperCore R)
   transform_from f t None none =
       let formless : (p : TForm) → IsTransform e.subtags p → ⊥ = λ p h. let bad : None ≡ Some p = sym none ∙ (t_decided e.subtags p).1 h in cc in
@@ -83,9 +96,11 @@ module _ (R : List EntryParts) (here : ℕ) (e : ExtensionParts) where
       let formed = (t_decided e.subtags parts).0 there in
       (parts, formed, if_some (IsProperCore R) parts.source (λ c there. proper_core_from R here c (λ k p h. f k p (inr (c, record { transforms = t; parts = parts; formed = formed; there = there }, h)))))
 
+  -- an extension without a fault but that variants repeat is proper
   proper_extension_from : ExtensionRepeats → IsProperExtension R e
   proper_extension_from f t = transform_from f t (transform_of e.subtags) refl
 
+  -- a proper extension has no fault but that variants repeat
   proper_extension_has : IsProperExtension R e → ExtensionRepeats
   proper_extension_has h k p (inl bad) = let parts = h bad.2.transforms in absurd (bad.2.formless parts.0 parts.1)
   proper_extension_has h k p (inr f) =
@@ -94,11 +109,13 @@ module _ (R : List EntryParts) (here : ℕ) (e : ExtensionParts) where
       let there : parts.0.source ≡ Some f.0 = ap (λ (z : TForm). z.source) same ∙ f.1.there in
       proper_core_has R here f.0 (subst (λ o. IfSome o (IsProperCore R)) there parts.2) k p f.2
 
+  -- if an extension has no fault, the variants of its source are distinct
   distinct_source_from : ((k : ValidFaultKind) (p : ℕ) → HasExtensionFault R here e k p → ⊥) → HasDistinctSource e
   distinct_source_from f t parts formed =
       if_some (λ (c : CoreParts). Distinct c.variants) parts.source
       (λ c there. distinct_core_from R here c (λ p h. f faults.DuplicateVariant p (inr (c, record { transforms = t; parts = parts; formed = formed; there = there }, h))))
 
+  -- if the variants of an extension's source are distinct, the extension doesn't have DuplicateVariant
   distinct_source_has : HasDistinctSource e → (k : ValidFaultKind) (p : ℕ) → k ≡ faults.DuplicateVariant → HasExtensionFault R here e k p → ⊥
   distinct_source_has h k p dup (inl bad) = let no : faults.DuplicateVariant ≡ faults.BadTransform = sym dup ∙ bad.0 in cc
   distinct_source_has h k p dup (inr f) =
@@ -107,9 +124,11 @@ module _ (R : List EntryParts) (here : ℕ) (e : ExtensionParts) where
 
 -- tags
 
+-- the place of the singleton that comes after the core `c` and the extensions `before`
 abbrev place_after : CoreParts → List ExtensionParts → ℕ
 place_after c before = length (spell_core c) + length (spell_extensions before) + 1
 
+-- a tag without a fault but that variants repeat has proper parts
 proper_parts_from : (R : List EntryParts) (t : TagForm) → RepeatsAtMost R t → HasProperParts R t
 proper_parts_from R (LangTag c es ps) f = record {
   core = proper_core_from R 0 c (λ k p h. f k p (inl h));
@@ -120,6 +139,7 @@ proper_parts_from R (LangTag c es ps) f = record {
 }
 proper_parts_from R _ f = tt
 
+-- a tag with proper parts has no fault but that variants repeat
 proper_parts_has : (R : List EntryParts) (t : TagForm) → HasProperParts R t → RepeatsAtMost R t
 proper_parts_has R (LangTag c es ps) h k p (inl f) = proper_core_has R 0 c h.core k p f
 proper_parts_has R (LangTag c es ps) h k p (inr (inl f)) =
@@ -132,6 +152,7 @@ proper_parts_has R _ h k p f = absurd f
 pub proper_law : (R : List EntryParts) (t : TagForm) → IsTagValue t → IsProper R t ↔ RepeatsAtMost R t
 proper_law R t v = (λ h. proper_parts_has R t h.parts, λ f. record { tag = v; parts = proper_parts_from R t f })
 
+-- a tag without a fault repeats no variant
 no_repeat_from : (R : List EntryParts) (t : TagForm) → HasNoFault R t → RepeatsNoVariant t
 no_repeat_from R (LangTag c es ps) f = (
   distinct_core_from R 0 c (λ p h. f faults.DuplicateVariant p (inl h)),
@@ -139,6 +160,7 @@ no_repeat_from R (LangTag c es ps) f = (
 )
 no_repeat_from R _ f = tt
 
+-- a tag that repeats no variant doesn't have DuplicateVariant
 no_repeat_has : (R : List EntryParts) (t : TagForm) → RepeatsNoVariant t → (k : ValidFaultKind) (p : ℕ) → k ≡ faults.DuplicateVariant → HasFault R t k p → ⊥
 no_repeat_has R (LangTag c es ps) h k p dup (inl f) = distinct_core_has R 0 c h.0 p (subst (λ z. HasCoreFault R 0 c z p) dup f)
 no_repeat_has R (LangTag c es ps) h k p dup (inr (inl f)) =
@@ -156,16 +178,17 @@ valid_law R t v = (
   },
 )
 
--- the kind of a rank
+-- the kind of fault that has the rank `n`
 abbrev ranked : ℕ → ValidFaultKind
 ranked n =
     if eqb n 0 then faults.UnknownLanguage else (if eqb n 1 then faults.UnknownExtlang else (if eqb n 2 then faults.ExtlangPrefix else (if eqb n 3 then faults.TooManyExtlangs else (if eqb n 4 then faults.UnknownScript else (if eqb n 5 then faults.UnknownRegion else (if eqb n 6 then faults.UnknownVariant else (if eqb n 7 then faults.DuplicateVariant else (if eqb n 8 then faults.DuplicateSingleton else faults.BadTransform))))))))
 
+-- the kind of fault that has the rank of `k` is `k`
 ranked_again : (k : ValidFaultKind) → ranked (rank_of k) ≡ k
 ranked_again faults.UnknownLanguage = refl
 ranked_again _ = refl
 
--- one fault is reported
+-- a tag has at most one first fault
 pub one_fault_law : (R : List EntryParts) (t : TagForm) (k l : ValidFaultKind) (p q : ℕ) → IsFirstFault R t k p → IsFirstFault R t l q → (k ≡ l) × (p ≡ q)
 one_fault_law R t k l p q a b =
     let le = a.leftmost l q b.there in

@@ -25,7 +25,7 @@ before_region c = before_script c + length (option_to_list c.script)
 abbrev pub before_variants : CoreParts → ℕ
 before_variants c = before_region c + length (option_to_list c.region)
 
--- a core that begins after `start` subtags has this fault (RFC 5646, 2.2.9)
+-- a core that begins after `start` subtags has this fault at this place (RFC 5646, 2.2.9)
 abbrev pub HasCoreFault : List EntryParts → ℕ → CoreParts → ValidFaultKind → ℕ → Type 0
 HasCoreFault R start c faults.UnknownLanguage place =
     (place ≡ start + 1) × (is_registered R kinds.Language c.language ≡ false)
@@ -65,7 +65,7 @@ pub record HasSource (e : ExtensionParts) (source : CoreParts) : Type 0 where
   pub formed : IsTransform e.subtags parts
   pub there : parts.source ≡ Some source
 
--- an extension whose singleton is at the place `start` has this fault (RFC 5646, 2.2.9)
+-- an extension whose singleton is at the place `start` has this fault at this place (RFC 5646, 2.2.9)
 abbrev pub HasExtensionFault : List EntryParts → ℕ → ExtensionParts → ValidFaultKind → ℕ → Type 0
 HasExtensionFault R start e kind place =
     ((kind ≡ faults.BadTransform) × (place ≡ start) × HasBadForm e)

@@ -21,7 +21,8 @@ use Rattle.lt_registry.specs.declared.faults.RegistryFault.TheVariants as faults
 abbrev pub Reading : Type 0
 Reading = Result (List EntryParts) RegistryFault
 
--- the bytes have these records, nothing is left to read, and the device did not fail
+-- the bytes have these records, nothing is left to read, and the device did not fail; `remaining` is what a device has
+-- left to read
 pub record IsReadWhole {R : Type 0} (remaining : R → Option (List ℕ))
     (before after : Device R) (bytes : List ℕ) (records : List (List Field)) : Type 0 where
   pub has : HasRecords bytes records
@@ -40,8 +41,8 @@ pub record IsJarRefusal {R : Type 0} (remaining : R → Option (List ℕ))
       × (reads ≤ length bytes) × (0 < last_given_of after) × BreaksOff 0 bytes fault.line
   pub first : fault.kind ≢ jars.Failed
 
--- the answer is the entries of the records, or the fault of the first record with one; but a fault of the file comes
--- first
+-- The answer is the entries of the records, or the fault of the first record with one; but a fault of the file comes
+-- first. The last two arguments are the bytes that were read and the count of reads.
 abbrev pub AnswersAs : {R : Type 0} → (R → Option (List ℕ)) → Reading → (before after : Device R)
     → List ℕ → ℕ → Type 0
 AnswersAs remaining (Ok registry) before after bytes reads =
@@ -57,8 +58,8 @@ IsReadFailure (Ok registry) = ⊥
 IsReadFailure (Err (faults.Record fault)) = ⊥
 IsReadFailure (Err (faults.Jar fault)) = fault.kind ≡ jars.Read
 
--- Some reads gave some bytes, at most 65,536 for each read together, and `Answers` is true of them. If the device
--- failed, `IsFailure` is true.
+-- Some reads gave some bytes, on average at most 65,536 for each read, and `Answers` is true of them. If the device
+-- failed, `IsFailure` is true. `remaining` is what a device has left to read.
 pub record Reads {R : Type 0} (remaining : R → Option (List ℕ)) (before after : Device R)
     (Answers : (before after : Device R) → (bytes : List ℕ) → (reads : ℕ) → Type 0) (IsFailure : Type 0) : Type 0 where
   pub bytes : List ℕ
@@ -70,7 +71,7 @@ pub record Reads {R : Type 0} (remaining : R → Option (List ℕ)) (before afte
   pub answers : Answers before after bytes reads
   pub rises : failures_of before < failures_of after → IsFailure
 
--- a registry was read from a device, with this answer
+-- a registry was read from a device, with this answer; `before` and `after` are the device before and after
 unfoldable pub ReadsRegistry : {R : Type 0} → (R → Option (List ℕ)) → (before after : Device R) → Reading → Type 0
 ReadsRegistry remaining before after result =
     Reads remaining before after (AnswersAs remaining result) (IsReadFailure result)

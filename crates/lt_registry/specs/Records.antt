@@ -91,7 +91,7 @@ HasKind r k = (s : List ℕ) × (body type_name r ≡ Some s) × (kind_of s ≡ 
 abbrev pub name_field : Kind → List ℕ
 name_field k = if is_whole_kind k then tag_name else subtag_name
 
--- the subtag that a text spells, if it has a form
+-- the subtag that was read, if it passes the test of its form; None if it doesn't, or if none was read
 abbrev pub formed : (List ℕ → Bool) → Result (List ℕ) SubtagFault → Option (List ℕ)
 formed form (Ok s) = if form s then Some s else None
 formed form (Err fault) = None
@@ -106,12 +106,12 @@ abbrev pub begins_dots : List ℕ → Bool
 begins_dots [] = false
 begins_dots (b ∷ s) = (b == 46) && begins_dot s
 
--- the byte in front of the first of two texts
+-- two texts, with a byte put in front of the first
 abbrev pub with_first : ℕ → Option (List ℕ × List ℕ) → Option (List ℕ × List ℕ)
 with_first b None = None
 with_first b (Some p) = Some (b ∷ p.0, p.1)
 
--- the texts before and after the first two full stops
+-- the texts before and after the first two full stops; None if there are none
 unfoldable pub ends_of : List ℕ → Option (List ℕ × List ℕ)
 ends_of [] = None
 ends_of (b ∷ s) = if begins_dots (b ∷ s) then Some ([], drop 1 s) else with_first b (ends_of s)
@@ -122,19 +122,19 @@ is_range k a b =
     has_form k a && (has_form k b
     && (is_alphabetic a && (is_alphabetic b && ((length a == length b) && letters_le a b))))
 
--- the range from one end to the other, or BadRange if they are no ends of one
+-- the range from one subtag to another, by what each is read as; BadRange if they are no ends of a range
 abbrev pub range_of : Kind → Result (List ℕ) SubtagFault
     → Result (List ℕ) SubtagFault → Result EntryName RecordFaultKind
 range_of k (Ok a) (Ok b) = if is_range k a b then Ok (names.Range a b) else Err faults.BadRange
 range_of k (Ok a) (Err fault) = Err faults.BadRange
 range_of k (Err fault) other = Err faults.BadRange
 
--- the name that is this subtag alone, or BadSubtag if there is none
+-- the name that is this subtag alone, or BadSubtag if there is no subtag
 abbrev pub single_of : Option (List ℕ) → Result EntryName RecordFaultKind
 single_of (Some s) = Ok (names.Single s)
 single_of None = Err faults.BadSubtag
 
--- the name that a text gives: with two full stops in it, a range, else a subtag
+-- the name that a text `s` gives a record of the kind: a range by the texts around two full stops in it, else a subtag
 abbrev pub name_by : Kind → List ℕ → Option (List ℕ × List ℕ) → Result EntryName RecordFaultKind
 name_by k s None = single_of (formed (has_form k) (subtag_of s))
 name_by k s (Some ends) = range_of k (subtag_of ends.0) (subtag_of ends.1)
@@ -165,7 +165,7 @@ IsValueOf k None (Some v) = ⊥
 IsValueOf k (Some s) None = ⊥
 IsValueOf k (Some s) (Some v) = IsValue k s v
 
--- the subtag in front of others; None if it is none
+-- the subtag that was read in front of others; None if none was read, or if the others are None
 abbrev pub with_subtag : Result (List ℕ) SubtagFault → Option (List (List ℕ)) → Option (List (List ℕ))
 with_subtag (Ok s) rest = option_map (λ (ss : List (List ℕ)). s ∷ ss) rest
 with_subtag (Err fault) rest = None
@@ -179,7 +179,7 @@ subtags_of (p ∷ ps) = with_subtag (subtag_of p) (subtags_of ps)
 abbrev pub prefix_of : List ℕ → Option (List (List ℕ))
 prefix_of s = subtags_of (pieces s)
 
--- a Prefix in front of others; None if it is no list of subtags
+-- a Prefix in front of others; None if it is None, or if the others are
 abbrev pub with_prefix : Option (List (List ℕ)) → Option (List (List (List ℕ))) → Option (List (List (List ℕ)))
 with_prefix (Some p) rest = option_map (λ (ps : List (List (List ℕ))). p ∷ ps) rest
 with_prefix None rest = None
@@ -199,7 +199,7 @@ has_prefixes _ = false
 abbrev pub prefixes_in : Kind → List Field → Option (List (List (List ℕ)))
 prefixes_in k r = if has_prefixes k then prefixes_of (bodies prefix_name r) else Some []
 
--- the entry that the record with this number gives
+-- the entry that the record `r`, which has this number, gives
 pub record IsEntryOf (r : List Field) (number : ℕ) (e : EntryParts) : Type 0 where
   pub numbered : e.number ≡ number
   pub once : repeats_field r ≡ false
@@ -249,7 +249,7 @@ pub record IsFirstOfRecord (r : List Field) (kind : RecordFaultKind) : Type 0 wh
 abbrev pub is_header_at : ℕ → List Field → Bool
 is_header_at number r = (number == 1) && is_header r
 
--- the entries of these records, the first of which has this number
+-- the entries of these records, the first of which has this number; the header gives none
 unfoldable pub EntriesFrom : ℕ → List (List Field) → List EntryParts → Type 0
 EntriesFrom number [] es = es ≡ []
 EntriesFrom number (r ∷ rs) es =

@@ -23,7 +23,8 @@ use Rattle.lt_registry.specs.declared.rows.Stretch.{Stretch}
 use Rattle.lt_registry.specs.declared.kind_index.KindIndex.{KindIndex}
 use Rattle.lt_registry.specs.declared.indexes.Indexes.{Indexes}
 
--- the length of a subtag before its number, so that subtags of one length are together, in their order
+-- the rank of a subtag: its length, and below it the 64 bits of its number, so that subtags of one length are together,
+-- in their order
 abbrev pub rank : List ℕ → ℕ
 rank s = length s * 2 ^ 64 + number s
 
@@ -56,7 +57,7 @@ range_rows kind place (e ∷ es) = cons_option (range_row kind place e) (range_r
 abbrev pub is_within : ℕ → RangeRow → Bool
 is_within rank row = nat_le row.start rank && nat_lt rank row.end
 
--- the place of the first range that a rank is in
+-- the place of the first range that a rank is in; None if it is in none
 abbrev pub first_within : List RangeRow → ℕ → Option ℕ
 first_within rows rank = option_map (λ (row : RangeRow). row.place) (find (is_within rank) rows)
 
@@ -121,18 +122,20 @@ whole_key R w = (w.number, tag_at R w.place)
 abbrev pub whole_cmp : List EntryParts → Row → Row → Ordering
 whole_cmp R v w = ordering_then (whole_key_cmp (whole_key R v) (whole_key R w)) (nat_cmp v.place w.place)
 
--- the row is that of the entry at its place
+-- the row is that of the entry at its place: `row` gives an entry's row, `place` a row's place
 abbrev pub IsRowAt : {W : Type 0} → (ℕ → EntryParts → Option W) → (W → ℕ) → List EntryParts → W → Type 0
 IsRowAt row place R w = (e : EntryParts) × (slice_get R (place w) ≡ Some e) × (row (place w) e ≡ Some w)
 
--- the rows of the first `i` entries, in any order
+-- the rows of the first `i` entries, in any order: `row` gives the row that an entry at a place has, if any, and
+-- `place` a row's place
 pub record AreRows {W : Type 0} (row : ℕ → EntryParts → Option W)
     (place : W → ℕ) (R : List EntryParts) (i : ℕ) (rows : List W) : Type 0 where
   pub sound : All (IsRowAt row place R) rows
   pub complete : (p : ℕ) (e : EntryParts) (w : W) → p < i → slice_get R p ≡ Some e → row p e ≡ Some w → Contains rows w
 
 -- The rows are in the order of their keys, and each key is there once. Each row is that of an entry. For each entry
--- that has a row, that row or one of the same key from an earlier entry is there.
+-- that has a row, that row or one of the same key from an earlier entry is there. `row` gives an entry's row, `place`
+-- and `key` a row's place and key, and `cmp` orders keys.
 pub record IsIndex {W K : Type 0} (row : ℕ → EntryParts → Option W) (place : W → ℕ)
     (key : W → K) (cmp : K → K → Ordering) (R : List EntryParts) (rows : List W) : Type 0 where
   pub rising : AllPairs (λ v w. cmp (key v) (key w) ≡ Less) rows
@@ -156,12 +159,13 @@ RowsRise rows = AllPairs (λ (v w : Row). nat_cmp v.number w.number ≡ Less) ro
 abbrev pub place_of : ℕ → List Row → Option ℕ
 place_of n rows = option_map (λ (w : Row). w.place) (find (λ (w : Row). w.number == n) rows)
 
--- The beginning of a number: the first byte of its subtag, and the number of the second letter from 1, or 0 for a
--- digit. A greater number has no lesser beginning.
+-- The beginning of a number: the first byte of its subtag, times 32, and the number of the second letter from 1, or 0
+-- for a digit. A greater number has no lesser beginning. The two bytes are the highest of the number's eight; 97 is
+-- `a`, and 31 keeps what is added below 32.
 abbrev pub beginning : ℕ → ℕ
 beginning n = n / 2 ^ 56 * 32 + min (n / 2 ^ 48 % 256 - 96) 31
 
--- the index `i` of a row is in the span of the beginning `k`
+-- the index `i` of a row is in the span of the beginning `k`: from the start of that to the start of the next
 pub record IsInSpan (starts : List ℕ) (k i : ℕ) : Type 0 where
   pub listed : k + 1 < length starts
   pub started : slice_index starts k ≤ i

@@ -33,7 +33,8 @@ pub(crate) fn add_record(
     }
 }
 
-/// Puts the entry of a record after the others. Refused with the first fault of the record.
+/// Puts the entry of a record, which has this number, after the others. Refused with the first fault of the record, or
+/// where memory runs out.
 fn add_entry(
     alloc: Global,
     entries: &mut Vec<Entry>,
@@ -47,7 +48,7 @@ fn add_entry(
     Ok(())
 }
 
-/// The entries of the records so far, and the first fault of a record.
+/// The entries of the records so far, how many records there were, and the first fault of a record.
 #[derive(Drop)]
 pub(crate) struct Draft {
     entries: Vec<Entry>,
@@ -69,7 +70,7 @@ impl Draft {
         }
     }
 
-    /// Takes the next record. After a record at fault no more entries are made.
+    /// Takes the fields of the next record. After a record at fault no more entries are made.
     fn take(&mut self, alloc: Global, fields: &[JarField])
         requires { self.old.number < 100000 }
         ensures { Takes fields.now self.old self.new }
@@ -80,7 +81,7 @@ impl Draft {
         }
     }
 
-    /// Takes the next record of a reader, and tells whether there is one.
+    /// Takes the next record of a reader: true, or false if there is none. Refused with the reader's fault.
     pub(crate) fn take_next<R: Read>(
         &mut self,
         alloc: Global,
@@ -99,7 +100,7 @@ impl Draft {
         }
     }
 
-    /// The entries, or the lowest record at fault.
+    /// The entries, or the fault of the lowest record at fault.
     pub(crate) fn finish(self) -> Result<Vec<Entry>, RecordFault>
         ensures { result ≡ finished self.entries self.fault }
     {

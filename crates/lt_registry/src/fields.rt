@@ -29,7 +29,7 @@ pub(crate) fn is_called(field: &JarField, name: &str) -> bool
     same_text(field.name(), name)
 }
 
-/// A field that occurs once at most in a record, or in the header.
+/// A name of a field that occurs once at most in a record or in the header; `Other` is any other name.
 #[derive(Clone, Copy)]
 pub(crate) enum FieldName {
     Type,
@@ -40,7 +40,8 @@ pub(crate) enum FieldName {
     Other,
 }
 
-/// Which field has this name, letter case aside. The names of most fields are tried first as they are usually written.
+/// Which field has this name, letter case aside. Most fields of a record are called Type or Subtag, written so: these
+/// are tried first, since comparing bytes is quicker than comparing letters of either case.
 fn field_name(text: &str) -> FieldName
     ensures { result ≡ steps.field_told text.now }
 {
@@ -70,7 +71,7 @@ fn field_name_in_any_case(text: &str) -> FieldName
     }
 }
 
-/// Where the first field of each name is, among fields that were looked at.
+/// Where the first field of each name is, among fields that were looked at: a place is an index among these.
 #[derive(Clone, Copy)]
 pub(crate) struct Found {
     kind: Option<usize>,
@@ -97,7 +98,8 @@ impl Found {
         }
     }
 
-    /// Notes a further field, which has this place and name, if it is one of those that are looked for.
+    /// Notes a further field, which has this place and name, if it is one of those that are looked for: the first of a
+    /// name gives its place, another one is a repeat.
     fn put(&mut self, place: usize, name: &str)
         ensures { (r : List Field) (f : Field) → length r ≡ place → f.0 ≡ name.now
             → steps.HasFound r self.old → steps.HasFound (r ++ f ∷ []) self.new }
@@ -146,7 +148,7 @@ fn body_at(fields: &[JarField], place: usize) -> Option<&str>
     Some(fields.get(place)?.body())
 }
 
-/// The fields of a record, which are looked at once.
+/// The fields of a record, with the places of those that are asked for, which are looked for in one pass.
 #[derive(Clone, Copy)]
 pub(crate) struct RecordFields<'a> {
     all: &'a [JarField],
@@ -187,7 +189,7 @@ impl<'a> RecordFields<'a> {
         self.found.is_dated & self.found.kind.is_none()
     }
 
-    /// The body of the field at a place that was found, or None if it wasn't found.
+    /// The body of the field at `place`, which is where a field was found; None if none was found.
     fn body(&self, place: Option<usize>) -> Option<&'a str>
         ensures { (name : List ℕ) → steps.IsPlace name self.now.all.now place
             → option_copied result ≡ record_words.body name self.now.all.now }
@@ -235,7 +237,8 @@ pub(crate) fn is_whole_kind(kind: Kind) -> bool
     }
 }
 
-/// The kind that the body of Type names, letter case aside; None if it names none. The one of most records is tried first.
+/// The kind that the body of Type names, letter case aside; None if it names none. Most records are of a `language`,
+/// written so: this is tried first, since comparing bytes is quicker than comparing letters of either case.
 pub(crate) fn kind_of(text: &str) -> Option<Kind>
     ensures { result ≡ record_words.kind_of text.now }
 {

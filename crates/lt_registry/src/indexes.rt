@@ -20,8 +20,8 @@ pub(crate) struct Indexes {
     pub(crate) wholes: WholeIndex,
 }
 
-// By hand: the proof of a function that lets them go then has this one call to go through, and not the drop of each of their
-// vectors.
+// Written by hand: the proof of a function that drops the indexes then has this one call to go through, and not the
+// drop of each vector.
 impl Drop for Indexes {
     fn drop(self) {
         let Indexes {
@@ -56,7 +56,7 @@ impl Indexes {
         })
     }
 
-    /// The index of the records of a kind by their subtags. None of the kinds of whole tags.
+    /// The index of the records of a kind by their subtags, or None for a kind of whole tags.
     pub(crate) fn of_kind(&self, kind: Kind) -> Option<&KindIndex>
         ensures { option_copied result ≡ sorted.index_of self.now kind }
     {

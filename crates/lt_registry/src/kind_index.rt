@@ -17,8 +17,8 @@ use crate::subtag_numbers::rank_of;
 use lt_subtag::Subtag;
 use std::alloc::{AllocError, Global};
 
-/// The records of one kind: those of one subtag in the order of the subtags, the first alone for each
-/// subtag; where those whose subtags begin alike start; and the stretches of the ranges.
+/// The records of one kind: those of one subtag in the order of the subtags, the first alone for each subtag; where
+/// those start whose subtags have each beginning; and the stretches of the ranges.
 #[derive(Debug, Drop)]
 pub(crate) struct KindIndex {
     kind: Kind,
@@ -71,8 +71,8 @@ impl KindIndex {
         entry_at(entries, place)
     }
 
-    /// The place of the record of a subtag alone, by the number of the subtag; None if there is none. It is looked for among
-    /// the subtags that begin alike.
+    /// The place of the record of a subtag alone, by the number of the subtag; None if there is none. It is looked for
+    /// only among the subtags with the same beginning, which are few.
     #[tactic(auto, using(crate::proofs::SpanLemmas::none_listed, crate::proofs::SpanLemmas::none_alike, crate::proofs::SpanLemmas::part_rises, crate::proofs::SpanLemmas::place_alike))]
     fn place(&self, number: u64) -> Option<usize>
         requires rising { sorted.RowsRise self.now.singles.items }
@@ -86,7 +86,7 @@ impl KindIndex {
         place_of(alike, number)
     }
 
-    /// The first range of the kind that holds a subtag, or None if there is none.
+    /// The first range of the kind that holds a subtag, or None if there is none. Ranges hold subtags of letters alone.
     #[tactic(auto, using(crate::proofs::RangeLemmas::range_found, crate::proofs::RangeLemmas::none_holds, lt_subtag::proofs::NumberLemmas::subtag_few))]
     fn range<'a>(&self, entries: &'a [Entry], subtag: &Subtag) -> Option<&'a Entry>
         requires index { sorted.IsKindIndex entries.now self.now }
@@ -101,19 +101,21 @@ impl KindIndex {
     }
 }
 
-/// The rows of the records of single subtags in the order of the subtags. Of several records of a subtag the first stays.
+/// The rows of the records of single subtags in the order of the subtags. Of several records of a subtag the first
+/// stays. They are refused only where memory runs out.
 fn sorted_rows(mut rows: Vec<Row>) -> Result<Vec<Row>, AllocError>
     ensures { IfOk result (λ singles. (R : List EntryParts) (kind : Kind) → sorted.AreRows (sorted.single_row kind) (λ (row : Row). row.place) R (length R) rows.items
         → sorted.IsSingles R kind singles.items) }
 {
-    // Not unstable: a file has them in a few rising runs, which are merged.
+    // A stable sort: a file has the rows in a few rising runs, which this sort merges.
     rows.sort()?;
     rows.dedup_by_key(|row| row.number);
     Ok(rows)
 }
 
 /// The beginning of a subtag's number: its first byte, and the place of its second among the letters, which is 0 for a
-/// digit.
+/// digit. The two are the highest bytes of the number's eight; 96 is the byte before `a`, and 32 is more than there are
+/// letters.
 fn beginning(number: u64) -> usize
     ensures { result ≡ sorted.beginning number }
 {
@@ -122,7 +124,7 @@ fn beginning(number: u64) -> usize
     first * 32 + second.saturating_sub(96).min(31)
 }
 
-/// The place of the record of a number, by sorted rows; None if no row has it.
+/// The place of the record with this number, by binary search in rows of rising numbers; None if no row has it.
 fn place_of(rows: &[Row], number: u64) -> Option<usize>
     requires { sorted.RowsRise rows.now }
     ensures { result ≡ sorted.place_of number rows.now }
@@ -133,7 +135,8 @@ fn place_of(rows: &[Row], number: u64) -> Option<usize>
     }
 }
 
-/// Where the rows of each beginning start, in sorted rows.
+/// Where the rows of each beginning start, in sorted rows, and after these the count of the rows. They are refused only
+/// where memory runs out.
 fn starts(alloc: Global, rows: &[Row]) -> Result<Vec<usize>, AllocError>
     requires { sorted.RowsRise rows.now }
     ensures { IfOk result (λ starts. sorted.AreStarts rows.now starts.items) }

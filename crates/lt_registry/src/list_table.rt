@@ -19,6 +19,7 @@ pub struct ListTable {
     registry: Registry,
 }
 
+// A contract sees the list of the entries.
 impl Model for ListTable {
     ghost use Rattle.std.specs.Prelude.{List};
     ghost use Rattle.lt_registry.specs.Parts.{EntryParts};

@@ -13,7 +13,8 @@ use lt_tag::OutOfMemory;
 use std::alloc::Global;
 use std::marker::Model;
 
-/// The Prefixes of a record in the order of the file; and the numbers of those that are one subtag, which rise.
+/// The Prefixes of a record in the order of the file; and the numbers of those that are one subtag, in rising order,
+/// for a binary search.
 #[derive(Debug, Drop)]
 pub(crate) struct Prefixes {
     all: Vec<Prefix>,
@@ -85,7 +86,8 @@ impl Prefixes {
     }
 }
 
-/// The numbers of the subtags that are a Prefix alone.
+/// The numbers of those Prefixes that are one subtag, in the order of the Prefixes. The only refusal is running out of
+/// memory.
 fn singles(alloc: Global, prefixes: &[Prefix]) -> Result<Vec<u64>, OutOfMemory>
     ensures { IfOk result (λ numbers. numbers.items ≡ filter_map single_of prefixes.now) }
 {

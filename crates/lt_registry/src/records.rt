@@ -22,7 +22,8 @@ use lt_subtag::Subtag;
 use lt_tag::{OutOfMemory, TagFaultKind, read_tag};
 use std::alloc::Global;
 
-/// The entry of a record, which has this number in the file; or the first of what is wrong with it.
+/// The entry of a record, which has the number `number` in the file. Refused with the first fault of the record, in the
+/// order of `RecordFaultKind`.
 #[tactic(auto, using(crate::proofs::RecordLaws::kind_there, crate::proofs::RecordLaws::name_refused, crate::proofs::RecordLaws::prefixes_fit, crate::proofs::RecordLaws::prefixes_where))]
 pub(crate) fn read_entry(
     alloc: Global,
@@ -43,7 +44,7 @@ pub(crate) fn read_entry(
     Ok(Entry::of_parts(number, kind, name, value, prefixes))
 }
 
-/// The kind of a record, by its Type.
+/// The kind of a record, by its Type. Refused with `MissingType` or `UnknownType`.
 fn read_kind(fields: &RecordFields<'_>) -> Result<Kind, RecordFaultKind>
     ensures { result ≡ steps.kind_by (record_words.body record_words.type_name fields.now.all.now) }
 {
@@ -53,7 +54,8 @@ fn read_kind(fields: &RecordFields<'_>) -> Result<Kind, RecordFaultKind>
     }
 }
 
-/// What a record names: a subtag, a range, or a whole tag.
+/// What a record of the kind names: a subtag, a range, or a whole tag. Refused with `MissingName`, `BadRange`,
+/// `BadSubtag` or `BadTag`, or where memory runs out.
 #[tactic(auto, using(crate::proofs::RecordLaws::name_told))]
 fn read_name(
     alloc: Global,
@@ -76,7 +78,7 @@ fn read_name(
     }
 }
 
-/// The tag of a text, or None if it isn't well-formed.
+/// The tag of a text, or None if it isn't well-formed. The only refusal is running out of memory.
 fn read_whole(alloc: Global, text: &[u8]) -> Result<Option<WholeTag>, OutOfMemory>
     ensures tag { IfOk result (IsTagOf text.now) }
     ensures value { IfOk result (λ tag. IfSome tag IsTagValue) }
@@ -94,8 +96,8 @@ fn read_whole(alloc: Global, text: &[u8]) -> Result<Option<WholeTag>, OutOfMemor
     }
 }
 
-/// The subtag that a text names, or the range if it has two full stops. Refused if it doesn't have the form of the kind. Most
-/// texts are a subtag, which is tried first.
+/// The subtag that a text names, or the range if it has two full stops. Refused with `BadRange` or `BadSubtag` if it
+/// doesn't have the form of the kind. Most texts are a subtag, which is tried first.
 fn read_subtags(kind: Kind, text: &[u8]) -> Result<EntryName, RecordFaultKind>
     ensures named { result ≡ record_words.subtags_named kind text.now }
     ensures fits { IfOk result (FitsName kind) }
@@ -135,7 +137,7 @@ fn has_form(kind: Kind, subtag: &Subtag) -> bool
     }
 }
 
-/// The range from a first to a last subtag. Refused if they aren't the ends of one.
+/// The range from a first to a last subtag. Refused with `BadRange` if they aren't the ends of one of the kind.
 fn read_range(kind: Kind, first: &[u8], last: &[u8]) -> Result<EntryName, RecordFaultKind>
     ensures range { result ≡ record_words.range_of kind (subtag_of first.now) (subtag_of last.now) }
     ensures fits { IfOk result (FitsName kind) }
@@ -162,7 +164,8 @@ fn is_range(kind: Kind, first: &Subtag, last: &Subtag) -> bool
         && is_up_to(first, last)
 }
 
-/// The preferred value of a record, or None if it has none.
+/// The preferred value of a record of the kind, or None if it has none. Refused with `BadPreferred` if its text is no
+/// value of the kind, or where memory runs out.
 #[tactic(auto, using(crate::proofs::RecordLaws::text_told))]
 fn read_value(
     alloc: Global,
@@ -179,7 +182,8 @@ fn read_value(
     }
 }
 
-/// The preferred value that a text gives: a subtag, or a whole tag for the kinds of whole tags.
+/// The preferred value that a text gives: a subtag, or a whole tag for the kinds of whole tags. Refused with
+/// `BadPreferred` if the text is no value of the kind, or where memory runs out.
 fn read_one_value(alloc: Global, kind: Kind, text: &[u8]) -> Result<EntryValue, RecordFaultKind>
     ensures ok { IfOk result (IsValue kind text.now) }
     ensures fits { IfOk result (FitsValue kind) }
@@ -209,7 +213,8 @@ fn read_valued(kind: Kind, text: &[u8]) -> Option<Subtag>
     }
 }
 
-/// Whether a subtag has the form of the kind's values. That of an extlang is a language, and that of a variant may be one.
+/// Whether a subtag has the form of the kind's values: a language for an extlang, a variant or a language of 2 or 3
+/// letters for a variant, and else the form of the kind. False of the kinds of whole tags.
 fn has_value_form(kind: Kind, subtag: &Subtag) -> bool
     ensures { result ≡ entry_words.has_value_form kind subtag.now }
 {
@@ -236,7 +241,8 @@ fn has_prefixes(kind: Kind) -> bool
     }
 }
 
-/// The Prefixes of a record, or none if its kind can't have any.
+/// The Prefixes of a record, or none if its kind can't have any. Refused with `BadPrefix` if one isn't a list of
+/// subtags, or where memory runs out.
 fn read_prefixes(
     alloc: Global,
     kind: Kind,
@@ -252,7 +258,8 @@ fn read_prefixes(
     }
 }
 
-/// The Prefixes that the fields give. Refused if one isn't a list of subtags.
+/// The Prefixes that the fields give. Refused with `BadPrefix` if one isn't a list of subtags, or where memory runs
+/// out.
 #[tactic(auto, using(crate::proofs::RecordTexts::field_taken, crate::proofs::RecordTexts::field_skipped, crate::proofs::RecordTexts::field_fails, crate::proofs::RecordTexts::no_field))]
 fn read_all_prefixes(alloc: Global, fields: &[JarField]) -> Result<Vec<Prefix>, RecordFaultKind>
     ensures ok { IfOk result (λ prefixes. record_words.prefixes_of (record_words.bodies record_words.prefix_name fields.now) ≡ Some prefixes.items) }

@@ -13,12 +13,13 @@ use std::alloc::Global;
 use std::io::Read;
 use std::marker::Model;
 
-/// The entries of a registry in the order of the file. They need not pass the check.
+/// The entries of a registry in the order of the file. They need not pass the check that the crate `lt_check` makes.
 #[derive(Debug, Drop)]
 pub struct Registry {
     entries: Vec<Entry>,
 }
 
+// A contract sees the list of the entries.
 impl Model for Registry {
     ghost use Rattle.std.specs.Prelude.{List};
     ghost use Rattle.lt_registry.specs.Parts.{EntryParts};
@@ -32,9 +33,9 @@ impl Model for Registry {
 }
 
 impl Registry {
-    /// The entries of a file's records, 100,000 at most: each record but the header gives one (RFC 5646, 3.1).
-    /// A refusal names the lowest record at fault and, there, the first fault; where memory runs out, the
-    /// record that was being read.
+    /// The entries of a file's records, 100,000 at most, as the record-jar reader gives them: each record but the
+    /// header gives one (RFC 5646, 3.1). A refusal names the lowest record at fault and, there, the first fault; where
+    /// memory runs out, the record that was being read.
     #[tactic(auto, using(crate::proofs::EntryLaws::made_stops))]
     pub fn from_records(alloc: Global, records: &[Record]) -> Result<Registry, RecordFault>
         requires { length records.now ≤ 100000 }

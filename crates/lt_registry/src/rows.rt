@@ -1,6 +1,7 @@
 //! The rows of an index.
 
-/// A number that is looked for, and the place of its record among the entries.
+/// A row of the index of single subtags or of whole tags: the number that is looked for, and the place of its record
+/// among the entries.
 #[derive(Clone, Copy, Debug, PartialEq, Eq, PartialOrd, Ord)]
 pub(crate) struct Row {
     /// The number of the record's subtag, or of the language of the tag that it names.
@@ -17,7 +18,8 @@ pub(crate) struct RangeRow {
     pub(crate) place: usize,
 }
 
-/// The ranks from a start up to that of the next stretch, and the place of the first range that they are within.
+/// The ranks from a start up to that of the next stretch, and the place of the first range that they are within; None
+/// if they are within none.
 #[derive(Clone, Copy, Debug)]
 pub(crate) struct Stretch {
     pub(crate) start: u128,

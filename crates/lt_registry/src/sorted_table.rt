@@ -19,8 +19,8 @@ pub struct SortedTable {
     indexes: Indexes,
 }
 
-// By hand: the proof of a function that lets one go then has this one call to go through, and not the drop of each of its
-// vectors.
+// Written by hand: the proof of a function that drops a table then has this one call to go through, and not the drop of
+// each vector.
 impl Drop for SortedTable {
     fn drop(self) {
         let SortedTable { registry, indexes } = self;
@@ -29,6 +29,7 @@ impl Drop for SortedTable {
     }
 }
 
+// A contract sees the list of the entries.
 impl Model for SortedTable {
     ghost use Rattle.std.specs.Prelude.{List};
     ghost use Rattle.lt_registry.specs.Parts.{EntryParts};

@@ -10,10 +10,11 @@ ghost use Rattle.lt_registry.specs.Validity.{Distinct};
 use arrayvec::ArrayVec;
 use lt_subtag::Subtag;
 
-/// How many numbers there are.
+/// How many numbers of 64 bits there are.
 const NUMBERS: u128 = 1 << 64;
 
-/// The rank of a subtag: its length, and after it its number. So subtags of one length are together, in their order.
+/// The rank of a subtag: its length, of at most 8, and below it the 64 bits of its number. So subtags of one length are
+/// together, in their order.
 #[tactic(auto, using(lt_subtag::proofs::BytesLemmas::subtag_length))]
 pub(crate) fn rank_of(subtag: &Subtag) -> u128
     ensures value { result ≡ sorted.rank subtag.now }
@@ -24,7 +25,7 @@ pub(crate) fn rank_of(subtag: &Subtag) -> u128
     length * NUMBERS + subtag.number() as u128
 }
 
-/// The numbers of subtags, at most 256.
+/// The numbers of subtags, at most 256, in an array, so that nothing is allocated.
 fn numbers_of(subtags: &[Subtag]) -> ArrayVec<u64, 256>
     requires { length subtags.now ≤ 256 }
     ensures { result.items ≡ map lanes.number subtags.now }
@@ -36,7 +37,7 @@ fn numbers_of(subtags: &[Subtag]) -> ArrayVec<u64, 256>
     numbers
 }
 
-/// Whether all numbers are different. It sorts them.
+/// Whether all numbers are different. They are left sorted.
 fn differ(numbers: &mut [u64]) -> bool
     ensures { result ≡ true → IsDistinct (eq_by_cmp nat_cmp) numbers.old }
 {
@@ -44,8 +45,8 @@ fn differ(numbers: &mut [u64]) -> bool
     numbers.is_sorted_by(|number, next| number < next)
 }
 
-/// Whether subtags are all different, as a sort of their numbers shows. False of fewer than 16 or more than 256, where this
-/// is not tried.
+/// True only if subtags are all different, as a sort of their numbers shows. It is not tried, and false, of fewer than
+/// 16, which are quickly compared pair by pair, and of more than 256, whose numbers don't fit the array.
 #[tactic(auto, using(crate::proofs::NumberLemmas::subtags_differ))]
 pub(crate) fn many_differ(subtags: &[Subtag]) -> bool
     ensures { result ≡ true → Distinct subtags.now }

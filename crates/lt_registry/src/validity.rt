@@ -25,8 +25,8 @@ pub fn validate<L: Lookup>(alloc: Global, table: &L, tag: &Tag) -> Result<(), Va
     check_tag(alloc, table, tag, false)
 }
 
-/// Whether nothing keeps a tag from being valid, or nothing but variants that repeat. `OutOfMemory` comes only
-/// for a tag with a `t` extension.
+/// Whether nothing keeps a tag from being valid but, at most, variants that repeat. The only refusal is running out of
+/// memory, and only for a tag with a `t` extension.
 pub fn proper<L: Lookup>(alloc: Global, table: &L, tag: &Tag) -> Result<bool, OutOfMemory>
     ensures answer { IfOk result (λ proper. IsTrue proper ↔ RepeatsAtMost (L.listed table.now) tag.now) }
     ensures memory { OnErr result (HasTransform (extensions_of tag.now)) }
@@ -38,7 +38,8 @@ pub fn proper<L: Lookup>(alloc: Global, table: &L, tag: &Tag) -> Result<bool, Ou
     }
 }
 
-/// Checks a tag, and refuses it with its first fault. If `may_repeat`, variants that repeat are no fault.
+/// Checks a tag, and refuses it with its first fault, or where memory runs out. If `may_repeat`, variants that repeat
+/// are no fault.
 #[tactic(auto, using(crate::proofs::TagFaultLemmas::tag_core_first, crate::proofs::TagFaultLemmas::tag_extensions_told))]
 fn check_tag<L: Lookup>(
     alloc: Global,
@@ -56,7 +57,7 @@ fn check_tag<L: Lookup>(
     check_extensions(alloc, table, tag.extensions(), place, may_repeat)
 }
 
-/// How many subtags a core has.
+/// How many subtags a core has: a language, up to 3 extlangs, a script, a region, and up to 1,024 variants.
 fn core_length(core: &Core) -> u32
     ensures same { result ≡ length (spell_core core.now) }
     ensures few { result ≤ 1030 }
@@ -71,7 +72,8 @@ fn core_length(core: &Core) -> u32
     length as u32
 }
 
-/// Checks a core that begins after `start` subtags. If `may_repeat`, variants that repeat are no fault.
+/// Checks a core that begins after `start` subtags, and refuses it with its first fault. If `may_repeat`, variants that
+/// repeat are no fault. No tag has 1,100,000 subtags: it has up to 1,024 extensions, each of up to 1,025 subtags.
 #[tactic(auto, unfolding(crate::specs::Checking::core_check))]
 fn check_core<L: Lookup>(
     table: &L,
@@ -121,8 +123,8 @@ fn check(holds: bool, kind: ValidFaultKind, place: u32) -> Result<(), ValidFault
     }
 }
 
-/// Checks the extlangs of a core that begins after `start` subtags: the first is registered, the language is one of its
-/// Prefixes, and there is no second one.
+/// Checks the extlangs of a core that begins after `start` subtags and has this language: the first is registered, the
+/// language is one of its Prefixes, and there is no second one.
 fn check_extlangs<L: Lookup>(
     table: &L,
     start: u32,
@@ -143,8 +145,8 @@ fn check_extlangs<L: Lookup>(
     )
 }
 
-/// Checks that an extlang has an entry, which is given, and that the language is one of its Prefixes. The core begins after
-/// `start` subtags.
+/// Checks the first extlang of a core by its entry, None if it isn't registered: the language is one of its Prefixes.
+/// The core begins after `start` subtags.
 fn check_prefix(extlang: Option<&Entry>, start: u32, language: &Subtag) -> Result<(), ValidFault>
     requires { start ≤ 1100000 }
     ensures { result ≡ checking.prefix_check start language.now (option_copied extlang.entry) }
@@ -161,7 +163,8 @@ fn check_prefix(extlang: Option<&Entry>, start: u32, language: &Subtag) -> Resul
     }
 }
 
-/// Checks that a script or a region is registered, if there is one. `fault` is the fault of one that isn't, at this place.
+/// Checks that a subtag of this kind, a script or a region, is registered, if there is one. `fault` is the fault of one
+/// that isn't, `place` the subtag's place.
 fn check_part<L: Lookup>(
     table: &L,
     kind: Kind,
@@ -177,7 +180,9 @@ fn check_part<L: Lookup>(
     }
 }
 
-/// Checks the variants of a core, of which the first has the place `start`. Unless `may_repeat`, none may occur twice.
+/// Checks the variants of a core, of which the first has the place `start`: each is registered and, unless
+/// `may_repeat`, none occurs twice. Whether many variants all differ is seen by a sort first; if they do, none is
+/// looked for among those before it.
 fn check_variants<L: Lookup>(
     table: &L,
     start: u32,
@@ -229,7 +234,8 @@ fn check_variant<L: Lookup>(
     check(fits, ValidFaultKind::DuplicateVariant, place)
 }
 
-/// Checks the extensions of a langtag. The singleton of the first has the place `first`.
+/// Checks the extensions of a langtag: no singleton occurs twice, and each extension passes. The singleton of the first
+/// has the place `first`. If `may_repeat`, variants that repeat in a source are no fault.
 #[tactic(auto, using(crate::proofs::TagFaultLemmas::told_extension, crate::proofs::TagFaultLemmas::stepped, crate::proofs::TagFaultLemmas::all_told))]
 fn check_extensions<L: Lookup>(
     alloc: Global,
@@ -265,7 +271,8 @@ fn has_singleton(extensions: &[Extension], singleton: u8) -> bool
         .any(|extension| extension.singleton() == singleton)
 }
 
-/// Checks an extension whose singleton has this place. Only of a `t` extension is more looked at: its form and its source.
+/// Checks an extension whose singleton has this place: a `t` extension has its form, and its source passes. Any other
+/// extension passes. If `may_repeat`, variants that repeat in the source are no fault.
 fn check_extension<L: Lookup>(
     alloc: Global,
     table: &L,
@@ -289,7 +296,8 @@ fn check_extension<L: Lookup>(
     }
 }
 
-/// Checks the source of a `t` extension, if it has one. The extension's singleton has this place.
+/// Checks the source of a `t` extension, if it has one. The extension's singleton has this place. If `may_repeat`,
+/// variants that repeat are no fault.
 fn check_source<L: Lookup>(
     table: &L,
     source: &Option<Core>,

@@ -13,7 +13,7 @@ fn stands_in(variants: &[Subtag], variant: &Subtag) -> bool
     variants.contains(variant)
 }
 
-/// Whether no variant is among those before it.
+/// Whether no variant occurs twice, each looked for among those before it.
 #[tactic(auto, using(crate::proofs::DistinctTests::repeated_at, crate::proofs::DistinctTests::distinct_further))]
 fn none_repeats(variants: &[Subtag]) -> bool
     ensures { IsTrue result ↔ Distinct variants.now }
@@ -26,7 +26,8 @@ fn none_repeats(variants: &[Subtag]) -> bool
     true
 }
 
-/// Whether no variant occurs twice (RFC 5646, 2.2.5). It takes no memory.
+/// Whether no variant occurs twice (RFC 5646, 2.2.5). It takes no memory. Many are sorted first, which is quicker than
+/// to look for each among those before it.
 pub fn are_distinct(variants: &[Subtag]) -> bool
     ensures { IsTrue result ↔ Distinct variants.now }
 {

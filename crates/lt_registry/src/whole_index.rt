@@ -13,8 +13,8 @@ use lt_tag::Tag;
 use std::alloc::{AllocError, Global};
 use std::cmp::Ordering;
 
-/// The whole records, sorted by the numbers of their languages and then by their tags; of equal tags
-/// the first alone.
+/// The rows of the whole records, sorted by the numbers of their languages and then by their tags; of equal tags the
+/// first alone.
 #[derive(Debug, Drop)]
 pub(crate) struct WholeIndex {
     rows: Vec<Row>,
@@ -47,7 +47,7 @@ impl WholeIndex {
     }
 }
 
-/// The rows of the records of whole tags, in the order of the file.
+/// The rows of the records of whole tags, in the order of the file. They are refused only where memory runs out.
 fn whole_rows(alloc: Global, entries: &[Entry]) -> Result<Vec<Row>, AllocError>
     ensures { IfOk result (λ rows. sorted.AreRows sorted.whole_row (λ (row : Row). row.place) entries.now (length entries.now) rows.items) }
 {
@@ -93,7 +93,7 @@ fn tag_at(entries: &[Entry], place: usize) -> Option<&Tag>
     }
 }
 
-/// The order of two records by their languages and tags.
+/// The order of two records by the numbers of their languages, which are quickly compared, and then by their tags.
 fn compare_keys(entries: &[Entry], one: Row, other: Row) -> Ordering
     ensures { result ≡ sorted.whole_key_cmp (sorted.whole_key entries.now one) (sorted.whole_key entries.now other) }
 {
@@ -102,7 +102,8 @@ fn compare_keys(entries: &[Entry], one: Row, other: Row) -> Ordering
     })
 }
 
-/// The order of two records by their languages and tags, and of equal tags by their places.
+/// The order of two records by their languages and tags, and of equal tags by their places, so that the first of the
+/// file is the first of these.
 fn compare_rows(entries: &[Entry], one: Row, other: Row) -> Ordering
     ensures { result ≡ sorted.whole_cmp entries.now one other }
 {
@@ -117,7 +118,7 @@ fn name_same_tag(entries: &[Entry], one: Row, other: Row) -> bool
     compare_keys(entries, one, other).is_eq()
 }
 
-/// The order of a record and a tag, by their languages and tags. `number` is that of the tag's language.
+/// The order of the record of a row and a tag, by their languages and tags. `number` is that of the tag's language.
 fn compare_with(entries: &[Entry], row: Row, number: u64, tag: &Tag) -> Ordering
     ensures { result ≡ sorted.whole_key_cmp (sorted.whole_key entries.now row) (number, Some tag.now) }
 {
