@@ -5,7 +5,7 @@ use Rattle.std.specs.List.{All}
 use Rattle.std.proofs.lemmas.Bool.{cases_Bool}
 use Rattle.std.proofs.lemmas.List.Elements.{All-head, All-tail}
 
--- what is found passes the test
+-- the element that is found passes the test
 pub find_passes : {X : Type 0} (p : X → Bool) (xs : List X) (x : X) → find p xs ≡ Some x → p x ≡ true
 find_passes p [] x h = cc
 find_passes p (y ∷ xs) x h = elim (cases_Bool (p y)) [
@@ -13,7 +13,7 @@ find_passes p (y ∷ xs) x h = elim (cases_Bool (p y)) [
   | inr not ↦ find_passes p xs x (rw not at h)
 ]
 
--- what holds of each holds of what is found
+-- what is true of each element is true of the one that is found
 pub find_holds : {X : Type 0} (P : X → Type 0) (p : X → Bool) (xs : List X) (x : X) → All P xs → find p xs ≡ Some x → P x
 find_holds P p [] x all h = cc
 find_holds P p (y ∷ xs) x all h = elim (cases_Bool (p y)) [
@@ -21,17 +21,18 @@ find_holds P p (y ∷ xs) x all h = elim (cases_Bool (p y)) [
   | inr not ↦ find_holds P p xs x (All-tail P y xs all) (rw not at h)
 ]
 
--- an element is where it was after one more
+-- an element that is at the place i is there, with one element more at the end, too
 pub get_before : {X : Type 0} (xs : List X) (x y : X) (i : ℕ) → slice_get xs i ≡ Some y → slice_get (xs ++ x ∷ []) i ≡ Some y
 get_before [] x y i h = cc
 get_before (z ∷ xs) x y zero h = h
 get_before (z ∷ xs) x y (suc i) h = get_before xs x y i h
 
--- and that one is after them
+-- an element put last is at the place that is the length before
 pub get_last : {X : Type 0} (xs : List X) (x : X) → slice_get (xs ++ x ∷ []) (length xs) ≡ Some x
 get_last [] x = refl
 get_last (z ∷ xs) x = get_last xs x
 
+-- a list is one longer with one element more
 pub length-last : {X : Type 0} (xs : List X) (x : X) → length (xs ++ x ∷ []) ≡ suc (length xs)
 length-last [] x = refl
 length-last (z ∷ xs) x = ap suc (length-last xs x)

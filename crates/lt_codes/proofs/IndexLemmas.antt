@@ -16,11 +16,11 @@ use Rattle.lt_codes.specs.declared.codes.Code.{Code}
 use Rattle.lt_codes.proofs.FindLemmas.{find_holds, find_passes, get_before, get_last, length-last}
 use Rattle.lt_codes.proofs.LetterLemmas.{has_letters, number-folded, one_number}
 
--- a code that is a text has its number
+-- a code that is this text, letter case aside, has the number of the text
 number_is : (c : Code) (text : List ℕ) → bytes_eq c.code (folded text) ≡ true → number_of c.code ≡ number_of text
 number_is c text same = ap number_of ((bytes_eq-Decides c.code (folded text)).0 same) ∙ number-folded text
 
--- a text without a number is no code
+-- a text that has no number is none of the codes
 pub found_none : (codes : List Code) (text : List ℕ) → All IsCode codes → number_of text ≡ None → found_in codes text ≡ None
 found_none codes text each none = by_found (found_in codes text) refl
   where
@@ -31,8 +31,9 @@ found_none codes text each none = by_found (found_in codes text) refl
         let number = number_is c text (find_passes (λ c. bytes_eq c.code (folded text)) codes c is) ∙ none in
         let bad : IsSome {T = ℕ} None = subst (λ (n : Option ℕ). IsSome n) number code.number in cc
 
--- one more code
+-- what is found for a text, with one more code x behind the others
 module _ (codes : List Code) (x : Code) (text : List ℕ) where
+  -- where x is not the text, the same is found
   found_other : bytes_eq x.code (folded text) ≡ false → found_in (codes ++ x ∷ []) text ≡ found_in codes text
   found_other other = find-append (λ c. bytes_eq c.code (folded text)) codes (x ∷ []) ∙ rw other (by_found (found_in codes text))
     where
@@ -40,35 +41,39 @@ module _ (codes : List Code) (x : Code) (text : List ℕ) where
       by_found None = refl
       by_found (Some c) = refl
 
+  -- where x is the text, and none before it is, x is found
   found_last : found_in codes text ≡ None → bytes_eq x.code (folded text) ≡ true → found_in (codes ++ x ∷ []) text ≡ Some x
   found_last none same = find-append (λ c. bytes_eq c.code (folded text)) codes (x ∷ []) ∙ rw (none, same) refl
 
+  -- where a code before x is found, it is found still
   found_before : (c : Code) → found_in codes text ≡ Some c → found_in (codes ++ x ∷ []) text ≡ Some c
   found_before c some = find-append (λ c. bytes_eq c.code (folded text)) codes (x ∷ []) ∙ rw some refl
 
-  -- places stay
+  -- the place of a text stays, unless it had none and x is the text
   place_stays : (place : ℕ) → (place ≡ 0 → bytes_eq x.code (folded text) ≡ false) → IsPlaceOf codes text place → IsPlaceOf (codes ++ x ∷ []) text place
   place_stays zero other none = found_other (other refl) ∙ none
   place_stays (suc i) other some = (some.0, found_before some.0 some.1, get_before codes x some.0 i some.2)
 
+  -- where x is the text, and none before it is, the last place is the text's
   place_last : (place : ℕ) → place ≡ length (codes ++ x ∷ []) → found_in codes text ≡ None → bytes_eq x.code (folded text) ≡ true → IsPlaceOf (codes ++ x ∷ []) text place
   place_last place is none same = subst (IsPlaceOf (codes ++ x ∷ []) text) (sym (is ∙ length-last codes x)) (x, found_last none same, get_last codes x)
 
--- a text of another number is another code
+-- a text whose number is not that of a code is not the code
 other_code : (x : Code) (text : List ℕ) (n m : ℕ) → number_of x.code ≡ Some n → number_of text ≡ Some m → (m ≡ n → ⊥) → bytes_eq x.code (folded text) ≡ false
 other_code x text n m is has other = elim (cases_Bool (bytes_eq x.code (folded text))) [
   | inl same ↦ let one : Some n ≡ Some m = sym is ∙ number_is x text same ∙ has in let equal : m ≡ n = cc in absurd (other equal)
   | inr not ↦ not
 ]
 
--- a text of the same number is the code
+-- a text whose number is that of a code is the code
 same_code : (x : Code) (text : List ℕ) (n : ℕ) → IsCode x → number_of x.code ≡ Some n → number_of text ≡ Some n → bytes_eq x.code (folded text) ≡ true
 same_code x text n code is has = (bytes_eq-Decides x.code (folded text)).1 (sym code.lower ∙ one_number x.code text n is has)
 
+-- numbers of three letters are below 17576, which is 26 to the 3
 pub number_small : (text : List ℕ) (n : ℕ) → number_of text ≡ Some n → n < 17576
 number_small text n h = let x = has_letters text n h in omega (arith, x.small.0, x.small.1, x.small.2, x.number)
 
--- a table without codes
+-- a table without codes has the place 0 at each number
 pub indexed_none : (places : List ℕ) → places ≡ replicate numbers 0 → AreIndexed [] places
 indexed_none places is = record {
   each = All-nil IsCode;
@@ -76,7 +81,7 @@ indexed_none places is = record {
   place = λ text n has. subst (IsPlaceOf [] text) (sym (ap (λ l. get_or l n 0) is ∙ get_or-replicate {A = ℕ} numbers n 0 0 (number_small text n has))) refl;
 }
 
--- one more code, of which an earlier one has the place
+-- one more code x with the number n, of which a code before has the place: the places stay
 pub indexed_known : (codes : List Code) (places : List ℕ) (x : Code) (n : ℕ) → AreIndexed codes places → IsCode x → number_of x.code ≡ Some n → get_or places n 0 ≢ 0 → AreIndexed (codes ++ x ∷ []) places
 indexed_known codes places x n old code is taken = record {
   each = All-push IsCode codes x old.each code;
@@ -85,7 +90,7 @@ indexed_known codes places x n old code is taken = record {
       place_stays codes x text (get_or places m 0) (λ none. other_code x text n m is has (λ same. taken (ap (λ k. get_or places k 0) (sym same) ∙ none))) (old.place text m has);
 }
 
--- one more code, whose place is free
+-- one more code x with the number n, which has no place yet: it gets the place of x
 pub indexed_new : (codes : List Code) (places : List ℕ) (x : Code) (n : ℕ) → AreIndexed codes places → IsCode x → number_of x.code ≡ Some n → get_or places n 0 ≡ 0
     → AreIndexed (codes ++ x ∷ []) (set places n (length (codes ++ x ∷ [])))
 indexed_new codes places x n old code is free = record {
@@ -105,13 +110,14 @@ indexed_new codes places x n old code is free = record {
         subst (IsPlaceOf (codes ++ x ∷ []) text) (sym (get_or-set_other places n m (length (codes ++ x ∷ [])) 0 other))
         (place_stays codes x text (get_or places m 0) (λ _. other_code x text n m is has other) (old.place text m has))
 
--- the place that a number has
+-- what `places` has at the number n of a text is the place of the text; `place` is also the default, which no number
+-- in range needs
 pub place_at : (codes : List Code) (places : List ℕ) (text : List ℕ) (n place : ℕ) → AreIndexed codes places → number_of text ≡ Some n → place ≡ get_or places n place → IsPlaceOf codes text place
 place_at codes places text n place indexed has is =
     let within : n < length places = omega (arith, number_small text n has, indexed.full) in
     subst (IsPlaceOf codes text) (sym (is ∙ get_or_default_zero places n place within)) (indexed.place text n has)
 
--- the code at a place
+-- where the place of a text is not 0, the code there is the one that is found for the text
 pub at_place : (codes : List Code) (text : List ℕ) (place : ℕ) → (place ≡ 0 → ⊥) → IsPlaceOf codes text place → (c : Code) × (found_in codes text ≡ Some c) × (slice_get codes (place - 1) ≡ Some c)
 at_place codes text zero some none = absurd (some refl)
 at_place codes text (suc i) some found = (found.0, found.1, subst (λ k. slice_get codes k ≡ Some found.0) (omega arith) found.2)

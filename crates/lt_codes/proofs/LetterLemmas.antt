@@ -7,20 +7,22 @@ use Rattle.std.proofs.lemmas.Grind.{common_steps}
 use Rattle.lt_subtag.specs.Bytes.{folded}
 use Rattle.lt_codes.specs.Index.{letter_of, number_from, number_of}
 
--- a letter in lower case is one
+-- a byte in lower case is a letter exactly where the byte is one
 lower-alphabetic : (b : ℕ) → is_ascii_alphabetic (to_ascii_lowercase b) ≡ is_ascii_alphabetic b
 lower-alphabetic b = grind (arith, common_steps)
 
+-- a byte in lower case stays as it is
 lower-lower : (b : ℕ) → to_ascii_lowercase (to_ascii_lowercase b) ≡ to_ascii_lowercase b
 lower-lower b = grind (arith, common_steps)
 
+-- a letter in lower case is from `a` (97) to `z` (122)
 lower_range : (b : ℕ) → is_ascii_alphabetic b ≡ true → (97 ≤ to_ascii_lowercase b) × (to_ascii_lowercase b ≤ 122)
 lower_range b h = grind (arith, common_steps)
 
 letter-lower : (b : ℕ) → letter_of (to_ascii_lowercase b) ≡ letter_of b
 letter-lower b = rw (lower-alphabetic, lower-lower) refl
 
--- the case of letters is of no account
+-- a text has the same number in lower case
 pub number-folded : (text : List ℕ) → number_of (folded text) ≡ number_of text
 number-folded [] = refl
 number-folded (a ∷ []) = refl
@@ -28,7 +30,7 @@ number-folded (a ∷ b ∷ []) = refl
 number-folded (a ∷ b ∷ c ∷ []) = rw (letter-lower a, letter-lower b, letter-lower c) refl
 number-folded (a ∷ b ∷ c ∷ d ∷ text) = refl
 
--- a letter by its number
+-- the letter whose number is n is, in lower case, the byte 97 + n (97 is `a`), and n is below 26
 letter_is : (b n : ℕ) → letter_of b ≡ Some n → (to_ascii_lowercase b ≡ 97 + n) × (n < 26)
 letter_is b n h = elim (cases_Bool (is_ascii_alphabetic b)) [
   | inl is ↦
@@ -39,7 +41,7 @@ letter_is b n h = elim (cases_Bool (is_ascii_alphabetic b)) [
   | inr not ↦ let none : None ≡ Some n = rw not at h in cc
 ]
 
--- the numbers of three letters, by that of their text
+-- the numbers of the three letters of a text, whose own number is n
 pub record HasLetters (text : List ℕ) (n : ℕ) : Type 0 where
   pub a : ℕ
   pub b : ℕ
@@ -48,6 +50,7 @@ pub record HasLetters (text : List ℕ) (n : ℕ) : Type 0 where
   pub number : n ≡ (a * 26 + b) * 26 + c
   pub folds : folded text ≡ (97 + a) ∷ (97 + b) ∷ (97 + c) ∷ []
 
+-- three bytes whose letters have a number n have letters of these numbers; x, y and z are what is found for each
 by_letters : (a b c n : ℕ) (x y z : Option ℕ) → letter_of a ≡ x → letter_of b ≡ y → letter_of c ≡ z → number_from x y z ≡ Some n → HasLetters (a ∷ b ∷ c ∷ []) n
 by_letters a b c n (Some x) (Some y) (Some z) ax by cz h =
     let one = letter_is a x ax in
@@ -59,6 +62,7 @@ by_letters a b c n None y z ax by cz h = cc
 by_letters a b c n (Some x) None z ax by cz h = cc
 by_letters a b c n (Some x) (Some y) None ax by cz h = cc
 
+-- a text that has a number has three letters
 pub has_letters : (text : List ℕ) (n : ℕ) → number_of text ≡ Some n → HasLetters text n
 has_letters [] n h = cc
 has_letters (a ∷ []) n h = cc
@@ -66,7 +70,7 @@ has_letters (a ∷ b ∷ []) n h = cc
 has_letters (a ∷ b ∷ c ∷ []) n h = by_letters a b c n (letter_of a) (letter_of b) (letter_of c) refl refl refl h
 has_letters (a ∷ b ∷ c ∷ d ∷ text) n h = cc
 
--- texts of one number differ in the case of their letters alone
+-- texts of one number differ in letter case alone
 pub one_number : (text other : List ℕ) (n : ℕ) → number_of text ≡ Some n → number_of other ≡ Some n → folded text ≡ folded other
 one_number text other n h k =
     let x = has_letters text n h in

@@ -15,7 +15,7 @@ use Rattle.lt_codes.specs.Rows.{code_if, code_of, code_or_none, codes_in, if_let
 use Rattle.lt_codes.specs.declared.codes.Code.{Code}
 use Rattle.lt_codes.specs.declared.rows.Row.{Row}
 
--- a code is so many letters
+-- the code is this many letters in lower case
 pub record AreLetters (count : ℕ) (code : List ℕ) : Type 0 where
   pub letters : is_alphabetic code ≡ true
   pub long : length code ≡ count
@@ -31,9 +31,11 @@ letters_are count (Ok s) code h = elim (cases_Bool (is_alphabetic s && (length s
   | inr not ↦ let none : None ≡ Some code = rw not at h in cc
 ]
 
+-- a letter in lower case has a number, and stays as it is in lower case
 lower_letter : (b : ℕ) → is_ascii_lowercase b ≡ true → IsSome (letter_of b) × (to_ascii_lowercase b ≡ b)
 lower_letter b h = grind (arith, common_steps)
 
+-- three letters in lower case have a number, and stay as they are in lower case
 three_letters : (code : List ℕ) → is_alphabetic code ≡ true → length code ≡ 3 → IsSome (number_of code) × (folded code ≡ code)
 three_letters [] is long = absurd (omega (arith, long))
 three_letters (a ∷ []) is long = absurd (omega (arith, long))
@@ -50,16 +52,17 @@ three_letters (a ∷ b ∷ c ∷ []) is long =
     by_letters (Some x) (Some y) None ax by cz p q r = let bad : IsSome {T = ℕ} None = subst (λ (o : Option ℕ). IsSome o) cz r.0 in cc
 three_letters (a ∷ b ∷ c ∷ d ∷ code) is long = absurd (omega (arith, long))
 
--- three letters are a code, for which two letters or more are registered
+-- three letters in lower case are a code, if at least two bytes are registered for it
 is_code : (code registered : List ℕ) → AreLetters 3 code → 2 ≤ length registered → IsCode (record { code = code; registered = registered })
 is_code code registered are long = let three = three_letters code are.letters are.long in record { number = three.0; lower = three.1; long = long }
 
--- what is known of a row
+-- each code of the row has its form: three letters, or two in the third
 pub record IsSoundRow (row : Row) : Type 0 where
   pub bibliographic : AreLetters 3 row.bibliographic
   pub terminologic : (code : List ℕ) → row.terminologic ≡ Some code → AreLetters 3 code
   pub two_letters : (code : List ℕ) → row.two_letters ≡ Some code → AreLetters 2 code
 
+-- the code that a field gives, of those that may be empty, has this many letters
 option_is : (count : ℕ) (field : List ℕ) (given : Option (List ℕ)) (code : List ℕ) → code_or_none count field ≡ Some given → given ≡ Some code → AreLetters count code
 option_is count [] given code h is = cc
 option_is count (byte ∷ field) given code h is = by_read (code_of count (byte ∷ field)) refl
@@ -71,6 +74,7 @@ option_is count (byte ∷ field) given code h is = by_read (code_of count (byte 
         let one : s ≡ code = cc in
         letters_are count (subtag_of (byte ∷ field)) code (e ∙ ap (λ (l : List ℕ). Some l) one)
 
+-- the row of three fields that have their forms is sound; x, y and z are what is found for each
 from_is : (b t w : List ℕ) (x : Option (List ℕ)) (y z : Option (Option (List ℕ))) (row : Row) → code_of 3 b ≡ x → code_or_none 3 t ≡ y → code_or_none 2 w ≡ z
     → row_from x y z ≡ Some row → IsSoundRow row
 from_is b t w (Some x) (Some y) (Some z) row bx ty wz h =
@@ -84,9 +88,11 @@ from_is b t w None y z row bx ty wz h = cc
 from_is b t w (Some x) None z row bx ty wz h = cc
 from_is b t w (Some x) (Some y) None row bx ty wz h = cc
 
+-- the row of three fields that have their forms is sound
 pub row_is : (b t w : List ℕ) (row : Row) → row_of b t w ≡ Some row → IsSoundRow row
 row_is b t w row h = from_is b t w (code_of 3 b) (code_or_none 3 t) (code_or_none 2 w) row refl refl refl h
 
+-- at least two bytes are registered for a sound row
 registered_long : (row : Row) → IsSoundRow row → 2 ≤ length (registered_in row)
 registered_long row is = by_codes row.two_letters row.terminologic refl refl
   where
@@ -95,7 +101,7 @@ registered_long row is = by_codes row.two_letters row.terminologic refl refl
     by_codes None (Some t) two three = rw (two, three) (omega (arith, (is.terminologic t three).long))
     by_codes None None two three = rw (two, three) (omega (arith, is.bibliographic.long))
 
--- the codes of a row are codes
+-- the codes of a sound row are codes of a table
 pub are_codes : (row : Row) → IsSoundRow row → All IsCode (codes_in row)
 are_codes row is =
     let long = registered_long row is in
@@ -107,10 +113,11 @@ are_codes row is =
     by_code (Some t) e =
         All-cons IsCode (record { code = t; registered = registered_in row }) [] (is_code t (registered_in row) (is.terminologic t e) (registered_long row is)) (All-nil IsCode)
 
--- what holds of the codes of a row
+-- what is true of each code of a row is true of the bibliographic one
 pub holds_first : (P : Code → Type 0) (row : Row) → All P (codes_in row) → P (record { code = row.bibliographic; registered = registered_in row })
 holds_first P row all = All-head P (record { code = row.bibliographic; registered = registered_in row }) (code_if row.terminologic (registered_in row)) all
 
+-- what is true of each code of a row is true of the terminologic one, if there is one
 pub holds_second : (P : Code → Type 0) (row : Row) (code : List ℕ) → row.terminologic ≡ Some code → All P (codes_in row) → P (record { code = code; registered = registered_in row })
 holds_second P row code is all =
     All-head P (record { code = code; registered = registered_in row }) []

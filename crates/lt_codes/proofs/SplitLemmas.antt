@@ -12,69 +12,81 @@ use Rattle.lt_rows.specs.Splitting.{IsFreeOf}
 use Rattle.lt_codes.specs.Codes.{first_subtag}
 use Rattle.lt_codes.specs.Rows.{code_of, fields_of, is_range}
 
+-- lemmas on the first place of a byte
 module _ (byte : ℕ) where
+  -- b is another byte than that
   abbrev other : ℕ → Type 0
   other = λ b. b ≢ byte
 
-  -- the first one is after those that are none
+  -- behind a front that is free of the byte, it is first
   place : (front rest : List ℕ) → IsFreeOf byte front → position_or_len (λ b. b == byte) (front ++ byte ∷ rest) ≡ length front
   place [] rest free = rw (eq-eqb byte byte refl) refl
   place (b ∷ front) rest free = rw (ne_eqb b byte (All-head other b front free), place front rest (All-tail other b front free)) (omega arith)
 
+  -- in a text that is free of the byte, its place is the length
   place_none : (text : List ℕ) → IsFreeOf byte text → position_or_len (λ b. b == byte) text ≡ length text
   place_none [] free = refl
   place_none (b ∷ text) free = rw (ne_eqb b byte (All-head other b text free), place_none text (All-tail other b text free)) (omega arith)
 
+  -- of a front, a byte and a rest, the rest is left without the first two
   drop_past : (front rest : List ℕ) → drop (length front + 1) (front ++ byte ∷ rest) ≡ rest
   drop_past [] rest = refl
   drop_past (b ∷ front) rest =
       let next : length (b ∷ front) + 1 ≡ suc (length front + 1) = omega arith in
       ap (λ n. drop n ((b ∷ front) ++ byte ∷ rest)) next ∙ drop_past front rest
 
+  -- what is before the first such byte is a front that is free of it
   pub before_found : (text front rest : List ℕ) → IsFreeOf byte front → text ≡ front ++ byte ∷ rest → before_first (λ b. b == byte) text ≡ front
   before_found text front rest free is =
       ap (before_first (λ b. b == byte)) is ∙ ap (λ n. take n (front ++ byte ∷ rest)) (place front rest free)
       ∙ take-append-le (length front) front (byte ∷ rest) (omega arith) ∙ take_all (length front) front (omega arith)
 
+  -- what is behind the first such byte is the rest
   pub after_found : (text front rest : List ℕ) → IsFreeOf byte front → text ≡ front ++ byte ∷ rest → after_first (λ b. b == byte) text ≡ rest
   after_found text front rest free is =
       ap (after_first (λ b. b == byte)) is ∙ ap (λ n. drop (n + 1) (front ++ byte ∷ rest)) (place front rest free) ∙ drop_past front rest
 
+  -- before a byte that is not in the text is the whole text
   pub before_none : (text : List ℕ) → IsFreeOf byte text → before_first (λ b. b == byte) text ≡ text
   before_none text free = ap (λ n. take n text) (place_none text free) ∙ take_all (length text) text (omega arith)
 
+  -- behind a byte that is not in the text is nothing
   pub after_none : (text : List ℕ) → IsFreeOf byte text → after_first (λ b. b == byte) text ≡ []
   after_none text free = ap (λ n. drop (n + 1) text) (place_none text free) ∙ drop_all (length text + 1) text (omega arith)
 
--- a text with a hyphen, and one without
+-- a field with a hyphen (45) is a range exactly if both parts of it are codes of three letters
 pub range_found : (field first last : List ℕ) → IsFreeOf 45 first × (field ≡ first ++ 45 ∷ last) → is_range field ≡ (is_some (code_of 3 last) && is_some (code_of 3 first))
 range_found field first last split =
     ap (λ (l : List ℕ). is_some (code_of 3 l) && is_some (code_of 3 (before_first (λ byte. byte == 45) field))) (after_found 45 field first last split.0 split.1)
     ∙ ap (λ (l : List ℕ). is_some (code_of 3 last) && is_some (code_of 3 l)) (before_found 45 field first last split.0 split.1)
 
+-- a field without a hyphen (45) is no range
 pub range_none : (field : List ℕ) → IsFreeOf 45 field → is_range field ≡ false
 range_none field free = ap (λ (l : List ℕ). is_some (code_of 3 l) && is_some (code_of 3 (before_first (λ byte. byte == 45) field))) (after_none 45 field free)
 
+-- the first subtag of a text with a hyphen (45) is as long as what is before it
 pub first_found : (text first rest : List ℕ) → IsFreeOf 45 first × (text ≡ first ++ 45 ∷ rest) → length first ≡ length (first_subtag text)
 first_found text first rest split = sym (ap length (before_found 45 text first rest split.0 split.1))
 
+-- the first subtag of a text without a hyphen (45) is as long as the text
 pub first_none : (text : List ℕ) → IsFreeOf 45 text → length text ≡ length (first_subtag text)
 first_none text free = sym (ap length (before_none 45 text free))
 
 -- ---- fields
 
+-- no byte of a text without a vertical bar (124) ends a field
 bars : (text : List ℕ) → IsFreeOf 124 text → All (λ (byte : ℕ). (byte == 124) ≡ false) text
 bars text free = All-weaker (λ (byte : ℕ). byte ≢ 124) (λ (byte : ℕ). (byte == 124) ≡ false) (λ byte other. ne_eqb byte 124 other) text free
 
--- a field, and the bar after it
+-- a field in front of a vertical bar (124) is the first field, and those after the bar follow
 pub field_next : (rest field after : List ℕ) → IsFreeOf 124 field × (rest ≡ field ++ 124 ∷ after) → fields_of rest ≡ field ∷ fields_of after
 field_next rest field after split = ap fields_of split.1 ∙ slice_split_at (λ (byte : ℕ). byte == 124) field 124 after (bars field split.0) refl
 
--- the last field
+-- a text without a vertical bar (124) is one field
 pub field_last : (rest : List ℕ) → IsFreeOf 124 rest → fields_of rest ≡ rest ∷ []
 field_last rest free = slice_split_none (λ (byte : ℕ). byte == 124) rest (bars rest free)
 
--- there is a field
+-- a line has at least one field
 pub field_some : (rest : List ℕ) → fields_of rest ≡ [] → ⊥
 field_some rest none =
     let long = length-slice_split (λ (byte : ℕ). byte == 124) rest in
@@ -83,9 +95,11 @@ field_some rest none =
 
 -- ---- lines
 
+-- a text without a line feed (10), in front of one, is the first line, and those of a shorter text follow
 pub line_next : (text line after : List ℕ) → IsFreeOf 10 line × (text ≡ line ++ 10 ∷ after) → (lines_of text ≡ line ∷ lines_of after) × (length after < length text)
 line_next text line after split =
     (ap lines_of split.1 ∙ lines_of-ended line after split.0, omega (arith, ap length split.1, length-append line (10 ∷ after)))
 
+-- a text without a line feed (10), not empty, is one line
 pub line_last : (text : List ℕ) → IsFreeOf 10 text → (length text ≡ 0 → ⊥) → (lines_of text ≡ text ∷ lines_of []) × (0 < length text)
 line_last text free some = (lines_of-last text free (omega (arith, some)), omega (arith, some))

@@ -12,7 +12,7 @@ use Rattle.lt_codes.specs.declared.codes.Code.{Code}
 use Rattle.lt_codes.proofs.FindLemmas.{find_holds, find_passes}
 use Rattle.lt_codes.proofs.IndexLemmas.{code_long}
 
--- what is registered for a subtag has one letter less at most
+-- what is registered for a subtag is at most one byte shorter than it: three letters become at least two
 registered_long : (codes : List Code) (subtag : List ℕ) → All IsCode codes → length subtag ≤ length (registered_for codes subtag) + 1
 registered_long codes subtag each = by_found (found_in codes subtag) refl
   where
@@ -24,7 +24,7 @@ registered_long codes subtag each = by_found (found_in codes subtag) refl
         let long : length c.code ≡ length subtag = ap length same ∙ length-map subtag to_ascii_lowercase in
         rw is (omega (arith, long, code.long, code_long c code))
 
--- so has the text
+-- a text whose first subtag is replaced is at most one byte shorter
 pub replaced_long : (codes : List Code) (text : List ℕ) → All IsCode codes → length text ≤ length (registered_text codes text) + 1
 replaced_long codes text each =
     let first = first_subtag text in

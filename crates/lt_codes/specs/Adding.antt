@@ -8,14 +8,14 @@ use Rattle.lt_codes.specs.declared.faults.TableFaultKind.{TableFaultKind}
 use Rattle.lt_codes.specs.declared.faults.TableFaultKind.TheVariants as kinds
 use Rattle.lt_codes.specs.declared.rows.Row.{Row}
 
--- the codes of a row were added; or they don't agree with those before, or memory ran out
+-- the codes of a row were added to those before; or they don't agree with those, or memory ran out
 abbrev pub AddsRow : (before after : List Code) → Row → Result (Unit {0}) TableFaultKind → Type 0
 AddsRow before after row (Ok done) = All (Agrees before) (codes_in row) × (after ≡ before ++ codes_in row)
 AddsRow before after row (Err kinds.RepeatedCode) = All (Agrees before) (codes_in row) → ⊥
 AddsRow before after row (Err kinds.OutOfMemory) = Unit {0}
 AddsRow before after row (Err kind) = ⊥
 
--- the codes of a line were added, or the line is refused
+-- the codes of a line were added to those before, or the line is refused
 abbrev pub AddsCodes : (before after : List Code) → List ℕ → Result (Unit {0}) TableFaultKind → Type 0
 AddsCodes before after line (Ok done) = (more : List Code) × AddsLine before line (Ok more) × (after ≡ before ++ more)
 AddsCodes before after line (Err kind) = AddsLine before line (Err kind)

@@ -11,7 +11,7 @@ use Rattle.lt_codes.specs.declared.codes.Code.{Code}
 abbrev pub letter_of : ℕ → Option ℕ
 letter_of byte = if is_ascii_alphabetic byte then Some (to_ascii_lowercase byte - 97) else None
 
--- the number of three letters, by those of each
+-- the number of three letters, by the numbers of each: as three digits to the base 26
 abbrev pub number_from : Option ℕ → Option ℕ → Option ℕ → Option ℕ
 number_from (Some a) (Some b) (Some c) = Some ((a * 26 + b) * 26 + c)
 number_from _ _ _ = None

@@ -14,23 +14,23 @@ use Rattle.lt_codes.specs.declared.faults.TableFaultKind.{TableFaultKind}
 use Rattle.lt_codes.specs.declared.faults.TableFaultKind.TheVariants as kinds
 use Rattle.lt_codes.specs.declared.reading.Whole.{Whole}
 
--- a read failed, and the fault names the line up to which bytes were read
+-- a read failed, and the fault names the line up to which bytes were read; `before` and `after` are the device
 pub record FailsRead {I : Type 0} (before after : Device I) (read : List ℕ) (fault : TableFault) : Type 0 where
   pub kind : fault.kind ≡ kinds.Read
   pub failed : HasFailed before after
   pub line : fault.line ≡ line_reached read
 
--- these are all the bytes of a reader, or more than a table may have
+-- the bytes that were read are all of the reader, or more than a table may have
 abbrev pub AreAll : {I : Type 0} → (I → Option (List ℕ)) → (after : Device I) → (read : List ℕ) → Type 0
 AreAll remaining after read = IsAtEnd (remaining (inner_of after)) ⊎ (longest_table < length read)
 
--- no read failed, and the bytes are no table, or memory ran out
+-- no read failed, and the bytes that were read are no table, or memory ran out
 pub record RefusesRead {I : Type 0} (remaining : I → Option (List ℕ)) (before after : Device I) (read : List ℕ)
     (fault : TableFault) : Type 0 where
   pub same : failures_of after ≡ failures_of before
   pub refuses : (fault.kind ≡ kinds.OutOfMemory) ⊎ (AreAll remaining after read × RefusesTable read fault)
 
--- these are all the bytes of a reader, and they are a table of these codes
+-- the bytes that were read are all of the reader, and they are a table of these codes
 pub record HoldsTable {I : Type 0} (remaining : I → Option (List ℕ)) (before after : Device I) (read : List ℕ)
     (codes : List Code) : Type 0 where
   pub end : IsAtEnd (remaining (inner_of after))
@@ -44,7 +44,8 @@ EndsTable remaining before after read (Ok codes) = HoldsTable remaining before a
 EndsTable remaining before after read (Err fault) =
     FailsRead before after read fault ⊎ RefusesRead remaining before after read fault
 
--- a table was read from a reader
+-- a table was read from a device, `before` and `after`, of whose own reader `remaining` tells what it has still to
+-- give
 pub record ReadsTable {I : Type 0} (remaining : I → Option (List ℕ)) (before after : Device I)
     (result : Result (List Code) TableFault) : Type 0 where
   pub read : List ℕ

@@ -43,13 +43,13 @@ is_range field =
 abbrev pub is_empty : List ℕ → Bool
 is_empty field = length field == 0
 
--- the row of these codes, if each field has its form
+-- the row of what was read in its three fields; None if one of them lacks its form
 abbrev pub row_from : Option (List ℕ) → Option (Option (List ℕ)) → Option (Option (List ℕ)) → Option Row
 row_from (Some bibliographic) (Some terminologic) (Some two_letters) =
     Some (record { bibliographic = bibliographic; terminologic = terminologic; two_letters = two_letters })
 row_from _ _ _ = None
 
--- the row of these fields, if each has its form
+-- the row of these three fields; None if one of them lacks its form
 abbrev pub row_of : (bibliographic terminologic two_letters : List ℕ) → Option Row
 row_of b t w = row_from (code_of 3 b) (code_or_none 3 t) (code_or_none 2 w)
 

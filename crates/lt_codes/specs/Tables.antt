@@ -25,7 +25,8 @@ pub record IsRow (line : List ℕ) (codes : Option (List Code)) : Type 0 where
 abbrev pub Agrees : List Code → Code → Type 0
 Agrees before c = IfSome (found_in before c.code) (λ other. other.registered ≡ c.registered)
 
--- what a line adds to the codes before it, or why it is refused; running out of memory aside
+-- what a line adds to the codes before it, or the kind of fault for which it is refused; OutOfMemory may be answered
+-- of any line
 abbrev pub AddsLine : List Code → List ℕ → Result (List Code) TableFaultKind → Type 0
 AddsLine before line (Ok codes) = IsRow line (Some codes) × All (Agrees before) codes
 AddsLine before line (Err kinds.NotUtf8) = ¬ (IsUtf8 line)
@@ -37,7 +38,8 @@ AddsLine before line (Err kinds.TableTooLong) = ⊥
 AddsLine before line (Err kinds.Read) = ⊥
 AddsLine before line (Err kinds.OutOfMemory) = Unit {0}
 
--- what these lines make of the codes before them; a carriage return that ends a line is no part of it
+-- reading these lines, each of which adds its codes, makes `codes` of the codes before them; a carriage return (13)
+-- that ends a line is no part of it
 abbrev pub AddLines : List Code → List (List ℕ) → List Code → Type 0
 AddLines before [] codes = codes ≡ before
 AddLines before (line ∷ lines) codes =
@@ -74,7 +76,7 @@ pub record RefusesLine (text : List ℕ) (fault : TableFault) : Type 0 where
 abbrev pub line_reached : List ℕ → ℕ
 line_reached bytes = count_by (λ byte. byte == 10) bytes + 1
 
--- a text is too long
+-- a text is longer than a table may be, and the fault names the last line that it reaches
 pub record IsTooLong (text : List ℕ) (fault : TableFault) : Type 0 where
   pub long : longest_table < length text
   pub kind : fault.kind ≡ kinds.TableTooLong

@@ -17,7 +17,7 @@ pub struct Code {
     pub registered: Subtag,
 }
 
-/// How many numbers three letters have.
+/// How many numbers three letters have: 26 to the 3.
 const NUMBERS: usize = 17_576;
 
 /// A table of codes, in the order of its file.
@@ -52,7 +52,8 @@ fn letter_of(byte: u8) -> Option<usize>
     }
 }
 
-/// The number of a text of three letters, whatever their case. None of any other text.
+/// The number of a text of three letters, whatever their case: the three digits, to the base 26, that the letters are.
+/// None of any other text.
 fn number_of(text: &[u8]) -> Option<usize>
     ensures number { result ≡ spec.number_of text.now }
     ensures small { IfSome result (λ number. number < 17576) }
@@ -72,7 +73,7 @@ impl CodeTable {
     ghost use Rattle.lt_codes.specs.Codes.{found_in, registered_text};
     ghost use Rattle.lt_codes.specs.Index.{IsCode, number_of};
 
-    /// A table without codes.
+    /// A table without codes. Refused where memory runs out.
     pub(crate) fn new(alloc: Global) -> Result<CodeTable, AllocError>
         ensures { IfOk result (λ table. table ≡ []) }
     {
@@ -89,7 +90,7 @@ impl CodeTable {
         let _ = &self.codes;
     }
 
-    /// Adds a code after the others, with the subtag that is registered for it.
+    /// Adds a code after the others, with the subtag that is registered for it. Refused where memory runs out.
     pub(crate) fn push(&mut self, code: Subtag, registered: Subtag) -> Result<(), AllocError>
         requires { IsCode (record { code = code; registered = registered }) }
         ensures { OnOk result (self.new ≡ self.old ++ record { code = code; registered = registered } ∷ []) }
@@ -97,6 +98,7 @@ impl CodeTable {
         let number = number_of(code.bytes());
         self.codes.push(Code { code, registered })?;
         if let Some(number) = number {
+            // The first of codes that are the same keeps its place.
             if self.places[number] == 0 {
                 self.places[number] = self.codes.len();
             }
@@ -104,7 +106,8 @@ impl CodeTable {
         Ok(())
     }
 
-    /// The subtag that is registered for a code, whatever the case of its letters. None if the text is no code of the table.
+    /// The subtag that is registered for a code, whatever the case of its letters. None if the text is no code of the
+    /// table.
     pub(crate) fn registered(&self, text: &[u8]) -> Option<&Subtag>
         ensures { option_map (λ subtag. subtag.now) result ≡ option_map (λ c. c.registered) (found_in self.now text.now) }
     {

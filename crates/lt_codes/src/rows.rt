@@ -62,7 +62,7 @@ fn is_alphabetic(bytes: &[u8]) -> bool
     bytes.iter().all(|byte| byte.is_ascii_lowercase())
 }
 
-/// Whether a subtag is `count` letters.
+/// Whether a subtag is `count` lower-case letters.
 fn are_letters(subtag: &Subtag, count: usize) -> bool
     ensures { result ≡ (shapes.is_alphabetic subtag.now && (length subtag.now == count)) }
 {
@@ -79,7 +79,8 @@ fn code_of(field: &[u8], count: usize) -> Option<Subtag>
     }
 }
 
-/// The code that a field is, within Some, or Some(None) if the field is empty. None if it is anything but `count` letters.
+/// The code that a field is, within Some, or Some(None) if the field is empty. None if it is anything else but `count`
+/// letters.
 fn code_or_none(field: &[u8], count: usize) -> Option<Option<Subtag>>
     ensures { result ≡ spec.code_or_none count field.now }
 {

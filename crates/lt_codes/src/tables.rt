@@ -18,7 +18,7 @@ use std::alloc::Global;
 /// The most bytes of a table: 1 MiB.
 pub(crate) const LONGEST_TABLE: usize = 1_048_576;
 
-/// Whether the table has no other subtag for a code than `registered`.
+/// Whether the table has `registered` for a code, or doesn't have the code.
 fn agrees(table: &CodeTable, code: &Subtag, registered: &Subtag) -> bool
     ensures { IsTrue result ↔ Agrees table.now (record { code = code.now; registered = registered.now }) }
 {
@@ -36,7 +36,8 @@ pub(crate) fn line_reached(bytes: &[u8]) -> u64
     feeds as u64 + 1
 }
 
-/// Adds the codes of a row. Refused with `RepeatedCode` if the table has another subtag for one of them.
+/// Adds the codes of a row. Refused with `RepeatedCode` if the table has another subtag for one of them, or where
+/// memory runs out.
 fn add_row(table: &mut CodeTable, row: Row) -> Result<(), TableFaultKind>
     requires { All IsCode (codes_in row) }
     ensures { AddsRow table.old table.new row result }
@@ -63,7 +64,8 @@ fn add_row(table: &mut CodeTable, row: Row) -> Result<(), TableFaultKind>
     Ok(())
 }
 
-/// Adds the codes of a line, or nothing if it is that of a range. Refused with the first fault of the line.
+/// Adds the codes of a line, or nothing if it is that of a range. Refused with the first fault of the line, or where
+/// memory runs out.
 fn add_line(table: &mut CodeTable, line: &[u8]) -> Result<(), TableFaultKind>
     ensures { AddsCodes table.old table.new line.now result }
 {

@@ -17,7 +17,8 @@ use Rattle.lt_jar.specs.declared.sources.JarSource.{JarSource}
 use Rattle.lt_jar.specs.Reading.{rest_of}
 use Rattle.std.proofs.lemmas.List.{length-map}
 
--- an element of two lists is one of the first, or one of the second
+-- where `y` is in two lists, one after the other: in `xs`, with `rest` behind it there, or in `ys`, with `more` before
+-- it there
 where_in : {A : Type 0} (xs ys front : List A) (y : A) (after : List A) → xs ++ ys ≡ front ++ y ∷ after
     → ((rest : List A) × (xs ≡ front ++ y ∷ rest)) ⊎ ((more : List A) × (front ≡ xs ++ more) × (ys ≡ more ++ y ∷ after))
 where_in [] ys front y after e = inr (front, refl, e)
@@ -28,7 +29,8 @@ where_in (x ∷ xs) ys (b ∷ front) y after e =
       | inr behind ↦ inr (behind.0, cc (behind.1, e), behind.2)
     ]
 
--- whole lines with which nothing is wrong, and these are their records: so many, and the next line has this number
+-- These whole lines, at the front of a text, have no fault, and each of their records is ended: there are `earlier` of
+-- them, and the next line has the number `line`.
 pub record Behind (lines : List (List ℕ)) (records : List (List Field)) (earlier line : ℕ) : Type 0 where
   pub each : AllByRecursion IsOneLine lines
   pub ended : AreEnded lines records
@@ -36,6 +38,7 @@ pub record Behind (lines : List (List ℕ)) (records : List (List Field)) (earli
   pub counted : earlier ≡ length records
   pub line_is : line ≡ length lines + 1
 
+-- no lines, no records, and the next line is line 1
 pub behind_none : Behind [] [] 0 1
 behind_none = record {
   each = tt;
@@ -45,10 +48,12 @@ behind_none = record {
   line_is = refl;
 }
 
+-- the lines of a text that begins with lines as in `Behind`: they, and those of the rest
 pub lines_behind : {lines : List (List ℕ)} {records : List (List Field)} {earlier line : ℕ} {text : List ℕ} (rest : List ℕ) → Behind lines records earlier line → text ≡ whole_lines lines ++ rest → lines_of text ≡ lines ++ lines_of rest
 lines_behind {lines} rest front bytes = ap lines_of bytes ∙ lines_of-whole lines rest front.each
 
--- a line is wrong after lines whose records ended if it is after this many records
+-- a line has a fault behind lines as in `Behind` exactly if it has that fault in a text that comes after `earlier`
+-- records
 wrong_as : {lines : List (List ℕ)} {records : List (List Field)} {earlier at : ℕ} → Behind lines records earlier at → (before : List (List ℕ)) (line : List ℕ) (fault : Fault)
     → (IsWrong earlier fault before line → IsWrong 0 fault (lines ++ before) line) × (IsWrong 0 fault (lines ++ before) line → IsWrong earlier fault before line)
 wrong_as {lines} {records} {earlier} front before line =
@@ -61,6 +66,8 @@ wrong_as {lines} {records} {earlier} front before line =
     (λ w. w, λ w. w) (λ w. w, λ w. w) (λ w. (w.0, inside ∙ w.1), λ w. (w.0, sym inside ∙ w.1)) (λ w. w, λ w. w)
     (λ w. omega (arith, w, begins, long, front.counted), λ w. omega (arith, w, begins, long, front.counted))
 
+-- what is wrong, at the line `at`, with a text that begins with lines as in `Behind` is wrong with the rest, at its
+-- line k
 pub wrong_is_behind : {lines : List (List ℕ)} {records : List (List Field)} {earlier line : ℕ} {text rest : List ℕ} {fault : Fault} {at : ℕ} → Behind lines records earlier line → text ≡ whole_lines lines ++ rest → IsWrongAt 0 text fault at
     → (k : ℕ) × (at + 1 ≡ line + k) × IsWrongAt earlier rest fault k
 wrong_is_behind {lines} {rest = rest} {fault = fault} {at} front bytes wrong =
@@ -75,9 +82,11 @@ wrong_is_behind {lines} {rest = rest} {fault = fault} {at} front bytes wrong =
           )
     ]
 
+-- a text that begins with lines as in `Behind` is sound if its rest is, which comes after `earlier` records
 pub sound_on : {lines : List (List ℕ)} {records : List (List Field)} {earlier line : ℕ} {text rest : List ℕ} → Behind lines records earlier line → text ≡ whole_lines lines ++ rest → IsSound earlier rest → IsSound 0 text
 sound_on front bytes sound = λ fault number wrong. let there = wrong_is_behind front bytes wrong in sound fault there.0 there.2
 
+-- the fault of the rest behind lines as in `Behind` is that of the text, at a number that those lines raise
 pub fault_on : {lines : List (List ℕ)} {records : List (List Field)} {earlier line : ℕ} {text rest : List ℕ} {fault : Fault} {number at : ℕ} → Behind lines records earlier line → text ≡ whole_lines lines ++ rest
     → IsTheFault earlier rest fault number → at + 1 ≡ line + number → IsTheFault 0 text fault at
 fault_on {lines} {earlier = earlier} {rest = rest} {fault = fault} {number} {at} front bytes is count =
@@ -98,6 +107,7 @@ fault_on {lines} {earlier = earlier} {rest = rest} {fault = fault} {number} {at}
           is.first other (subst (IsWrongAt earlier rest other) same there.2);
     }
 
+-- a line that is reached in the rest behind lines as in `Behind` is reached in the text
 pub reached_on : {lines : List (List ℕ)} {records : List (List Field)} {earlier line : ℕ} {text rest : List ℕ} {number at : ℕ} → Behind lines records earlier line → text ≡ whole_lines lines ++ rest
     → IsLineReached earlier rest number → at + 1 ≡ line + number → IsLineReached 0 text at
 reached_on {lines} {rest = rest} front bytes is count = record {
@@ -106,6 +116,7 @@ reached_on {lines} {rest = rest} front bytes is count = record {
   clean = λ other here wrong. let there = wrong_is_behind front bytes wrong in omega (arith, there.1, count, is.clean other there.0 there.2);
 }
 
+-- the records of ended groups in two lists of lines, one list after the other
 ended-append : (xs ys : List (List ℕ)) (first second : List (List Field)) → AreEnded xs first → AreEnded ys second → AreEnded (xs ++ ys) (first ++ second)
 ended-append xs ys first second ended more = record {
   groups = ended.groups ++ more.groups;
@@ -113,12 +124,12 @@ ended-append xs ys first second ended more = record {
   records_are = cc (records_of-append ended.groups more.groups);
 }
 
--- a group without a field for each separator
+-- separators alone are the lines of groups without a field
 empty_groups : (skipped : List Line) → AllByRecursion (λ line. line ≡ Separator) skipped → (groups : List (List Written)) × (skipped ≡ flat_map lines_of_ended groups) × (records_of groups ≡ [])
 empty_groups [] each = ([], refl, refl)
 empty_groups (line ∷ skipped) each = let rest = empty_groups skipped each.1 in ([] ∷ rest.0, cc (each.0, rest.1), rest.2)
 
--- the lines of one record
+-- lines whose last is the separator that ends a record are the lines of that one record
 one_ended : (lines : List (List ℕ)) (fields : List Field) → EndsRecord lines fields → AreEnded lines (fields ∷ [])
 one_ended lines fields ends =
     let gathers = ends.gathers in
@@ -130,7 +141,7 @@ one_ended lines fields ends =
       records_are = cc (rest_some fields ends.some, ap rest_of gathers.fields_are, finished-going_of [] gathers.group, empty.2, records_of-append empty.0 (gathers.group ∷ []));
     }
 
--- a record more
+-- one record more is cut from the rest behind lines as in `Behind`: its lines join those, and it joins their records
 pub behind_more : {lines more : List (List ℕ)} {records : List (List Field)} {fields : List Field} {earlier line earlier' line' : ℕ} {text rest : List ℕ} → Behind lines records earlier line → CutsRecord earlier text fields more rest
     → earlier' ≡ earlier + 1 → line' ≡ line + length more → Behind (lines ++ more) (records ++ fields ∷ []) earlier' line'
 behind_more {lines} {more} {records} {fields} front cuts one longer = record {
@@ -141,7 +152,7 @@ behind_more {lines} {more} {records} {fields} front cuts one longer = record {
   line_is = omega (arith, longer, front.line_is, length-append lines more);
 }
 
--- the records of a text after whole lines
+-- a text that begins with lines as in `Behind` has their records, and then those of the rest
 pub records_on : {lines : List (List ℕ)} {records more : List (List Field)} {earlier line : ℕ} {text rest : List ℕ} → Behind lines records earlier line → text ≡ whole_lines lines ++ rest → HasRecords rest more
     → HasRecords text (records ++ more)
 records_on {lines} {records} {more} {rest = rest} front bytes has =
@@ -153,22 +164,24 @@ records_on {lines} {records} {more} {rest = rest} front bytes has =
       all = cc (records_of-append ended.groups (has.ended ++ has.last ∷ []), append_assoc ended.groups has.ended (has.last ∷ []));
     }
 
+-- lines in which a record begins are at least one line
 pub some_lines : (lines : List (List ℕ)) → 1 ≤ begun false (nonblank lines) → 1 ≤ length lines
 some_lines [] some = omega (arith, some)
 some_lines (line ∷ lines) some = omega arith
 
+-- what a source has lent is lines as in `Behind`, before the bytes that it keeps
 front_of : {bytes : List ℕ} {records : List (List Field)} {s : JarSource} → (lent : HasLent bytes records s) → Behind lent.lines records (lent_by s) (line_of_kept s)
 front_of lent = record { each = lent.each; ended = lent.ended; sound = lent.sound; counted = lent.counted; line_is = lent.line }
 
--- the bytes so far and those of a call
+-- the bytes so far and those of a call are the lines that were lent, the bytes that were kept, and those read
 text_is : {bytes : List ℕ} {records : List (List Field)} {s : JarSource} (read : List ℕ) → (lent : HasLent bytes records s) → bytes ++ read ≡ whole_lines lent.lines ++ (kept_in s ++ read)
 text_is {s} read lent = ap (λ l. l ++ read) lent.bytes_are ∙ append_assoc (whole_lines lent.lines) (kept_in s) read
 
--- At the start nothing was lent.
+-- nothing is lent at the start
 pub lent_start : {s : JarSource} → IsFresh s → HasLent [] [] s
 lent_start fresh = record { lines = []; each = tt; bytes_are = sym fresh.kept; ended = behind_none.ended; sound = behind_none.sound; counted = fresh.lent; line = fresh.line }
 
--- A record more was lent, which a separator ends.
+-- after a call that lends a record that a separator ends, one record more is lent
 pub lent_more : {R : Type 0} {bytes read : List ℕ} {records : List (List Field)} {old new : JarSource} {before after : Device R} {reads : ℕ} → HasLent bytes records old → LendsEnded old new before after read reads → lent_by new ≡ lent_by old + 1
     → HasLent (bytes ++ read) (records ++ record_in new ∷ []) new
 lent_more {bytes} {read} {old = old} {new} lent lends count =
@@ -183,12 +196,13 @@ lent_more {bytes} {read} {old = old} {new} lent lends count =
       line = front.line_is;
     }
 
--- The text ended: these are all its records, and nothing is wrong with it.
+-- the text ended: the records that were lent before, and `more`, are all that it has, and nothing is wrong with it
 pub lent_last : {R : Type 0} {remaining : R → Option (List ℕ)} {bytes read : List ℕ} {records more : List (List Field)} {old new : JarSource} {after : Device R} → HasLent bytes records old
     → LendsLast remaining old new after read more → HasRecords (bytes ++ read) (records ++ more) × IsSound 0 (bytes ++ read)
 lent_last {read = read} lent lends = (records_on (front_of lent) (text_is read lent) lends.has, sound_on (front_of lent) (text_is read lent) lends.sound)
 
--- The fault of a call is that of the whole text.
+-- the fault that a call finds in the bytes since the last record is the fault of the whole text, at the number that
+-- the source tells
 pub lent_fault : {bytes : List ℕ} {records : List (List Field)} {old : JarSource} {fault : Fault} {number : ℕ} {ended : Type 0} (read : List ℕ) (new : JarSource) → HasLent bytes records old
     → HoldsOfWhole (λ text. IsTheFault (lent_by old) text fault number) ended (kept_in old ++ read) → line_of_kept new + 1 ≡ line_of_kept old + number
     → HoldsOfWhole (λ text. IsTheFault 0 text fault (line_of_kept new)) ended (bytes ++ read)
@@ -200,12 +214,12 @@ lent_fault {bytes} {old = old} read new lent is line =
       | inr over ↦ inr (over.0, fault_on (front_of lent) (text_is read lent) over.1 line)
     ]
 
--- A line that a call reached is one of the whole text.
+-- the line that a call reached, counted from the last record, is a line that is reached in the whole text
 pub lent_reached : {bytes : List ℕ} {records : List (List Field)} {old : JarSource} {number : ℕ} (read : List ℕ) (new : JarSource) → HasLent bytes records old → IsLineReached (lent_by old) (kept_in old ++ read) number
     → line_of_kept new + 1 ≡ line_of_kept old + number → IsLineReached 0 (bytes ++ read) (line_of_kept new)
 lent_reached read new lent is line = reached_on (front_of lent) (text_is read lent) is line
 
--- Where a call broke off, the whole text does.
+-- where the bytes since the last record are cut short, the whole text breaks off, in the same line
 pub lent_cut : {bytes : List ℕ} {records : List (List Field)} {old : JarSource} {number : ℕ} (read : List ℕ) (new : JarSource) → HasLent bytes records old → IsCutShort (lent_by old) (kept_in old ++ read) number
     → line_of_kept new + 1 ≡ line_of_kept old + number → BreaksOff 0 (bytes ++ read) (line_of_kept new)
 lent_cut {bytes} {records} {old} read new lent cut line = record {

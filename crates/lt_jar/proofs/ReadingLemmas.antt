@@ -19,7 +19,8 @@ use Rattle.lt_jar.specs.declared.faults.JarFaultKind.TheVariants as kinds
 use Rattle.lt_jar.specs.declared.drafts.Progress.TheVariants as progress
 use Rattle.lt_jar.proofs.TurnLemmas.{each-append, last_some, line_ends, lines_of-last_line, lines_of-whole, lines_of-whole_lines, ran_on, rest_some, step_first, steps-err, whole-append, whole_joined}
 
--- what the last line leaves
+-- a last line that is taken, in a reading where no record has ended: the records at the end of the text are the one
+-- record of the fields `new`, or none
 pub last_taken : (earlier : ℕ) (old new : List Field) (line : List ℕ) (p : Progress) → take_line earlier old line ≡ Ok (taken_in p new)
     → (going : Going) × (on_going earlier (going_on old) line ≡ Ok going) × (finished going ≡ rest_of new)
 last_taken earlier old new line progress.GoesOn said = (record { records = []; fields = new }, step_first earlier old line (Ok (GoesOn new)) said, refl)
@@ -27,7 +28,7 @@ last_taken earlier old new line progress.Ends said =
     let ends = line_ends earlier old new line said in
     (record { records = new ∷ []; fields = [] }, step_first earlier old line (Ok (Ends new)) said, sym (rest_some new (λ none. ends.2 (sym ends.0 ∙ none))))
 
--- lines more
+-- where lines run without a fault from a reading, the text is read that many lines further
 read_more_lines : (earlier : ℕ) (text : List ℕ) (number : ℕ) (lines left : List (List ℕ)) (going new : Going) → HasRead earlier text number (lines ++ left) going
     → steps earlier (Ok going) lines ≡ Ok new → HasRead earlier text (number + length lines) left new
 read_more_lines earlier text number [] left going new read ran = let same : going ≡ new = cc in rw (add-zero, ← same) read
@@ -37,7 +38,7 @@ read_more_lines earlier text number (line ∷ lines) left going new read ran =
     (λ mid is found. subst (λ n. HasRead earlier text n left new) count (read_more_lines earlier text (number + 1) lines left mid new found (ap (λ r. steps earlier r lines) (sym is) ∙ ran)))
     (λ fault is found. let no = sym (steps-err earlier fault lines) ∙ ap (λ r. steps earlier r lines) (sym is) ∙ ran in cc)
 
--- all lines of a text up to a rest
+-- the whole lines at the front of a text, which run without a fault: the text is read up to its rest
 pub read_lines : (earlier : ℕ) (text : List ℕ) (lines : List (List ℕ)) (rest : List ℕ) (going : Going) → earlier ≤ most_records → AllByRecursion IsOneLine lines → text ≡ whole_lines lines ++ rest
     → steps earlier (going_on []) lines ≡ Ok going → HasRead earlier text (length lines) (lines_of rest) going
 read_lines earlier text lines rest going few each bytes ran =
@@ -45,12 +46,13 @@ read_lines earlier text lines rest going few each bytes ran =
     let from = subst (λ l. HasRead earlier text 0 l start) cut (read_none earlier text few) in
     subst (λ n. HasRead earlier text n (lines_of rest) going) (zero-add (length lines)) (read_more_lines earlier text 0 lines (lines_of rest) start going from ran)
 
+-- groups that have ended, but make no record, have no lines but separators
 all_separators : (ended : List (List Written)) → [] ≡ records_of ended → AllByRecursion (λ line. line ≡ Separator) (flat_map lines_of_ended ended)
 all_separators [] none = tt
 all_separators ([] ∷ ended) none = (refl, all_separators ended none)
 all_separators ((field ∷ group) ∷ ended) none = cc
 
--- what lines that ran gather, and that nothing is wrong with them
+-- lines that run without a fault are groups that leave this reading, and nothing is wrong with them
 pub lines_ran : (earlier : ℕ) (lines : List (List ℕ)) (going : Going) → earlier ≤ most_records → AllByRecursion IsOneLine lines → steps earlier (going_on []) lines ≡ Ok going
     → Leaves (nonblank lines) going × IsSound earlier (whole_lines lines)
 lines_ran earlier lines going few each ran =
@@ -58,13 +60,15 @@ lines_ran earlier lines going few each ran =
     let before : read.before ≡ lines = sym (read.all ∙ append-nil read.before) ∙ lines_of-whole_lines lines each in
     (subst (λ l. Leaves (nonblank l) going) before read.leaves, (records_at_end earlier (whole_lines lines) (length lines) going read).1)
 
--- these lines at the front of a text ran, and left these fields
+-- these whole lines at the front of a text run without a fault and end no record: `fields` are those of the record
+-- that goes on, and `rest` comes after the lines
 pub record Ran (earlier : ℕ) (text : List ℕ) (lines : List (List ℕ)) (rest : List ℕ) (fields : List Field) : Type 0 where
   pub few : earlier ≤ most_records
   pub each : AllByRecursion IsOneLine lines
   pub bytes : text ≡ whole_lines lines ++ rest
   pub ran : steps earlier (going_on []) lines ≡ going_on fields
 
+-- lines that ran at the front of a text (`Ran`), and more that run in the bytes `kept` after them: all of them ran
 ran_more : {earlier : ℕ} {text kept : List ℕ} {lines : List (List ℕ)} {fields new : List Field} (more : List (List ℕ)) (rest : List ℕ) → Ran earlier text lines kept fields → AllByRecursion IsOneLine more
     → kept ≡ whole_lines more ++ rest → steps earlier (going_on fields) more ≡ going_on new → Ran earlier text (lines ++ more) rest new
 ran_more {earlier} {text} {kept} {lines} {fields} more rest r each bytes ran = record {
@@ -74,9 +78,11 @@ ran_more {earlier} {text} {kept} {lines} {fields} more rest r each bytes ran = r
   ran = ran_on earlier (going_on []) lines more fields _ r.ran ran;
 }
 
+-- a text is read up to the rest behind lines that ran (`Ran`); `left` are the lines of the rest
 read_ran : {earlier : ℕ} {text rest : List ℕ} {lines left : List (List ℕ)} {fields : List Field} → Ran earlier text lines rest fields → lines_of rest ≡ left → HasRead earlier text (length lines) left (record { records = []; fields = fields })
 read_ran {earlier} {text} {rest} {lines} r cut = rw (← cut) (read_lines earlier text lines rest _ r.few r.each r.bytes r.ran)
 
+-- lines that ran (`Ran`) are separators and then the lines of the fields that they leave
 pub lines_gather : {earlier : ℕ} {text rest : List ℕ} {lines : List (List ℕ)} {fields : List Field} → Ran earlier text lines rest fields → Gathers lines fields
 lines_gather {earlier} {lines = lines} r =
     let leaves = (lines_ran earlier lines _ r.few r.each r.ran).0 in
@@ -88,6 +94,7 @@ lines_gather {earlier} {lines = lines} r =
       fields_are = ap (λ (g : Going). g.fields) leaves.going_is;
     }
 
+-- a text of lines that ran (`Ran`) and a rest without a line feed, which is not too long, is cut short in the rest
 pub cut_short : {earlier : ℕ} {text rest : List ℕ} {lines : List (List ℕ)} {fields : List Field} → Ran earlier text lines rest fields → IsOneLine rest → length rest ≤ longest_line → IsCutShort earlier text (length lines + 1)
 cut_short {earlier} {rest = rest} {lines} {fields} r one short = record {
   lines = lines;
@@ -102,21 +109,22 @@ cut_short {earlier} {rest = rest} {lines} {fields} r one short = record {
   counted = refl;
 }
 
--- what is said of a line is a fault of the format, or running out of memory
+-- where the kind of fault that was answered is one of the format, it is the fault that is said of the line
 pub said_fault : {A : Type 0} (kind : JarFaultKind) (said : Result A Fault) (fault : Fault) → IsSaid kind said → fault_in kind ≡ Some fault → said ≡ Err fault
 said_fault {A} kind said fault (inl memory) is = let no : (let o : Option Fault = None in o) ≡ Some fault = ap fault_in (sym memory) ∙ is in cc
 said_fault {A} kind said fault (inr found) is = cc
 
+-- the kind of fault that is answered of a line is one of the format or OutOfMemory, and no other
 pub said_no_other : {A : Type 0} (kind : JarFaultKind) (said : Result A Fault) → IsSaid kind said → fault_in kind ≡ None → kind ≢ kinds.OutOfMemory → ⊥
 said_no_other kind said (inl memory) none other = other memory
 said_no_other kind said (inr found) none other = cc
 
--- what holds of the whole text holds of the bytes that are read
+-- what holds of the whole text holds of the bytes that are read of it
 pub holds_here : (P : List ℕ → Type 0) (ended : Type 0) (bytes : List ℕ) → HoldsOfWhole P ended bytes → P bytes
 holds_here P ended bytes (inl each) = subst P (append-nil bytes) (each [])
 holds_here P ended bytes (inr over) = over.1
 
--- the first line of the rest is wrong
+-- where the first line behind lines that run is refused with a fault of the format, that is the fault of the text
 pub fault_told : {earlier : ℕ} {text rest : List ℕ} {lines : List (List ℕ)} {fields : List Field} {kind : JarFaultKind} (fault : Fault) → Ran earlier text lines rest fields → RefusesFirst earlier fields rest kind
     → fault_in kind ≡ Some fault → IsTheFault earlier text fault (length lines + 1)
 fault_told {earlier} {text} {lines = lines} {fields} {kind} fault r first is =
@@ -124,7 +132,7 @@ fault_told {earlier} {text} {lines = lines} {fields} {kind} fault r first is =
     (step_first earlier fields first.line _ (said_fault kind (take_line earlier fields first.line) fault first.said is))
     (read_step earlier text (length lines) _ first.line first.after (read_ran r first.cut))
 
--- and it is reached
+-- where the first line behind lines that run is refused, it is a line that is reached
 pub reached_told : {earlier : ℕ} {text rest : List ℕ} {lines : List (List ℕ)} {fields : List Field} {kind : JarFaultKind} → Ran earlier text lines rest fields → RefusesFirst earlier fields rest kind
     → IsLineReached earlier text (length lines + 1)
 reached_told {earlier} {text} {lines = lines} r first =
@@ -135,14 +143,15 @@ reached_told {earlier} {text} {lines = lines} r first =
       clean = λ other at wrong. omega (arith, read.clean other at wrong);
     }
 
--- so far the engine went over these lines of all the bytes, of which this rest is left
+-- Of the bytes `all`, which come after `earlier` records and begin in the line `start`, the engine has gone over whole
+-- lines, which ended no record, and keeps the front of a line; `rest` is not yet handed on to it.
 pub record Runs (earlier : ℕ) (all rest : List ℕ) (start : ℕ) (engine : Engine) : Type 0 where
   pub lines : List (List ℕ)
   pub ran : Ran earlier all lines (engine.partial.items ++ rest) (fields_in engine)
   pub line : engine.line ≡ start + length lines
   pub ended : engine.ended ≡ earlier
 
--- all of the rest is taken
+-- the engine takes all of the rest, and nothing is left
 pub runs_taken : {earlier start : ℕ} {all rest : List ℕ} {now new : Engine} → Runs earlier all rest start now → TakesAll now new rest → Runs earlier all [] start new
 runs_taken {now = now} {new} runs takes = record {
   lines = runs.lines ++ takes.lines;
@@ -152,11 +161,13 @@ runs_taken {now = now} {new} runs takes = record {
   ended = takes.over.ended ∙ runs.ended;
 }
 
+-- of lines without line feeds, those before the last have none, and the last has none
 last_one : (lines : List (List ℕ)) (last : List ℕ) → AllByRecursion IsOneLine (lines ++ last ∷ []) → AllByRecursion IsOneLine lines × IsOneLine last
 last_one [] last each = (tt, each.0)
 last_one (line ∷ lines) last each = let rest = last_one lines last each.1 in ((each.0, rest.0), rest.1)
 
--- a record ended in the rest, one of those that a text may have
+-- a record ended in the bytes `all`, which come after `earlier` records and begin in the line `start`; the engine
+-- holds its fields, `rest` is left, and the record is no more than the last that a text may have
 pub record RunsOut (earlier : ℕ) (all rest : List ℕ) (start : ℕ) (engine : Engine) : Type 0 where
   pub lines : List (List ℕ)
   pub cuts : CutsRecord earlier all (fields_in engine) lines rest
@@ -164,9 +175,11 @@ pub record RunsOut (earlier : ℕ) (all rest : List ℕ) (start : ℕ) (engine :
   pub line : engine.line ≡ start + length lines
   pub some : 1 ≤ length lines
 
+-- the text of lines, of which one is the last, is that of the others, and that line with its line feed
 whole_last : (lines : List (List ℕ)) (last rest : List ℕ) → whole_lines (lines ++ last ∷ []) ++ rest ≡ whole_lines lines ++ (last ++ 10 ∷ rest)
 whole_last lines last rest = simp (whole-append, append_assoc, append-nil)
 
+-- the engine comes to the end of a record in what is left; `after` is left then
 pub runs_out : {earlier start : ℕ} {all rest after : List ℕ} {now new : Engine} → Runs earlier all rest start now → TakesRecord now new rest after → RunsOut earlier all after start new
 runs_out {earlier} {all = all} {after = after} {now} {new} runs takes =
     let alone = last_one takes.lines takes.last takes.each in
@@ -190,7 +203,8 @@ runs_out {earlier} {all = all} {after = after} {now} {new} runs takes =
       some = omega (arith, length-append lines (takes.last ∷ []));
     }
 
--- the line after lines that ran is wrong, or memory ran out at it
+-- The line after whole lines, which ended no record, has a fault of this kind, or memory ran out at it, whatever bytes
+-- follow, or where the text has ended (`ended`). The engine's line number is that line's.
 pub record Refused (ended : Type 0) (earlier : ℕ) (all : List ℕ) (start : ℕ) (new : Engine) (kind : JarFaultKind) : Type 0 where
   pub lines : List (List ℕ)
   pub tail : List ℕ
@@ -199,6 +213,7 @@ pub record Refused (ended : Type 0) (earlier : ℕ) (all : List ℕ) (start : �
   pub refused : HoldsOfWhole (λ text. RefusesFirst earlier fields text kind) ended tail
   pub line : new.line ≡ start + length lines
 
+-- the engine stops at a line of what is left, which is refused
 pub runs_stops : {earlier start : ℕ} {all rest : List ℕ} {now new : Engine} {kind : JarFaultKind} {ended : Type 0} → Runs earlier all rest start now → StopsAt now new rest kind → Refused ended earlier all start new kind
 runs_stops {now = now} {kind = kind} runs stops = record {
   lines = runs.lines ++ stops.lines;
@@ -209,11 +224,11 @@ runs_stops {now = now} {kind = kind} runs stops = record {
   line = omega (arith, stops.line, runs.line, length-append runs.lines stops.lines);
 }
 
--- nothing is left
+-- where nothing is left, the engine keeps all bytes behind the lines that it went over
 pub runs_alone : {earlier start : ℕ} {all : List ℕ} {now : Engine} → (runs : Runs earlier all [] start now) → Ran earlier all runs.lines now.partial.items (fields_in now)
 runs_alone {earlier} {all = all} {now} runs = subst (λ l. Ran earlier all runs.lines l (fields_in now)) (append-nil now.partial.items) runs.ran
 
--- and so is the last line of all
+-- the last line of all, which the end of the text ends, is refused
 pub runs_stops_last : {earlier start : ℕ} {all : List ℕ} {now new : Engine} {kind : JarFaultKind} {ended : Type 0} → Runs earlier all [] start now → IsOneLine now.partial.items → StopsAtLast now new kind → ended
     → Refused ended earlier all start new kind
 runs_stops_last {now = now} {kind = kind} runs one stops over =
@@ -228,13 +243,15 @@ runs_stops_last {now = now} {kind = kind} runs one stops over =
       line = stops.line ∙ runs.line;
     }
 
--- the records of all at its end
+-- the bytes `all`, which come after `earlier` records and begin in the line `start`, are the rest of a text that has
+-- ended: these are their records, and nothing is wrong with them
 pub record RunsEnd (earlier : ℕ) (all : List ℕ) (start : ℕ) (engine : Engine) (records : List (List Field)) : Type 0 where
   pub has : HasRecords all records
   pub sound : IsSound earlier all
   pub few : earlier + length records ≤ most_records
   pub line : engine.line + length (last_line engine.partial.items) ≡ start + length (lines_of all)
 
+-- the last line of all runs without a fault at the end of the text: the records of the reading are those of the bytes
 pub runs_end : {earlier start : ℕ} {all : List ℕ} {now : Engine} → Runs earlier all [] start now → IsOneLine now.partial.items → (going : Going)
     → steps now.ended (going_on (fields_in now)) (last_line now.partial.items) ≡ Ok going → RunsEnd earlier all start now (finished going)
 runs_end {earlier} {start} {all} {now} runs one going ran =

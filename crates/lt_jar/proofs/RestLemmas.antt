@@ -15,11 +15,12 @@ use Rattle.lt_jar.specs.declared.engine.Engine.{Engine}
 use Rattle.lt_jar.specs.declared.faults.JarFaultKind.{JarFaultKind}
 use Rattle.lt_jar.proofs.LentLemmas.{Behind, behind_more, behind_none, fault_on, lines_behind, reached_on, records_on, some_lines, sound_on, wrong_is_behind}
 
--- A text that has records, and with which nothing is wrong, keeps the limits.
+-- a text that has these records, and with which nothing is wrong, keeps the limits
 pub lent_within : {text : List ℕ} {records : List (List Field)} → HasRecords text records → IsSound 0 text → IsWithin text records
 lent_within {text} {records} has sound = within_of text records has sound
 
--- these records of the text are read, and this rest is left
+-- the turns of `read_jar`: these records of the text are read, `rest` is left of it, and the engine begins a record
+-- there
 pub record TextTurn (text rest : List ℕ) (records : List (List Field)) (engine : Engine) : Type 0 where
   pub lines : List (List ℕ)
   pub front : Behind lines records engine.ended engine.line
@@ -29,15 +30,18 @@ pub record TextTurn (text rest : List ℕ) (records : List (List Field)) (engine
   pub empty : engine.partial.items ≡ []
   pub room : engine.line + length rest ≤ 1 + length text
 
+-- at first no record is read, and the whole text is left
 pub text_begins : (text : List ℕ) (engine : Engine) → (engine.partial.items ≡ []) × (fields_in engine ≡ []) → (engine.ended ≡ 0) × (engine.line ≡ 1) → TextTurn text text [] engine
 text_begins text engine none start =
     record { lines = []; front = rw (start.0, start.1) behind_none; bytes = refl; few = omega (arith, start.0); fields = none.1; empty = none.0; room = omega (arith, start.1) }
 
--- no line of the rest is gone over
+-- at the beginning of a turn, the engine has gone over no line of what is left
 pub text_runs : {text rest : List ℕ} {records : List (List Field)} {now : Engine} → TextTurn text rest records now → Runs now.ended rest rest now.line now
 text_runs {rest = rest} turn =
     record { lines = []; ran = record { few = turn.few; each = tt; bytes = ap (λ l. l ++ rest) (sym turn.empty); ran = ap going_on (sym turn.fields) }; line = omega arith; ended = refl }
 
+-- one record more ended, with the fields in `mid`, and was taken out of the engine, which is `new` then; `after` is
+-- left
 pub text_more : {text rest after : List ℕ} {records : List (List Field)} {now mid : Engine} (new : Engine) → TextTurn text rest records now → TakesRecord now mid rest after
     → (fields_in new ≡ []) × (new.ended ≡ mid.ended + 1) → (new.partial.items ≡ mid.partial.items) × (new.line ≡ mid.line) → TextTurn text after (records ++ fields_in mid ∷ []) new
 text_more {text} {rest} {after} new turn takes begun same =
@@ -52,7 +56,7 @@ text_more {text} {rest} {after} new turn takes begun same =
       room = omega (arith, same.1, takes.room, turn.room);
     }
 
--- memory ran out at the line that ended the record
+-- memory ran out as the record was taken out: the line that ended it, which has this number, is a line that is reached
 pub text_refused : {text rest after : List ℕ} {records : List (List Field)} {now mid : Engine} (number : ℕ) → TextTurn text rest records now → TakesRecord now mid rest after → number + 1 ≡ mid.line
     → IsLineReached 0 text number
 text_refused {text} {rest} {after} number turn takes counted =
@@ -65,7 +69,7 @@ text_refused {text} {rest} {after} number turn takes counted =
       clean = λ other at wrong. let there = wrong_is_behind front bytes wrong in omega (arith, there.1, counted, there.2.counted);
     }
 
--- the first line after lines of the rest is wrong, or memory ran out at it
+-- where a line of what is left is refused, its fault is the fault of the text, or memory ran out at it
 pub said_of : {text rest : List ℕ} {records : List (List Field)} {now new : Engine} {kind : JarFaultKind} → TextTurn text rest records now → Refused (Unit {0}) now.ended rest now.line new kind
     → IsFaultOf text (record { kind = kind; line = new.line })
 said_of {now = now} {new} {kind} turn r =
@@ -76,12 +80,15 @@ said_of {now = now} {new} {kind} turn r =
       | inr fault ↦ inl (fault.0, fault.1, fault_on turn.front turn.bytes (fault_told fault.0 r.ran first fault.1) count)
     ]
 
--- the text ended, and its last lines have these records, one or none
+-- the text has ended: its records are those before and `more`, one or none, and if memory runs out at that one, its
+-- line is a line that is reached
 pub record TextEnds (text : List ℕ) (records more : List (List Field)) (new : Engine) : Type 0 where
   pub has : (all : List (List Field)) → all ≡ records ++ more → HasRecords text all × IsWithin text all
   pub few : new.ended + length more ≤ most_records
   pub reached : (number : ℕ) → number + 1 ≡ new.line → 1 ≤ length more → IsLineReached 0 text number
 
+-- the engine takes all of what is left, as `mid`, and then the end of the text, as `new`: the last record is the one
+-- that it holds, if `some`
 pub text_ends : {text rest : List ℕ} {records : List (List Field)} {now mid : Engine} (new : Engine) {some : Bool} → TextTurn text rest records now → TakesAll now mid rest → Finishes mid new some
     → TextEnds text records (if some then fields_in new ∷ [] else []) new
 text_ends {text} {rest} {records} new {some} turn takes fin =

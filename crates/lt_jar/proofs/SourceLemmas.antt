@@ -22,7 +22,8 @@ use Rattle.lt_jar.specs.declared.sources.Status.TheVariants as state
 use Rattle.lt_jar.proofs.TurnLemmas.{rest_some}
 use Rattle.lt_jar.proofs.ReadingLemmas.{Refused, Runs, cut_short, fault_told, holds_here, lines_gather, reached_told, runs_alone, runs_end, runs_out, runs_stops, runs_stops_last, runs_taken, said_no_other}
 
--- so far the call has read these bytes, and gone over lines of them, and this rest is left
+-- The turns of a call of `read_record`: since it began, with `old` and the device `before`, all reads gave bytes, and
+-- no record ended; `rest` of them is not yet handed on to the engine.
 pub record SourceTurn {R : Type 0} (remaining : R → Option (List ℕ)) (old now : JarSource) (before after : Device R) (rest : List ℕ) : Type 0 where
   pub read : List ℕ
   pub reads : ℕ
@@ -33,6 +34,7 @@ pub record SourceTurn {R : Type 0} (remaining : R → Option (List ℕ)) (old no
   pub runs : Runs (lent_by old) (kept_in old ++ read) rest (line_of_kept old) now.engine
   pub status : now.status ≡ state.Open
 
+-- at first no byte is read, and the bytes that were left from the call before are the rest
 pub turn_begins : {R : Type 0} (remaining : R → Option (List ℕ)) (old now : JarSource) (device : Device R) → record_in now ≡ [] → kept_in now ≡ kept_in old → line_of_kept now ≡ line_of_kept old
     → lent_by now ≡ lent_by old → now.turns ≡ old.turns → old.turns ≤ most_reads → now.status ≡ state.Open → lent_by old ≤ most_records → SourceTurn remaining old now device device (unread_in now)
 turn_begins remaining old now device none kept line lent turns bounded status few = record {
@@ -46,12 +48,12 @@ turn_begins remaining old now device none kept line lent turns bounded status fe
   status = status;
 }
 
--- what was read, by a source that has made as many turns
+-- what was read holds of a source `new` too that counts as many reads as `now`
 read_kept : {R : Type 0} {remaining : R → Option (List ℕ)} {old now new : JarSource} {before after : Device R} {read : List ℕ} {reads : ℕ} → new.turns ≡ now.turns
     → IsRead remaining old now before after read reads → IsRead remaining old new before after read reads
 read_kept turns is = record { consumes = is.consumes; calls = is.calls; each = is.each; turns = turns ∙ is.turns; bounded = omega (arith, turns, is.bounded) }
 
--- all that was read is handed on
+-- the engine takes all of the rest, without the end of a record in it, and nothing is left
 pub turn_taken : {R : Type 0} {remaining : R → Option (List ℕ)} {old now : JarSource} (new : JarSource) {before after : Device R} {some : Bool} → SourceTurn remaining old now before after (unread_in now)
     → some ≡ false → TakesUnread now new (Ok some) → (new.turns ≡ now.turns) × (new.status ≡ now.status) → SourceTurn remaining old new before after []
 turn_taken new turn none takes same = record {
@@ -65,11 +67,12 @@ turn_taken new turn none takes same = record {
   status = same.1 ∙ turn.status;
 }
 
+-- a count after m reads and then n reads more
 after_more : (count m n : ℕ) → after_reads (after_reads count m) n ≡ after_reads count (m + n)
 after_more count m zero = ap (after_reads count) (sym (add-zero m))
 after_more count m (suc n) = let next : suc (m + n) ≡ m + suc n = omega arith in ap one_more (after_more count m n) ∙ ap (after_reads count) next
 
--- reads more
+-- reads that gave the bytes `read`, and then others, which gave `more`
 pub more_read : {R : Type 0} (remaining : R → Option (List ℕ)) (old now new : JarSource) (before between after : Device R) (read more : List ℕ) (reads others : ℕ)
     → IsRead remaining old now before between read reads → IsRead remaining now new between after more others → IsRead remaining old new before after (read ++ more) (reads + others)
 more_read remaining old now new before between after read more reads others first next = record {
@@ -80,7 +83,7 @@ more_read remaining old now new before between after read more reads others firs
   bounded = next.bounded;
 }
 
--- one read more, which gave bytes
+-- one read more, where nothing was left: it gave bytes, which are the rest then
 pub turn_filled : {R : Type 0} {remaining : R → Option (List ℕ)} {old now new : JarSource} {before between after : Device R} → SourceTurn remaining old now before between []
     → Fills remaining now new between after (Ok true) → new.engine ≡ now.engine → new.status ≡ now.status → SourceTurn remaining old new before after (unread_in new)
 turn_filled {old = old} {now = now} {new = new} turn fills engine status =
@@ -100,7 +103,7 @@ turn_filled {old = old} {now = now} {new = new} turn fills engine status =
       status = status ∙ turn.status;
     }
 
--- a record was lent
+-- a record ended in the rest: the engine stops there, in `mid`, the record is counted, in `new`, and the call lends it
 pub turn_lends : {R : Type 0} {remaining : R → Option (List ℕ)} {old now : JarSource} (mid new : JarSource) {before after : Device R} {rest : List ℕ} → SourceTurn remaining old now before after rest
     → TakesRecord now.engine mid.engine rest (unread_in mid) → mid.turns ≡ now.turns → mid.status ≡ now.status
     → new.engine.partial.items ≡ mid.engine.partial.items → record_in new ≡ record_in mid → line_of_kept new ≡ line_of_kept mid → lent_by new ≡ lent_by mid + 1
@@ -127,7 +130,7 @@ turn_lends {old = old} mid new turn takes mid_turns mid_status partial fields li
       works = λ other. turn.failures;
     }
 
--- the first line after lines that ran is wrong, or memory ran out at it
+-- where a line is refused, the call stops as its contract says: with the line's fault, or for lack of memory
 stops_said : {R : Type 0} (remaining : R → Option (List ℕ)) (old new : JarSource) (before after : Device R) (read : List ℕ) (reads : ℕ) (kind : JarFaultKind)
     → Refused (IsAtEnd (remaining (inner_of after))) (lent_by old) (kept_in old ++ read) (line_of_kept old) new.engine kind → Stops remaining old new before after read reads kind
 stops_said remaining old new before after read reads kind r =
@@ -152,6 +155,7 @@ stops_said remaining old new before after read reads kind r =
       first = λ is. other (ap fault_in is) (λ m. cc);
     }
 
+-- a line of the rest is refused, and the call stops
 pub turn_stops : {R : Type 0} {remaining : R → Option (List ℕ)} {old now : JarSource} (new : JarSource) {before after : Device R} {rest : List ℕ} {kind : JarFaultKind} → SourceTurn remaining old now before after rest
     → StopsAt now.engine new.engine rest kind → new.turns ≡ now.turns → ReadsRecord remaining old new before after (Err kind)
 turn_stops new turn stops turns = record {
@@ -163,12 +167,12 @@ turn_stops new turn stops turns = record {
   works = λ other. turn.failures;
 }
 
--- what the call ran over, once a read gave nothing more
+-- what the engine went over in all bytes that were read, where a further read gave none
 pub runs_over : {R : Type 0} {remaining : R → Option (List ℕ)} {old now : JarSource} (mid : JarSource) {before between : Device R} (more : List ℕ) → (turn : SourceTurn remaining old now before between []) → more ≡ []
     → mid.engine ≡ now.engine → Runs (lent_by old) (kept_in old ++ (turn.read ++ more)) [] (line_of_kept old) mid.engine
 runs_over mid more turn none engine = rw (engine, none, append-nil turn.read) turn.runs
 
--- a read failed, or none was left
+-- the further read failed, or all reads were made already, and the call stops
 pub turn_failed : {R : Type 0} {remaining : R → Option (List ℕ)} {old now : JarSource} (new : JarSource) {before between after : Device R} {kind : JarFaultKind} → SourceTurn remaining old now before between []
     → IsOneLine new.engine.partial.items → Fills remaining now new between after (Err kind) → new.engine ≡ now.engine → ReadsRecord remaining old new before after (Err kind)
 turn_failed {old = old} new {before} {between} {after} turn one fills engine =
@@ -202,7 +206,7 @@ turn_failed {old = old} new {before} {between} {after} turn one fills engine =
       works = λ other. grind (arith, fills.fills.1, turn.failures, other);
     }
 
--- how the call ends where the text does
+-- the further read came to the end of the text, and the call ends as `finish` answers
 pub turn_over : {R : Type 0} {remaining : R → Option (List ℕ)} {old now mid : JarSource} (new : JarSource) {before between after : Device R} (r : Result Bool JarFaultKind) → SourceTurn remaining old now before between []
     → IsOneLine mid.engine.partial.items → Fills remaining now mid between after (Ok false) → mid.engine ≡ now.engine → Finished mid new r → ReadsRecord remaining old new before after r
 turn_over {remaining = remaining} {old = old} {mid = mid} new {before} {after = after} r turn one fills engine fin = record {
@@ -231,7 +235,8 @@ turn_over {remaining = remaining} {old = old} {mid = mid} new {before} {after = 
     ends (Ok false) fin = let without = fin.without refl in (without.1 ∙ runs.ended, lends fin [] (ap rest_of without.0))
     ends (Err kind) fin = stops_said _ _ new _ _ (turn.read ++ fills.read) (turn.reads + fills.reads) kind (runs_stops_last runs one fin.0 fills.fills.2)
 
--- the bytes after those that were handed on
+-- The bytes from `start` to `end` of a buffer are `front`, which is handed on, and `rest`: so the rest is the bytes
+-- from `end`, less its length, to `end`.
 pub unread_rest : (buffer : List ℕ) (start end : ℕ) (front rest : List ℕ) → start ≤ end → end ≤ length buffer → take (end - start) (drop start buffer) ≡ front ++ rest
     → take (end - (end - length rest)) (drop (end - length rest) buffer) ≡ rest
 unread_rest buffer start end front rest low high is =
@@ -243,7 +248,7 @@ unread_rest buffer start end front rest low high is =
     let size : end - (end - n) ≡ n = omega (arith, sum, low) in
     cc (size, at, drop-drop k start buffer, drop-take k n (drop start buffer), sum, is, drop-append_seam front rest)
 
--- bytes that were found to be UTF-8
+-- bytes that the check for UTF-8 accepts are UTF-8
 pub found_text : {E : Type 0} (found : Result (Bor (List ℕ)) E) (bytes : List ℕ) → MatchResult found (λ s. (s.now ≡ bytes) × IsUtf8 bytes) (λ e. ¬ (IsUtf8 bytes))
     → is_ok found ≡ true → is_utf8 bytes ≡ true
 found_text (Ok s) bytes cases is = is_utf8-from_IsUtf8 bytes cases.1

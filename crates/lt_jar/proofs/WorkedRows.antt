@@ -9,6 +9,7 @@ use Rattle.lt_jar.specs.Faults.{IsWrongAt, LeadingContinuation, begun}
 lines_ended : lines_of (codes "a" ++ 10 ∷ 10 ∷ []) ≡ codes "a" ∷ [] ∷ []
 lines_ended = refl
 
+-- the last line may lack its line feed
 line_not_ended : lines_of (codes "a" ++ 10 ∷ codes "b") ≡ codes "a" ∷ codes "b" ∷ []
 line_not_ended = refl
 
@@ -16,6 +17,7 @@ line_not_ended = refl
 abbrev folded : List ℕ
 folded = codes "A:" ++ 10 ∷ (codes "  b " ++ 10 ∷ 9 ∷ codes "c")
 
+-- two continuation lines, without their spaces and tabs, follow the line that begins the field
 folded_lines : nonblank (lines_of folded) ≡ Start (codes "A") [] ∷ Continuation (codes "b") ∷ Continuation (codes "c") ∷ []
 folded_lines = refl
 
@@ -23,6 +25,7 @@ folded_lines = refl
 folded_records : HasRecords folded (((codes "A", codes "b c") ∷ []) ∷ [])
 folded_records = record { ended = []; last = record { name = codes "A"; first = []; more = codes "b" ∷ codes "c" ∷ [] } ∷ []; lines = refl; all = refl }
 
+-- an empty text has no records
 empty_records : HasRecords [] []
 empty_records = record { ended = []; last = []; lines = refl; all = refl }
 
@@ -38,15 +41,19 @@ with_gap = record { ended = (record { name = codes "A"; first = codes "b:c"; mor
 with_blanks : HasRecords (codes " " ++ 10 ∷ (codes "A: b" ++ 10 ∷ (codes " " ++ 10 ∷ codes " c"))) (((codes "A", codes "b c") ∷ []) ∷ [])
 with_blanks = record { ended = []; last = record { name = codes "A"; first = codes "b"; more = codes "c" ∷ [] } ∷ []; lines = refl; all = refl }
 
+-- a line without a colon is bad
 bad_word : line_of (codes "abc") ≡ Bad
 bad_word = refl
 
+-- a line of `%%` and other bytes than spaces and tabs is bad
 bad_separator : line_of (codes "%%x") ≡ Bad
 bad_separator = refl
 
+-- a line whose name is empty is bad
 bad_name : line_of (codes ": b") ≡ Bad
 bad_name = refl
 
+-- a space, and a carriage return, may follow `%%`
 separator_returned : line_of (codes "%% " ++ 13 ∷ []) ≡ Separator
 separator_returned = refl
 
@@ -54,6 +61,7 @@ separator_returned = refl
 returned : line_of (codes "Type: a" ++ 13 ∷ []) ≡ Start (codes "Type") (codes "a")
 returned = refl
 
+-- of two carriage returns the first belongs to the body
 returned_twice : line_of (codes "Type: a" ++ 13 ∷ 13 ∷ []) ≡ Start (codes "Type") (codes "a" ++ 13 ∷ [])
 returned_twice = refl
 
@@ -61,6 +69,7 @@ returned_twice = refl
 abbrev leading : List ℕ
 leading = codes "Type: language" ++ 10 ∷ (codes "Subtag: en" ++ 10 ∷ (codes "%%" ++ 10 ∷ codes "  x"))
 
+-- the continuation line behind `%%` has no field before it
 leading_wrong : IsWrongAt 0 leading LeadingContinuation 4
 leading_wrong = record {
   before = codes "Type: language" ∷ codes "Subtag: en" ∷ codes "%%" ∷ [];
@@ -71,5 +80,6 @@ leading_wrong = record {
   wrong = (refl, refl);
 }
 
+-- two fields and, after a separator, one more are of two records
 begun_two : begun false (nonblank (lines_of (codes "A:" ++ 10 ∷ (codes "B:" ++ 10 ∷ (codes "%%" ++ 10 ∷ codes "C:"))))) ≡ 2
 begun_two = refl

@@ -28,7 +28,7 @@ given_by (Err error) = 0
 abbrev pub greatest_count : ℕ
 greatest_count = 2 ^ 64 - 1
 
--- a count after one is added
+-- a count after one is added: the greatest stays as it is
 abbrev pub one_more : ℕ → ℕ
 one_more count = min (count + 1) greatest_count
 
@@ -37,13 +37,13 @@ abbrev pub after_reads : ℕ → ℕ → ℕ
 after_reads count zero = count
 after_reads count (suc reads) = one_more (after_reads count reads)
 
--- the count of failures after a read with this answer
+-- the count of failures after a read with this answer, by the count before it
 abbrev pub failures_after_read : {E : Type 0} → Result ℕ E → ℕ → ℕ
 failures_after_read (Ok n) failures = failures
 failures_after_read (Err error) failures = one_more failures
 
--- the count of failures after a write of these bytes with this answer: to take none of them, if there are any, is a
--- failure
+-- the count of failures after a write of these bytes with this answer, by the count before it: to take none of them,
+-- if there are any, is a failure
 abbrev pub failures_after_write : {E : Type 0} → Result ℕ E → List ℕ → ℕ → ℕ
 failures_after_write (Ok n) bytes failures =
     if nat_eq n 0 && nat_lt 0 (length bytes) then one_more failures else failures

@@ -8,10 +8,15 @@ use Rattle.lt_jar.specs.Records.{nonblank}
 
 -- what can be wrong with a line
 pub data Fault : Type 0 where
+  -- it has more bytes than a line may have
   LineTooLong : Fault
+  -- it is no UTF-8
   NotUtf8 : Fault
+  -- it continues a field, and its record has none yet
   LeadingContinuation : Fault
+  -- it is of no kind (RFC 5646, 3.1.1)
   BadLine : Fault
+  -- with it more records have begun than a text may have
   TooManyRecords : Fault
 
 -- the order in which the faults of one line are answered, the least first
@@ -51,7 +56,7 @@ IsWrong earlier LeadingContinuation before line =
 IsWrong earlier BadLine before line = line_of line ≡ Bad
 IsWrong earlier TooManyRecords before line = most_records < earlier + begun false (nonblank (before ++ line ∷ []))
 
--- `fault` is a fault of the line with this number, counted from 1
+-- in a text that comes after `earlier` records, `fault` is a fault of the line with this number, counted from 1
 pub record IsWrongAt (earlier : ℕ) (text : List ℕ) (fault : Fault) (number : ℕ) : Type 0 where
   pub before : List (List ℕ)
   pub line : List ℕ
@@ -60,13 +65,14 @@ pub record IsWrongAt (earlier : ℕ) (text : List ℕ) (fault : Fault) (number :
   pub counted : number ≡ length before + 1
   pub wrong : IsWrong earlier fault before line
 
--- the fault of a text: the first line with a fault, and of its faults the one with the least rank
+-- the fault of a text that comes after `earlier` records: the first line with a fault, and of its faults the one with
+-- the least rank
 pub record IsTheFault (earlier : ℕ) (text : List ℕ) (fault : Fault) (number : ℕ) : Type 0 where
   pub wrong : IsWrongAt earlier text fault number
   pub lowest : (other : Fault) (at : ℕ) → IsWrongAt earlier text other at → number ≤ at
   pub first : (other : Fault) → IsWrongAt earlier text other number → rank fault ≤ rank other
 
--- a line of the text without a fault in the lines before it
+-- the line with this number is in a text that comes after `earlier` records, and no line before it has a fault
 pub record IsLineReached (earlier : ℕ) (text : List ℕ) (number : ℕ) : Type 0 where
   pub from : 1 ≤ number
   pub to : number ≤ length (lines_of text)

@@ -28,7 +28,8 @@ pub record EndsRecord (lines : List (List ℕ)) (fields : List Field) : Type 0 w
 abbrev pub IsSound : ℕ → List ℕ → Type 0
 IsSound earlier text = (fault : Fault) (number : ℕ) → ¬ IsWrongAt earlier text fault number
 
--- the text is whole lines without a fault up to the end of a record with these fields, and then `rest`
+-- the text, which comes after `earlier` records, is whole lines without a fault up to the end of a record with these
+-- fields, and then `rest`
 pub record CutsRecord (earlier : ℕ) (text : List ℕ) (fields : List Field)
     (lines : List (List ℕ)) (rest : List ℕ) : Type 0 where
   pub each : AllByRecursion IsOneLine lines
@@ -36,7 +37,7 @@ pub record CutsRecord (earlier : ℕ) (text : List ℕ) (fields : List Field)
   pub ends : EndsRecord lines fields
   pub sound : IsSound earlier (whole_lines lines)
 
--- the lines before the one with this number end no record
+-- the lines before the one with this number, counted from 1, end no record
 pub record EndsNoneAbove (text : List ℕ) (number : ℕ) : Type 0 where
   pub lines : List (List ℕ)
   pub each : AllByRecursion IsOneLine lines
@@ -46,8 +47,8 @@ pub record EndsNoneAbove (text : List ℕ) (number : ℕ) : Type 0 where
   pub gathers : Gathers lines fields
   pub counted : number ≡ length lines + 1
 
--- The text is whole lines without a fault, which end no record, and the front of a line with this number, which is not
--- too long so far.
+-- The text, which comes after `earlier` records, is whole lines without a fault, which end no record, and the front of
+-- a line with this number, counted from 1, which is not too long so far.
 pub record IsCutShort (earlier : ℕ) (text : List ℕ) (number : ℕ) : Type 0 where
   pub lines : List (List ℕ)
   pub each : AllByRecursion IsOneLine lines
@@ -66,7 +67,8 @@ pub record AreEnded (lines : List (List ℕ)) (records : List (List Field)) : Ty
   pub lines_are : nonblank lines ≡ flat_map lines_of_ended groups
   pub records_are : records ≡ map record_of (filter has_field groups)
 
--- The text is whole lines without a fault and the front of a line with this number, which is not too long so far.
+-- The text, which comes after `earlier` records, is whole lines without a fault and the front of a line with this
+-- number, counted from 1, which is not too long so far.
 pub record BreaksOff (earlier : ℕ) (text : List ℕ) (number : ℕ) : Type 0 where
   pub ended : List (List ℕ)
   pub records : List (List Field)

@@ -16,14 +16,16 @@ abbrev pub came : Result (Option RecordRef) JarFault → Result Bool JarFault
 came (Ok lent) = Ok (is_some lent)
 came (Err fault) = Err fault
 
--- the call moved the reader from `old` to `new`, and lent the record that `new` holds
+-- the call moved the reader from `old` to `new`, and lent the record that `new` holds; `remaining` tells which bytes
+-- the device's own reader has still to give
 pub record Moves {R : Type 0} (remaining : R → Option (List ℕ)) (old : JarReader R JarSource)
     (result : Result (Option RecordRef) JarFault) (new : JarReader R JarSource) : Type 0 where
   pub same_reference : new.device.ghost_name ≡ old.device.ghost_name
   pub advances : Advances remaining old.source new.source old.device.now new.device.now (came result)
   pub fields : IfOk result (λ lent. IfSome lent (λ r. r.fields.now ≡ record_in new.source))
 
--- once the record is no longer borrowed, the reader is what the call made of it
+-- once the record of this answer is no longer borrowed, the reader is what the call made of it; R is the type of the
+-- device's own reader, which has still to give what `remaining` tells
 abbrev pub LendsAs : (R : RattleType) → (R.Denot → Option (List ℕ))
     → MutBor (JarReader R.Denot JarSource) → Result (Option RecordRef) JarFault → Fml
 LendsAs R remaining reader result =

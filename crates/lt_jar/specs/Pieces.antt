@@ -13,7 +13,7 @@ use Rattle.lt_jar.specs.declared.faults.JarFaultKind.TheVariants as kinds
 use Rattle.lt_jar.specs.declared.drafts.Progress.{Progress}
 use Rattle.lt_jar.specs.declared.engine.Engine.{Engine}
 
--- what is before the first line feed (10), and what is after it; None where there is none
+-- what is before the first line feed (10) of the text, and what is after it; None where there is none
 abbrev pub SplitsLine : List ℕ → Option (Bor (List ℕ) × Bor (List ℕ)) → Type 0
 SplitsLine text parts = MatchOption parts (IsOneLine text) (λ p. IsOneLine p.0.now × (text ≡ p.0.now ++ 10 ∷ p.1.now))
 
@@ -21,7 +21,7 @@ SplitsLine text parts = MatchOption parts (IsOneLine text) (λ p. IsOneLine p.0.
 abbrev pub fields_in : Engine → List Field
 fields_in engine = take engine.draft.count engine.draft.fields.items
 
--- the engine took in these whole lines, which ended no record
+-- the engine, `old` before and `new` after, took in these whole lines, which ended no record
 pub record GoesOver (old new : Engine) (lines : List (List ℕ)) : Type 0 where
   pub each : AllByRecursion IsOneLine lines
   pub ran : steps old.ended (going_on (fields_in old)) lines ≡ going_on (fields_in new)
@@ -29,19 +29,22 @@ pub record GoesOver (old new : Engine) (lines : List (List ℕ)) : Type 0 where
   pub ended : new.ended ≡ old.ended
   pub begun : IsOneLine new.partial.items
 
--- how a whole line ends: it was taken in, or has a fault
+-- how a whole line ends, by the answer for it: it was taken in, or has a fault; `old` is the engine before it, `new`
+-- after it
 abbrev pub EndsLine : Engine → Engine → Result Progress JarFaultKind → Type 0
 EndsLine old new (Ok progress) = (new.line ≡ old.line + 1) × (new.partial.items ≡ [])
 EndsLine old new (Err kind) = (new.line ≡ old.line) × IsOneLine new.partial.items
 
--- all bytes of the piece were taken in, and what follows the last line feed is kept
+-- all bytes of the piece were taken in, and what follows the last line feed is kept; `old` is the engine before the
+-- piece, `new` after it
 pub record TakesAll (old new : Engine) (piece : List ℕ) : Type 0 where
   pub lines : List (List ℕ)
   pub over : GoesOver old new lines
   pub bytes : old.partial.items ++ piece ≡ whole_lines lines ++ new.partial.items
   pub room : new.line ≤ old.line + length piece
 
--- the last of the lines that were taken in ends a record, and the rest of the piece is left
+-- the last of the lines that were taken in ends a record, and `rest` of the piece is left; `old` is the engine before
+-- the piece, `new` after it
 pub record TakesRecord (old new : Engine) (piece rest : List ℕ) : Type 0 where
   pub lines : List (List ℕ)
   pub last : List ℕ
@@ -56,14 +59,16 @@ pub record TakesRecord (old new : Engine) (piece rest : List ℕ) : Type 0 where
   pub split : piece ≡ front ++ rest
   pub room : new.line + length rest ≤ old.line + length piece
 
--- the first line of the text has this fault, or memory ran out at it
+-- the first line of the text, behind `ended` records and the fields of one that goes on, has this fault, or memory ran
+-- out at it
 pub record RefusesFirst (ended : ℕ) (fields : List Field) (text : List ℕ) (kind : JarFaultKind) : Type 0 where
   pub line : List ℕ
   pub after : List (List ℕ)
   pub cut : lines_of text ≡ line ∷ after
   pub said : IsSaid kind (take_line ended fields line)
 
--- the line after these lines has this fault, whatever bytes follow, or memory ran out at it
+-- a line of the kept bytes and the piece has this fault, whatever bytes follow, or memory ran out at it: the one
+-- behind `lines`, which ended no record
 pub record StopsAt (old new : Engine) (piece : List ℕ) (kind : JarFaultKind) : Type 0 where
   pub lines : List (List ℕ)
   pub each : AllByRecursion IsOneLine lines
@@ -77,13 +82,15 @@ pub record StopsAt (old new : Engine) (piece : List ℕ) (kind : JarFaultKind) :
   pub ended : new.ended ≡ old.ended
   pub begun : IsOneLine new.partial.items
 
--- what the engine did with a piece: it took all, it came to the end of a record, or to a fault
+-- what the engine, before and after it, did with a piece, by its answer: it took all, it came to the end of a record,
+-- or to a fault
 abbrev pub TakesPiece : Engine → Engine → List ℕ → Result (Option (Bor (List ℕ))) JarFaultKind → Type 0
 TakesPiece old new piece (Ok None) = TakesAll old new piece
 TakesPiece old new piece (Ok (Some rest)) = TakesRecord old new piece rest.now
 TakesPiece old new piece (Err kind) = StopsAt old new piece kind
 
--- Bytes without a line feed were added to the kept front of a line, unless that gets too long or memory runs out.
+-- `rest`, bytes without a line feed, was added to the front of a line that the engine keeps, unless that gets too long
+-- or memory runs out; `old` is the engine before, `new` after it
 abbrev pub KeepsBytes : Engine → Engine → List ℕ → Result (Unit {0}) JarFaultKind → Type 0
 KeepsBytes old new rest (Ok x) = new.partial.items ≡ old.partial.items ++ rest
 KeepsBytes old new rest (Err kind) =
@@ -95,7 +102,7 @@ abbrev pub last_line : List ℕ → List (List ℕ)
 last_line [] = []
 last_line (byte ∷ line) = (byte ∷ line) ∷ []
 
--- the engine took in the end of the text, where a record ends, or, if false, none
+-- the engine took in the end of the text, where a record ends if `some` is true, and none if it is false
 pub record Finishes (old new : Engine) (some : Bool) : Type 0 where
   pub going : Going
   pub ran : steps old.ended (going_on (fields_in old)) (last_line old.partial.items) ≡ Ok going
@@ -114,7 +121,7 @@ pub record StopsAtLast (old new : Engine) (kind : JarFaultKind) : Type 0 where
   pub ended : new.ended ≡ old.ended
   pub begun : IsOneLine new.partial.items
 
--- what the engine did with the end of the text: it took it in, or came to a fault
+-- what the engine, before and after it, did with the end of the text, by its answer: it took it in, or came to a fault
 abbrev pub FinishesOr : Engine → Engine → Result Bool JarFaultKind → Type 0
 FinishesOr old new (Ok some) = Finishes old new some
 FinishesOr old new (Err kind) = StopsAtLast old new kind

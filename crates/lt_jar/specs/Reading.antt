@@ -15,7 +15,7 @@ pub data Taken : Type 0 where
   -- the record ends with these fields
   Ends : List Field → Taken
 
--- a body with a further text, after a space (32) where both have a byte
+-- a body with a further text, after a space (32) where both have a byte; the body is given first
 abbrev pub lengthened : List ℕ → List ℕ → List ℕ
 lengthened body text = joined (filter is_something (body ∷ text ∷ []))
 
@@ -35,7 +35,8 @@ abbrev pub continued : List ℕ → List Field → Result Taken Fault
 continued text [] = Err LeadingContinuation
 continued text (field ∷ fields) = Ok (GoesOn (with_text text (field ∷ fields)))
 
--- what the beginning of a field makes of these: it adds a field; the first needs room for one more record
+-- what the beginning of the field `new` makes of these fields, after `ended` records: it adds `new`; the first field
+-- of a record needs room for one record more
 abbrev pub started : ℕ → Field → List Field → Result Taken Fault
 started ended new [] = if nat_lt ended most_records then Ok (GoesOn (new ∷ [])) else Err TooManyRecords
 started ended new (field ∷ fields) = Ok (GoesOn ((field ∷ fields) ++ new ∷ []))
@@ -63,12 +64,12 @@ pub record Going : Type 0 where
 abbrev pub start : Going
 start = record { records = []; fields = [] }
 
--- the reading after a further line, by what that made of the fields
+-- the reading after a further line, by what that line made of the fields
 abbrev pub with_taken : Going → Taken → Going
 with_taken going (GoesOn fields) = record { records = going.records; fields = fields }
 with_taken going (Ends fields) = record { records = going.records ++ fields ∷ []; fields = [] }
 
--- the reading after a further line, or the line's fault
+-- the reading after a further line, by what that line made of the fields, or the line's fault
 abbrev pub on_taken : Going → Result Taken Fault → Result Going Fault
 on_taken going (Ok taken) = Ok (with_taken going taken)
 on_taken going (Err fault) = Err fault
@@ -77,12 +78,13 @@ on_taken going (Err fault) = Err fault
 abbrev pub step : ℕ → Going → List ℕ → Result Going Fault
 step earlier going line = on_taken going (take_line (earlier + length going.records) going.fields line)
 
--- the reading after a further line, or the fault that came before
+-- the reading after a further line, in a text that comes after `earlier` records, or the fault that came before
 abbrev pub on_going : ℕ → Result Going Fault → List ℕ → Result Going Fault
 on_going earlier (Ok going) line = step earlier going line
 on_going earlier (Err fault) line = Err fault
 
--- the reading after these lines, or the fault of the first that has one
+-- what these lines make of a reading, in a text that comes after `earlier` records: the reading after them, or the
+-- first fault
 abbrev pub steps : ℕ → Result Going Fault → List (List ℕ) → Result Going Fault
 steps earlier said [] = said
 steps earlier said (line ∷ lines) = steps earlier (on_going earlier said line) lines
@@ -108,7 +110,7 @@ AreNamed fields = All (λ (field : Field). IsNamed field.0) fields
 abbrev pub nothing : Field
 nothing = ([], [])
 
--- the line begins a field that has the name of the field at this place, and this body
+-- the line begins a field that has the name of the field at this place of the fields, and this body
 abbrev pub BeginsAgain : ℕ → List Field → List ℕ → List ℕ → Type 0
 BeginsAgain place fields line body =
     (place < length fields) × (line_of line ≡ Start (get_or fields place nothing).0 body)

@@ -69,7 +69,8 @@ pub record HasRecords (text : List ℕ) (records : List (List Field)) : Type 0 w
   pub lines : nonblank (lines_of text) ≡ flat_map lines_of_ended ended ++ lines_of_group last
   pub all : records ≡ map record_of (filter has_field (ended ++ last ∷ []))
 
--- the text keeps the limits of the length of lines and the number of records, and its lines are UTF-8
+-- the text, of these records, keeps the limits of the length of lines and the number of records, and its lines are
+-- UTF-8
 pub record IsWithin (text : List ℕ) (records : List (List Field)) : Type 0 where
   pub short : All (λ line. length line ≤ longest_line) (lines_of text)
   pub utf8 : All IsUtf8 (lines_of text)

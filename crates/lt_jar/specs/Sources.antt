@@ -17,7 +17,7 @@ use Rattle.lt_jar.specs.declared.faults.JarFaultKind.TheVariants as kinds
 use Rattle.lt_jar.specs.declared.sources.JarSource.{JarSource}
 use Rattle.lt_jar.specs.declared.sources.Status.TheVariants as state
 
--- the most reads that one reader may make
+-- the most reads that one reader may make, so that the reading ends, even of a reader that has no end
 abbrev pub most_reads : ℕ
 most_reads = 10000000
 
@@ -25,7 +25,7 @@ most_reads = 10000000
 abbrev pub unread_in : JarSource → List ℕ
 unread_in s = take (s.end - s.start) (drop s.start s.buffer)
 
--- the bytes that were read and belong to no line that was taken in yet
+-- the bytes that were read and belong to no line that was taken in yet: the front of a line, and what is unread
 abbrev pub kept_in : JarSource → List ℕ
 kept_in s = s.engine.partial.items ++ unread_in s
 
@@ -49,11 +49,13 @@ pub record IsFresh (s : JarSource) : Type 0 where
   pub turns : s.turns ≡ 0
   pub status : s.status ≡ state.Open
 
--- the last read of the device gave bytes, if it was read
+-- the last read of the device gave bytes, if the source made any read
 abbrev pub LastGave : {R : Type 0} → JarSource → Device R → Type 0
 LastGave s device = 0 < s.turns → 0 < last_given_of device
 
--- `reads` reads were made, which gave these bytes, on average at most 65,536 each
+-- `reads` reads were made, which gave the bytes `read`, on average at most 65,536 each. `old` and `new` are the source
+-- of records before and after them, `before` and `after` its device, of whose own reader `remaining` tells what it has
+-- still to give.
 pub record IsRead {R : Type 0} (remaining : R → Option (List ℕ)) (old new : JarSource)
     (before after : Device R) (read : List ℕ) (reads : ℕ) : Type 0 where
   pub consumes : Consumes (remaining (inner_of before)) (remaining (inner_of after)) read
@@ -62,14 +64,15 @@ pub record IsRead {R : Type 0} (remaining : R → Option (List ℕ)) (old new : 
   pub turns : new.turns ≡ old.turns + reads
   pub bounded : new.turns ≤ most_reads
 
--- what the engine did with the bytes that it had not yet got: it came to the end of a record, took all, or came to a
--- fault
+-- what the engine did with the bytes that it had not yet got, by its answer: it came to the end of a record, took all,
+-- or came to a fault; the source is given before and after it
 abbrev pub TakesUnread : JarSource → JarSource → Result Bool JarFaultKind → Type 0
 TakesUnread old new (Ok true) = TakesRecord old.engine new.engine (unread_in old) (unread_in new)
 TakesUnread old new (Ok false) = TakesAll old.engine new.engine (unread_in old) × (new.start ≡ new.end)
 TakesUnread old new (Err kind) = StopsAt old.engine new.engine (unread_in old) kind
 
--- what a read did, by its answer: it gave bytes, came to the end, or failed or was one too many
+-- What one read did, by its answer: it gave the bytes `read`, came to the end, or failed or was one too many, so that
+-- no read was made (`reads` is 0). `old` and `new` are the source, `before` and `after` its device.
 abbrev pub FillsAs : {R : Type 0} → (R → Option (List ℕ)) → (old new : JarSource)
     → (before after : Device R) → List ℕ → ℕ → Result Bool JarFaultKind → Type 0
 FillsAs remaining old new before after read reads (Ok true) = (unread_in new ≡ read) × (0 < length read)
@@ -82,7 +85,8 @@ FillsAs remaining old new before after read reads (Err kind) =
     ⊎ ((kind ≡ kinds.TooManyTurns) × (failures_of after ≡ failures_of before)
     × (new.turns ≡ most_reads) × (reads ≡ 0) × (last_given_of after ≡ last_given_of before)))
 
--- a further read of the device, unless the most reads were made already
+-- a further read of the device, unless the most reads were made already; `old` and `new` are the source before and
+-- after it, `before` and `after` the device
 pub record Fills {R : Type 0} (remaining : R → Option (List ℕ)) (old new : JarSource)
     (before after : Device R) (result : Result Bool JarFaultKind) : Type 0 where
   pub read : List ℕ
@@ -90,12 +94,12 @@ pub record Fills {R : Type 0} (remaining : R → Option (List ℕ)) (old new : J
   pub is_read : IsRead remaining old new before after read reads
   pub fills : FillsAs remaining old new before after read reads result
 
--- a record that the end of the text ends is no more than the 100,000th
+-- a record that the end of the text would end is no more than the 100,000th
 abbrev pub HasRoom : JarSource → Type 0
 HasRoom s = (going : Going) → steps (lent_by s) (going_on (record_in s)) (last_line s.engine.partial.items) ≡ Ok going
     → lent_by s + length (finished going) ≤ 100000
 
--- the end of the text was taken in, where a record ends, or, if false, none
+-- the end of the text was taken in, where a record ends if `some` is true, and none if it is false
 pub record Finishes (old new : JarSource) (some : Bool) : Type 0 where
   pub going : Going
   pub ran : steps (lent_by old) (going_on (record_in old)) (last_line old.engine.partial.items) ≡ Ok going
@@ -107,13 +111,15 @@ pub record Finishes (old new : JarSource) (some : Bool) : Type 0 where
   pub turns : new.turns ≡ old.turns
   pub status : new.status ≡ state.Ended
 
--- what the end of the text did: it ended a record or none, or the last line has a fault
+-- what the end of the text did, by the answer of the source, given before and after it: it ended a record or none, or
+-- the last line has a fault
 abbrev pub Finished : JarSource → JarSource → Result Bool JarFaultKind → Type 0
 Finished old new (Ok some) = Finishes old new some
 Finished old new (Err kind) = StopsAtLast old.engine new.engine kind × (new.turns ≡ old.turns)
 
 -- A record was lent that a separator ends: the bytes that were kept and those that were read are its lines and the
--- bytes that are kept now.
+-- bytes that are kept then. `old` and `new` are the source, `before` and `after` its device, and `reads` reads gave
+-- the bytes `read`.
 pub record LendsEnded {R : Type 0} (old new : JarSource)
     (before after : Device R) (read : List ℕ) (reads : ℕ) : Type 0 where
   pub lines : List (List ℕ)
@@ -123,7 +129,8 @@ pub record LendsEnded {R : Type 0} (old new : JarSource)
   pub last_gave : LastGave old before → LastGave new after
   pub status : new.status ≡ state.Open
 
--- the text ended, and its last lines are these records, one or none
+-- the text ended, and its last lines are these records, one or none; `old` and `new` are the source, `after` is its
+-- device at the end
 pub record LendsLast {R : Type 0} (remaining : R → Option (List ℕ)) (old new : JarSource)
     (after : Device R) (read : List ℕ) (records : List (List Field)) : Type 0 where
   pub has : HasRecords (kept_in old ++ read) records
@@ -133,7 +140,8 @@ pub record LendsLast {R : Type 0} (remaining : R → Option (List ℕ)) (old new
   pub end : IsAtEnd (remaining (inner_of after))
   pub status : new.status ≡ state.Ended
 
--- why no record came: a fault and the line that was being read
+-- why no record came: a fault of this kind, and the line that was being read; `old` and `new` are the source, `before`
+-- and `after` its device, and `reads` reads gave the bytes `read`
 pub record Stops {R : Type 0} (remaining : R → Option (List ℕ)) (old new : JarSource)
     (before after : Device R) (read : List ℕ) (reads : ℕ) (kind : JarFaultKind) : Type 0 where
   pub format : (fault : faults.Fault) → fault_in kind ≡ Some fault
@@ -153,7 +161,8 @@ pub record Stops {R : Type 0} (remaining : R → Option (List ℕ)) (old new : J
       × (line_of_kept new + 1 ≡ line_of_kept old + number))
   pub first : kind ≢ kinds.Failed
 
--- how a call on an open reader ended: with a record, with none, or with a fault
+-- how a call on an open source ended, by its answer: with a record, with none, or with a fault; `old` and `new` are
+-- the source, `before` and `after` its device, and its `reads` reads gave the bytes `read`
 abbrev pub EndsAs : {R : Type 0} → (R → Option (List ℕ)) → (old new : JarSource)
     → (before after : Device R) → List ℕ → ℕ → Result Bool JarFaultKind → Type 0
 EndsAs remaining old new before after read reads (Ok true) =
@@ -163,7 +172,8 @@ EndsAs remaining old new before after read reads (Ok false) =
     (lent_by new ≡ lent_by old) × LendsLast remaining old new after read []
 EndsAs remaining old new before after read reads (Err kind) = Stops remaining old new before after read reads kind
 
--- what a call on an open reader did
+-- what a call on an open source did; `old` and `new` are the source before and after it, `before` and `after` its
+-- device
 pub record ReadsRecord {R : Type 0} (remaining : R → Option (List ℕ)) (old new : JarSource)
     (before after : Device R) (result : Result Bool JarFaultKind) : Type 0 where
   pub read : List ℕ
@@ -178,8 +188,8 @@ abbrev pub without_line : Result Bool JarFault → Result Bool JarFaultKind
 without_line (Ok some) = Ok some
 without_line (Err fault) = Err fault.kind
 
--- What a call did: on an open reader, it read on; after the text's end, it gave no record; after a fault, it answered
--- Failed, with the line of that fault.
+-- What a call did: on an open source, it read on; after the text's end, it gave no record; after a fault, it answered
+-- Failed, with the line of that fault. `old` and `new` are the source, `before` and `after` its device.
 pub record Advances {R : Type 0} (remaining : R → Option (List ℕ)) (old new : JarSource)
     (before after : Device R) (result : Result Bool JarFault) : Type 0 where
   pub reads : old.status ≡ state.Open → ReadsRecord remaining old new before after (without_line result)

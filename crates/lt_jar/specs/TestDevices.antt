@@ -9,7 +9,7 @@ use Rattle.lt_jar.specs.declared.pieces.Takes.{Takes}
 abbrev pub bytes_of : Pieces → List ℕ
 bytes_of reader = reader.bytes.now
 
--- the bytes that a reader still gives in pieces of this length; none in pieces of no bytes
+-- the bytes, of those left, that a reader still gives in pieces of this length: all, but none in pieces of no bytes
 abbrev pub given_in : ℕ → List ℕ → List ℕ
 given_in zero bytes = []
 given_in (suc more) bytes = bytes
@@ -34,7 +34,7 @@ next_count reader room = min (min (length (next_bytes reader)) reader.piece) roo
 abbrev pub ReadFails : Pieces → Type 0
 ReadFails reader = one_more reader.calls ≡ reader.fails_at
 
--- a reader of these bytes that was not read yet, and does not fail
+-- a reader of these bytes, at most `piece` in a call, that was not read yet, and does not fail
 pub record IsUnread (reader : Pieces) (bytes : List ℕ) (piece : ℕ) : Type 0 where
   pub bytes_is : bytes_of reader ≡ bytes
   pub at : reader.at ≡ 0
@@ -54,7 +54,7 @@ WriteFails writer = one_more writer.calls ≡ writer.fails_at
 abbrev pub take_count : Takes → ℕ → ℕ
 take_count writer count = if nat_eq (one_more writer.calls) writer.full_at then 0 else min count writer.piece
 
--- a writer that was not written yet, and does not fail
+-- a writer that takes at most `piece` bytes in a call, was not written yet, and does not fail
 pub record IsUnwritten (writer : Takes) (piece : ℕ) : Type 0 where
   pub taken : taken_by writer ≡ []
   pub piece_is : writer.piece ≡ piece

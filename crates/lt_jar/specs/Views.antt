@@ -34,22 +34,23 @@ fault_in Read = None
 fault_in TooManyTurns = None
 fault_in Failed = None
 
--- the fault of the text; or OutOfMemory at a line with no fault in the lines before it
+-- the fault that is answered is that of the text; or it is OutOfMemory, at a line with no fault in the lines before it
 abbrev pub IsFaultOf : List ℕ → JarFault → Type 0
 IsFaultOf text said =
     ((fault : faults.Fault) × (fault_in said.kind ≡ Some fault) × faults.IsTheFault 0 text fault said.line)
     ⊎ ((said.kind ≡ OutOfMemory) × faults.IsLineReached 0 text said.line)
 
--- the fault of a line is this one, or memory ran out
+-- the kind that the code answers is that of the fault that is computed, `said`, or it is OutOfMemory
 abbrev pub IsSaid : {A : Type 0} → JarFaultKind → Result A faults.Fault → Type 0
 IsSaid kind said = (kind ≡ OutOfMemory) ⊎ ((fault : faults.Fault) × (fault_in kind ≡ Some fault) × (said ≡ Err fault))
 
--- what a line made of the record, which has these fields now
+-- what a line did to the record, which has these fields after it, as the contracts have it
 abbrev pub taken_in : Progress → List Field → reading.Taken
 taken_in progress.GoesOn fields = reading.GoesOn fields
 taken_in progress.Ends fields = reading.Ends fields
 
--- the line was taken as `take_line` computes, and left these fields; or its fault was answered, or OutOfMemory
+-- what the code answers to a line is what is computed, `said`, and the record has these fields after it; or it is the
+-- line's fault, or OutOfMemory
 abbrev pub IsTaken : Result Progress JarFaultKind → Result reading.Taken faults.Fault → List Field → Type 0
 IsTaken (Ok progress) said fields = said ≡ Ok (taken_in progress fields)
 IsTaken (Err kind) said fields = IsSaid kind said

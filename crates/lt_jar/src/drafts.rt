@@ -11,10 +11,11 @@ use crate::lines::{LineKind, body_again, kind_of};
 use crate::words::are_same;
 use std::alloc::{AllocError, Global};
 
-/// The most bytes of a line, with its carriage return and without its line feed.
+/// The most bytes of a line, with its carriage return and without its line feed: a text with a longer one is no
+/// registry, or lacks its line feeds.
 pub(crate) const LONGEST_LINE: usize = 65_536;
 
-/// The most records of a text.
+/// The most records of a text: IANA's registry of May 2025 has less than a tenth of them.
 const MOST_RECORDS: usize = 100_000;
 
 /// What a line does to a record.
@@ -66,8 +67,8 @@ impl Draft {
         self.count = 0;
     }
 
-    /// Takes the next line, and tells whether it ends the record. `ended` is how many records have ended before this one.
-    /// Refused with what is wrong with the line.
+    /// Takes the next line, and tells whether it ends the record. `ended` is how many records have ended before this
+    /// one. Refused with what is wrong with the line, or where memory runs out.
     pub(crate) fn take_line(
         &mut self,
         alloc: Global,
@@ -86,8 +87,8 @@ impl Draft {
         }
     }
 
-    /// Takes the next line, which is UTF-8, and tells whether it ends the record. `ended` is how many records have ended
-    /// before.
+    /// Takes the next line, which is UTF-8, as `take_line` does. `ended` is how many records have ended before this
+    /// one.
     pub(crate) fn take_text(
         &mut self,
         alloc: Global,
@@ -103,8 +104,8 @@ impl Draft {
         self.take_short_line(alloc, line, ended)
     }
 
-    /// Takes the next line, which is UTF-8 and not too long, and tells whether it ends the record. Most lines separate records,
-    /// or begin a field that has the name of the field in its place in the record before: then the name is neither looked for
+    /// Takes the next line, which is UTF-8 and not too long, as `take_line` does. Most lines separate records, or begin
+    /// a field that has the name of the field in its place in the record before: then the name is neither looked for
     /// nor written.
     fn take_short_line(
         &mut self,
@@ -124,7 +125,7 @@ impl Draft {
         }
     }
 
-    /// What a line that separates records does to this one.
+    /// What a line that separates records does to this record: it ends it, if it has a field.
     fn separate(&self) -> Progress
         ensures { taken_in result (take self.now.count self.now.fields.items) ≡ reading.separated (take self.now.count self.now.fields.items) }
     {
@@ -135,7 +136,8 @@ impl Draft {
         }
     }
 
-    /// Takes the next line as `take_short_line` does, whatever its kind.
+    /// Takes the next line as `take_short_line` does, whatever its kind. It is not inlined: most lines are of the kinds
+    /// that `take_short_line` tries first.
     #[inline(never)]
     fn take_any_line(
         &mut self,
@@ -149,8 +151,8 @@ impl Draft {
         self.take_kind(alloc, kind_of(line), ended)
     }
 
-    /// What the body begins with, if the line begins a field with the name that the field in its place had in the record
-    /// before. None of any other line.
+    /// What the body begins with, if the line begins a field with the name that the field in its place had in the
+    /// record before. None of other lines, and of some that begin such a field in another way.
     #[inline(always)]
     fn body_again<'l>(&self, line: &'l str) -> Option<&'l str>
         ensures { IfSome result (λ body. reading.BeginsAgain self.now.count self.now.fields.items line.now body.now) }
@@ -162,7 +164,8 @@ impl Draft {
         }
     }
 
-    /// Takes a line that is of this kind, and tells whether it ends the record. Refused if it is a bad line, or can't stand here.
+    /// Takes a line that is of this kind, and tells whether it ends the record. `ended` is how many records have ended
+    /// before this one. Refused if it is a bad line or can't stand here, or where memory runs out.
     fn take_kind(
         &mut self,
         alloc: Global,
@@ -182,7 +185,8 @@ impl Draft {
         }
     }
 
-    /// Puts the text of a continuation line after the body of the last field. Refused if there is no field.
+    /// Puts the text of a continuation line after the body of the last field. Refused if there is no field, or where
+    /// memory runs out.
     fn continue_field(&mut self, text: &str) -> Result<Progress, JarFaultKind>
         ensures { IsTaken result (reading.continued text.now (take self.old.count self.old.fields.items)) (take self.new.count self.new.fields.items) }
     {
@@ -193,7 +197,8 @@ impl Draft {
         Ok(Progress::GoesOn)
     }
 
-    /// Begins a field with this name, and a body that begins with `body`.
+    /// Begins a field with this name, and a body that begins with `body`. `ended` is how many records have ended before
+    /// this one. Refused if the record is one too many, or where memory runs out.
     fn start_field(
         &mut self,
         alloc: Global,
@@ -217,8 +222,8 @@ impl Draft {
         self.put_body(body, ended)
     }
 
-    /// Begins a field with what its body begins with; its name is in its place already. Refused if the record is one too
-    /// many.
+    /// Begins a field with `body`, what its body begins with; its name is in its place already. `ended` is how many
+    /// records have ended before this one. Refused if the record is one too many, or where memory runs out.
     #[inline(always)]
     fn put_body(&mut self, body: &str, ended: usize) -> Result<Progress, JarFaultKind>
         requires { self.old.count < vec_len self.old.fields }
@@ -233,7 +238,7 @@ impl Draft {
         Ok(Progress::GoesOn)
     }
 
-    /// Takes out the record; the draft has no fields then.
+    /// Takes out the record, and drops the fields of records before; the draft has no fields then.
     pub(crate) fn take_record(&mut self, alloc: Global) -> Record
         ensures record { result ≡ take self.old.count self.old.fields.items }
         ensures empty { take self.new.count self.new.fields.items ≡ [] }
@@ -248,7 +253,7 @@ impl Draft {
 
 ghost use Rattle.std.specs.Prelude.{◌↔◌, IsTrue};
 
-/// Makes `text` the same as `other`. Often it is already, and nothing is written.
+/// Makes `text` the same as `other`. Often it is already, and nothing is written. Refused where memory runs out.
 #[inline(always)]
 fn write_over(text: &mut String, other: &str) -> Result<(), AllocError>
     ensures { OnOk result (string_bytes text.new ≡ other.now) }
@@ -260,8 +265,7 @@ fn write_over(text: &mut String, other: &str) -> Result<(), AllocError>
     text.push_str(other)
 }
 
-/// Puts a further text after a body, with a space between them. An empty one adds nothing, and to an empty one no space is
-/// added.
+/// Puts a further text after a body, with a space between them if neither is empty. Refused where memory runs out.
 fn lengthen(body: &mut String, text: &str) -> Result<(), AllocError>
     ensures { OnOk result (string_bytes body.new ≡ reading.lengthened (string_bytes body.old) text.now) }
 {

@@ -41,7 +41,9 @@ impl Engine {
         }
     }
 
-    /// Takes the last bytes of a line, those before its line feed, and tells whether the line ends the record.
+    /// Takes the end of a line, and tells whether the line ends the record. `last` are its bytes, without the line
+    /// feed, that come after those kept from pieces before. Refused with what is wrong with the line, or where memory
+    /// runs out; then it is not counted.
     fn end_line(&mut self, alloc: Global, last: &[u8]) -> Result<Progress, JarFaultKind>
         requires { self.old.line + 1 < 2 ^ 64 }
         ensures taken { IsTaken result (reading.take_line self.old.ended (fields_in self.old)
@@ -61,7 +63,8 @@ impl Engine {
         Ok(progress)
     }
 
-    /// Takes the last bytes of a line, which are UTF-8, and tells whether the line ends the record.
+    /// Takes the end of a line as `end_line` does. `last` is UTF-8, and is not checked again if no byte of the line is
+    /// kept.
     #[inline(always)]
     fn end_text(&mut self, alloc: Global, last: &str) -> Result<Progress, JarFaultKind>
         requires { self.old.line + 1 < 2 ^ 64 }
@@ -78,7 +81,8 @@ impl Engine {
         Ok(progress)
     }
 
-    /// Keeps the bytes of a line whose end is not read yet. Refused if the line is too long.
+    /// Keeps the bytes of a line whose end is not read yet, after those that are kept. Refused if the line is too long,
+    /// or where memory runs out.
     fn keep(&mut self, part: &[u8]) -> Result<(), JarFaultKind>
         ensures kept { KeepsBytes self.old self.new part.now result }
         ensures same { (fields_in self.new ≡ fields_in self.old) × (self.new.ended ≡ self.old.ended) × (self.new.line ≡ self.old.line) }
@@ -93,8 +97,8 @@ impl Engine {
         Ok(())
     }
 
-    /// Takes a piece of the text up to the end of a record, and gives what follows that. None if the piece is used up and
-    /// the record goes on.
+    /// Takes a piece of the text up to the end of a record, and gives what follows that. None if the piece is used up
+    /// and the record goes on. Refused at the first line with a fault, or where memory runs out.
     pub(crate) fn take<'p>(
         &mut self,
         alloc: Global,
@@ -115,8 +119,7 @@ impl Engine {
         Ok(None)
     }
 
-    /// Takes a piece of the text that is UTF-8 up to the end of a record, and gives what follows that. None if the piece is
-    /// used up and the record goes on. Its lines are not looked at again for UTF-8.
+    /// Takes a piece of the text that is UTF-8, as `take` does. Its lines are not looked at again for UTF-8.
     pub(crate) fn take_text<'p>(
         &mut self,
         alloc: Global,
@@ -137,7 +140,8 @@ impl Engine {
         Ok(None)
     }
 
-    /// Takes the end of the text, and tells whether a record ends there.
+    /// Takes the end of the text, and tells whether a record ends there. Refused if the last line, without a line feed,
+    /// has a fault, or where memory runs out.
     pub(crate) fn finish(&mut self, alloc: Global) -> Result<bool, JarFaultKind>
         requires begun { IsOneLine self.old.partial.items }
         requires room { self.old.line + 1 < 2 ^ 64 }
@@ -150,7 +154,7 @@ impl Engine {
         Ok(!self.draft.is_empty())
     }
 
-    /// Begins a record, without fields.
+    /// Begins a record, without fields. It is to be written over those of the record before.
     pub(crate) fn begin_record(&mut self)
         ensures fields { fields_in self.new ≡ [] }
         ensures same { (self.new.partial.items ≡ self.old.partial.items) × (self.new.ended ≡ self.old.ended)
@@ -170,7 +174,7 @@ impl Engine {
         self.draft.take_record(alloc)
     }
 
-    /// Counts the record that ended.
+    /// Counts the record that ended. Its fields stay, as they are lent until the next call.
     pub(crate) fn count_record(&mut self)
         requires { self.old.ended < 100000 }
         ensures ended { self.new.ended ≡ self.old.ended + 1 }

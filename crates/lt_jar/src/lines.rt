@@ -157,8 +157,8 @@ fn split_name(text: &str) -> (&str, &str)
 
 ghost use Rattle.std.specs.Prelude.{drop};
 
-/// What the body begins with, if the line begins a field with just this name, which the field in its place had in the record
-/// before. None says nothing of the line.
+/// What the body begins with, if the line begins a field with just this name, which the field in its place had in the
+/// record before. None of other lines, and of some that begin such a field in another way.
 pub(crate) fn body_again<'l>(line: &'l str, name: &str) -> Option<&'l str>
     requires { lines.IsNamed name.now }
     ensures { IfSome result (λ body. lines.line_of line.now ≡ lines.Start name.now body.now) }
@@ -176,7 +176,8 @@ pub(crate) fn body_again<'l>(line: &'l str, name: &str) -> Option<&'l str>
     }
 }
 
-/// The line as one that begins a field, or as a bad one if it doesn't.
+/// A line that is neither blank nor a separator, and doesn't begin with a space or a tab: the beginning of a field, or
+/// a bad line.
 fn field_start(text: &str) -> LineKind<'_>
     ensures { line_in result ≡ lines.start_of text.now }
 {

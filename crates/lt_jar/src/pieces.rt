@@ -12,11 +12,17 @@ use std::io::{self, ErrorKind, Read, Write};
 /// A reader for tests that gives bytes in pieces, once or again and again, and may fail at one call.
 #[derive(Drop)]
 pub struct Pieces<'a> {
+    /// What it gives.
     bytes: &'a [u8],
+    /// Where the next read begins.
     at: usize,
+    /// The most bytes of a read.
     piece: usize,
+    /// Whether it begins again after the last byte.
     endless: bool,
+    /// How many calls were made.
     calls: u64,
+    /// The number of the call that fails, counted from 1, or 0 if none does.
     fails_at: u64,
 }
 
@@ -109,9 +115,13 @@ impl Read for Pieces<'_> {
 #[derive(Drop)]
 pub struct Takes {
     taken: Vec<u8>,
+    /// The most bytes that it takes in a call.
     piece: usize,
+    /// How many calls were made.
     calls: u64,
+    /// The number of the call that fails, counted from 1, or 0 if none does.
     fails_at: u64,
+    /// The number of the call that takes no byte, counted from 1, or 0 if none is to.
     full_at: u64,
 }
 

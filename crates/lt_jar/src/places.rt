@@ -6,7 +6,7 @@ ghost use Rattle.memchr.specs.Find.{IsFirstByte, is_byte};
 use memchr::memchr_iter;
 use std::simd::prelude::*;
 
-/// So many bytes of a text are looked at together.
+/// How many bytes of a text are looked at together: a vector of 256 bits.
 pub const TOGETHER: usize = 32;
 
 /// How many of the first 32 bytes of a text come before the first such byte; 32 where it is none of them.
@@ -25,8 +25,8 @@ fn count_before(byte: u8, text: &[u8]) -> usize
     }
 }
 
-/// Where the first such byte is, or None if there is none: 1 for the hyphen of `a-b-c`. It is likely to be near, so the first
-/// 32 bytes are looked at together.
+/// Where the first such byte is, counted from 0, or None if there is none: 1 for the hyphen of `a-b-c`. It is likely to
+/// be near, so the first 32 bytes are looked at together.
 #[inline(always)]
 pub fn first_place(byte: u8, text: &[u8]) -> Option<usize>
     ensures { IsFirstByte (is_byte byte) text.now result }

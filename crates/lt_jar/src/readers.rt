@@ -101,6 +101,7 @@ impl<'d, R: Read> JarReader<'d, R, JarSource> {
 }
 
 impl<R, S: Drop> Drop for JarReader<'_, R, S> {
+    /// Ends the reader. The device stays as the reader left it.
     fn drop(self)
         ensures { self.exit.0.now ≡ self.entry.device.now }
     {

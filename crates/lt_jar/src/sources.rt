@@ -10,7 +10,7 @@ use crate::jars::JarField;
 use std::alloc::Global;
 use std::io::Read;
 
-/// The most reads of one reader.
+/// The most reads of one reader, so that the reading ends, even of a reader that has no end.
 const MOST_READS: u32 = 10_000_000;
 
 /// The most bytes that a read is asked for.
@@ -29,10 +29,13 @@ pub(crate) enum Status {
 pub struct JarSource {
     engine: Engine,
     buffer: [u8; PIECE],
+    /// Where the bytes that are not yet handed on begin in the buffer.
     start: usize,
+    /// Where they end: the place after the last.
     end: usize,
-    /// Whether the bytes that are not yet handed on are known to be UTF-8.
+    /// Whether the bytes that are not yet handed on are known to be UTF-8, so that their lines are not checked again.
     is_text: bool,
+    /// How many reads were made.
     turns: u32,
     status: Status,
     ghost placed: { (start ≤ end) × (end ≤ 8192) },
@@ -64,7 +67,8 @@ impl JarSource {
         }
     }
 
-    /// Takes the bytes that were read, up to the end of a record, and tells whether one ended.
+    /// Takes the bytes that were read, up to the end of a record, and tells whether one ended: false is that all were
+    /// taken. Refused at the first line with a fault, or where memory runs out.
     fn take_unread(&mut self, alloc: Global) -> Result<bool, JarFaultKind>
         ensures takes { TakesUnread self.old self.new result }
         ensures same { (self.new.turns ≡ self.old.turns) × (self.new.status ≡ self.old.status) }
@@ -76,7 +80,7 @@ impl JarSource {
         }
     }
 
-    /// Takes the bytes that were read, which are UTF-8, up to the end of a record, and tells whether one ended.
+    /// Takes the bytes that were read, which are UTF-8, as `take_unread` does.
     fn take_unread_text(&mut self, alloc: Global) -> Result<bool, JarFaultKind>
         requires { self.old.is_text ≡ true }
         ensures takes { TakesUnread self.old self.new result }
@@ -87,7 +91,7 @@ impl JarSource {
         let text = unsafe { str::from_utf8_unchecked(piece) };
         match self.engine.take_text(alloc, text) {
             Ok(Some(rest)) => {
-                // So that it is known to be UTF-8.
+                // Does nothing when it runs: by it the proof knows that the rest is UTF-8.
                 let _ = rest.as_bytes();
                 self.start = self.end - rest.len();
                 Ok(true)
@@ -105,7 +109,7 @@ impl JarSource {
         }
     }
 
-    /// Takes the bytes that were read, which may be no UTF-8, up to the end of a record, and tells whether one ended.
+    /// Takes the bytes that were read, which may be no UTF-8, as `take_unread` does.
     fn take_unread_bytes(&mut self, alloc: Global) -> Result<bool, JarFaultKind>
         requires { self.old.is_text ≡ false }
         ensures takes { TakesUnread self.old self.new result }
@@ -153,7 +157,8 @@ impl JarSource {
         }
     }
 
-    /// Takes the end of the text, and tells whether a record ends there.
+    /// Takes the end of the text, and tells whether a record ends there. Refused if the last line has a fault, or where
+    /// memory runs out.
     fn finish(&mut self, alloc: Global) -> Result<bool, JarFaultKind>
         requires room { line_of_kept self.old + 1 ≤ 1 + 65536 * self.old.turns }
         requires few { HasRoom self.old }
@@ -168,7 +173,8 @@ impl JarSource {
         Ok(some)
     }
 
-    /// Reads up to the end of a record, and tells whether there is one: false is the end of the text.
+    /// Reads up to the end of a record, and tells whether there is one: false is the end of the text. Refused at the
+    /// first line with a fault, if a read fails or is one too many, or where memory runs out.
     fn read_record<R: Read>(
         &mut self,
         alloc: Global,
@@ -189,7 +195,8 @@ impl JarSource {
         }
     }
 
-    /// Moves to the next record, and tells whether there is one: false is the end of the text.
+    /// Moves to the next record, and tells whether there is one: false is the end of the text. After a fault the answer
+    /// is `Failed`, with that fault's line.
     pub(crate) fn advance<R: Read>(
         &mut self,
         alloc: Global,

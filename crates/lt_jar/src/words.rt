@@ -31,7 +31,8 @@ fn eight_at(bytes: &[u8], at: usize) -> u64
     ])
 }
 
-/// Whether two texts are the same bytes. Most have four to sixteen.
+/// Whether two texts are the same bytes. Most have four to sixteen, and are compared by their first and their last four
+/// or eight, as numbers, which may overlap.
 #[inline(always)]
 pub(crate) fn are_same(one: &[u8], other: &[u8]) -> bool
     ensures { IsTrue result ↔ (one.now ≡ other.now) }

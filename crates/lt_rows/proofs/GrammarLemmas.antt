@@ -7,18 +7,20 @@ use Rattle.lt_rows.specs.Records.{IsBody, IsClosedRecord, IsCsvField, IsCsvRecor
 use Rattle.lt_rows.specs.declared.quotes.Place.{Place}
 use Rattle.lt_rows.specs.declared.quotes.Place.TheVariants as places
 
+-- a byte that is no quote (34), in front of text between a field's quotes
 body-cons : (byte : ℕ) (body : List ℕ) → byte ≢ 34 → IsBody body → IsBody (byte ∷ body)
 body-cons byte [] other is = other
 body-cons byte (next ∷ body) other is = inl (other, is)
 
+-- lemmas on CSV whose delimiter is the byte d, which is no quote (34)
 module _ (d : ℕ) (unquoted : d ≢ 34) where
-  -- further fields
+  -- the text is fields, each with a delimiter before it
   record IsFurther (text : List ℕ) : Type 0 where
     pub fields : List (List ℕ)
     pub each : AllByRecursion (IsCsvField d) fields
     pub text_is : text ≡ further d fields
 
-  -- the rest of a plain field, and further fields
+  -- the text is the rest of a plain field, and then further fields
   record HasPlain (text : List ℕ) : Type 0 where
     pub plain : List ℕ
     pub more : List ℕ
@@ -26,7 +28,7 @@ module _ (d : ℕ) (unquoted : d ≢ 34) where
     pub is_plain : IsPlain d plain
     pub others : IsFurther more
 
-  -- a plain field, and further ones
+  -- the text is a plain field, and then further fields
   record HasPlainField (text : List ℕ) : Type 0 where
     pub plain : List ℕ
     pub more : List ℕ
@@ -34,7 +36,8 @@ module _ (d : ℕ) (unquoted : d ≢ 34) where
     pub is_plain : IsPlainField d plain
     pub others : IsFurther more
 
-  -- the rest of what is within quotes, what follows the quote that closes, and further fields
+  -- the text is the rest of what is between a field's quotes, the quote (34) that closes it, plain text, and then
+  -- further fields
   record HasBody (text : List ℕ) : Type 0 where
     pub body : List ℕ
     pub rest : List ℕ
@@ -44,22 +47,23 @@ module _ (d : ℕ) (unquoted : d ≢ 34) where
     pub is_rest : IsPlainField d rest
     pub others : IsFurther more
 
-  -- a quote, and that
+  -- the text is a quote (34), and then what such a quote opens
   record HasQuote (text : List ℕ) : Type 0 where
     pub inner : List ℕ
     pub text_is : text ≡ 34 ∷ inner
     pub has : HasBody inner
 
-  -- what the text is by the place of its first byte
+  -- what the text is, by the place where its first byte stands
   abbrev Parsed : Place → List ℕ → Type 0
   Parsed places.Fresh text = HasPlainField text ⊎ HasQuote text
   Parsed places.Plain text = HasPlain text
   Parsed places.Quoted text = HasBody text
 
+  -- the empty text has no further fields
   none : IsFurther []
   none = record { fields = []; each = tt; text_is = refl }
 
-  -- a record from what begins fresh
+  -- a text that begins with a field is a record
   as_record : (text : List ℕ) → HasPlainField text ⊎ HasQuote text → IsCsvRecord d text
   as_record text (inl p) = record { first = p.plain; others = p.others.fields; is_first = inl p.is_plain; are_others = p.others.each; text_is = p.text_is ∙ ap (λ l. p.plain ++ l) p.others.text_is }
   as_record text (inr q) = record {
@@ -70,20 +74,21 @@ module _ (d : ℕ) (unquoted : d ≢ 34) where
     text_is = q.text_is ∙ ap (λ l. 34 ∷ l) (q.has.text_is ∙ ap (λ l. q.has.body ++ 34 ∷ (q.has.rest ++ l)) q.has.others.text_is ∙ sym (append_assoc q.has.body (34 ∷ q.has.rest) (further d q.has.others.fields)));
   }
 
-  -- further fields from a delimiter
+  -- a delimiter in front of a text that begins with a field: further fields
   from_delimiter : (text : List ℕ) → HasPlainField text ⊎ HasQuote text → IsFurther (d ∷ text)
   from_delimiter text p =
       let r = as_record text p in
       record { fields = r.first ∷ r.others; each = (r.is_first, r.are_others); text_is = ap (λ l. d ∷ l) r.text_is }
 
-  -- the place after a byte outside of quotes
+  -- after a delimiter outside of quotes a field begins
   pub outside_delimiter : place_outside d d ≡ places.Fresh
   outside_delimiter = elim (d == 10) as (λ t. (if t || (d == d) then places.Fresh else places.Plain) ≡ places.Fresh) [ true ↦ refl | false ↦ ap (λ t. if t then places.Fresh else places.Plain) (eq-eqb d d refl) ]
 
+  -- after a byte outside of quotes that is neither a delimiter nor a line feed (10), a field goes on plain
   pub outside_other : (byte : ℕ) → byte ≢ d → byte ≢ 10 → place_outside d byte ≡ places.Plain
   outside_other byte other feed = rw (ne_eqb byte 10 feed, ne_eqb byte d other) refl
 
-  -- what is parsed goes on with a byte
+  -- a text whose line feeds (10) are all within quotes, and whose end is not, is parsed from any place on
   parsed : (place : Place) (text : List ℕ) → IsFreeOutside d 10 place text → is_quoted (place_at d place text) ≡ false → Parsed place text
   parsed places.Fresh [] free closed = inl (record { plain = []; more = []; text_is = refl; is_plain = tt; others = none })
   parsed places.Plain [] free closed = record { plain = []; more = []; text_is = refl; is_plain = tt; others = none }
@@ -147,5 +152,6 @@ module _ (d : ℕ) (unquoted : d ≢ 34) where
         record { body = byte ∷ p.body; rest = p.rest; more = p.more; text_is = ap (λ l. byte ∷ l) p.text_is; is_body = body-cons byte p.body other p.is_body; is_rest = p.is_rest; others = p.others }
   ]
 
+  -- a text whose line feeds (10) are all within quotes, and whose end is not, is a record of the grammar
   pub closed_is_record : (text : List ℕ) → IsClosedRecord d text → IsCsvRecord d text
   closed_is_record text c = as_record text (parsed places.Fresh text c.free c.closed)

@@ -13,11 +13,12 @@ use Rattle.lt_rows.specs.Plain.{IsNextPlace}
 use Rattle.lt_rows.specs.Splitting.{IsFreeOf}
 use Rattle.lt_rows.proofs.NearLemmas.{split_there}
 
+-- the bit that stands for the answer of a comparison is 1 exactly where the two numbers are equal
 tells : (a b : ℕ) (t : Bool) → (a == b) ≡ t → (cond {A = ℕ} t 1 0 ≡ 1) ↔ (a ≡ b)
 tells a b true e = (λ h. eqb-true a b e, λ h. refl)
 tells a b false e = (λ h. absurd (omega arith), λ h. let bad = eq-eqb a b h in cc)
 
--- a bit of the comparison of 64 bytes with one
+-- bit k of the mask of 64 comparisons with a byte is set exactly where the byte is at place k
 pub bit_of : (byte : ℕ) (text : List ℕ) (k : ℕ) → 64 ≤ length text → k < 64
     → (bit_at (mask_l (map (λ x. x == byte) (take 64 text))) k ≡ 1) ↔ (get_or text k 0 ≡ byte)
 bit_of byte text k long below =
@@ -29,7 +30,7 @@ bit_of byte text k long below =
     let t = tells (get_or text k 0) byte _ refl in
     (λ h. t.0 (sym is ∙ h), λ h. is ∙ t.1 h)
 
--- the bits of a front of the text
+-- the lowest `count` of the bits that tell where a byte is among 64 tell where it is among the first `count`
 pub bits_of_front : (byte count : ℕ) (text : List ℕ) (all bits : ℕ) → count < 64 → 64 ≤ length text
     → ((k : ℕ) → k < 64 → (bit_at all k ≡ 1) ↔ (get_or text k 0 ≡ byte))
     → ((k : ℕ) → (bit_at bits k ≡ 1) ↔ ((k < count) × (bit_at all k ≡ 1)))
@@ -48,11 +49,13 @@ bits_of_front byte count text all bits short long each below =
       );
     }
 
+-- lemmas on bits that tell where a byte is in a row, from the place `start` on
 module _ (byte start : ℕ) (row : List ℕ) (bits : ℕ) (are : AreBitsFrom byte start row bits) where
+  -- the row from that place on
   abbrev left : List ℕ
   left = drop start row
 
-  -- no bit is set
+  -- where no bit is set, the byte is not in what is left
   pub none_set : bits ≡ 0 → IsNextPlace byte start row None
   none_set is = All-from_get_or (λ other. other ≢ byte) left 0
       (λ k inside e.
@@ -60,11 +63,13 @@ module _ (byte start : ℕ) (row : List ℕ) (bits : ℕ) (are : AreBitsFrom byt
       let set : bit_at bits (start + k) ≡ 1 = (are.each (start + k)).1 (omega arith, there, sym (get_or-drop start row k 0) ∙ e) in
       absurd (omega (arith, set, ap (λ n. bit_at n (start + k)) is, bit_at-zero (start + k))))
 
-  -- the lowest that is
+  -- lemmas on the lowest bit that is set, at the place `end`
   module _ (end : ℕ) (set : bit_at bits end ≡ 1) (below : (k : ℕ) → k < end → bit_at bits k ≡ 0) where
+    -- the byte is at that place, in what is left
     pub lowest_there : (start ≤ end) × (end < length row) × (get_or row end 0 ≡ byte)
     lowest_there = (are.each end).0 set
 
+    -- the byte is nowhere between `start` and the place of the lowest bit
     free_to : IsFreeOf byte (take (end - start) left)
     free_to =
         let long : length left ≡ length row - start = length-drop start row in
@@ -75,6 +80,7 @@ module _ (byte start : ℕ) (row : List ℕ) (bits : ℕ) (are : AreBitsFrom byt
         let is : get_or row (start + k) 0 ≡ byte = sym (get_or-drop start row k 0) ∙ sym (get_or-take (end - start) left k 0 (omega (arith, inside, short))) ∙ e in
         absurd (omega (arith, below (start + k) low, (are.each (start + k)).1 (omega arith, omega (arith, low, lowest_there.1), is))))
 
+    -- the place of the lowest bit is the byte's next place from `start` on
     pub lowest_next : IsNextPlace byte start row (Some end)
     lowest_next =
         let inside : end - start < length left = omega (arith, lowest_there.0, lowest_there.1, length-drop start row) in
@@ -82,7 +88,7 @@ module _ (byte start : ℕ) (row : List ℕ) (bits : ℕ) (are : AreBitsFrom byt
         let here : get_or left (end - start) 0 ≡ byte = get_or-drop start row (end - start) 0 ∙ ap (λ n. get_or row n 0) there ∙ lowest_there.2 in
         (lowest_there.0, (inside, free_to, split_there byte left (end - start) inside here))
 
-    -- the others
+    -- the bits without that one, `rest`, tell where the byte is behind that place
     pub others_set : (rest : ℕ) → bit_at rest end ≡ 0 → ((k : ℕ) → k < 64 → k ≢ end → bit_at rest k ≡ bit_at bits k)
         → ((k : ℕ) → bit_at rest k ≡ 1 → bit_at bits k ≡ 1) → AreBitsFrom byte (end + 1) row rest
     others_set rest gone kept more = record {
@@ -106,13 +112,14 @@ module _ (byte start : ℕ) (row : List ℕ) (bits : ℕ) (are : AreBitsFrom byt
 
 -- ---- blocks without a byte
 
--- no bit of either is set
+-- where no bit is set in a or in b, bit k is set in neither
 pub neither_set : (a b k : ℕ) → bit_or a b ≡ 0 → (bit_at a k ≡ 1 → ⊥) × (bit_at b k ≡ 1 → ⊥)
 neither_set a b k none =
     let zero : bit_at (bit_or a b) k ≡ 0 = ap (λ n. bit_at n k) none ∙ bit_at-zero k in
     (λ set. absurd (omega (arith, set, zero, bit_at_or a b k)), λ set. absurd (omega (arith, set, zero, bit_at_or a b k)))
 
--- a block more is free of the byte
+-- a text whose first `at` bytes are free of a byte, and whose next 64 have no bit set for it, is free of it for 64
+-- bytes more
 pub free_block : (byte at : ℕ) (text : List ℕ) (bits : ℕ) → 64 ≤ length text - at → at ≤ length text
     → ((k : ℕ) → k < 64 → (bit_at bits k ≡ 1) ↔ (get_or (take (length text - at) (drop at text)) k 0 ≡ byte))
     → ((k : ℕ) → bit_at bits k ≡ 1 → ⊥) → IsFreeOf byte (take at text) → IsFreeOf byte (take (at + 64) text)
@@ -129,7 +136,7 @@ free_block byte at text bits room inside each none free =
           (ap (λ l. get_or l (k - at) 0) (take_rest text at) ∙ get_or-drop at text (k - at) 0 ∙ ap (λ n. get_or text n 0) there ∙ is))
     ])
 
--- a text is free of a byte where its front and its rest are
+-- a text whose first `front` bytes are free of a byte is free of it exactly where its rest is
 pub free_of_rest : (byte front : ℕ) (text : List ℕ) → front ≤ length text → IsFreeOf byte (take front text)
     → IsFreeOf byte text ↔ IsFreeOf byte (take (length text - front) (drop front text))
 free_of_rest byte front text inside free = (
@@ -139,16 +146,18 @@ free_of_rest byte front text inside free = (
 
 -- ---- how often a byte is there
 
+-- lemmas on how often a byte is in a text, of which the first `at` bytes are counted
 module _ (byte at : ℕ) (text : List ℕ) (inside : at ≤ length text) where
+  -- whether a byte is the one that is counted
   abbrev is_it : ℕ → Bool
   is_it other = other == byte
 
-  -- in a front and in the rest
+  -- `count` of them are in those, and `more` in the rest: together they are all
   pub count_rest : (count more : ℕ) → count ≡ count_by is_it (take at text) → more ≡ count_by is_it (take (length text - at) (drop at text)) → count + more ≡ count_by is_it text
   count_rest count more front rest =
       omega (arith, front, rest ∙ ap (count_by is_it) (take_rest text at), sum_by-append (λ other. cond (is_it other) 1 0) (take at text) (drop at text), ap (count_by is_it) (take-append-drop at text))
 
-  -- in a block more
+  -- `count` of them are in those, and `more` in the next 64 bytes: together they are all in the first `at` + 64
   pub count_block : (count more : ℕ) → 64 ≤ length text - at → count ≡ count_by is_it (take at text)
       → more ≡ count_by is_it (take 64 (take (length text - at) (drop at text))) → (more ≤ 64) × (count + more ≡ count_by is_it (take (at + 64) text))
   count_block count more room front block =

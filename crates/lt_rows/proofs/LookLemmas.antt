@@ -17,22 +17,24 @@ use Rattle.lt_rows.proofs.RowLemmas.{after_other, closed_of_free, free_of_none, 
 
 -- ---- the end of a row
 
--- a row without quotes ends outside of them
+-- a row without quotes (34) ends outside of quotes
 pub closed_row : (S : Separator) (row : List ℕ) → IsFreeOf 34 row → ends_quoted S row ≡ false
 closed_row separators.Tab row free = refl
 closed_row (separators.Delimiter d) row free = closed_of_free d places.Fresh row refl free
 
--- so does a rest
+-- the part of a row from `start` on, where a field begins, ends outside of quotes if it has none (34); the row is the
+-- first `count` bytes of a text
 pub closed_rest : (d start count : ℕ) (text : List ℕ) → start ≤ count → IsFreeOf 34 (take (count - start) (take (length text - start) (drop start text)))
     → is_quoted (place_at d places.Fresh (drop start (take count text))) ≡ false
 closed_rest d start count text le free = closed_of_free d places.Fresh (drop start (take count text)) refl (subst (IsFreeOf 34) (left_is text count start le) free)
 
--- the rest as a slice
+-- the part of a row from `start` on, as a slice of the text whose first `count` bytes are the row
 pub rest_slice : (start count : ℕ) (text : List ℕ) → start ≤ count → take (count - start) (drop start text) ≡ drop start (take count text)
 rest_slice start count text le = sym (drop-take start (count - start) text) ∙ ap (λ n. drop start (take n text)) (omega (arith, le))
 
--- a field begins fresh after a separator
+-- lemmas on CSV whose delimiter is the byte d, which is no quote (34)
 module _ (d : ℕ) (unquoted : d ≢ 34) where
+  -- the place after fields that separators end, and a rest, is that after the rest alone: it begins as a field does
   fresh_after : (fields : List (List ℕ)) (rest : List ℕ) → AllByRecursion (IsEnded (separators.Delimiter d)) fields
       → place_at d places.Fresh (separated (separators.Delimiter d) fields ++ rest) ≡ place_at d places.Fresh rest
   fresh_after [] rest each = refl
@@ -42,12 +44,14 @@ module _ (d : ℕ) (unquoted : d ≢ 34) where
       ap (place_at d places.Fresh) (append_assoc field (d ∷ others) rest) ∙ place_at-append d places.Fresh field (d ∷ others ++ rest)
       ∙ ap (λ p. place_at d p (others ++ rest)) next ∙ fresh_after fields rest each.1
 
+  -- the place at the end of a row is that at the end of what is left behind skipped fields, read from where a field
+  -- begins
   pub open_from : (before : ℕ) (row rest : List ℕ) → Skips (separators.Delimiter d) before row rest → place_at d places.Fresh row ≡ place_at d places.Fresh rest
   open_from before row rest s = ap (place_at d places.Fresh) s.row_is ∙ fresh_after s.before rest s.each
 
 -- ---- texts of fields
 
--- a list that is three lists
+-- a list of three parts is cut into them at the places `start` and `end`
 cut_in_three : (row a b c : List ℕ) (start end : ℕ) → row ≡ a ++ (b ++ c) → start ≡ length a → end ≡ start + length b
     → (take start row ≡ a) × (take (end - start) (drop start row) ≡ b) × (drop end row ≡ c)
 cut_in_three row a b c start end split first last =
@@ -58,7 +62,7 @@ cut_in_three row a b c start end split first last =
     let whole : end ≡ length (a ++ b) = omega (arith, first, last, length-append a b) in
     (front, rw (long, rest) (take-append_seam b c), rw (whole, through) (drop-append_seam (a ++ b) c))
 
--- the text of a field by its places
+-- where the text of a field is, `place`, by the places `start` and `end` of the field and the length of its quotes
 pub text_there : (S : Separator) (before : ℕ) (row : List ℕ) (start end : ℕ) (quotes text : List ℕ) (place : TextAt) → IsFieldAt S before row start end
     → IsTextIn S (take (end - start) (drop start row)) quotes text → place.start ≡ start + length quotes → place.end ≡ place.start + length text → HasTextAt S before row place
 text_there S before row start end quotes text place f is first last =
@@ -85,7 +89,7 @@ text_there S before row start end quotes text place f is first last =
       after_is = cut.2;
     }
 
--- the places of a text are in its row
+-- a field's quote at its front, if it has one, and its text end within the row
 pub text_inside : (S : Separator) (row : List ℕ) (start end : ℕ) (quotes text : List ℕ) → start ≤ end → end ≤ length row → IsTextIn S (take (end - start) (drop start row)) quotes text
     → start + length quotes + length text ≤ length row
 text_inside S row start end quotes text ordered inside is =
@@ -94,16 +98,17 @@ text_inside S row start end quotes text ordered inside is =
 
 -- ---- looks
 
--- no carriage return is in a record of one line
+-- a record of one line has no carriage return
 pub line_returns : (S : Separator) (row : List ℕ) → IsPlainLine S row → HasReturn S row → ⊥
 line_returns separators.Tab row plain returns = returns
 line_returns (separators.Delimiter d) row plain returns = returns (free_of_none d 13 places.Fresh row plain.0)
 
+-- a record of one line has no line feed (10)
 pub line_feeds : (S : Separator) (row : List ℕ) → IsPlainLine S row → IsFreeOf 10 row
 line_feeds separators.Tab row plain = absurd plain
 line_feeds (separators.Delimiter d) row plain = plain.1
 
--- the fields before one are skipped
+-- a field that has `before` others before it begins where they are skipped
 pub field_skips : (S : Separator) (before : ℕ) (row : List ℕ) (start end : ℕ) → IsFieldAt S before row start end → Skips S before row (drop start row)
 field_skips S before row start end f = record {
   before = f.at.before;

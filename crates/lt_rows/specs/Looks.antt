@@ -23,12 +23,12 @@ abbrev pub IsPlainLine : Separator → List ℕ → Type 0
 IsPlainLine separators.Tab row = ⊥
 IsPlainLine (separators.Delimiter delimiter) row = IsFreeOf 13 row × IsFreeOf 10 row
 
--- which of these bytes a text lacks: carriage returns (13) and quotes (34)
+-- `lacks` tells exactly which of these bytes the text lacks: carriage returns (13) and quotes (34)
 pub record AreLackedIn (text : List ℕ) (lacks : Lacks) : Type 0 where
   pub returns : IsTrue lacks.returns ↔ IsFreeOf 13 text
   pub quotes : IsTrue lacks.quotes ↔ IsFreeOf 34 text
 
--- what is known of a row: one that lacks carriage returns has no line feeds (10) either
+-- what `lacks` says that a row lacks, it lacks; one that lacks carriage returns (13) has no line feeds (10) either
 pub record LacksIn (row : List ℕ) (lacks : Lacks) : Type 0 where
   pub returns : IsTrue lacks.returns → IsFreeOf 13 row × IsFreeOf 10 row
   pub quotes : IsTrue lacks.quotes → IsFreeOf 34 row
@@ -49,13 +49,14 @@ pub record HasTextAt (S : Separator) (before : ℕ) (row : List ℕ) (place : Te
   pub text_is : take (place.end - place.start) (drop place.start row) ≡ text
   pub after_is : drop place.end row ≡ quotes ++ after
 
--- what is found in a row: a carriage return outside of quotes, or else too few fields, or where the text of a field is
+-- what is found in a row, of the field after `before` others: a carriage return outside of quotes, or else too few
+-- fields, or where the field's text is
 abbrev pub IsFound : Separator → ℕ → List ℕ → Found → Type 0
 IsFound S before row founds.Return = HasReturn S row
 IsFound S before row founds.Fewer = (HasReturn S row → ⊥) × HasFewer S before row
 IsFound S before row (founds.Text place) = (HasReturn S row → ⊥) × HasTextAt S before row place
 
--- what a look at a row found is true of it
+-- what a look at a row for the field after `before` others found is true of it
 pub record IsLookAt (S : Separator) (before : ℕ) (row : List ℕ) (look : Look) : Type 0 where
   pub ends : look.is_open ≡ ends_quoted S row
   pub found : IsFound S before row look.found

@@ -19,25 +19,26 @@ is_quoted places.Quoted = true
 abbrev pub place_outside : ℕ → ℕ → Place
 place_outside delimiter byte = if (byte == 10) || (byte == delimiter) then places.Fresh else places.Plain
 
--- the place after a byte, by the place before it
+-- the place after a byte, given the delimiter, the place where the byte stands, and the byte
 abbrev pub place_after : ℕ → Place → ℕ → Place
 place_after delimiter places.Quoted byte = if byte == 34 then places.Fresh else places.Quoted
 place_after delimiter places.Fresh byte = if byte == 34 then places.Quoted else place_outside delimiter byte
 place_after delimiter places.Plain byte = place_outside delimiter byte
 
--- the place after a text, by the place before it
+-- the place after a text, given the delimiter, the place where its first byte stands, and the text
 abbrev pub place_at : ℕ → Place → List ℕ → Place
 place_at delimiter place [] = place
 place_at delimiter place (byte ∷ text) = place_at delimiter (place_after delimiter place byte) text
 
--- each byte `stop` of a text is within quotes
+-- each byte `stop` of a text, whose first byte stands at the given place, is within quotes
 abbrev pub IsFreeOutside : (delimiter stop : ℕ) → Place → List ℕ → Type 0
 IsFreeOutside delimiter stop place [] = Unit {0}
 IsFreeOutside delimiter stop place (byte ∷ text) =
     (byte ≡ stop → is_quoted place ≡ true) × IsFreeOutside delimiter stop (place_after delimiter place byte) text
 
--- The records of a text (RFC 4180, 2), without the line feeds (10) that end them, which are those outside of quotes.
--- What follows the last line feed is a record, unless it is empty.
+-- The records (RFC 4180, 2) of a text, given the delimiter, the place where its first byte stands, and the text. The
+-- line feeds (10) that end them are those outside of quotes, and are left out. What follows the last is a record,
+-- unless it is empty.
 abbrev pub records_from : ℕ → Place → List ℕ → List (List ℕ)
 records_from delimiter place [] = []
 records_from delimiter place (byte ∷ text) =

@@ -32,7 +32,7 @@ abbrev pub separated : Separator → List (List ℕ) → List ℕ
 separated S [] = []
 separated S (field ∷ fields) = field ++ separator S ∷ separated S fields
 
--- what follows a field in a row: nothing, or a separator and any bytes
+-- what follows a field of a row: no bytes, or a separator and any bytes
 abbrev pub IsAfterField : Separator → List ℕ → List ℕ → Type 0
 IsAfterField S field after = (after ≡ []) ⊎ ((more : List ℕ) × IsClosed S field × (after ≡ separator S ∷ more))
 
@@ -43,7 +43,8 @@ pub record Skips (S : Separator) (count : ℕ) (row rest : List ℕ) : Type 0 wh
   pub number : length before ≡ count
   pub row_is : row ≡ separated S before ++ rest
 
--- the field of a row that has `count` fields before it, and what is in front of it and after it
+-- `field` is the field of a row that has `count` fields before it; `front` is what is before it in the row, with the
+-- separators, and `after` what is behind it
 pub record HasField (S : Separator) (count : ℕ) (row front field after : List ℕ) : Type 0 where
   pub before : List (List ℕ)
   pub each : AllByRecursion (IsEnded S) before

@@ -17,6 +17,6 @@ abbrev pub IsPlaceOf : ℕ → List ℕ → Option ℕ → Type 0
 IsPlaceOf byte bytes place = MatchOption place (IsFreeOf byte bytes)
     (λ i. (i < length bytes) × IsFreeOf byte (take i bytes) × (bytes ≡ take i bytes ++ byte ∷ drop (i + 1) bytes))
 
--- `front` is a front of the text with `count` bytes or more
+-- `front` is a front of the text that has its first `count` bytes and may have more
 abbrev pub IsNear : ℕ → (text front : List ℕ) → Type 0
 IsNear count text front = (n : ℕ) × (count ≤ n) × (n ≤ length text) × (front ≡ take n text)

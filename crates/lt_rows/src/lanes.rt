@@ -7,7 +7,7 @@ ghost use Rattle.lt_rows.specs.Splitting.{IsFreeOf};
 
 use std::simd::prelude::*;
 
-/// So many bytes are looked at together.
+/// How many bytes are looked at together: a vector of 512 bits, for each byte of which a `u64` has a bit.
 pub(crate) const LANES: usize = 64;
 
 /// Where a byte is among the first 64 of a text: bit k is set where it is at place k.
@@ -33,7 +33,7 @@ fn count_in_lanes(byte: u8, text: &[u8]) -> usize
         .count_ones() as usize
 }
 
-/// The lowest `count` of the bits.
+/// The lowest `count` of the bits, with the others cleared.
 #[inline(always)]
 fn bits_below(bits: u64, count: usize) -> u64
     requires { count < 64 }
@@ -67,8 +67,8 @@ pub(crate) fn take_lowest(bits: &mut u64) -> Option<usize>
     Some(lowest)
 }
 
-/// A length such that neither byte is among so many first bytes of a text. They are looked at in blocks of 64, up to the
-/// first that has one of the two.
+/// How many bytes at the front of a text are found to be neither of two bytes. They are looked at in blocks of 64, up
+/// to the first that has one of the two; a last block of fewer is not looked at.
 pub(crate) fn free_front(one: u8, other: u8, text: &[u8]) -> usize
     ensures inside { result ≤ length text.now }
     ensures free { IsFreeOf one (take result text.now) × IsFreeOf other (take result text.now) }

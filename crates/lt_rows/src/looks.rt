@@ -60,7 +60,7 @@ fn is_free_of(byte: u8, text: &[u8]) -> bool
     }
 }
 
-/// Whether a text doesn't have this byte, of which its first `front` bytes are known to be free.
+/// Whether a text doesn't have this byte. Its first `front` bytes are known to be free of it, and are not looked at.
 fn is_free_from(byte: u8, text: &[u8], front: usize) -> bool
     requires { (front ≤ length text.now) × IsFreeOf byte (take front text.now) }
     ensures { IsTrue result ↔ IsFreeOf byte text.now }
@@ -68,7 +68,7 @@ fn is_free_from(byte: u8, text: &[u8], front: usize) -> bool
     is_free_of(byte, &text[front..])
 }
 
-/// Whether a text lacks carriage returns, and whether it lacks quotes.
+/// Whether a text lacks carriage returns, and whether it lacks quotes. A front without both is passed once for the two.
 pub fn lacks_of(text: &[u8]) -> Lacks
     ensures { AreLackedIn text.now result }
 {
@@ -131,6 +131,7 @@ fn is_open(separator: Separator, lacks: Lacks, text: &[u8], count: usize, start:
     match separator {
         Separator::Tab => false,
         Separator::Delimiter(delimiter) => {
+            // A delimiter that is a quote may begin quoted text, so the place at `start` is not known.
             if delimiter == b'"' {
                 is_open_from(delimiter, text, count, 0)
             } else {

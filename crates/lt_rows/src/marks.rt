@@ -5,10 +5,10 @@ ghost use Rattle.lt_rows.specs.Marks.{Begins, IsShortOf, IsWide, MayBeMark, Spli
 /// The mark of UTF-8 (RFC 3629, 6).
 const UTF8: &[u8] = b"\xEF\xBB\xBF";
 
-/// That of UTF-16, the high byte of a pair first (RFC 2781, 3.2).
+/// The mark of UTF-16, the high byte of a pair first (RFC 2781, 3.2).
 const BIG: &[u8] = b"\xFE\xFF";
 
-/// That of UTF-16, the low byte of a pair first.
+/// The mark of UTF-16, the low byte of a pair first (RFC 2781, 3.2).
 const LITTLE: &[u8] = b"\xFF\xFE";
 
 /// Whether a text begins with the bytes of `front`.

@@ -61,7 +61,7 @@ fn begins_quoted(text: &[u8], count: usize) -> bool
     count > 0 && text[0] == b'"'
 }
 
-/// Where the first delimiter outside of quotes is, or None if there is none.
+/// Where the first delimiter outside of quotes is in the rest of a row, or None if there is none.
 fn end_outside(delimiter: u8, rest: &[u8]) -> Option<usize>
     ensures { EndsField (separators.Delimiter delimiter) rest.now result }
 {
@@ -81,6 +81,7 @@ fn quoted_end(delimiter: u8, text: &[u8], count: usize) -> Option<usize>
 {
     if delimiter != b'"' {
         if let Some(within) = place_within(b'"', &text[1..], count - 1) {
+            // Behind the quote that opens, `within` bytes, and the quote that closes.
             let end = within + 2;
             if end == count {
                 return None;
@@ -162,6 +163,7 @@ pub fn has_return(separator: Separator, row: &[u8]) -> bool
     match separator {
         Separator::Tab => false,
         Separator::Delimiter(byte) => {
+            // A row without any carriage return is answered without a look at its quotes.
             split_first(b'\r', row).is_some() && split_outside(byte, b'\r', row).is_some()
         }
     }

@@ -17,7 +17,8 @@ pub fn split_first(byte: u8, bytes: &[u8]) -> Option<(&[u8], &[u8])>
     }
 }
 
-/// The first `count` bytes of a text, or, of a longer text, as many as a search looks at together.
+/// The first `count` bytes of a text, or the first 32 of a text that has them, if `count` is less: a search looks at so
+/// many together.
 #[inline(always)]
 fn near(text: &[u8], count: usize) -> &[u8]
     requires { count ≤ length text.now }

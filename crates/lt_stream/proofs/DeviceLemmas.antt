@@ -11,18 +11,19 @@ use Rattle.lt_stream.specs.DeviceOutput.{WritesText}
 use Rattle.lt_stream.specs.declared.faults.ToolFault.{ToolFault}
 use Rattle.lt_stream.specs.declared.faults.ToolFault.TheVariants as faults
 
--- no failure came before the call in which it failed
+-- a device that fails in a call, and didn't before it, has failed since `start`
 pub failed_from : {T : Type 0} (start before after : Device T) → failures_of before ≡ failures_of start → HasFailed before after → HasFailed start after
 failed_from start before after same failed = subst (λ (n : ℕ). (n < failures_of after) ⊎ (failures_of after ≡ greatest_count)) same failed
 
--- a further write took some more
+-- the first `at` bytes of a text were appended, from a to b, and n bytes more, from b to c: from a to c the first `at`
+-- + n are
 pub appends_more : (a b c : Option (List ℕ)) (text : List ℕ) (at n : ℕ) → Appends a b (take at text)
     → Appends b c (take n (take (length text - at) (drop at text))) → Appends a c (take (at + n) text)
 appends_more a b c text at n first second =
     subst (Appends a c) (sym (take-add at n text))
     (Appends-trans a b c _ _ first (subst (λ (l : List ℕ). Appends b c (take n l)) (take_rest text at) second))
 
--- the front of a text was written
+-- what a loop that writes a text gives, once the first `at` bytes of it are written: the whole text, or a failed write
 pub wrote_front : {W : Type 0} (contents : W → Option (List ℕ)) (text : List ℕ) (at : ℕ) (before after : Device W) (r : Result (Unit {0}) ToolFault) → Appends (contents (inner_of before)) (contents (inner_of after)) (take at text)
     → IfOk r (λ _. (take at text ≡ text) × (failures_of after ≡ failures_of before)) → IfErr r (λ f. (f ≡ faults.Write) × HasFailed before after) → WritesText contents text before after r
 wrote_front contents text at before after r appends done stopped = record {
@@ -33,7 +34,7 @@ wrote_front contents text at before after r appends done stopped = record {
   stopped = stopped;
 }
 
--- a text was written, and then another
+-- one text is written, and then another: they are written as one
 pub wrote_more : {W : Type 0} (contents : W → Option (List ℕ)) (text more : List ℕ) (before between after : Device W) (r : Result (Unit {0}) ToolFault)
     → WritesText contents text before between (Ok tt) → WritesText contents more between after r → WritesText contents (text ++ more) before after r
 wrote_more contents text more before between after r w m = record {
@@ -44,7 +45,7 @@ wrote_more contents text more before between after r w m = record {
   stopped = IfErr-weaker r _ _ (λ _ h. (h.0, failed_from before between after w.done.1 h.1)) m.stopped;
 }
 
--- a text was not written, nor what was to follow
+-- where the writing of a text fails, what was written is a front of the text with `more` behind it too
 pub wrote_less : {W : Type 0} (contents : W → Option (List ℕ)) (text more : List ℕ) (before after : Device W) (f : ToolFault)
     → WritesText contents text before after (Err f) → WritesText contents (text ++ more) before after (Err f)
 wrote_less contents text more before after f w = record {

@@ -1,4 +1,4 @@
--- What is taken of lines that come in pieces, and what is owed for them.
+-- What is taken of lines that come in pieces, and what answers them.
 use Rattle.std.proofs.Common.{◌≡◌, ◌≢◌, ◌≤◌, ◌<◌, ◌-◌, ◌++◌, ◌∷◌, ◌∙◌, inl, inr, ℕ, List, [], Option, Ok, Err, length, take, sym, ap, refl, subst, arith, append_assoc, append-nil, length-append}
 use Rattle.std.proofs.KnownBytes.{Appends-nil, Appends-trans}
 use Rattle.std.proofs.lemmas.List.Elements.{All-append, All-nil}
@@ -16,20 +16,22 @@ use Rattle.lt_stream.specs.declared.lines.Lined.{Lined}
 use Rattle.lt_stream.proofs.DeviceLemmas.{failed_from}
 use Rattle.lt_stream.proofs.PartLemmas.{kept_front, nothing_kept, take_none}
 
+-- the byte is no line feed (10)
 abbrev IsNoFeed : ℕ → Type 0
 IsNoFeed byte = byte ≢ 10
 
--- one line more that is ended
+-- the text of lines and one more: that of the others, and this one with its line feed (10)
 whole_last : (lines : List (List ℕ)) (line : List ℕ) → whole_lines (lines ++ line ∷ []) ≡ whole_lines lines ++ (line ++ 10 ∷ [])
 whole_last lines line = whole-append lines (line ∷ []) ∙ ap (λ (l : List ℕ). whole_lines lines ++ l) (append-nil (line ++ 10 ∷ []))
 
--- there are no more lines than bytes
+-- whole lines are no more than their bytes
 pub few_lines : (lines : List (List ℕ)) → length lines ≤ length (whole_lines lines)
 few_lines [] = omega arith
 few_lines (line ∷ lines) = omega (arith, few_lines lines, length-append (line ++ 10 ∷ []) (whole_lines lines), length-append line (10 ∷ []))
 
+-- one run, from the output `start`, whose lines are answered by what was `first` at its beginning
 module _ {A W : Type 0} (Q : A → Answered A) (first : A) (longest : ℕ) (contents : W → Option (List ℕ)) (start : Device W) where
-  -- nothing was taken
+  -- at first nothing is read, kept or answered
   pub taken_none : (state : Lined A) → 0 < longest → state.kept.items ≡ [] → state.owed.items ≡ [] → Q first state.answers [] [] → IsTaken (Q first) longest contents start start [] state
   taken_none state some kept owed answered = record {
     during = record {
@@ -48,7 +50,7 @@ module _ {A W : Type 0} (Q : A → Answered A) (first : A) (longest : ℕ) (cont
     emptied = owed;
   }
 
-  -- the line goes on
+  -- a further part of a line is read and kept
   pub during_part : (now : Device W) (bytes part : List ℕ) (old new : Lined A) → IsOneLine part → KeepsMore longest part old new → IsDuring (Q first) longest contents start now bytes old
       → IsDuring (Q first) longest contents start now (bytes ++ part) new
   during_part now bytes part old new one k t = record {
@@ -65,7 +67,7 @@ module _ {A W : Type 0} (Q : A → Answered A) (first : A) (longest : ℕ) (cont
     answered = rw (k.same, k.owed) t.answered;
   }
 
-  -- it ends
+  -- a line feed (10) is read, and the line that it ends is answered
   pub during_feed : (now : Device W) (bytes : List ℕ) (old new : Lined A) → EndsLine Q longest old new → IsDuring (Q first) longest contents start now bytes old
       → IsDuring (Q first) longest contents start now (bytes ++ 10 ∷ []) new
   during_feed now bytes old new e t = record {
@@ -82,7 +84,7 @@ module _ {A W : Type 0} (Q : A → Answered A) (first : A) (longest : ℕ) (cont
     answered = rw (e.takes.grown, ← append_assoc t.written old.owed.items e.takes.part) (e.takes.taken t.last t.last_one t.kept first t.lines (t.written ++ old.owed.items) t.answered);
   }
 
-  -- some of what is owed was written
+  -- some of the answers that wait are written
   pub during_written : (now after : Device W) (bytes : List ℕ) (old new : Lined A) → WritesOwed contents old new now after (Ok tt) → IsDuring (Q first) longest contents start now bytes old
       → IsDuring (Q first) longest contents start after bytes new
   during_written now after bytes old new w t = record {
@@ -99,7 +101,8 @@ module _ {A W : Type 0} (Q : A → Answered A) (first : A) (longest : ℕ) (cont
     answered = rw (w.same, append_assoc t.written w.part new.owed.items, ← w.done.0) t.answered;
   }
 
-  -- what was written is begun, whatever follows
+  -- what was written, and a front of the answers that wait, is a front of the answers to all lines, whatever bytes
+  -- follow
   begun_during : (now : Device W) (bytes more part : List ℕ) (state : Lined A) (t : IsDuring (Q first) longest contents start now bytes state) → IsFrontOf part state.owed.items → IsBegun (Q first) (bytes ++ more) (t.written ++ part)
   begun_during now bytes more part state t front = record {
     lines = t.lines;
@@ -112,7 +115,7 @@ module _ {A W : Type 0} (Q : A → Answered A) (first : A) (longest : ℕ) (cont
     front = ap (λ (l : List ℕ). t.written ++ l) front.1 ∙ sym (append_assoc t.written part front.0);
   }
 
-  -- memory ran out
+  -- memory runs out: what was written is a front of the answers, whatever bytes follow
   pub during_lacks : (now : Device W) (bytes more : List ℕ) (state : Lined A) → IsDuring (Q first) longest contents start now bytes state → IsCutOff (Q first) contents start now (bytes ++ more) faults.OutOfMemory
   during_lacks now bytes more state t = record {
     written = t.written;
@@ -121,7 +124,7 @@ module _ {A W : Type 0} (Q : A → Answered A) (first : A) (longest : ℕ) (cont
     stop = inr (refl, t.same);
   }
 
-  -- a write failed
+  -- a write fails: what was written is a front of the answers, whatever bytes follow
   pub during_fails : (now last : Device W) (bytes more : List ℕ) (state new : Lined A) (f : ToolFault) → IsDuring (Q first) longest contents start now bytes state → WritesOwed contents state new now last (Err f)
       → IsCutOff (Q first) contents start last (bytes ++ more) f
   during_fails now last bytes more state new f t w = record {
@@ -133,11 +136,11 @@ module _ {A W : Type 0} (Q : A → Answered A) (first : A) (longest : ℕ) (cont
 
   -- ---- the end
 
-  -- the lines of the bytes, where nothing is kept
+  -- where nothing is kept, the lines of the bytes are those that are answered
   lines_during : (now : Device W) (bytes : List ℕ) (state : Lined A) (t : IsDuring (Q first) longest contents start now bytes state) → state.kept.items ≡ [] → lines_of bytes ≡ t.lines
   lines_during now bytes state t none = rw (t.cut, lines_of-whole t.lines t.last t.each_one, nothing_kept longest state.kept.items t.last t.some t.kept none) (append-nil t.lines)
 
-  -- a line feed after a last line ends no further line
+  -- where something is kept, the last line has no line feed, and one behind it would give the bytes no further line
   last_ended : (now : Device W) (bytes : List ℕ) (state : Lined A) → IsDuring (Q first) longest contents start now bytes state → (state.kept.items ≡ [] → ⊥) → lines_of (bytes ++ 10 ∷ []) ≡ lines_of bytes
   last_ended now bytes state t some =
       let long : 0 < length t.last = last_length t.last t.kept in
@@ -148,7 +151,7 @@ module _ {A W : Type 0} (Q : A → Answered A) (first : A) (longest : ℕ) (cont
       last_length [] is = absurd (some (is ∙ take_none longest [] refl))
       last_length (byte ∷ last) is = omega arith
 
-  -- where nothing is kept, all lines are answered
+  -- where nothing is kept, all lines of the bytes are answered
   answered_during : (now : Device W) (bytes : List ℕ) (state : Lined A) → IsDuring (Q first) longest contents start now bytes state → state.kept.items ≡ [] → IsAnswered (Q first) contents start now bytes state
   answered_during now bytes state t none = record {
     written = t.written;
@@ -157,13 +160,14 @@ module _ {A W : Type 0} (Q : A → Answered A) (first : A) (longest : ℕ) (cont
     answered = rw (lines_during now bytes state t none) t.answered;
   }
 
+  -- once a line that is kept is answered as the last, all lines of the bytes are
   pub answered_last : (now : Device W) (bytes : List ℕ) (old new : Lined A) → EndsLast Q longest old new → IsDuring (Q first) longest contents start now bytes old → IsAnswered (Q first) contents start now bytes new
   answered_last now bytes old new (inl none) t = rw none.1 (answered_during now bytes old t none.0)
   answered_last now bytes old new (inr some) t =
       let a = answered_during now (bytes ++ 10 ∷ []) new (during_feed now bytes old new some.1 t) some.1.emptied in
       record { written = a.written; appends = a.appends; same = a.same; answered = rw (last_ended now bytes old t some.0) at a.answered }
 
-  -- all that is owed was written
+  -- the answers that wait are written: all lines are answered, and all answers written
   pub answered_all : (now after : Device W) (bytes : List ℕ) (state new : Lined A) → IsAnswered (Q first) contents start now bytes state → WritesOwed contents state new now after (Ok tt) → new.owed.items ≡ []
       → IsAll (Q first) contents start after bytes new.answers
   answered_all now after bytes state new a w none = record {
@@ -173,7 +177,7 @@ module _ {A W : Type 0} (Q : A → Answered A) (first : A) (longest : ℕ) (cont
     answered = rw (w.same, sym (append-nil w.part) ∙ ap (λ (l : List ℕ). w.part ++ l) (sym none) ∙ sym w.done.0) a.answered;
   }
 
-  -- or a write of it failed
+  -- a write of the answers that wait fails at the end: what was written is a front of the answers
   pub answered_fails : (now last : Device W) (bytes : List ℕ) (state new : Lined A) (f : ToolFault) → IsAnswered (Q first) contents start now bytes state → WritesOwed contents state new now last (Err f)
       → IsCutOff (Q first) contents start last bytes f
   answered_fails now last bytes state new f a w = record {

@@ -5,18 +5,19 @@ use Rattle.std.proofs.lemmas.Bool.Decides.{leb_tells}
 use Rattle.std.proofs.lemmas.List.{take_all, length-take, length-take-le, nil_from_length, take-append-le}
 use Rattle.std.proofs.Math.Seq.{take-append-add}
 
--- whether there are bytes, by their count
+-- a list that is found to have a `count` of 0 is empty
 pub no_items : (items : List ℕ) (count : ℕ) → count ≡ length items → (count == 0) ≡ true → items ≡ []
 no_items items count is e = nil_from_length items (sym is ∙ eqb-true count 0 e)
 
+-- a list that is found to have a `count` other than 0 is not empty
 pub some_items : (items : List ℕ) (count : ℕ) → count ≡ length items → (count == 0) ≡ false → items ≡ [] → ⊥
 some_items items count is e none = eqb-false count 0 e (is ∙ ap length none)
 
--- of nothing, nothing is kept
+-- the first bytes of no bytes are none
 pub take_none : (longest : ℕ) (items : List ℕ) → items ≡ [] → take longest items ≡ []
 take_none longest items none = take_all longest items (omega (arith, ap length none)) ∙ none
 
--- what is kept of a line that goes on
+-- the first `longest` bytes of a line: those of what came before, and of a further part as many as there is room for
 pub kept_front : (longest : ℕ) (kept last part new : List ℕ) → kept ≡ take longest last → new ≡ kept ++ take (longest - length kept) part → new ≡ take longest (last ++ part)
 kept_front longest kept last part new is e = elim (leb_tells (length last) longest) [
   | inl short ↦
@@ -30,6 +31,6 @@ kept_front longest kept last part new is e = elim (leb_tells (length last) longe
       e ∙ ap (λ (n : ℕ). kept ++ take n part) none ∙ append-nil kept ∙ is ∙ sym (take-append-le longest last part (omega (arith, long.1)))
 ]
 
--- a line of which nothing is kept is empty
+-- a line of which nothing is kept has no bytes, as at least one would be kept
 pub nothing_kept : (longest : ℕ) (kept last : List ℕ) → 0 < longest → kept ≡ take longest last → kept ≡ [] → last ≡ []
 nothing_kept longest kept last some is none = nil_from_length last (omega (arith, some, ap length (sym is ∙ none), length-take longest last))

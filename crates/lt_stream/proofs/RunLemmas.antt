@@ -12,7 +12,8 @@ use Rattle.lt_stream.specs.declared.faults.ToolFault.TheVariants as faults
 use Rattle.lt_stream.proofs.DeviceLemmas.{failed_from}
 use Rattle.lt_stream.proofs.ReadLemmas.{ReadsPiece, read_more}
 
--- so far this was read and taken
+-- so far `turn` reads gave these bytes, and T is true of what took them; the run begins with the output `start` and
+-- goes on with `now`, and no read has failed
 pub record RunTurn {I O P : Type 0} (T : RunFact O P) (remaining : I → Option (List ℕ)) (input input' : Device I)
     (start now : O) (state : P) (turn : ℕ) : Type 0 where
   pub read : List ℕ
@@ -24,6 +25,7 @@ pub record RunTurn {I O P : Type 0} (T : RunFact O P) (remaining : I → Option 
   pub most : length read ≤ 65536 * turn
   pub failures : failures_of input' ≡ failures_of input
 
+-- at first no read is made
 pub run_first : {I O P : Type 0} (T : RunFact O P) (remaining : I → Option (List ℕ)) (input : Device I) (start : O) (state : P) → T start start [] state
     → RunTurn T remaining input input start start state 0
 run_first T remaining input start state first = record {
@@ -37,7 +39,7 @@ run_first T remaining input start state first = record {
   failures = refl;
 }
 
--- there was no memory for a piece
+-- there is no memory for a piece: the run ends before a read
 pub run_lacks : {I O P A : Type 0} (T : RunFact O P) (S F : EndFact O P A) (remaining : I → Option (List ℕ)) (input : Device I) (start : O) (state : P) → T start start [] state
     → RunsPieces T S F remaining input input start start state (Err faults.OutOfMemory)
 run_lacks T S F remaining input start state first = record {
@@ -49,13 +51,14 @@ run_lacks T S F remaining input start state first = record {
   ends = inr (inr (inr (inr (record { fault = refl; same = refl; taken = first }))));
 }
 
+-- one turn of a run: T is true while it goes on, S where a piece ends it, and F where the reader has no more
 module _ {I O P A : Type 0} (T : P → RunFact O P) (S F : P → EndFact O P A) (remaining : I → Option (List ℕ)) (input before : Device I) (first : P) (start now : O)
     (state : P) (turn : ℕ) (t : RunTurn (T first) remaining input before start now state turn) where
-  -- there is room for a piece
+  -- the bytes that were read, and those of one piece more, are few enough
   pub run_room : (count : ℕ) → turn < most_reads → count ≤ 65536 → HasRoom T count now state
   run_room count few short = record { first = first; start = start; read = t.read; taken = t.taken; few = omega (arith, t.most, few, short) }
 
-  -- a piece was read and taken
+  -- one piece more is read and taken
   pub run_next : (after : Device I) (last : O) (new : P) (piece : List ℕ) → ReadsPiece remaining before after piece → 0 < length piece → length piece ≤ 65536 → 0 < last_given_of after
       → TakesPiece T S piece now last state new (Ok None) → RunTurn (T first) remaining input after start last new (turn + 1)
   run_next after last new piece r some short gave takes =
@@ -71,7 +74,7 @@ module _ {I O P A : Type 0} (T : P → RunFact O P) (S F : P → EndFact O P A) 
         failures = r.failures ∙ t.failures;
       }
 
-  -- a piece ended the run
+  -- one piece more is read, and ends the run
   pub run_stopped : (after : Device I) (last : O) (new : P) (piece : List ℕ) (r : Result A ToolFault) → turn < most_reads → ReadsPiece remaining before after piece
       → S first start last (t.read ++ piece) new r → RunsPieces (T first) (S first) (F first) remaining input after start last new r
   run_stopped after last new piece r few reads stops = record {
@@ -83,7 +86,7 @@ module _ {I O P A : Type 0} (T : P → RunFact O P) (S F : P → EndFact O P A) 
     ends = inr (inl (record { same = reads.failures ∙ t.failures; stopped = stops }));
   }
 
-  -- the reader was at its end
+  -- the reader has no more bytes, and the run ends
   pub run_finished : (after : Device I) (last : O) (new : P) (r : Result A ToolFault) → turn < most_reads → ReadsPiece remaining before after [] → IsAtEnd (remaining (inner_of after))
       → FinishesPieces T F now last state new r → RunsPieces (T first) (S first) (F first) remaining input after start last new r
   run_finished after last new r few reads end finishes = record {
@@ -95,7 +98,7 @@ module _ {I O P A : Type 0} (T : P → RunFact O P) (S F : P → EndFact O P A) 
     ends = inl (record { end = end; same = reads.failures ∙ t.failures; finished = subst (λ (l : List ℕ). F first start last l new r) (sym (append-nil t.read)) (finishes first start t.read t.taken) });
   }
 
-  -- a read failed
+  -- the read fails, and the run ends
   pub run_failed : (after : Device I) → turn < most_reads → Keeps (remaining (inner_of before)) (remaining (inner_of after)) → reads_of after ≡ one_more (reads_of before)
       → HasFailed before after → RunsPieces (T first) (S first) (F first) remaining input after start now state (Err faults.Read)
   run_failed after few kept more failed = record {
@@ -107,7 +110,7 @@ module _ {I O P A : Type 0} (T : P → RunFact O P) (S F : P → EndFact O P A) 
     ends = inr (inr (inl (record { fault = refl; failed = failed_from input before after t.failures failed; taken = t.taken })));
   }
 
-  -- all reads were made
+  -- all reads are made, and the run ends
   pub run_turns : turn ≡ most_reads → RunsPieces (T first) (S first) (F first) remaining input before start now state (Err faults.TooManyTurns)
   run_turns all = record {
     read = t.read;

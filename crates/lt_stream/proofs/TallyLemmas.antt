@@ -15,22 +15,22 @@ use Rattle.std.proofs.lemmas.Slice.Eq.{bytes_eq-Decides}
 use Rattle.lt_stream.specs.Tallies.{AreTallies, IsTally, Refused, faults_of, is_by}
 use Rattle.lt_stream.specs.declared.tallies.Tally.{Tally}
 
--- of no lines
+-- no lines have no tallies
 pub no_tallies : AreTallies [] []
 unfolding IsDistinct
 no_tallies = record { each = tt; once = tt; all = tt }
 
--- a name that another differs from differs from it
+-- two names that differ when they are compared in one order differ in the other
 differs : (a b : List ℕ) → bytes_eq a b ≡ false → bytes_eq b a ≡ false
 differs a b other = nat_list_eq_equiv.symm b a ∙ other
 
--- the count with one line more
+-- how many lines a fault refused, of the others and one line more
 count_more : (fault : List ℕ) (lines : List Refused) (line : Refused) → count_by (is_by fault) (lines ++ line ∷ []) ≡ count_by (is_by fault) lines + cond (is_by fault line) 1 0
 count_more fault lines line =
     sum_by-append (λ (l : Refused). cond (is_by fault l) 1 0) lines (line ∷ [])
     ∙ ap (λ n. count_by (is_by fault) lines + n) (elim (is_by fault line) as (λ t. 0 + cond t 1 0 ≡ cond t 1 0) [ true ↦ refl | false ↦ refl ])
 
--- the tally of another fault stays
+-- the tally of another fault is right with one line more too
 stays : (lines : List Refused) (line : Refused) (tally : Tally) → bytes_eq tally.fault.items line.fault ≡ false → IsTally lines tally → IsTally (lines ++ line ∷ []) tally
 stays lines line tally other h = record {
   count = h.count ∙ sym (count_more tally.fault.items lines line ∙ rw other (omega arith));
@@ -40,17 +40,18 @@ stays lines line tally other h = record {
   text = h.text;
 }
 
+-- the tallies of other faults are right with one line more too
 others_stay : (lines : List Refused) (line : Refused) (tallies : List Tally) → AllByRecursion (λ fault. bytes_eq line.fault fault ≡ false) (faults_of tallies)
     → AllByRecursion (IsTally lines) tallies → AllByRecursion (IsTally (lines ++ line ∷ [])) tallies
 others_stay lines line [] other h = tt
 others_stay lines line (tally ∷ tallies) other h =
     (stays lines line tally (differs line.fault tally.fault.items other.0) h.0, others_stay lines line tallies other.1 h.1)
 
--- a tally with this count
+-- the tally, with this many lines instead
 abbrev pub with_count : Tally → ℕ → Tally
 with_count tally count = record { fault = tally.fault; lines = count; first = tally.first; text = tally.text }
 
--- the tally of the fault of one line more
+-- the tally of the fault of one line more is right with one more counted
 grows : (lines : List Refused) (line : Refused) (tally : Tally) (count : ℕ) → bytes_eq line.fault tally.fault.items ≡ true → count ≡ tally.lines + 1
     → IsTally lines tally → IsTally (lines ++ line ∷ []) (with_count tally count)
 grows lines line tally count same more h = record {
@@ -61,7 +62,8 @@ grows lines line tally count same more h = record {
   text = h.text;
 }
 
--- the tally at a place grows, and the others stay
+-- of the tallies, the one at the place of the fault of one line more is right with one more counted, and the others as
+-- they are; d is any tally, given for places behind the last
 each_grows : (lines : List Refused) (line : Refused) (tallies : List Tally) (place count : ℕ) (d : Tally) → place < length tallies
     → bytes_eq line.fault (get_or tallies place d).fault.items ≡ true → ((k : ℕ) → k < place → bytes_eq line.fault (get_or tallies k d).fault.items ≡ false)
     → IsDistinct bytes_eq (faults_of tallies) → count ≡ (get_or tallies place d).lines + 1
@@ -78,14 +80,14 @@ each_grows lines line (tally ∷ tallies) (suc place) count d at same before onc
       (IsDistinct-tail bytes_eq tally.fault.items (faults_of tallies) once) more h.1,
 )
 
--- its name stays
+-- the names of the tallies stay the same when one of them counts one more
 same_faults : (tallies : List Tally) (place count : ℕ) (d : Tally) → place < length tallies
     → faults_of (set tallies place (with_count (get_or tallies place d) count)) ≡ faults_of tallies
 same_faults [] place count d at = absurd (omega (arith, at))
 same_faults (tally ∷ tallies) zero count d at = refl
 same_faults (tally ∷ tallies) (suc place) count d at = ap (λ l. tally.fault.items ∷ l) (same_faults tallies place count d (omega (arith, at)))
 
--- the tally at a place says so of the name there
+-- the fault of the tally at a place is a member of the faults of the tallies
 is_there : (fault : List ℕ) (tallies : List Tally) (place : ℕ) (d : Tally) → place < length tallies → bytes_eq fault (get_or tallies place d).fault.items ≡ true
     → is_member bytes_eq (faults_of tallies) fault ≡ true
 is_there fault [] place d at same = absurd (omega (arith, at))
@@ -93,12 +95,12 @@ is_there fault (tally ∷ tallies) zero d at same = or_left (bytes_eq fault tall
 is_there fault (tally ∷ tallies) (suc place) d at same =
     or_right (bytes_eq fault tally.fault.items) (is_member bytes_eq (faults_of tallies) fault) (is_there fault tallies place d (omega (arith, at)) same)
 
--- one line more has a fact, and each of the others has it
+-- what is true of each line, and of one more, is true of all
 all_more : (P : Refused → Type 0) (lines : List Refused) (line : Refused) → AllByRecursion P lines → P line → AllByRecursion P (lines ++ line ∷ [])
 all_more P [] line h last = (last, tt)
 all_more P (l ∷ lines) line h last = (h.0, all_more P lines line h.1 last)
 
--- a tally fits
+-- a tally counts no more lines than there are
 fits : (lines : List Refused) (tallies : List Tally) (place : ℕ) (d : Tally) → place < length tallies → AreTallies lines tallies → (get_or tallies place d).lines ≤ length lines
 fits lines tallies place d at t = by_each tallies place at t.each
   where
@@ -107,7 +109,7 @@ fits lines tallies place d at t = by_each tallies place at t.each
     by_each (tally ∷ some) zero at h = omega (arith, h.0.count, count_by-le-length (is_by tally.fault.items) lines)
     by_each (tally ∷ some) (suc place) at h = by_each some place (omega (arith, at)) h.1
 
--- a line was refused by a fault that has a tally
+-- one line more, whose fault has a tally at this place: that one counts one more
 pub counted : (lines : List Refused) (line : Refused) (tallies : List Tally) (place count : ℕ) (tally : Tally)
     → position (λ (tally : Tally). bytes_eq line.fault tally.fault.items) tallies ≡ Some place → tally ≡ get_or tallies place tally
     → count ≡ min (tally.lines + 1) 18446744073709551615 → length lines + 1 < 18446744073709551616
@@ -126,7 +128,7 @@ counted lines line tallies place count tally found is counts room t =
 
 -- ---- the first line of a fault
 
--- no tally is at a place
+-- where the search finds no tally of a fault, all are of other faults
 unless_there : (fault : List ℕ) (tallies : List Tally) → position (λ (tally : Tally). bytes_eq fault tally.fault.items) tallies ≡ None
     → AllByRecursion (λ other. bytes_eq fault other ≡ false) (faults_of tallies)
 unless_there fault tallies none = elim (cases_Bool (nat_lt (position_or_len (λ (tally : Tally). bytes_eq fault tally.fault.items) tallies) (length tallies))) [
@@ -149,12 +151,12 @@ unless_there fault tallies none = elim (cases_Bool (nat_lt (position_or_len (λ 
           (other, each_far some (omega (arith, later)))
     ]
 
--- no such name
+-- where all faults differ from a fault, it is none of them
 no_member : (fault : List ℕ) (faults : List (List ℕ)) → AllByRecursion (λ other. bytes_eq fault other ≡ false) faults → is_member bytes_eq faults fault ≡ false
 no_member fault [] h = refl
 no_member fault (other ∷ faults) h = rw (h.0, no_member fault faults h.1) refl
 
--- no line was refused by it
+-- a fault that has no tally refused no line, so its first line is none
 no_line : (fault : List ℕ) (faults : List (List ℕ)) (lines : List Refused) → is_member bytes_eq faults fault ≡ false → AllByRecursion (λ line. is_member bytes_eq faults line.fault ≡ true) lines
     → (count_by (is_by fault) lines ≡ 0) × (find (is_by fault) lines ≡ None)
 no_line fault faults [] none h = (refl, refl)
@@ -165,7 +167,7 @@ no_line fault faults (line ∷ lines) none h =
     let later = no_line fault faults lines none h.1 in
     (rw other later.0, rw other later.1)
 
--- a line was refused by a fault that has none
+-- one line more, whose fault has no tally: a tally that begins with it is put last
 pub begun : (lines : List Refused) (line : Refused) (tallies : List Tally) (tally : Tally) → position (λ (other : Tally). bytes_eq line.fault other.fault.items) tallies ≡ None
     → tally.fault.items ≡ line.fault → tally.lines ≡ 1 → tally.first ≡ line.number → tally.text.items ≡ line.text
     → AreTallies lines tallies → AreTallies (lines ++ line ∷ []) (tallies ++ tally ∷ [])

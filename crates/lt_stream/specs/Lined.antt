@@ -16,8 +16,8 @@ use Rattle.lt_stream.specs.declared.lines.Lined.{Lined}
 abbrev pub full : ℕ
 full = 65536
 
--- These bytes were read. Their whole lines are answered, each answer is written or waits to be, and a front of the rest
--- is kept.
+-- These bytes were read. Their whole lines are answered, which Q tells, each answer is written or waits to be, and of
+-- the rest the first `longest` bytes are kept. The output was `start` at the beginning of the run, and is `now` here.
 pub record IsDuring {A W : Type 0} (Q : Answered A) (longest : ℕ) (contents : W → Option (List ℕ))
     (start now : Device W) (bytes : List ℕ) (state : Lined A) : Type 0 where
   pub some : 0 < longest
@@ -32,13 +32,15 @@ pub record IsDuring {A W : Type 0} (Q : Answered A) (longest : ℕ) (contents : 
   pub kept : state.kept.items ≡ take longest last
   pub answered : Q state.answers lines (written ++ state.owed.items)
 
--- these bytes were read, their whole lines are answered, and all answers are written
+-- these bytes were read, their whole lines are answered, and all answers are written; `start`, `now` and Q as in
+-- IsDuring
 pub record IsTaken {A W : Type 0} (Q : Answered A) (longest : ℕ) (contents : W → Option (List ℕ))
     (start now : Device W) (bytes : List ℕ) (state : Lined A) : Type 0 where
   pub during : IsDuring Q longest contents start now bytes state
   pub emptied : state.owed.items ≡ []
 
--- all lines of these bytes are answered, the last too, and each answer is written or waits to be
+-- all lines of these bytes are answered, the last too, and each answer is written or waits to be; `start`, `now` and Q
+-- as in IsDuring
 pub record IsAnswered {A W : Type 0} (Q : Answered A) (contents : W → Option (List ℕ))
     (start now : Device W) (bytes : List ℕ) (state : Lined A) : Type 0 where
   pub written : List ℕ
@@ -46,7 +48,8 @@ pub record IsAnswered {A W : Type 0} (Q : Answered A) (contents : W → Option (
   pub same : failures_of now ≡ failures_of start
   pub answered : Q state.answers (lines_of bytes) (written ++ state.owed.items)
 
--- a write failed or memory ran out, and what was written is a front of the answers
+-- a write failed or memory ran out, and what was written is a front of the answers; `start`, `now` and Q as in
+-- IsDuring
 pub record IsCutOff {A W : Type 0} (Q : Answered A) (contents : W → Option (List ℕ)) (start now : Device W)
     (bytes : List ℕ) (fault : ToolFault) : Type 0 where
   pub written : List ℕ
@@ -55,13 +58,13 @@ pub record IsCutOff {A W : Type 0} (Q : Answered A) (contents : W → Option (Li
   pub stop : ((fault ≡ faults.Write) × HasFailed start now)
       ⊎ ((fault ≡ faults.OutOfMemory) × (failures_of now ≡ failures_of start))
 
--- a piece can end a run only by a failed write or by lack of memory
+-- a piece can end a run by its fault alone: a failed write or lack of memory; `start`, `now` and Q as in IsDuring
 abbrev pub Stops : {A W : Type 0} → Answered A → (W → Option (List ℕ)) → (start now : Device W) → List ℕ
     → Result (Unit {0}) ToolFault → Type 0
 Stops Q contents start now bytes (Ok _) = ⊥
 Stops Q contents start now bytes (Err fault) = IsCutOff Q contents start now bytes fault
 
--- all lines of these bytes are answered, and all answers are written
+-- all lines of these bytes are answered, and all answers are written; `start`, `now` and Q as in IsDuring
 pub record IsAll {A W : Type 0} (Q : Answered A) (contents : W → Option (List ℕ))
     (start now : Device W) (bytes : List ℕ) (answers : A) : Type 0 where
   pub written : List ℕ
@@ -69,7 +72,8 @@ pub record IsAll {A W : Type 0} (Q : Answered A) (contents : W → Option (List 
   pub same : failures_of now ≡ failures_of start
   pub answered : Q answers (lines_of bytes) written
 
--- how a run ends after the reader's last byte: all answers are written, or a write failed or memory ran out
+-- how a run ends after the reader's last byte, by its answer: all answers are written, or a write failed or memory ran
+-- out; `start`, `now` and Q as in IsDuring
 abbrev pub Finishes : {A W : Type 0} → Answered A → (W → Option (List ℕ)) → (start now : Device W) → List ℕ
     → Lined A → Result (Unit {0}) ToolFault → Type 0
 Finishes Q contents start now bytes state (Ok _) = IsAll Q contents start now bytes state.answers
@@ -77,23 +81,24 @@ Finishes Q contents start now bytes state (Err fault) = IsCutOff Q contents star
 
 -- ---- the steps
 
--- `part` was added to the line that is kept, of which no more than `longest` bytes are kept
+-- `part` was added to the line of which a front is kept, and of which no more than `longest` bytes are kept
 pub record KeepsMore {A : Type 0} (longest : ℕ) (part : List ℕ) (old new : Lined A) : Type 0 where
   pub kept : new.kept.items ≡ old.kept.items ++ take (longest - vec_len old.kept) part
   pub owed : new.owed.items ≡ old.owed.items
   pub same : new.answers ≡ old.answers
 
--- the kept line is whole, and was answered
+-- the line of which a front is kept is whole, and was answered
 pub record EndsLine {A : Type 0} (Q : A → Answered A) (longest : ℕ) (old new : Lined A) : Type 0 where
   pub emptied : new.kept.items ≡ []
   pub takes : TakesLine Q longest old.kept.items old.owed.items new.owed.items old.answers new.answers
 
--- the kept line, if anything is kept, was answered as the last
+-- the line of which a front is kept, if any byte is, was answered as the last
 abbrev pub EndsLast : {A : Type 0} → (A → Answered A) → ℕ → (old new : Lined A) → Type 0
 EndsLast Q longest old new = ((old.kept.items ≡ []) × (new ≡ old))
     ⊎ ((old.kept.items ≡ [] → ⊥) × EndsLine Q longest old new)
 
--- some of the answers that wait were written; or a write failed
+-- some of the answers that wait were written, `part`; or a write failed. `old` and `new` are the state, `before` and
+-- `after` the output.
 pub record WritesOwed {A W : Type 0} (contents : W → Option (List ℕ)) (old new : Lined A) (before after : Device W)
     (result : Result (Unit {0}) ToolFault) : Type 0 where
   pub part : List ℕ

@@ -10,11 +10,11 @@ use Rattle.lt_stream.specs.Running.{HasRead}
 use Rattle.lt_stream.specs.declared.faults.ToolFault.{ToolFault}
 use Rattle.lt_stream.specs.declared.faults.ToolFault.TheVariants as faults
 
--- a statement on a state that answers lines: that it has answered these lines by these bytes
+-- a statement on what answers lines: that it has answered these lines, by these bytes in all
 abbrev pub Answered : Type 0 → Type 1
 Answered A = A → List (List ℕ) → List ℕ → Type 0
 
--- fewer lines were answered than a count of 64 bits can count
+-- what answers lines has answered fewer than 64 bits can count, with one line more
 pub record HasLine {A : Type 0} (Q : A → Answered A) (answers : A) : Type 0 where
   pub first : A
   pub lines : List (List ℕ)
@@ -22,7 +22,8 @@ pub record HasLine {A : Type 0} (Q : A → Answered A) (answers : A) : Type 0 wh
   pub answered : Q first answers lines bytes
   pub few : length lines + 1 < 2 ^ 64
 
--- bytes were appended that answer each line whose first bytes, at most `longest`, are `front`
+-- bytes were appended that answer each line whose first bytes, at most `longest`, are `front`; `owed` and `owed'` are
+-- the answers that wait before and after, `old` and `new` what answers
 pub record TakesLine {A : Type 0} (Q : A → Answered A) (longest : ℕ) (front owed owed' : List ℕ)
     (old new : A) : Type 0 where
   pub part : List ℕ
@@ -31,7 +32,7 @@ pub record TakesLine {A : Type 0} (Q : A → Answered A) (longest : ℕ) (front 
       → (first : A) (lines : List (List ℕ)) (bytes : List ℕ) → Q first old lines bytes
       → Q first new (lines ++ line ∷ []) (bytes ++ part)
 
--- what was written answers the lines of the bytes up to the last line feed
+-- what was written answers the lines of the bytes up to the last line feed (10)
 pub record IsAnsweredToLastFeed {A : Type 0} (Q : Answered A) (bytes written : List ℕ) (answers : A) : Type 0 where
   pub lines : List (List ℕ)
   pub last : List ℕ
@@ -51,20 +52,20 @@ pub record IsBegun {A : Type 0} (Q : Answered A) (bytes written : List ℕ) : Ty
   pub rest : List ℕ
   pub front : all ≡ written ++ rest
 
--- the reader was read to its end, and the answers to its lines were written
+-- the device was read to its end, and the answers to the lines of all bytes that were read were written
 pub record IsDone {I A : Type 0} (Q : Answered A) (remaining : I → Option (List ℕ)) (input' : Device I)
     (read written : List ℕ) (answers : A) : Type 0 where
   pub end : IsAtEnd (remaining (inner_of input'))
   pub answered : Q answers (lines_of read) written
 
--- the reader failed, and the lines up to the last line feed are answered
+-- a read failed, and the lines up to the last line feed (10) are answered
 pub record IsStoppedByRead {I A : Type 0} (Q : Answered A) (input input' : Device I) (read written : List ℕ)
     (answers : A) : Type 0 where
   pub failed : HasFailed input input'
   pub owed : IsAnsweredToLastFeed Q read written answers
 
--- the most reads that a run may make were made, the last still gave bytes, and the lines up to the last line feed are
--- answered
+-- the most reads that a run may make were made, the last still gave bytes, and the lines up to the last line feed (10)
+-- are answered
 pub record IsStoppedByTurns {I A : Type 0} (Q : Answered A) (input' : Device I) (reads : ℕ) (read written : List ℕ)
     (answers : A) : Type 0 where
   pub all_made : reads ≡ most_reads
@@ -72,7 +73,8 @@ pub record IsStoppedByTurns {I A : Type 0} (Q : Answered A) (input' : Device I) 
   pub last_gave : 0 < last_given_of input'
   pub owed : IsAnsweredToLastFeed Q read written answers
 
--- how the run ended: done, or with a fault; an end by OutOfMemory says nothing more
+-- how the run ended, by its answer: done, or with a fault; an end by OutOfMemory says nothing more. Names with ' are
+-- of the devices after the run.
 abbrev pub EndsAs : {I O A : Type 0} → Answered A → (I → Option (List ℕ)) → (input input' : Device I)
     → (output output' : Device O) → ℕ → (read written : List ℕ) → A → Result (Unit {0}) ToolFault → Type 0
 EndsAs Q remaining input input' output output' reads read written answers (Ok _) =
@@ -85,7 +87,9 @@ EndsAs Q remaining input input' output output' reads read written answers (Err f
 EndsAs Q remaining input input' output output' reads read written answers (Err faults.OutOfMemory) = Unit {0}
 EndsAs Q remaining input input' output output' reads read written answers (Err _) = ⊥
 
--- A run that answers the lines of a reader. Whatever ended it, what was written is a front of the answers.
+-- A run that answers the lines of a reader. Whatever ended it, what was written is a front of the answers. Names with
+-- ' are of the devices after it; `remaining` tells what a reader has still to give, `contents` what a writer has
+-- taken.
 pub record RunsOverLines {I O A : Type 0} (Q : Answered A) (remaining : I → Option (List ℕ))
     (contents : O → Option (List ℕ)) (input input' : Device I) (output output' : Device O) (answers : A)
     (result : Result (Unit {0}) ToolFault) : Type 0 where

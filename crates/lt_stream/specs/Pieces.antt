@@ -17,7 +17,8 @@ RunFact O P = O → O → List ℕ → P → Type 0
 abbrev pub EndFact : Type 0 → Type 0 → Type 0 → Type 1
 EndFact O P A = O → O → List ℕ → P → Result A ToolFault → Type 0
 
--- `T` is true of a run so far, which may read this many further bytes and stay below 2 to the 63
+-- `T` is true of a run so far, which after `count` further bytes has read fewer than 2 to the 63, so that 64 bits
+-- count them
 pub record HasRoom {O P : Type 0} (T : P → RunFact O P) (count : ℕ) (now : O) (state : P) : Type 0 where
   pub first : P
   pub start : O
@@ -25,7 +26,8 @@ pub record HasRoom {O P : Type 0} (T : P → RunFact O P) (count : ℕ) (now : O
   pub taken : T first start now read state
   pub few : length read + count < 2 ^ 63
 
--- if `T` is true before a piece, it is true after it too, or `S` is true of the run that the piece ends
+-- if `T` is true before a piece, it is true after it too, or `S` is true of the run that the piece ends; `before` and
+-- `after` are the output, `old` and `new` the state of what takes the pieces
 abbrev pub TakesPiece : {O P A : Type 0} → (P → RunFact O P) → (P → EndFact O P A) → List ℕ → (before after : O)
     → (old new : P)
     → Result (Option A) ToolFault → Type 0
@@ -38,34 +40,35 @@ TakesPiece {O = O} {P = P} T S piece before after old new (Err fault) =
     (first : P) (start : O) (read : List ℕ) → T first start before read old
     → S first start after (read ++ piece) new (Err fault)
 
--- if `T` is true after the reader's last byte, `F` is true of the run that ends there
+-- if `T` is true after the reader's last byte, `F` is true of the run that ends there; `before` and `after` are the
+-- output, `old` and `new` the state of what takes the pieces
 abbrev pub FinishesPieces : {O P A : Type 0} → (P → RunFact O P) → (P → EndFact O P A) → (before after : O)
     → (old new : P)
     → Result A ToolFault → Type 0
 FinishesPieces {O = O} {P = P} T F before after old new result =
     (first : P) (start : O) (read : List ℕ) → T first start before read old → F first start after read new result
 
--- the reader was read to its end, and `F` is true
+-- the reader was read to its end, and `F` is true; `input` and `input'` are its device before and after the run
 pub record IsFinished {I A : Type 0} (F : List ℕ → Result A ToolFault → Type 0) (remaining : I → Option (List ℕ))
     (input input' : Device I) (read : List ℕ) (result : Result A ToolFault) : Type 0 where
   pub end : IsAtEnd (remaining (inner_of input'))
   pub same : failures_of input' ≡ failures_of input
   pub finished : F read result
 
--- a piece ended the run, and `S` is true
+-- a piece ended the run, and `S` is true of the bytes that were read and of the result
 pub record IsStopped {I A : Type 0} (S : List ℕ → Result A ToolFault → Type 0) (input input' : Device I)
     (read : List ℕ) (result : Result A ToolFault) : Type 0 where
   pub same : failures_of input' ≡ failures_of input
   pub stopped : S read result
 
--- a read failed, and `T` is true of what was read before
+-- a read failed, and `T` is true of the bytes that were read before
 pub record IsStoppedByRead {I A : Type 0} (T : List ℕ → Type 0) (input input' : Device I)
     (read : List ℕ) (result : Result A ToolFault) : Type 0 where
   pub fault : result ≡ Err faults.Read
   pub failed : HasFailed input input'
   pub taken : T read
 
--- the most reads that a run may make were made, the last still gave bytes, and `T` is true
+-- the most reads that a run may make were made, the last still gave bytes, and `T` is true of the bytes that were read
 pub record IsStoppedByTurns {I A : Type 0} (T : List ℕ → Type 0) (input input' : Device I) (reads : ℕ)
     (read : List ℕ) (result : Result A ToolFault) : Type 0 where
   pub fault : result ≡ Err faults.TooManyTurns
@@ -75,14 +78,16 @@ pub record IsStoppedByTurns {I A : Type 0} (T : List ℕ → Type 0) (input inpu
   pub last_gave : 0 < last_given_of input'
   pub taken : T read
 
--- there was no memory for a piece, and `T` is true of what was read
+-- there was no memory for a piece, and `T` is true of the bytes that were read
 pub record IsWithoutMemory {I A : Type 0} (T : List ℕ → Type 0) (input input' : Device I)
     (read : List ℕ) (result : Result A ToolFault) : Type 0 where
   pub fault : result ≡ Err faults.OutOfMemory
   pub same : failures_of input' ≡ failures_of input
   pub taken : T read
 
--- a run over the pieces of a reader, and the way in which it ended
+-- A run over the pieces of a reader's bytes, and the way in which it ended: `T` is true while it goes on, `S` where a
+-- piece ends it, `F` where the reader has no more. `input` and `input'` are the reader's device, `start` and `now` the
+-- output.
 pub record RunsPieces {I O P A : Type 0} (T : RunFact O P) (S F : EndFact O P A) (remaining : I → Option (List ℕ))
     (input input' : Device I) (start now : O) (state : P) (result : Result A ToolFault) : Type 0 where
   pub read : List ℕ

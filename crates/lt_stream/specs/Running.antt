@@ -7,6 +7,6 @@ use Rattle.lt_jar.specs.declared.devices.Device.{Device}
 abbrev pub longest_row : ℕ
 longest_row = 16777216
 
--- the device counts this many further reads
+-- the device counts this many further reads after than before
 abbrev pub HasRead : {T : Type 0} → Device T → Device T → ℕ → Type 0
 HasRead before after reads = reads_of after ≡ after_reads (reads_of before) reads

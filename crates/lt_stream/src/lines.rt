@@ -12,11 +12,12 @@ use lt_tag::OutOfMemory;
 use std::alloc::{AllocError, Global};
 use std::io::{Read, Write};
 
-/// Lines are written once this many bytes of them are owed, if no read comes before.
+/// Answers are written once they are this many bytes, as many as a read may give, if no read comes before.
 const FULL: usize = 65536;
 
 /// What answers lines, one by one.
 pub trait Lines {
+    /// The most bytes that are kept of a line.
     ghost longest: { ℕ };
 
     /// What holds of this at the beginning and of this now, once it has answered these lines, by these bytes in all.
@@ -26,7 +27,8 @@ pub trait Lines {
     fn longest(&self) -> usize
         ensures { result ≡ longest };
 
-    /// Answers a line, of which it is given the front that is kept: appends what is owed for it.
+    /// Answers a line, of which `line` is the front that is kept: appends the answer to `owed`, where answers wait to
+    /// be written. Refused where memory runs out.
     fn take_line(
         &mut self,
         alloc: Global,
@@ -37,7 +39,7 @@ pub trait Lines {
         ensures { OnOk result (TakesLine answered longest line.now owed.old.items owed.new.items self.old self.new) };
 }
 
-/// Lines that come in pieces, and what is owed for them.
+/// Lines that come in pieces, and the answers to them that wait to be written.
 #[derive(Drop)]
 pub(crate) struct Lined<A> {
     answers: A,
@@ -48,7 +50,7 @@ pub(crate) struct Lined<A> {
 }
 
 impl<A: Lines> Lined<A> {
-    /// Keeps a further part of the line, up to the most bytes that the answers need.
+    /// Keeps a further part of the line, up to the most bytes that the answers need. Refused where memory runs out.
     fn keep(&mut self, part: &[u8]) -> Result<(), AllocError>
         ensures { OnOk result (spec.KeepsMore A.longest part.now self.old self.new) }
     {
@@ -57,7 +59,8 @@ impl<A: Lines> Lined<A> {
         Ok(())
     }
 
-    /// Answers the line of which the front is kept, and keeps nothing of it.
+    /// Answers the line of which the front is kept, and keeps nothing of it. The answer waits to be written. Refused
+    /// where memory runs out.
     fn end_line(&mut self, alloc: Global) -> Result<(), OutOfMemory>
         requires { HasLine A.answered self.old.answers }
         ensures { OnOk result (spec.EndsLine A.answered A.longest self.old self.new) }
@@ -67,7 +70,7 @@ impl<A: Lines> Lined<A> {
         Ok(())
     }
 
-    /// Writes the answers that are owed, and owes none then.
+    /// Writes the answers that wait, and none waits then. Refused if a write fails.
     fn write<W: Write>(&mut self, output: &mut Device<W>) -> Result<(), ToolFault>
         ensures writes { spec.WritesOwed W.contents self.old self.new output.old output.new result }
         ensures emptied { OnOk result (self.new.owed.items ≡ []) }
@@ -77,7 +80,7 @@ impl<A: Lines> Lined<A> {
         Ok(())
     }
 
-    /// Writes the answers that are owed if they are `FULL` bytes or more.
+    /// Writes the answers that wait if they are `FULL` bytes or more. Refused if a write fails.
     fn write_much<W: Write>(&mut self, output: &mut Device<W>) -> Result<(), ToolFault>
         ensures writes { spec.WritesOwed W.contents self.old self.new output.old output.new result }
         ensures emptied { OnOk result (spec.full ≤ vec_len self.old.owed → self.new.owed.items ≡ []) }
@@ -88,7 +91,7 @@ impl<A: Lines> Lined<A> {
         self.write(output)
     }
 
-    /// Answers a last line that has no line feed, if there is one.
+    /// Answers a last line that has no line feed, if there is one. Refused where memory runs out.
     fn end_last(&mut self, alloc: Global) -> Result<(), OutOfMemory>
         requires { HasLine A.answered self.old.answers }
         ensures { OnOk result (spec.EndsLast A.answered A.longest self.old self.new) }
@@ -121,7 +124,8 @@ impl<A: Lines, W: Write> Pieces<Device<W>> for Lined<A> {
 
     ghost finished = { λ first. spec.Finishes (A.answered first.answers) W.contents };
 
-    /// Answers the lines that the piece ends, and writes the answers. Only a fault ends the run here.
+    /// Answers the lines that the piece ends, and writes the answers. It never ends the run but by a fault: a failed
+    /// write, or lack of memory.
     fn take_piece(
         &mut self,
         alloc: Global,
@@ -140,7 +144,8 @@ impl<A: Lines, W: Write> Pieces<Device<W>> for Lined<A> {
         Ok(None)
     }
 
-    /// Answers what is left, and writes the answers.
+    /// Answers a last line that has no line feed, and writes the answers. Refused if a write fails, or where memory
+    /// runs out.
     fn finish(&mut self, alloc: Global, output: &mut Device<W>) -> Result<(), ToolFault> {
         self.end_last(alloc)?;
         self.write(output)?;
@@ -150,12 +155,12 @@ impl<A: Lines, W: Write> Pieces<Device<W>> for Lined<A> {
 
 /// Answers the lines of a reader, in their order, and gives back what answered them.
 ///
-/// A line feed ends a line, and what follows the last one is a line if it is anything. What is owed for the lines of the
-/// bytes that were read is written before the next read. Of a line that goes on no more is kept than the answers need.
+/// A line feed ends a line, and what follows the last one is a line if it is anything. The answers to the lines of the
+/// bytes that were read are written before the next read. Of a line that goes on no more is kept than the answers need.
 ///
-/// - `Read`, if a read fails: what is owed for each line whose line feed was read has been written.
+/// - `Read`, if a read fails: the answer to each line whose line feed was read has been written.
 /// - `TooManyTurns`, if all 10,000,000 reads were made and the last gave bytes: the same has been written.
-/// - `Write`, if a write fails or takes none of some bytes, and `OutOfMemory`: a front of what is owed was written.
+/// - `Write`, if a write fails or takes none of some bytes, and `OutOfMemory`: a front of the answers was written.
 pub fn run_lines<A: Lines + Drop, R: Read, W: Write>(
     alloc: Global,
     answers: A,

@@ -33,7 +33,7 @@ impl Model for Tallies {
     ghost view = { λ tallies. tallies.faults.items };
 }
 
-/// The tally of a fault that refuses its first line, which has this number and text.
+/// The tally of a fault that refuses its first line, which has this number and text. Refused where memory runs out.
 fn new_tally(alloc: Global, fault: &[u8], number: u64, text: &[u8]) -> Result<Tally, AllocError>
     ensures fault { IfOk result (λ tally. tally.fault.items ≡ fault.now) }
     ensures numbers { IfOk result (λ tally. (tally.lines ≡ 1) × (tally.first ≡ number)) }
