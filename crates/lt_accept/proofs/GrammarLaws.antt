@@ -19,25 +19,27 @@ use Rattle.lt_accept.proofs.RangeLemmas.{range_word, range_some}
 use Rattle.lt_accept.proofs.ElementLemmas.{none_fault}
 use Rattle.lt_accept.proofs.WeightLemmas.{weight_is_ending, weight_read}
 
--- a range without a fault
+-- a text without a fault is read as a range, and has the form of a basic one
 fault_none : (r : Result RangeParts RangeFault) (basic : Bool) → fault_by r basic ≡ None → IsOk r × (basic ≡ true)
 fault_none (Err fault) basic h = absurd (cc)
 fault_none (Ok range) false h = absurd (cc)
 fault_none (Ok range) true h = (refl, refl)
 
--- an element that is read has no fault
+-- the range has no fault, and what follows it is a weight: these make the element
 record IsWithout (range : List ℕ) (fault : Option AcceptFaultKind) (weight : Option ℕ) (element : Option ElementParts) : Type 0 where
   number : ℕ
   no_fault : fault ≡ None
   some : weight ≡ Some number
   is : element ≡ Some (record { range = range; weight = number })
 
+-- an element that is read has a range without a fault, and a weight
 read_without : (range : List ℕ) (fault : Option AcceptFaultKind) (weight : Option ℕ) (element : Option ElementParts)
     → element_with range fault weight ≡ Ok element → IsWithout range fault weight element
 read_without range (Some kind) weight element h = absurd (cc)
 read_without range None None element h = absurd (cc)
 read_without range None (Some n) element h = record { number = n; no_fault = refl; some = refl; is = cc }
 
+-- white space, and then a text that is read as an element or as an empty one, is a piece by the grammar
 piece_at : (before text : List ℕ) (element : Option ElementParts) → IsWhiteSpace before → element_at text ≡ Ok element → IsPiece (before ++ text) element
 piece_at before [] element blank h = record {
   before = before;
@@ -66,13 +68,14 @@ piece_at before (b ∷ bs) element blank h =
           (record { weight = e.weight; whole = refl; is_range = record { range = fine.0; basic = fine.1 }; has_weight = e.is_weight });
     }
 
+-- each piece that is read is a piece by the grammar, with the same element
 read_piece : (piece : List ℕ) (element : Option ElementParts) → element_of piece ≡ Ok element → IsPiece piece element
 unfolding element_of
 read_piece piece element h =
     subst (λ (l : List ℕ). IsPiece l element) (sym (front_rest is_blank piece))
     (piece_at (front is_blank piece) (rest is_blank piece) element (all_front is_blank piece) h)
 
--- an element that begins with a range is read
+-- a basic range, a weight or none, and white space are read as an element
 at_range : (range weight after : List ℕ) (n : ℕ) → IsBasicRange range → HasWeight weight n → IsWhiteSpace after
     → element_at (rest is_blank (range ++ (weight ++ after))) ≡ Ok (Some (record { range = range; weight = n }))
 at_range [] weight after n basic has blank = absurd (range_some basic.range)
@@ -91,6 +94,7 @@ at_range (b ∷ bs) weight after n basic has blank =
     ∙ ap (λ (o : Option AcceptFaultKind). element_with range o (weight_of (weight ++ after))) (none_fault (range_of range) (is_basic range) basic.range basic.basic)
     ∙ ap (λ (o : Option ℕ). element_with range None o) r.read
 
+-- each piece by the grammar is read, as the same element
 piece_read : (piece : List ℕ) (element : Option ElementParts) → IsPiece piece element → element_of piece ≡ Ok element
 unfolding element_of
 piece_read piece None p =
@@ -103,7 +107,7 @@ piece_read piece (Some element) p =
     ∙ ap element_at (rest_append is_blank p.before (p.text ++ p.after) p.blank_before ∙ ap (rest is_blank) split)
     ∙ at_range element.range e.weight p.after element.weight e.is_range e.has_weight p.blank_after
 
--- what is read of a list of pieces
+-- the first piece is read as `element`, and those after it as `others`: `elements` are all of them
 record IsReadOf (first : Result (Option ElementParts) AcceptFaultKind) (read : Result (List ElementParts) AcceptFault) (elements : List ElementParts) : Type 0 where
   element : Option ElementParts
   others : List ElementParts
@@ -111,12 +115,14 @@ record IsReadOf (first : Result (Option ElementParts) AcceptFaultKind) (read : R
   read_is : read ≡ Ok others
   is : elements ≡ option_to_list element ++ others
 
+-- where the first piece and those after it are read as `elements`, each of both is read
 with_element_ok : (place : ℕ) (first : Result (Option ElementParts) AcceptFaultKind) (read : Result (List ElementParts) AcceptFault) (elements : List ElementParts)
     → with_element place first read ≡ Ok elements → IsReadOf first read elements
 with_element_ok place (Err kind) read elements h = absurd (cc)
 with_element_ok place (Ok element) (Err fault) elements h = absurd (cc)
 with_element_ok place (Ok element) (Ok others) elements h = record { element = element; others = others; first_is = refl; read_is = refl; is = cc }
 
+-- pieces that are read are pieces by the grammar, with the same elements; `place` is the number of the first
 read_pieces : (place : ℕ) (ps : List (List ℕ)) (elements : List ElementParts) → elements_from place ps ≡ Ok elements → ArePieces ps elements
 unfolding elements_from
 read_pieces place [] elements h = cc
@@ -124,6 +130,7 @@ read_pieces place (p ∷ ps) elements h =
     let r = with_element_ok place (element_of p) (elements_from (place + 1) ps) elements h in
     (r.element, r.others, read_piece p r.element r.first_is, r.is, read_pieces (place + 1) ps r.others r.read_is)
 
+-- pieces by the grammar are read, as the same elements; `place` is the number of the first
 pieces_read : (place : ℕ) (ps : List (List ℕ)) (elements : List ElementParts) → ArePieces ps elements → elements_from place ps ≡ Ok elements
 unfolding elements_from
 pieces_read place [] elements h = ap (λ (l : List ElementParts). Ok l) (sym h)
@@ -132,5 +139,6 @@ pieces_read place (p ∷ ps) elements h =
     ∙ ap (λ (r : Result (List ElementParts) AcceptFault). with_element place (Ok h.0) r) (pieces_read (place + 1) ps h.1 h.4)
     ∙ ap (λ (l : List ElementParts). Ok l) (sym h.3)
 
+-- a header is read exactly if it is in the grammar, and as the same elements
 pub read_by_grammar : (text : List ℕ) (elements : List ElementParts) → (elements_of text ≡ Ok elements) ↔ IsAcceptLanguage text elements
 read_by_grammar text elements = (read_pieces 1 (comma_pieces text) elements, pieces_read 1 (comma_pieces text) elements)

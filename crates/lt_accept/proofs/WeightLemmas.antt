@@ -11,13 +11,15 @@ use Rattle.lt_accept.specs.Weights.{are_decimals, of_digits, thousandths, number
 use Rattle.lt_accept.specs.Grammar.{IsWhiteSpace, HasWeight}
 use Rattle.lt_accept.proofs.WordLemmas.{Stops, front_rest, all_front, all_of_none, rest_of_all, rest_is, front_is, all_imply, blank_stops}
 
+-- a digit is a byte of a word
 digit_word : (b : ℕ) → is_ascii_digit b ≡ true → is_word_byte b ≡ true
 digit_word b h = grind (arith, nat_tests)
 
+-- the digit before the point of a weight is a byte of a word
 whole_word : (whole parts n : ℕ) → of_digits whole parts ≡ Some n → is_word_byte whole ≡ true
 whole_word whole parts n h = grind (arith, nat_tests)
 
--- the digit before the point, and the decimals, are bytes of a word
+-- the digit before the point of a weight, `whole`, and the decimals are bytes of a word
 number_word : (whole : ℕ) (decimals : List ℕ) (n : ℕ) → number_of whole decimals ≡ Some n
     → (is_word_byte whole ≡ true) × (list_all is_word_byte decimals ≡ true)
 number_word whole decimals n h = go (are_decimals decimals) refl h
@@ -27,7 +29,7 @@ number_word whole decimals n h = go (are_decimals decimals) refl h
     go true e k = (whole_word whole (thousandths decimals) n k, all_imply is_ascii_digit is_word_byte digit_word decimals (and_parts (nat_le (length decimals) 3) (list_all is_ascii_digit decimals) e).1)
     go false e k = absurd (cc)
 
--- a qvalue is a word
+-- the bytes of a qvalue are all bytes of a word (RFC 9110, 12.4.2)
 pub qvalue_word : (value : List ℕ) (n : ℕ) → qvalue_of value ≡ Some n → list_all is_word_byte value ≡ true
 qvalue_word [] n h = refl
 qvalue_word (whole ∷ []) n h = let w = number_word whole [] n h in grind (arith, nat_tests, w.0)
@@ -37,7 +39,7 @@ qvalue_word (whole ∷ point ∷ decimals) n h = go (point == 46) refl h
     go true e k = let w = number_word whole decimals n k in grind (arith, nat_tests, w.0, w.1)
     go false e k = cc
 
--- what follows a range: its weight, and white space
+-- what follows a range: the text of its weight, `n` in thousandths, or none, and then white space
 pub record IsEnding (text : List ℕ) (n : ℕ) : Type 0 where
   pub weight : List ℕ
   pub after : List ℕ
@@ -45,6 +47,7 @@ pub record IsEnding (text : List ℕ) (n : ℕ) : Type 0 where
   pub blank : IsWhiteSpace after
   pub is_weight : HasWeight weight n
 
+-- `q=` (61 is the `=`), a qvalue of `n` thousandths, and then white space
 record IsParameter (text : List ℕ) (n : ℕ) : Type 0 where
   q : ℕ
   value : List ℕ
@@ -54,6 +57,7 @@ record IsParameter (text : List ℕ) (n : ℕ) : Type 0 where
   blank : IsWhiteSpace after
   is_value : qvalue_of value ≡ Some n
 
+-- what is read as the parameter `q=` is `q=`, a qvalue and white space
 parameter_is : (text : List ℕ) (n : ℕ) → parameter_of text ≡ Some n → IsParameter text n
 parameter_is [] n h = absurd (cc)
 parameter_is (q ∷ []) n h = absurd (cc)
@@ -77,6 +81,7 @@ parameter_is (q ∷ equals ∷ others) n h = go ((is_q q && (equals == 61)) && (
           is_value = k;
         }
 
+-- white space, and then what is read as a weight, or nothing, is the weight `n` and white space after it
 ending_at : (before text : List ℕ) (n : ℕ) → IsWhiteSpace before → weight_at text ≡ Some n → IsEnding (before ++ text) n
 ending_at before [] n blank h = record {
   weight = [];
@@ -114,15 +119,17 @@ ending_at before (b ∷ bs) n blank h = go (b == 59) refl h
           });
         }
 
--- what follows a range and is read as a weight is one
+-- what follows a range and is read as the weight `n` is the text of a weight, or none, and white space
 pub weight_is_ending : (text : List ℕ) (n : ℕ) → weight_of text ≡ Some n → IsEnding text n
 weight_is_ending text n h =
     let e = ending_at (front is_blank text) (rest is_blank text) n (all_front is_blank text) h in
     subst (λ (l : List ℕ). IsEnding l n) (sym (front_rest is_blank text)) e
 
+-- a `q` ends white space
 q_stops : (q : ℕ) (text : List ℕ) → is_q q ≡ true → Stops is_blank (q ∷ text)
 q_stops q text h = grind (arith, nat_tests)
 
+-- the parameter `q=`, a qvalue of `n` thousandths and white space are read as the weight `n`
 parameter_read : (q : ℕ) (value after : List ℕ) (n : ℕ) → is_q q ≡ true → IsWhiteSpace after → qvalue_of value ≡ Some n
     → parameter_of (q ∷ 61 ∷ (value ++ after)) ≡ Some n
 parameter_read q value after n letter blank is_value =
@@ -132,10 +139,12 @@ parameter_read q value after n letter blank is_value =
     let none = rest_of_all is_blank after blank in
     rw (letter, value_is, after_is, none) is_value
 
+-- the text, which follows a range, is read as the weight `n`, and its first byte, if it has one, ends the range
 pub record IsRead (text : List ℕ) (n : ℕ) : Type 0 where
   pub read : weight_of text ≡ Some n
   pub stops : Stops is_word_byte text
 
+-- a semicolon (59) and the parameter `q=`, with white space wherever it may be, are read as the weight `n`
 long_read : (before middle : List ℕ) (q : ℕ) (value after : List ℕ) (n : ℕ) → IsWhiteSpace before → IsWhiteSpace middle → is_q q ≡ true → IsWhiteSpace after → qvalue_of value ≡ Some n
     → IsRead (before ++ 59 ∷ (middle ++ q ∷ 61 ∷ (value ++ after))) n
 long_read before middle q value after n blank_before blank_middle letter blank is_value =
@@ -151,7 +160,7 @@ long_read before middle q value after n blank_before blank_middle letter blank i
     ends [] h = refl
     ends (x ∷ xs) h = blank_stops (x ∷ xs) h
 
--- a weight that white space follows is read as it is
+-- a weight by the grammar, or none, that white space follows is read as its weight `n`
 pub weight_read : (weight after : List ℕ) (n : ℕ) → HasWeight weight n → IsWhiteSpace after → IsRead (weight ++ after) n
 weight_read weight after n (inl none) blank = record {
   read = ap (λ (l : List ℕ). weight_of (l ++ after)) none.0 ∙ ap weight_at (rest_of_all is_blank after blank) ∙ ap (λ (m : ℕ). Some m) (sym none.1);

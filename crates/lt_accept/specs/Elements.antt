@@ -16,7 +16,7 @@ pub record ElementParts : Type 0 where
   pub range : List ℕ
   pub weight : ℕ
 
--- what contracts see of an element of the header
+-- the range and the weight of an element of the header, as contracts see them
 abbrev pub parts_of : WeightedRange → ElementParts
 parts_of element = record { range = element.range.now; weight = element.weight }
 
@@ -28,7 +28,7 @@ has_no_star text = list_all (λ b. not (b == 42)) text
 abbrev pub is_basic : List ℕ → Bool
 is_basic text = is_star text || has_no_star text
 
--- why a text is no basic range, by what it is read as and whether it has that form; None if it is one
+-- why a text is no basic range: what it is read as, and whether it has the form of a basic one; None if it is one
 abbrev pub fault_by : Result RangeParts RangeFault → Bool → Option AcceptFaultKind
 fault_by (Err fault) basic = Some (kinds.BadRange fault)
 fault_by (Ok range) false = Some kinds.ExtendedRange
@@ -38,7 +38,8 @@ fault_by (Ok range) true = None
 abbrev pub range_fault : List ℕ → Option AcceptFaultKind
 range_fault text = fault_by (range_of text) (is_basic text)
 
--- the element of a range with this weight, or its fault
+-- the element of a range, its fault, if it has one, and its weight, if what follows it is one; or why there is no
+-- element
 abbrev pub element_with : List ℕ → Option AcceptFaultKind → Option ℕ → Result (Option ElementParts) AcceptFaultKind
 element_with range (Some kind) weight = Err kind
 element_with range None None = Err kinds.BadWeight
@@ -56,12 +57,12 @@ element_at (b ∷ bs) =
 unfoldable pub element_of : List ℕ → Result (Option ElementParts) AcceptFaultKind
 element_of piece = element_at (rest is_blank piece)
 
--- the reading gave this fault; OutOfMemory may be answered of any
+-- the reading gave this fault; OutOfMemory may be answered of any text
 abbrev pub IsRefused : {X : Type 0} → Result X AcceptFaultKind → AcceptFaultKind → Type 0
 IsRefused read kinds.OutOfMemory = Unit {0}
 IsRefused read kind = read ≡ Err kind
 
--- the fault is this one; OutOfMemory may be answered of any
+-- the fault is this one; OutOfMemory may be answered of any text
 abbrev pub IsFoundFault : Option AcceptFaultKind → AcceptFaultKind → Type 0
 IsFoundFault fault kinds.OutOfMemory = Unit {0}
 IsFoundFault fault kind = fault ≡ Some kind

@@ -17,7 +17,7 @@ pub record IsBasicRange (text : List ℕ) : Type 0 where
   pub range : IsOk (range_of text)
   pub basic : is_basic text ≡ true
 
--- weight = OWS ";" OWS "q=" qvalue (RFC 9110, 12.4.2)
+-- weight = OWS ";" OWS "q=" qvalue (RFC 9110, 12.4.2), in thousandths; 59 is the `;`, and 61 the `=`
 pub record IsWeight (text : List ℕ) (weight : ℕ) : Type 0 where
   pub before : List ℕ
   pub after : List ℕ
@@ -29,7 +29,7 @@ pub record IsWeight (text : List ℕ) (weight : ℕ) : Type 0 where
   pub letter : is_q q ≡ true
   pub is_value : qvalue_of value ≡ Some weight
 
--- [ weight ]; without one it is 1
+-- [ weight ], in thousandths; without one it is 1 (RFC 9110, 12.4.2)
 abbrev pub HasWeight : List ℕ → ℕ → Type 0
 HasWeight text weight = ((text ≡ []) × (weight ≡ 1000)) ⊎ IsWeight text weight
 
@@ -56,7 +56,8 @@ pub record IsPiece (piece : List ℕ) (element : Option ElementParts) : Type 0 w
   pub blank_after : IsWhiteSpace after
   pub is_element : MayBeElement text element
 
--- these are the elements of pieces
+-- each of the pieces is an element or empty, with white space around it, and `elements` are these elements in their
+-- order
 abbrev pub ArePieces : List (List ℕ) → List ElementParts → Type 0
 ArePieces [] elements = elements ≡ []
 ArePieces (p ∷ ps) elements = (element : Option ElementParts) × (others : List ElementParts) × IsPiece p element

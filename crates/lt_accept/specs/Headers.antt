@@ -10,7 +10,8 @@ use Rattle.lt_accept.specs.declared.faults.AcceptFaultKind.TheVariants as kinds
 abbrev pub comma_pieces : List ℕ → List (List ℕ)
 comma_pieces text = slice_split (λ b. b == 44) text
 
--- an element in front of those that are read after it, or the first fault
+-- the element that the piece with this number is read as, if it is not empty, in front of those that are read after it;
+-- or the first fault
 abbrev pub with_element : ℕ → Result (Option ElementParts) AcceptFaultKind → Result (List ElementParts) AcceptFault
     → Result (List ElementParts) AcceptFault
 with_element place (Err kind) read = Err (record { kind = kind; place = place })
@@ -26,21 +27,21 @@ elements_from place (p ∷ ps) = with_element place (element_of p) (elements_fro
 abbrev pub elements_of : List ℕ → Result (List ElementParts) AcceptFault
 elements_of text = elements_from 1 (comma_pieces text)
 
--- elements in front of what else was read, or its fault
+-- the elements `front` before what else was read, or the fault of that
 abbrev pub with_front : List ElementParts → Result (List ElementParts) AcceptFault
     → Result (List ElementParts) AcceptFault
 with_front front (Ok elements) = Ok (front ++ elements)
 with_front front (Err fault) = Err fault
 
--- the reading gave this fault, which has this kind; OutOfMemory may be answered of any
+-- the reading of a header gave this fault, which has this kind; OutOfMemory may be answered of any header
 abbrev pub IsFaultOfKind : Result (List ElementParts) AcceptFault → AcceptFault → AcceptFaultKind → Type 0
 IsFaultOfKind read fault kinds.OutOfMemory = Unit {0}
 IsFaultOfKind read fault kind = read ≡ Err fault
 
--- the reading gave this fault; OutOfMemory may be answered of any
+-- the reading of a header gave this fault; OutOfMemory may be answered of any header
 abbrev pub IsFault : Result (List ElementParts) AcceptFault → AcceptFault → Type 0
 IsFault read fault = IsFaultOfKind read fault fault.kind
 
--- the element with this number has this fault; OutOfMemory may be answered of any
+-- the reading of the piece with this number gave this fault; OutOfMemory may be answered of any piece
 abbrev pub IsFaultAt : Result (Option ElementParts) AcceptFaultKind → ℕ → AcceptFault → Type 0
 IsFaultAt read place fault = IsRefused read fault.kind × (fault.place ≡ place)

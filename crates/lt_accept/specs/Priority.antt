@@ -8,8 +8,8 @@ use Rattle.lt_accept.specs.declared.elements.WeightedRange.{WeightedRange}
 abbrev pub of_weight : ℕ → List WeightedRange → List WeightedRange
 of_weight weight elements = filter (λ e. e.weight == weight) elements
 
--- The elements whose weight is not 0, from the greatest weight to the least, and those of one weight in the order of
--- the header.
+-- `ranges` are those of the elements whose weight is not 0, from the greatest weight to the least, and those of one
+-- weight in the order of the header
 pub record IsPriorityList (elements ranges : List WeightedRange) : Type 0 where
   pub falling : (i : ℕ) (d : WeightedRange) → i + 1 < length ranges
       → (slice_index_or ranges (i + 1) d).weight ≤ (slice_index_or ranges i d).weight

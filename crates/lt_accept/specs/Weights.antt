@@ -9,7 +9,7 @@ use Rattle.lt_accept.specs.Words.{is_blank, is_word_byte, front, rest}
 abbrev pub are_decimals : List ℕ → Bool
 are_decimals decimals = nat_le (length decimals) 3 && list_all is_ascii_digit decimals
 
--- the value of the digit at a place, 0 where there is none
+-- the value of the digit at an index, 0 where there is none; 48 is the byte `0`
 abbrev pub digit : List ℕ → ℕ → ℕ
 digit decimals place = slice_index_or decimals place 48 - 48
 
@@ -21,7 +21,7 @@ thousandths decimals = 100 * digit decimals 0 + 10 * digit decimals 1 + digit de
 abbrev pub of_digits : ℕ → ℕ → Option ℕ
 of_digits whole parts = if whole == 48 then Some parts else (if (whole == 49) && (parts == 0) then Some 1000 else None)
 
--- the weight of a digit before the point and decimals after it; None if they are no weight
+-- the weight of a digit before the point, `whole`, and the decimals after it; None if they are no weight
 abbrev pub number_of : ℕ → List ℕ → Option ℕ
 number_of whole decimals = if are_decimals decimals then of_digits whole (thousandths decimals) else None
 
@@ -43,12 +43,12 @@ parameter_of (q ∷ equals ∷ value) =
     if (is_q q && (equals == 61)) && (length (rest is_blank (rest is_word_byte value)) == 0)
     then qvalue_of (front is_word_byte value) else None
 
--- the weight by what follows a range without white space before it: 1 if nothing does, else that of the parameter after
--- a semicolon (59)
+-- the weight by what follows a range without white space before it, in thousandths: 1000 if nothing does, else that of
+-- the parameter after a semicolon (59)
 abbrev pub weight_at : List ℕ → Option ℕ
 weight_at [] = Some 1000
 weight_at (b ∷ bs) = if b == 59 then parameter_of (rest is_blank bs) else None
 
--- the weight by what follows a range; None if that is no weight
+-- the weight by what follows a range, in thousandths; None if that is no weight
 abbrev pub weight_of : List ℕ → Option ℕ
 weight_of text = weight_at (rest is_blank text)

@@ -5,7 +5,7 @@ use Rattle.std.specs.Prelude.{ℕ, ◌==◌, ◌||◌, Bool, not, List, [], ◌�
 abbrev pub is_blank : ℕ → Bool
 is_blank b = (b == 32) || (b == 9)
 
--- whether a byte may be in a word
+-- whether a byte may be in a word: it is neither white space nor a semicolon (59)
 abbrev pub is_word_byte : ℕ → Bool
 is_word_byte b = not (is_blank b || (b == 59))
 

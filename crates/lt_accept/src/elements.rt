@@ -26,7 +26,8 @@ pub(crate) fn cut_at_commas(alloc: Global, text: &[u8]) -> Result<Vec<&[u8]>, Al
     text.split(|byte| *byte == b',').collect(alloc)
 }
 
-/// The element that a piece between commas is, or None if the piece is empty.
+/// The element that a piece between commas is, or None if the piece is empty or white space. It is refused with the
+/// first fault: of the range, and then of the weight.
 #[tactic(auto, unfolding(crate::specs::Elements::element_of))]
 fn read_element(alloc: Global, piece: &[u8]) -> Result<Option<WeightedRange<'_>>, AcceptFaultKind>
     ensures element { IfOk result (λ element. element_of piece.now ≡ Ok (option_map parts_of element)) }
@@ -59,7 +60,8 @@ fn read_numbered<'a>(
     }
 }
 
-/// The elements that the pieces between commas are, in their order, without the empty ones.
+/// The elements that the pieces between commas are, in their order, without the empty ones. It is refused for the first
+/// piece at fault; pieces are numbered from 1, the empty ones too.
 pub(crate) fn read_elements<'a>(
     alloc: Global,
     pieces: &[&'a [u8]],

@@ -29,7 +29,7 @@ pub(crate) fn check_range(alloc: Global, text: &[u8]) -> Result<(), AcceptFaultK
     ensures range { OnOk result (spec.range_fault text.now ≡ None) }
     ensures fault { IfErr result (spec.IsFoundFault (spec.range_fault text.now)) }
 {
-    // Only whether it is read counts.
+    // Only whether it is read counts: the element keeps the text.
     let _range = LanguageRange::read(alloc, text)?;
     if !is_star(text) && !has_no_star(text) {
         return Err(AcceptFaultKind::ExtendedRange);

@@ -10,7 +10,7 @@ fn is_blank(byte: u8) -> bool
     byte == b' ' || byte == b'\t'
 }
 
-/// Whether a byte is neither white space nor a semicolon.
+/// Whether a byte is neither white space nor a semicolon, which end a range and a qvalue.
 fn is_word_byte(byte: u8) -> bool
     ensures { result ≡ spec.is_word_byte byte }
 {

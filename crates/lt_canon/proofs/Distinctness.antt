@@ -11,7 +11,7 @@ use Rattle.lt_registry.proofs.VariantFaultLemmas.{stands_at}
 use Rattle.lt_registry.proofs.DistinctTests.{distinct_further}
 use Rattle.lt_canon.specs.Answers.{IsSecondOccurrence}
 
--- a variant that is among those before it, which are distinct, is the first to occur again
+-- the variant `v` at index `i` is among those before it, which are distinct: it is the first to occur again
 pub second_here : (vs : List (List ℕ)) (i : ℕ) (v : List ℕ) → i < length vs → v ≡ get_or vs i v → stands_in (take i vs) v ≡ true → Distinct (take i vs) → IsSecondOccurrence vs v
 second_here vs i v l e h d =
     let s = stands_at (take i vs) v h in
@@ -23,6 +23,8 @@ second_here vs i v l e h d =
       first = subst Distinct s.2 d;
     }
 
+-- where the variants before index `i` are distinct, all are, or one is the first to occur again; `n` are still to be
+-- compared
 second_from : (vs : List (List ℕ)) (n i : ℕ) → i + n ≡ length vs → Distinct (take i vs) → Distinct vs ⊎ ((v : List ℕ) × IsSecondOccurrence vs v)
 second_from vs zero i e d = inl (subst Distinct (ap (λ k. take k vs) (omega arith) ∙ take-length vs) d)
 second_from vs (suc n) i e d =
@@ -38,7 +40,8 @@ second_from vs (suc n) i e d =
 pub distinct_or_second : (vs : List (List ℕ)) → Distinct vs ⊎ ((v : List ℕ) × IsSecondOccurrence vs v)
 distinct_or_second vs = second_from vs (length vs) 0 (omega arith) tt
 
--- where two fronts of a list are the longest of which this holds, what is next is the same
+-- `a` and `b` are fronts of one list, followed there by `v` and `w`; `P` is true of both fronts, and of no list that
+-- begins with a front and what follows it: then `v` is `w`
 one_next : {A : Type 0} (P : List A → Type 0) (a : List A) (v : A) (r b : List A) (w : A) (s : List A) → P a → P b → ((t : List A) → P (a ++ v ∷ t) → ⊥) → ((t : List A) → P (b ++ w ∷ t) → ⊥) → a ++ v ∷ r ≡ b ++ w ∷ s → v ≡ w
 one_next P [] v r [] w s p q f g e = cc
 one_next P [] v r (y ∷ b) w s p q f g e = let k : y ≡ v = cc in absurd (f b (subst (λ z. P (z ∷ b)) k q))
@@ -47,6 +50,7 @@ one_next P (x ∷ a) v r (y ∷ b) w s p q f g e =
     let k : y ≡ x = cc in
     one_next (λ l. P (x ∷ l)) a v r b w s p (subst (λ z. P (z ∷ b)) k q) f (λ t h. g t (subst (λ z. P (z ∷ (b ++ w ∷ t))) (sym k) h)) (cc)
 
+-- no list in which `v` occurs twice is distinct
 again : (before : List (List ℕ)) (v : List ℕ) (between t : List (List ℕ)) → Distinct ((before ++ v ∷ between) ++ v ∷ t) → ⊥
 again before v between t = distinct_at _ before v between t (append_assoc before (v ∷ between) (v ∷ t))
 
@@ -56,6 +60,6 @@ one_second vs v w h k =
     one_next Distinct (h.before ++ v ∷ h.between) v h.after (k.before ++ w ∷ k.between) w k.after h.first k.first (again h.before v h.between) (again k.before w k.between)
     (append_assoc h.before (v ∷ h.between) (v ∷ h.after) ∙ sym h.there ∙ k.there ∙ sym (append_assoc k.before (w ∷ k.between) (w ∷ k.after)))
 
--- and where one occurs again, variants are not distinct
+-- where a variant occurs again, the variants are not distinct
 pub second_repeats : (vs : List (List ℕ)) (v : List ℕ) → IsSecondOccurrence vs v → Distinct vs → ⊥
 second_repeats vs v h = distinct_at vs h.before v h.between h.after h.there

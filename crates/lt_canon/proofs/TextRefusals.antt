@@ -12,7 +12,7 @@ use Rattle.lt_canon.specs.TextAnswers.{IsPairRefusal, IsValidityRefusal}
 use Rattle.lt_canon.specs.declared.refusals.Refusal.{Refusal}
 use Rattle.lt_canon.specs.declared.refusals.Refusal.TheVariants as refusals
 
--- the texts are read as tags, of which one is refused
+-- two texts are read as tags `t` and `u`, of which one is refused: that is the refusal of the pair of texts
 pub pair_refused : (R : List EntryParts) (first second : List ℕ) (t u : TagForm) (refusal : Refusal) → HasTag first t → HasTag second u
     → IsFirstRefusal R t u refusal → IsPairRefusal R first second (of_refusal refusal)
 pair_refused R first second t u (refusals.Invalid fault) p q owed =
@@ -21,7 +21,7 @@ pair_refused R first second t u (refusals.ReplacementRepeats v) p q owed =
     record { tag = t; read = p; holds = record { tag = u; read = q; holds = owed } }
 pair_refused R first second t u refusals.OutOfMemory p q owed = tt
 
--- the text is read as a tag that is not found valid
+-- the text is read as a tag `t`, which `validate` refuses: that is the refusal of the text
 pub validity_refused : (R : List EntryParts) (text : List ℕ) (t : TagForm) (refused : ValidRefusal) → HasTag text t
     → validity.IsRefusal R t refused → IsValidityRefusal R text (of_refusal (of_valid refused))
 validity_refused R text t (checks.Fault fault) p owed = record { tag = t; read = p; holds = owed }

@@ -42,8 +42,8 @@ HasOneExplanation R =
 abbrev pub RestsOnCore : List EntryParts → TagForm → Type 0
 RestsOnCore R t = (c : CoreParts) → core_of t ≡ Some c → NoneLeads (CoreLeads R 0 c)
 
--- a run of steps, each the first that leads on, is added to others, and leads from a tag to one from which no step
--- leads
+-- a run of steps, each the first that leads on, from the tag to one from which no step leads, was added to the steps
+-- `old`, which made `new`
 pub record LeadsToRest (R : List EntryParts) (t : TagForm) (old new : List Step) : Type 0 where
   pub end : TagForm
   pub adds : Adds (LeadsBy R) rank_in t end old new

@@ -19,7 +19,8 @@ tag_line t = text_of t ++ 10 ∷ []
 abbrev pub step_line : Step → List ℕ → List ℕ
 step_line step text = name_of step.kind ++ 32 ∷ (decimal step.place ++ 32 ∷ (decimal step.number ++ 32 ∷ text))
 
--- the first of these lines is that of a step from `t` to a tag, and `Rest` is true of that tag and the other lines
+-- `lines` begin with the line of the step, which leads from `t` to the tag `after`; of that tag and the lines after it,
+-- `rest`, `Rest` is true
 pub record StepPrinted (R : List EntryParts) (t : TagForm) (step : Step)
     (Rest : TagForm → List ℕ → Type 0) (lines : List ℕ) : Type 0 where
   pub after : TagForm
@@ -58,7 +59,7 @@ pub record StepsLeft : Type 0 where
   pub steps : List Step
   pub end : TagForm
 
--- the `StepsLeft` of these parts
+-- what is left of an explanation, by these parts
 abbrev pub steps_left : List EntryParts → TagForm → List Step → TagForm → StepsLeft
 steps_left entries here steps end = record { entries = entries; here = here; steps = steps; end = end }
 
@@ -67,17 +68,18 @@ pub record LeadsToEnd (left : StepsLeft) : Type 0 where
   pub proper : IsProper left.entries left.here
   pub trace : IsTrace left.entries left.here left.steps left.end
 
--- the lines of what is left of an explanation
+-- these bytes are the lines of what is left of an explanation
 abbrev pub AreLinesLeft : StepsLeft → List ℕ → Type 0
 AreLinesLeft left lines = AreLines left.entries left.here left.steps left.end lines
 
--- all of the explanation of the tag that a text is read as is left (RFC 5646, 4.5)
+-- `left` is the whole explanation of the tag that the text is read as, by the entries `R` (RFC 5646, 4.5)
 pub record IsWholeLeft (R : List EntryParts) (text : List ℕ) (left : StepsLeft) : Type 0 where
   pub by : left.entries ≡ R
   pub read : HasTag text left.here
   pub is_explanation : IsExplanation R left.here left.steps left.end
 
--- the line of the next step was appended, and the steps after it are left
+-- the line of the next step was appended to the bytes `old`, which made `new`; `before` and `after` are what was left
+-- of the explanation before and after that
 pub record AppendsStep (before after : StepsLeft) (old new : List ℕ) : Type 0 where
   pub step : Step
   pub steps : List Step
@@ -87,7 +89,7 @@ pub record AppendsStep (before after : StepsLeft) (old new : List ℕ) : Type 0 
   pub left : after ≡ record before { here = to; steps = steps }
   pub grown : new ≡ old ++ step_line step (tag_line to)
 
--- no step was left, and the line of the end was appended
+-- no step was left, and the line of the end was appended to the bytes `old`, which made `new`
 pub record AppendsEnd (before after : StepsLeft) (old new : List ℕ) : Type 0 where
   pub none : before.steps ≡ []
   pub left : after ≡ before

@@ -7,13 +7,13 @@ use Rattle.lt_canon.specs.declared.refusals.Refusal.TheVariants as refusals
 use Rattle.lt_canon.specs.declared.refusals.TextRefusal.{TextRefusal}
 use Rattle.lt_canon.specs.declared.refusals.TextRefusal.TheVariants as text_refusals
 
--- the name of why a tag has no canonical form
+-- the name of the refusal of a tag
 abbrev pub refusal_name_of : Refusal → List ℕ
 refusal_name_of (refusals.Invalid fault) = tags.name_of fault.kind
 refusal_name_of (refusals.ReplacementRepeats v) = codes "ReplacementRepeats"
 refusal_name_of refusals.OutOfMemory = codes "OutOfMemory"
 
--- the name of why a text has no canonical text
+-- the name of the refusal of a text
 abbrev pub text_refusal_name_of : TextRefusal → List ℕ
 text_refusal_name_of (text_refusals.NotATag fault) = texts.name_of fault.kind
 text_refusal_name_of (text_refusals.Invalid fault) = tags.name_of fault.kind

@@ -20,7 +20,7 @@ pub record IsCanonicalTextOf (R : List EntryParts) (text canonical : List ℕ) :
   pub is_form : IsCanonicalFormOf R tag form
   pub written : canonical ≡ conventional (spell form)
 
--- the canonical text of the text was appended
+-- the canonical text of the text was appended to the bytes `old`, which made `new`
 pub record AppendsCanonicalText (R : List EntryParts) (text old new : List ℕ) : Type 0 where
   pub canonical : List ℕ
   pub grown : new ≡ old ++ canonical

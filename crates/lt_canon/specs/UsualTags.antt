@@ -21,17 +21,18 @@ pub record IsUsual (c : CoreParts) : Type 0 where
 abbrev pub Test : Type 0
 Test = Result Bool ValidFault
 
--- the fault of the first test, else what follows from its answer
+-- the fault of the first test, or else what `next` makes of its answer
 abbrev pub on_test : Test → (Bool → Test) → Test
 on_test (Ok holds) next = next holds
 on_test (Err fault) next = Err fault
 
--- whether the entry of a subtag has a value; without an entry, the fault
+-- whether the entry of a subtag has a value; without an entry, the fault of this kind, at the place of the subtag
 abbrev pub one_valued : ValidFaultKind → ℕ → Option EntryParts → Test
 one_valued kind place (Some e) = Ok (is_some (one_of e.value))
 one_valued kind place None = Err (record { kind = kind; place = place })
 
--- whether a script or a region, if there is one, has a value; without an entry, the fault
+-- whether a script or a region has a value: its kind, the kind of its fault, its place, and the subtag, if there is
+-- one; without an entry, the fault
 abbrev pub part_valued : List EntryParts → Kind → ValidFaultKind → ℕ → Option (List ℕ) → Test
 part_valued R kind fault place (Some s) = one_valued fault place (entry R kind s)
 part_valued R kind fault place None = Ok false

@@ -44,7 +44,8 @@ pub fn canonical<L: Lookup>(alloc: Global, checked: &Checked<L>, tag: &Tag) -> R
     canonical_of(alloc, checked, tag.copy(alloc)?)
 }
 
-/// The canonical form of a tag, which is used up for it. It is refused as `canonical` refuses.
+/// The canonical form of a tag, made of the parts of that tag, so that it needs no copy of them. It is refused as
+/// `canonical` refuses.
 pub(crate) fn canonical_of<L: Lookup>(
     alloc: Global,
     checked: &Checked<L>,

@@ -10,8 +10,8 @@ use lt_registry::Lookup;
 use lt_tag::{append_tag, read_tag};
 use std::alloc::Global;
 
-/// Appends the text, in conventional case, of the canonical form of the tag that a text is read as (RFC 5646,
-/// 2.1.1 and 4.5). It is refused as `canonical_text` refuses, and then leaves what was there.
+/// Appends to `texts` the text, in conventional case, of the canonical form of the tag that `text` is read as (RFC
+/// 5646, 2.1.1 and 4.5). It is refused as `canonical_text` refuses, and then leaves `texts` as it was.
 pub fn append_canonical_text<L: Lookup>(
     alloc: Global,
     checked: &Checked<L>,
@@ -28,7 +28,8 @@ pub fn append_canonical_text<L: Lookup>(
     append_other_text(alloc, checked, text, texts)
 }
 
-/// Appends the canonical text of a text, by the tag that it is read as.
+/// Appends to `texts` the canonical text of `text`, by the tag that it is read as, with look-ups in the registry. It is
+/// refused as `canonical_text` refuses, and then leaves `texts` as it was.
 #[tactic(auto, using(crate::proofs::UsualForms::appended))]
 fn append_other_text<L: Lookup>(
     alloc: Global,

@@ -43,7 +43,9 @@ pub struct ExplanationLines<'t, L: Lookup> {
     table: &'t L,
     /// The tag to which the steps led that were taken.
     here: Tag,
+    /// The whole explanation.
     trace: Trace,
+    /// How many of its steps were given as lines.
     taken: usize,
 }
 

@@ -115,7 +115,7 @@ pub fn verify<L: Lookup>(
     traces_have_one_end();
     let table = checked.table();
     validate(alloc, table, tag)?;
-    // So that their shapes are known.
+    // So that the tag's shape is known, by which a tag without a fault is valid.
     let _ = tag.extensions();
     let end = follow(alloc, table, tag, &trace.steps)?;
     if end == trace.last {

@@ -52,7 +52,7 @@ fn is_part_valued<L: Lookup>(
 }
 
 /// Whether the language, the script or the region of a core has a preferred value. Refused with the first fault where one of
-/// them is not registered. Each is looked up once.
+/// them is not registered, at its place among the subtags, counted from 1. Each is looked up once.
 #[tactic(auto, unfolding(crate::specs::UsualTags::core_valued))]
 pub(crate) fn is_core_valued<L: Lookup>(table: &L, core: &Core) -> Result<bool, ValidFault>
     ensures { result ≡ core_valued (L.listed table.now) core.now }

@@ -7,10 +7,11 @@ use lt_check::Checked;
 use lt_registry::Lookup;
 use lt_tag::OutOfMemory;
 
-/// Appends the canonical text of a text, as [`append_canonical_text`](crate::append_canonical_text) does, exactly if it
-/// is told by a flag for each subtag: the text is read as a langtag of a language of 2 or 3 letters, and a script and a
-/// region where there is one, and each of these stays as it is (RFC 5646, 4.5). `zh-hant-tw` is such a text, and `iw`
-/// is none. Tells whether it did; of any other text it does nothing. Refused only where memory runs out.
+/// Appends to `texts` the canonical text of `text`, as [`append_canonical_text`](crate::append_canonical_text) does,
+/// but only where one flag for each subtag tells it, without a look-up in the registry: the text is read as a langtag
+/// of a language of 2 or 3 letters, and a script and a region where there is one, and each of these stays as it is
+/// (RFC 5646, 4.5). `zh-hant-tw` is such a text, and `iw` is none. True if it did so; of any other text it appends
+/// nothing and gives false. Refused only where memory runs out.
 #[inline(always)]
 pub fn append_usual_text<L: Lookup>(
     checked: &Checked<L>,

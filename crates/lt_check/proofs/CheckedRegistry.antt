@@ -13,33 +13,37 @@ use Rattle.lt_rewrite.proofs.Entries.{find_has}
 use Rattle.lt_rewrite.proofs.Same.{same_tag_is}
 use Rattle.lt_check.specs.Conditions.{IsValidCoreAlone, HasValidWhole, IsChecked}
 
+-- each record of a checked registry meets the condition on grandfathered tags (C8)
 pub grandfathered_fit : (R : List EntryParts) → IsChecked R → All (HasFittingGrandfathered R) R
 grandfathered_fit R C = C.passes.fitting_grandfathered
 
--- the whole record behind a value
+-- the whole record of the tag `t`, which has the value `u`
 pub record ValuedWhole (R : List EntryParts) (t u : TagForm) : Type 0 where
   pub at : EntryParts
   pub found : whole R t ≡ Some at
   pub named : at.name ≡ names.Whole t
   pub gives : tag_of at.value ≡ Some u
 
+-- a name that the test takes for the tag `t` is `t`
 pub whole_name : (t : TagForm) (n : EntryName) → is_whole t n ≡ true → n ≡ names.Whole t
 whole_name t (names.Single s) h = cc
 whole_name t (names.Range a b) h = cc
 whole_name t (names.Whole u) h = ap names.Whole (same_tag_is u t h)
 
+-- the record that a look-up of a whole tag finds has that tag as its name
 pub found_name : (R : List EntryParts) (t : TagForm) (e : EntryParts) → whole R t ≡ Some e → e.name ≡ names.Whole t
 found_name R t e h = whole_name t e.name (find_has (λ (e : EntryParts). Unit {0}) (λ (e : EntryParts). is_whole t e.name) R e (λ k d n. tt) h).1
 
+-- where the value `u` is found for a tag, there is a whole record of the tag with this value
 pub valued_whole : (R : List EntryParts) (t u : TagForm) → whole_value R t ≡ Some u → ValuedWhole R t u
 valued_whole R t u e =
     option_and_then_some (λ (e : EntryParts). tag_of e.value) (whole R t) u e (λ f o g. record { at = f; found = o; named = found_name R t f o; gives = g })
 
--- what each record has, that record has
+-- what is true of each record is true of the whole record `w` behind a value
 pub whole_has : (R : List EntryParts) (t u : TagForm) (P : EntryParts → Type 0) → All P R → (w : ValuedWhole R t u) → P w.at
 whole_has R t u P h w = (find_has P (λ (e : EntryParts). is_whole t e.name) R w.at h w.found).0
 
--- where no record of the tag has a value, it has none
+-- where no record of a tag has a value, none is found for it
 pub no_value : (R : List EntryParts) (t : TagForm) → All (λ (e : EntryParts). e.name ≡ names.Whole t → tag_of e.value ≡ None) R → whole_value R t ≡ None
 no_value R t h =
     let never : (u : TagForm) → whole_value R t ≡ Some u → ⊥ = λ u e. (
@@ -49,23 +53,25 @@ no_value R t h =
     cc) in
     grind arith
 
--- a whole tag with a value is grandfathered, or a valid langtag without extensions and private use
+-- the tag is the grandfathered one of this number
 pub record IsGrandfatheredTag (t : TagForm) : Type 0 where
   pub number : ℕ
   pub is : t ≡ Grandfathered number
 
+-- a record of a whole tag is a grandfathered or a redundant one
 pub whole_kind : (k : Kind) → is_whole_kind k ≡ true → (k ≡ kinds.Grandfathered) ⊎ (k ≡ kinds.Redundant)
 whole_kind kinds.Grandfathered h = inl refl
 whole_kind kinds.Redundant h = inr refl
 whole_kind _ h = cc
 
 module _ (R : List EntryParts) (C : IsChecked R) where
-  -- the value is a valid langtag without extensions and private use
+  -- the value of a whole tag is a valid langtag and a core alone
   pub value_plain : (t u : TagForm) → whole_value R t ≡ Some u → IsValidCoreAlone R u
   value_plain t u e =
       let w = valued_whole R t u e in
       (whole_has R t u (HasValidWhole R) (C.passes.valid_whole) w t u w.named w.gives).0
 
+  -- a whole tag with a value is grandfathered, or itself a valid langtag and a core alone
   pub tag_plain : (t u : TagForm) → whole_value R t ≡ Some u → IsGrandfatheredTag t ⊎ IsValidCoreAlone R t
   tag_plain t u e =
       let w = valued_whole R t u e in

@@ -39,15 +39,17 @@ use Rattle.lt_check.proofs.TextLemmas.{IsShown, cut_shown, flagged, hyphened, lo
 
 -- ---- what stays has a record of its own, and so the form of its kind
 
--- the record of a subtag's own, without a value
+-- the subtag `s` of kind `k` has a record of its own, without a value
 pub record HasOwn (R : List EntryParts) (k : Kind) (s : List ℕ) : Type 0 where
   pub entry : EntryParts
   pub found : find (λ (e : EntryParts). same_kind e.kind k && is_named s e.name) R ≡ Some entry
   pub valueless : is_none entry.value ≡ true
 
+-- a subtag that stays has a record of its own, without a value
 pub own_record : (R : List EntryParts) (k : Kind) (s : List ℕ) → stays R k s ≡ true → HasOwn R k s
 own_record R k s h = grind arith
 
+-- a subtag that stays has the form of its kind, since it has a record
 stays_form : (R : List EntryParts) → All IsEntry R → (k : Kind) (s : List ℕ) → stays R k s ≡ true → has_form k s ≡ true
 stays_form R forms k s h =
     let own = own_record R k s h in
@@ -56,51 +58,63 @@ stays_form R forms k s h =
 
 -- ---- letter case
 
+-- a letter with bit 32 set is that letter in lower case
 lower_is : (b : ℕ) → is_ascii_lowercase (to_ascii_lowercase b) ≡ true → lower b ≡ to_ascii_lowercase b
 lower_is b h =
     eqb-true _ _ (rw h at (agree_below_at (λ x. not (is_ascii_lowercase (to_ascii_lowercase x)) || eqb (lower x) (to_ascii_lowercase x)) (λ _. true) 128 b refl (grind (arith, nat_tests))))
 
+-- a letter with bit 32 cleared is that letter in upper case
 upper_is : (b : ℕ) → is_ascii_lowercase (to_ascii_lowercase b) ≡ true → to_ascii_uppercase (to_ascii_lowercase b) ≡ upper_byte b
 upper_is b h =
     eqb-true _ _ (rw h at (agree_below_at (λ x. not (is_ascii_lowercase (to_ascii_lowercase x)) || eqb (to_ascii_uppercase (to_ascii_lowercase x)) (upper_byte x)) (λ _. true) 128 b refl (grind (arith, nat_tests))))
 
+-- letters with bit 32 set are these letters in lower case
 lowered_is : (s : List ℕ) → is_alphabetic (folded s) ≡ true → lowered s ≡ folded s
 lowered_is [] h = refl
 lowered_is (b ∷ s) h = grind (arith, lower_is, lowered_is s)
 
+-- digits have no letter case
 digits_are : (s : List ℕ) → is_numeric (folded s) ≡ true → folded s ≡ s
 digits_are [] h = refl
 digits_are (b ∷ s) h = grind (arith, nat_tests, digits_are s)
 
+-- a script in conventional case: its first letter in upper case, the others in lower case
 script_as : (s : List ℕ) → is_script (folded s) ≡ true → shown (folded s) ≡ titled s
 script_as s h = let p = script_is (folded s) h in grind (arith, upper_is, lowered_is)
 
+-- a region in conventional case: letters in upper case, digits as they are
 region_as : (s : List ℕ) → is_region (folded s) ≡ true → shown (folded s) ≡ raised s
 region_as s h = elim (region_is (folded s) h) [ inl p ↦ grind (arith, upper_is) | inr p ↦ grind (arith, digits_are) ]
 
 -- ---- cores without extlangs and variants
 
+-- the core of a language, and a script and a region where there is one
 abbrev pub plain : List ℕ → Option (List ℕ) → Option (List ℕ) → CoreParts
 plain l s r = record { language = l; extlangs = []; script = s; region = r; variants = [] }
 
+-- the text of the core alone of a language, a script and a region: the language, and a hyphen (45) before each of the
+-- others
 joined : (l : List ℕ) (s r : Option (List ℕ)) → join_with_byte 45 (spell (core_alone (plain l s r))) ≡ l ++ (hyphened s ++ hyphened r)
 joined l s r = grind (arith, append-nil {A = ℕ})
 
--- a text that joins the parts, in some case, is read as such a core
+-- a text that is, letter case aside, the subtags of a core alone with hyphens (45) between them is read as that core
+-- alone
 text_read : (text : List ℕ) (c : CoreParts) → IsTag (core_alone c) → folded text ≡ join_with_byte 45 (spell (core_alone c)) → spell (core_alone c) ≡ list_of text
 text_read text c tag e =
     let again = tag_again (core_alone c) tag in
     let shown = conventional (spell (core_alone c)) in
     sym (same_list text shown (e ∙ ap (join_with_byte 45) (sym again ∙ list_of_is shown) ∙ join_pieces (folded shown)) ∙ again)
 
--- no grandfathered tag has such a core
+-- whether there is a core, without extlangs and variants
 abbrev is_plain : Option CoreParts → Bool
 is_plain o = option_map_or (λ (c : CoreParts). (length c.extlangs == 0) && (length c.variants == 0)) o false
 
+-- no grandfathered tag that is read as a core is without extlangs and variants
 none_plain : list_all (λ (t : List ℕ). not (is_plain (core_of_list (pieces t)))) grandfathered_texts ≡ true
 unfolding grandfathered_texts core_of_list grown_by grown is_subtag is_language is_extlang is_script is_region is_variant
 none_plain = refl
 
+-- the tag of a core alone without extlangs and variants is well-formed, since it is no grandfathered one
 plain_tag : (l : List ℕ) (s r : Option (List ℕ)) → IsCore (plain l s r) → IsTag (core_alone (plain l s r))
 unfolding grandfathered_list
 plain_tag l s r k =
@@ -113,17 +127,21 @@ plain_tag l s r k =
 
 -- ---- a text that is cut into subtags that have flags
 
+-- a language is of letters
 language_letters : (s : List ℕ) → is_language s ≡ true → is_alphabetic s ≡ true
 unfolding is_language
 language_letters s h = grind arith
 
+-- a script has two bytes or more, so it is no singleton
 script_long : (s : List ℕ) → is_script s ≡ true → 2 ≤ length s
 script_long s h = omega (arith, (script_is s h).1)
 
+-- a region has two bytes or more, so it is no singleton
 region_long : (s : List ℕ) → is_region s ≡ true → 2 ≤ length s
 region_long s h = elim (region_is s h) [ inl p ↦ omega (arith, p.1) | inr p ↦ omega (arith, p.1) ]
 
--- it is shown in conventional case
+-- a language put into lower case, and a script and a region in their cases, are their langtag's text in conventional
+-- case
 cased : (l : List ℕ) (s r : Option (List ℕ)) → is_language (folded l) ≡ true → option_map_or is_script (option_map folded s) true ≡ true → option_map_or is_region (option_map folded r) true ≡ true
     → lowered l ++ shown_parts s r ≡ conventional (spell (core_alone (plain (folded l) (option_map folded s) (option_map folded r))))
 cased l s r h f g =
@@ -131,13 +149,15 @@ cased l s r h f g =
     let low = lowered_is l (language_letters (folded l) h) in
     grind (arith, nat_tests, append-nil {A = ℕ}, script_as, region_as, script_long, region_long)
 
+-- a language with a flag has at most three letters
 language_few : (F l : List ℕ) → flagged F kinds.Language l ≡ true → length (folded l) ≤ 3
 language_few F l h = grind arith
 
+-- the text of a language, a script and a region in lower case is that of each in lower case
 folded_parts : (l : List ℕ) (s r : Option (List ℕ)) → folded (l ++ (hyphened s ++ hyphened r)) ≡ folded l ++ (hyphened (option_map folded s) ++ hyphened (option_map folded r))
 folded_parts l s r = grind (arith, map-append {A = ℕ} {B = ℕ})
 
--- pieces that make such a list in lower case make one as they are
+-- pieces that in lower case are a language, a script and a region are such parts as they stand: `p`, `q` and `o`
 uncased : (ps : List (List ℕ)) (l : List ℕ) (s r : Option (List ℕ)) → map folded ps ≡ spell (core_alone (plain l s r))
     → (p : List ℕ) × (q : Option (List ℕ)) × (o : Option (List ℕ)) × (ps ≡ spell (core_alone (plain p q o))) × (folded p ≡ l) × (option_map folded q ≡ s) × (option_map folded o ≡ r)
 uncased (p ∷ []) l None None e = (p, None, None, refl, cc, refl, refl)
@@ -147,20 +167,24 @@ uncased (p ∷ q ∷ o ∷ []) l (Some s) (Some r) e = (p, Some q, Some o, refl,
 uncased _ _ _ _ e = absurd (grind arith)
 
 module _ (R : List EntryParts) (F : List ℕ) (flags : AreFlags R F) where
-  -- what has a flag stays
+  -- a subtag with a flag stays, in whatever letter case it is written
   told : (k : Kind) (s : List ℕ) → flagged F k s ≡ true → stays R k (folded s) ≡ true
   told k s h = let t = flags.tell k s in grind arith
 
+  -- a script or a region with a flag, if there is one, stays
   part_told : (k : Kind) (s : Option (List ℕ)) → part_flagged F k s ≡ true → IfSome (option_map folded s) (λ s. stays R k s ≡ true)
   part_told k s h = grind (arith, told)
 
+  -- a script or a region with a flag, if there is one, has the form of its kind
   part_form : (k : Kind) (s : Option (List ℕ)) → part_flagged F k s ≡ true → option_map_or (has_form k) (option_map folded s) true ≡ true
   part_form k s h = grind (arith, told, stays_form R flags.forms)
 
   module _ (text : List ℕ) (p : Shown) (t : IsShown F text p) where
+    -- the core of a text that is shown, in lower case
     abbrev pub core_shown : CoreParts
     core_shown = plain (folded t.language) (option_map folded t.parts.script) (option_map folded t.parts.region)
 
+    -- the subtags of the core of a text that is shown have their forms
     core_shaped : IsCore core_shown
     core_shaped =
         let language = stays_form R flags.forms kinds.Language (folded t.language) (told kinds.Language t.language t.language_set) in
@@ -168,15 +192,17 @@ module _ (R : List EntryParts) (F : List ℕ) (flags : AreFlags R F) where
         let region = part_form kinds.Region t.parts.region t.parts.region_set in
         grind arith
 
+    -- a text that is shown is, in lower case, the text of its core
     same_letters : folded text ≡ join_with_byte 45 (spell (core_alone core_shown))
     same_letters =
         ap folded (t.text_is ∙ ap (λ (m : List ℕ). t.language ++ m) t.parts.rest_is) ∙ folded_parts t.language t.parts.script t.parts.region
         ∙ sym (joined (folded t.language) (option_map folded t.parts.script) (option_map folded t.parts.region))
 
+    -- the core alone of a text that is shown is a well-formed tag
     shown_tag : IsTag (core_alone core_shown)
     shown_tag = plain_tag (folded t.language) _ _ core_shaped
 
-    -- it is read as a langtag of them
+    -- a text that is shown is read as its core alone, each subtag of which stays
     pub shown_stays : StaysAs R text core_shown
     shown_stays = record {
       read = record {
@@ -192,31 +218,37 @@ module _ (R : List EntryParts) (F : List ℕ) (flags : AreFlags R F) where
       region = part_told kinds.Region t.parts.region t.parts.region_set;
     }
 
+    -- what is shown of a text is the text in conventional case
     pub shown_cased : take p.count p.bytes ≡ conventional (list_of text)
     shown_cased = t.shown_is ∙ cased t.language t.parts.script t.parts.region core_shaped.language core_shaped.script core_shaped.region ∙ ap conventional shown_stays.read.spelled
 
-  -- a text that stays is cut so
+  -- a language of at most three letters that stays has a flag
   language_flagged : (s : List ℕ) → length (folded s) ≤ 3 → stays R kinds.Language (folded s) ≡ true → flagged F kinds.Language s ≡ true
   language_flagged s n h =
       let p = language_long (folded s) (stays_form R flags.forms kinds.Language (folded s) h) in
       let t = flags.tell kinds.Language s in
       grind arith
 
+  -- a script that stays has a flag
   script_flagged : (s : List ℕ) → stays R kinds.Script (folded s) ≡ true → flagged F kinds.Script s ≡ true
   script_flagged s h =
       let p = script_is (folded s) (stays_form R flags.forms kinds.Script (folded s) h) in
       let t = flags.tell kinds.Script s in
       grind arith
 
+  -- a region that stays has a flag
   region_flagged : (s : List ℕ) → stays R kinds.Region (folded s) ≡ true → flagged F kinds.Region s ≡ true
   region_flagged s h =
       let p = region_is (folded s) (stays_form R flags.forms kinds.Region (folded s) h) in
       let t = flags.tell kinds.Region s in
       grind arith
 
+  -- a script or a region that stays, if there is one, has a flag: `s` as it is written, `c` in lower case; `each` is
+  -- the lemma on subtags of its kind
   part_stays : (k : Kind) → ((s : List ℕ) → stays R k (folded s) ≡ true → flagged F k s ≡ true) → (s c : Option (List ℕ)) → option_map folded s ≡ c → IfSome c (λ s. stays R k s ≡ true) → part_flagged F k s ≡ true
   part_stays k each s c e h = grind (arith, each)
 
+  -- of a text whose subtags all stay something is shown
   pub stays_shown : (text : List ℕ) (c : CoreParts) → StaysAs R text c → taken.shown_text F text ≡ None → ⊥
   stays_shown text c h none =
       let core : c ≡ plain c.language c.script c.region = λ k. record { language = c.language; extlangs = h.extlangs k; script = c.script; region = c.region; variants = h.variants k } in

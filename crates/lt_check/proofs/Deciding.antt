@@ -10,26 +10,31 @@ use Rattle.lt_tag.specs.Parts.{ExtensionParts, TagForm, LangTag, PrivateUse, Gra
 use Rattle.lt_registry.specs.Same.{same_list, same_extension, same_tag}
 use Rattle.lt_rewrite.proofs.Same.{same_core-Decides}
 
+-- a test decides whether it is true
 pub Decides-true : (b : Bool) → Decides b (b ≡ true)
 Decides-true b = ((λ h. h), (λ h. h))
 
--- of each element
+-- where `q` decides `P` of each element, `q` of all decides `P` of all
 pub Decides-all : {A : Type 0} (P : A → Type 0) (q : A → Bool) → ((a : A) → Decides (q a) (P a)) → (xs : List A) → Decides (list_all q xs) (All P xs)
 Decides-all P q d xs = Decides-by_and q P (list_all q) d refl (λ _ _. refl) xs
 
+-- where `q` decides `P` of each element, `q` of all decides `P` of all, as it is stated by recursion
 pub Decides-each : {A : Type 0} (P : A → Type 0) (q : A → Bool) → ((a : A) → Decides (q a) (P a)) → (xs : List A) → Decides (list_all q xs) (AllByRecursion P xs)
 Decides-each P q d [] = ((λ h. tt), (λ f. refl))
 Decides-each P q d (x ∷ xs) = Decides-and (q x) (list_all q xs) (d x) (Decides-each P q d xs)
 
+-- the test `same_list` decides whether two lists of subtags are equal
 pub Decides-list : (a b : List (List ℕ)) → Decides (same_list a b) (a ≡ b)
 Decides-list a b = slice_eq-Decides bytes_eq-Decides a b (pointwise bytes_eq a b) refl
 
+-- the test `same_extension` is true of each extension and itself
 same_extensions_itself : (es : List ExtensionParts) → pointwise same_extension es es ≡ true
 same_extensions_itself [] = refl
 same_extensions_itself (e ∷ es) =
     let one = eq-eqb e.singleton e.singleton refl in
     rw (one, (Decides-list e.subtags e.subtags).1 refl, same_extensions_itself es) refl
 
+-- the test `same_tag` is true of a tag and itself
 pub same_tag_itself : (t : TagForm) → same_tag t t ≡ true
 same_tag_itself (LangTag c es ps) =
     rw ((same_core-Decides c c).1 refl, same_extensions_itself es, (Decides-list ps ps).1 refl) refl

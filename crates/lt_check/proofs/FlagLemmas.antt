@@ -26,33 +26,39 @@ use Rattle.lt_registry.specs.declared.entries.EntryName.TheVariants as names
 use Rattle.lt_check.specs.Flags.{flag, TellSingles, with_subtag}
 use Rattle.lt_check.specs.Staying.{has_no_value}
 
--- the table of letters
+-- what the table of letters has for a byte is the letter's number
 pub letter_reads : (b : ℕ) → b < 256 → get_or LETTERS b 0 ≡ letter b
 letter_reads b h = eqb-true _ _ (agree_below_at (λ x. eqb (get_or LETTERS x 0) (letter x)) (λ _. true) 256 b refl h)
 
+-- the number of a letter is at most 26
 pub letter_few : (b : ℕ) → letter b ≤ 26
 letter_few b = grind (arith, nat_tests)
 
+-- letter case does not change the number of a letter
 letter_folded : (b : ℕ) → letter (to_ascii_lowercase b) ≡ letter b
 letter_folded b = grind (arith, nat_tests)
 
+-- letter case does not change the number of a digit
 digit_folded : (b : ℕ) → digit (to_ascii_lowercase b) ≡ digit b
 digit_folded b = grind (arith, nat_tests)
 
--- the number of a letter or a digit, by which it is known
+-- the number of a letter, if `true`, or of a digit, by which it is known
 number : Bool → ℕ → ℕ
 number true = letter
 number false = digit
 
+-- whether a byte is a letter in lower case, if `true`, or a digit
 is_numbered : Bool → ℕ → Bool
 is_numbered true = is_ascii_lowercase
 is_numbered false = is_ascii_digit
 
+-- a byte `b` with the number of `t`, which is a letter in lower case or a digit, is `t`, letter case aside
 same_byte : (lettered : Bool) (b t : ℕ) → number lettered b ≡ number lettered t → is_numbered lettered t ≡ true → to_ascii_lowercase b ≡ t
 unfolding number is_numbered
 same_byte true b t e h = grind (arith, nat_tests)
 same_byte false b t e h = grind (arith, nat_tests)
 
+-- bytes `s` with the numbers of `t`, which are letters in lower case or digits, are `t`, letter case aside
 same_bytes : (lettered : Bool) (s t : List ℕ) → map (number lettered) s ≡ map (number lettered) t → list_all (is_numbered lettered) t ≡ true → folded s ≡ t
 same_bytes lettered [] [] e h = refl
 same_bytes lettered (a ∷ s) (b ∷ t) e h = grind (arith, same_byte, same_bytes lettered s t)
@@ -67,26 +73,32 @@ decode n =
     (cond (nat_lt n 552582) (kinds.Region, true, (n - 551853) / 27 ∷ (n - 551853) % 27 ∷ [])
     (kinds.Region, false, (n - 552582) / 121 ∷ (n - 552582) / 11 % 11 ∷ (n - 552582) % 11 ∷ []))))
 
+-- the place of a language of three letters, by their numbers, tells these numbers
 three : (x y z : ℕ) → x ≤ 26 → y ≤ 26 → z ≤ 26 → decode (729 + (x * 27 + y) * 27 + z) ≡ (kinds.Language, true, x ∷ y ∷ z ∷ [])
 unfolding decode
 three x y z h k l = grind (arith, nat_tests)
 
+-- the place of a script, by the numbers of its letters, tells these numbers
 four : (x y z w : ℕ) → x ≤ 26 → y ≤ 26 → z ≤ 26 → w ≤ 26 → decode (20412 + ((x * 27 + y) * 27 + z) * 27 + w) ≡ (kinds.Script, true, x ∷ y ∷ z ∷ w ∷ [])
 unfolding decode
 four x y z w h k l m = grind (arith, nat_tests)
 
--- what is known of a subtag that has a place
+-- `n` is the place of the subtag `s` of kind `k`: it tells the kind and the numbers of the bytes, and is the same in
+-- lower case
 data IsPlace (k : Kind) (s : List ℕ) (n : ℕ) : Type 0 where
   known : (lettered : Bool) → decode n ≡ (k, lettered, map (number lettered) s) → (has_form k s ≡ true → list_all (is_numbered lettered) s ≡ true) → place k (folded s) ≡ Some n → IsPlace k s n
 
+-- a language is of letters in lower case
 language_shaped : (s : List ℕ) → is_language s ≡ true → list_all (is_numbered true) s ≡ true
 unfolding is_language is_numbered
 language_shaped s h = grind arith
 
+-- a region of two bytes is of letters in lower case, one of three is of digits
 region_shaped : (s : List ℕ) → has_form kinds.Region s ≡ true → list_all (is_numbered (length s == 2)) s ≡ true
 unfolding is_numbered
 region_shaped s h = let p = region_is s h in grind (arith, nat_tests)
 
+-- the place of a subtag, if it has one, tells its kind and the numbers of its bytes, and is the same in lower case
 is_place : (k : Kind) (s : List ℕ) → IfSome (place k s) (IsPlace k s)
 unfolding number is_numbered decode
 is_place kinds.Language (a ∷ b ∷ []) =
@@ -101,16 +113,21 @@ is_place kinds.Region (a ∷ b ∷ c ∷ []) =
     known false (grind (arith, nat_tests)) (region_shaped _) (grind (arith, digit_folded))
 is_place _ _ = tt
 
+-- what is known of a subtag whose place is `n`
 placed : (k : Kind) (s : List ℕ) (n : ℕ) → place k s ≡ Some n → IsPlace k s n
 placed k s n h = subst (λ o. IfSome o (IsPlace k s)) h (is_place k s)
 
--- what has the place of a subtag that has the form of its kind is of that kind, and the same subtag, letter case aside
+-- `t` of kind `j` has the form of its kind and the place of `s` of kind `k`: the kinds are one, and `s` in lower case
+-- is `t`
 alike : (j k : Kind) (t s : List ℕ) (n : ℕ) → has_form j t ≡ true → place j t ≡ Some n → place k s ≡ Some n → (same_kind j k && bytes_eq t (folded s)) ≡ true
 alike j k t s n form g h = let p = placed j t n g in let q = placed k s n h in grind (arith, same_bytes, same_kind_itself, bytes_eq-Decides)
 
+-- `s` in lower case is `t`, and the kinds are one: then `t` has the place of `s`
 kept : (j k : Kind) (t s : List ℕ) (n : ℕ) → place k s ≡ Some n → (same_kind j k && bytes_eq t (folded s)) ≡ true → place j t ≡ Some n
 kept j k t s n h y = let p = placed k s n h in grind (arith, same_kind_is, bytes_eq-Decides)
 
+-- `t` is `s` in lower case, and of its kind, exactly if its place `o` is the place `n` of `s`; `t` has the form of its
+-- kind
 pub same_place : (j k : Kind) (t s : List ℕ) (n : ℕ) (o : Option ℕ) → has_form j t ≡ true → place j t ≡ o → place k s ≡ Some n
     → (same_kind j k && bytes_eq t (folded s)) ≡ option_map_or (λ m. n == m) o false
 same_place j k t s n None form e h = false_from_ne_true _ (λ y. let here = kept j k t s n h y in cc)
@@ -121,19 +138,21 @@ same_place j k t s n (Some m) form e h = elim (cases_eq n m) [
 
 -- ---- one bit
 
+-- the word of 64 bits in which the bit of place `m` alone is set
 abbrev mask : ℕ → ℕ
 mask m = 1 * 2 ^ (m % 64) % 2 ^ 64
 
--- a flag that was set or cleared, and the others
+-- with the bit of place `m` set, the flag of `m` is set and the others are as they were
 pub set_flag : (words : List ℕ) (m : ℕ) → m / 64 < length words → (n : ℕ) → flag (set words (m / 64) (bit_or (get_or words (m / 64) 0) (mask m))) n ≡ cond (n == m) true (flag words n)
 set_flag words m within n = grind (arith, nat_tests, get_or-set_same {A = ℕ}, get_or-set_other {A = ℕ}, bit_at_set_same w64, bit_at_set_other w64)
 
+-- with the bit of place `m` cleared, the flag of `m` is clear and the others are as they were
 pub clear_flag : (words : List ℕ) (m : ℕ) → m / 64 < length words → (n : ℕ) → flag (set words (m / 64) (bit_and (get_or words (m / 64) 0) (bit_not w64 (mask m)))) n ≡ cond (n == m) false (flag words n)
 clear_flag words m within n = grind (arith, nat_tests, get_or-set_same {A = ℕ}, get_or-set_other {A = ℕ}, bit_at_clear_same w64, bit_at_clear_other w64)
 
 -- ---- what flags tell
 
--- no flag is set
+-- words of zeros tell that no subtag has a record, which is so where there is no record
 pub tell_none : (words : List ℕ) (count none : ℕ) → none ≡ 0 → words ≡ replicate count none → TellSingles [] words
 tell_none words count none z e k s n h =
     let zero : get_or words (n / 64) 0 ≡ 0 = grind (arith, get_or-replicate {A = ℕ}, get_or_past {X = ℕ}, length-replicate {A = ℕ}) in
@@ -141,15 +160,19 @@ tell_none words count none z e k s n h =
 
 -- ---- one record more in front, of those whose subtags are told
 
+-- the record `e` of the subtag `t` of kind `j` is put in front: of this subtag the answer is `b`, whether `e` has no
+-- value; of others it is what it was
 pub first_named : (e : EntryParts) (es : List EntryParts) (j : Kind) (t : List ℕ) (b : Bool) → e.kind ≡ j → e.name ≡ names.Single t → is_some e.value ≡ not b → (k : Kind) (s : List ℕ)
     → has_no_value (e ∷ es) k s ≡ with_subtag j t b (has_no_value es) k s
 first_named e es j t b i h v k s = grind arith
 
+-- a record in front that names no single subtag changes no answer
 pub first_unnamed : (e : EntryParts) (es : List EntryParts) → ((t : List ℕ) → e.name ≡ names.Single t → ⊥) → (k : Kind) (s : List ℕ) → has_no_value (e ∷ es) k s ≡ has_no_value es k s
 first_unnamed e es h k s = grind arith
 
 -- ---- one record more at the end, of those that replace tags
 
+-- whether two kinds are one does not depend on their order, where one is the language
 pub language_first : (k : Kind) → same_kind kinds.Language k ≡ same_kind k kinds.Language
 language_first kinds.Language = refl
 language_first _ = refl

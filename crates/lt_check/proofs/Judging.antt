@@ -14,20 +14,20 @@ use Rattle.lt_check.specs.declared.conditions.Condition.TheVariants as condition
 use Rattle.lt_check.specs.declared.rejections.Finding.{Finding}
 use Rattle.lt_check.specs.declared.checking.TheConstants.{IN_ORDER}
 
--- but for four of them
+-- each condition but C1, C8, C10 and C11 is decided by a look at one record after another
 pub by_record : (k : Condition) → (k ≡ conditions.OwnName → ⊥) → (k ≡ conditions.FittingGrandfathered → ⊥) → (k ≡ conditions.RestingWhole → ⊥) → (k ≡ conditions.AgreeingWhole → ⊥) → is_by_record k ≡ true
 by_record _ a b c d = grind arith
 
--- the rank up to which all is judged before a place
+-- the rank below which all conditions are judged, when the first `i` in order are
 abbrev pub rank_at : ℕ → ℕ
 rank_at zero = 1
 rank_at (suc i) = next_of (slice_index_or IN_ORDER i conditions.OwnName)
 
--- the conditions are in the order of their ranks
+-- when the first `i` conditions in order are judged, the next one has the rank `rank_at i`
 ranked : (i : ℕ) → i < 11 → rank_of (slice_index_or IN_ORDER i conditions.OwnName) ≡ rank_at i
 ranked i h = eqb-true _ _ (agree_below_at (λ i. eqb (rank_of (slice_index_or IN_ORDER i conditions.OwnName)) (rank_at i)) (λ _. true) 11 i refl h)
 
--- where the conditions of all ranks are met, so is each
+-- when all eleven in order are judged and met, the registry passes the check
 pub all_below : (R : List EntryParts) (i : ℕ) → 11 ≤ i → i ≤ 11 → MeetsBelow (rank_at i) R → Passes R
 all_below R i m l h =
     let last : i ≡ 11 = omega (arith, m, l) in
@@ -49,21 +49,24 @@ all_below R i m l h =
       no_range_value = each conditions.NoRangeValue;
     }
 
--- where the conditions below a rank are met, and that of the rank
+-- where the conditions with ranks below that of `k` are met, and `k` is, those with ranks below the next are met
 pub below_more : (R : List EntryParts) (k : Condition) (n : ℕ) → n ≡ rank_of k + 1 → MeetsBelow (rank_of k) R → All (Meets k R) R → MeetsBelow n R
 below_more R _ n e M a _ l = search (rules, arith)
 
--- what a look at one condition finds
+-- `r` is the lowest record that fails the condition `k`, if there is one, and the conditions before it are met: this is
+-- the verdict on all up to `k`; C10 is judged along with C11
 pub judged : {E : Type 0} (R : List EntryParts) (k : Condition) → MeetsBelow (rank_of k) R → (k ≡ conditions.RestingWhole → ⊥) → (r : Result (Option Finding) E) → IfOk r (IsLowestFault R k) → IfOk r (IsVerdictBelow (next_of k) R)
 judged R k M n (Err x) a = tt
 judged R k M n (Ok None) a = below_more R k (next_of k) (grind arith) M a
 judged R k M n (Ok (Some f)) (e, a) =
     subst (λ (x : Condition). IsFinding R x f.number) (sym e) (record { fault = a.fault; lower = M; first = a.first })
 
--- what a look at the tenth and the eleventh finds
+-- `o` is the lowest record that fails C11, if there is one, where all records meet C10 and the conditions before: this
+-- is the verdict on all up to C11
 pub judged_whole : (R : List EntryParts) → MeetsBelow 10 R → All (Meets conditions.RestingWhole R) R → (o : Option Finding) → IsLowestFault R conditions.AgreeingWhole o → IsVerdictBelow 12 R o
 judged_whole R M a o = judged {E = Unit {0}} R conditions.AgreeingWhole (below_more R conditions.RestingWhole 11 refl M a) (λ e. cc) (Ok o)
 
+-- a registry that passes the check meets each condition
 meets : (R : List EntryParts) → Passes R → (k : Condition) → All (Meets k R) R
 meets R P conditions.OwnName = P.core_conditions.names
 meets R P conditions.RegisteredValue = P.core_conditions.values
@@ -73,14 +76,15 @@ meets R P conditions.FittingVariantValue = P.core_conditions.variants
 meets R P conditions.FinalPrefixes = P.core_conditions.variant_languages
 meets R P _ = search rules
 
--- where a record is at fault the table doesn't pass
+-- where a record is at fault, the registry does not pass
 pub none_that_passes : (R : List EntryParts) (k : Condition) (n : ℕ) → IsAtFault R k n → Passes R → ⊥
 none_that_passes R k n f P = f.fails (All-contains (Meets k R) R f.entry (meets R P k) f.there)
 
+-- a condition that is decided by a look at one record after another is one of C2 to C7, C9 and C12
 pub not_by_record : (k : Condition) → is_by_record k ≡ true → (k ≡ conditions.RegisteredValue → ⊥) → (k ≡ conditions.EndingChain → ⊥) → (k ≡ conditions.FittingExtlang → ⊥) → (k ≡ conditions.FittingVariantValue → ⊥) → (k ≡ conditions.FinalPrefixes → ⊥) → (k ≡ conditions.LangtagPrefixes → ⊥) → (k ≡ conditions.ValidWhole → ⊥) → (k ≡ conditions.NoRangeValue → ⊥) → ⊥
 not_by_record _ h a z b c d p e f = grind arith
 
--- where the conditions so far are met, those below the next are
+-- where the first `i` conditions in order are judged and met, those with ranks below that of the next are met
 pub lower_at : (R : List EntryParts) (i : ℕ) → i < 11 → MeetsBelow (rank_at i) R → MeetsBelow (rank_of (slice_index_or IN_ORDER i conditions.OwnName)) R
 lower_at R i n h other l = h other (omega (arith, ranked i n, l))
 
@@ -109,7 +113,7 @@ bare_meets R e b =
     no_variant : e.kind ≡ kinds.Variant → ⊥
     no_variant kind = elim b.kind [ inl l ↦ cc (l, kind) | inr o ↦ elim o [ inl l ↦ cc (l, kind) | inr l ↦ cc (l, kind) ] ]
 
--- so does a record that meets them one by one
+-- a record that meets each condition which a look at one record after another decides meets the one that is asked for
 pub meets_by_record : (R : List EntryParts) (e : EntryParts) → MeetsByRecord R e → (condition : Condition) → is_by_record condition ≡ true → Meets condition R e
 meets_by_record R e m conditions.RegisteredValue is = m.fitting_value.registered_value
 meets_by_record R e m conditions.EndingChain is = m.fitting_value.ending_chain

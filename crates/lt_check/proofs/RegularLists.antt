@@ -30,16 +30,17 @@ use Rattle.lt_registry.specs.declared.entries.EntryName.TheVariants as names
 use Rattle.lt_rewrite.proofs.Entries.{entry_has}
 use Rattle.lt_check.proofs.FirstFaults.{one_numbered}
 
--- a core spells a grandfathered tag
+-- the core is well-formed, and its text is the grandfathered tag of this number
 pub record SpellsGrandfathered (c : CoreParts) : Type 0 where
   pub shaped : IsCore c
   pub number : ℕ
   pub spelled : IsGrandfathered (spell_core c) number
 
+-- a core that its own text is read as is well-formed
 spells : (c : CoreParts) → core_of_list (spell_core c) ≡ Some c → (number : ℕ) → IsGrandfathered (spell_core c) number → SpellsGrandfathered c
 spells c e n g = record { shaped = ((core_decided (spell_core c) c).0 e).0; number = n; spelled = g }
 
--- each of them does
+-- each of the regular cores spells a grandfathered tag
 pub each_spells : AllByRecursion SpellsGrandfathered regular_cores
 unfolding is_subtag is_language is_extlang is_script is_region is_variant grandfathered_texts grandfathered_list core_of_list grown_by grown
 each_spells =
@@ -53,26 +54,30 @@ each_spells =
     let xiang = spells (with_variant (codes "zh") (codes "xiang")) refl 26 (record { first = omega arith; last = omega arith; same = refl }) in
     (lojban, (gaulish, (bok, (nyn, (guoyu, (hakka, (min, (xiang, tt))))))))
 
--- more than one extlang
+-- there is more than one extlang
 abbrev several : List (List ℕ) → Bool
 several (x ∷ y ∷ rest) = true
 several _ = false
 
+-- more than one extlang is valid in no registry
 several_unfit : (R : List EntryParts) (l : List ℕ) (xs : List (List ℕ)) → several xs ≡ true → ExtlangsFit R l xs → ⊥
 several_unfit R l (x ∷ y ∷ rest) h f = f
 several_unfit R l _ h f = cc
 
--- one of them, or with more than one extlang
+-- the core is one of the regular cores, or has more than one extlang
 abbrev known : CoreParts → Bool
 known c = several c.extlangs || list_any (same_core c) regular_cores
 
+-- the core that a text is read as, if it is read as one, is a regular core, or has more than one extlang
 abbrev known_text : List ℕ → Bool
 known_text text = option_map_or known (core_of_list (pieces text)) true
 
+-- each grandfathered tag that can be read as a core is a regular core, or has more than one extlang
 all_known : list_all known_text grandfathered_texts ≡ true
 unfolding is_subtag is_language is_extlang is_script is_region is_variant grandfathered_texts core_of_list grown_by grown
 all_known = refl
 
+-- each core that spells a grandfathered tag is a regular core, or has more than one extlang
 pub spelling_known : (c : CoreParts) (number : ℕ) → IsCore c → IsGrandfathered (spell_core c) number → known c ≡ true
 unfolding grandfathered_list
 spelling_known c number S g =
@@ -80,7 +85,7 @@ spelling_known c number S g =
     let all = list_all-at known_text grandfathered_texts (number - 1) all_known (omega (arith, g.first, g.last, table_length)) in
     ap (λ o. option_map_or known o true) (sym ((core_decided (pieces text) c).1 (S, g.same))) ∙ all
 
--- what no regular core is validated by, validates no core that spells a grandfathered tag
+-- an entry `e` that makes no regular core valid makes no core valid that spells a grandfathered tag
 pub validates_none : (R : List EntryParts) (e : EntryParts) → AllByRecursion (λ (c : CoreParts). Validates R c e → ⊥) regular_cores → (c : CoreParts) (number : ℕ) → IsCore c → IsGrandfathered (spell_core c) number → IsProperCore R c → Distinct c.variants → second_entry R c.extlangs c.variants ≡ Some e → ⊥
 validates_none R e all c number S g P distinct two = elim (or_cases (several c.extlangs) (list_any (same_core c) regular_cores) (spelling_known c number S g)) [
   | inl h ↦ several_unfit R c.language c.extlangs h P.extlangs
@@ -90,23 +95,27 @@ validates_none R e all c number S g P distinct two = elim (or_cases (several c.e
       All-contains (λ (d : CoreParts). Validates R d e → ⊥) regular_cores c none there (record { proper = P; distinct = distinct; second = two }))
 ]
 
--- and the other way round
+-- an entry `e` that makes no core valid that spells a grandfathered tag makes none of the cores `cs` valid, which spell
+-- one
 pub none_validated : (R : List EntryParts) (e : EntryParts) → ((c : CoreParts) (number : ℕ) → IsCore c → IsGrandfathered (spell_core c) number → IsProperCore R c → Distinct c.variants → second_entry R c.extlangs c.variants ≡ Some e → ⊥) → (cs : List CoreParts) → AllByRecursion SpellsGrandfathered cs → AllByRecursion (λ (c : CoreParts). Validates R c e → ⊥) cs
 none_validated R e f [] all = tt
 none_validated R e f (c ∷ cs) all = ((λ v. f c all.0.number all.0.shaped all.0.spelled v.proper v.distinct v.second), none_validated R e f cs all.1)
 
 -- ---- what the numbers of the records that make regular grandfathered tags valid say of a record
 
+-- the entry of the second subtag is one of the registry
 second_there : (R : List EntryParts) (xs vs : List (List ℕ)) (e : EntryParts) → second_entry R xs vs ≡ Some e → Contains R e
 second_there R (x ∷ xs) vs e h = (entry_has R kinds.Extlang x (Contains R) (All-contains_itself R) e h).0
 second_there R [] (v ∷ vs) e h = (entry_has R kinds.Variant v (Contains R) (All-contains_itself R) e h).0
 second_there R [] [] e h = cc
 
+-- where `a` decides `P`, and `b` being false decides `Q`, both being false decides that `P` fails and `Q` holds
 step : {P Q : Type 0} (a b : Bool) → Decides a P → Decides (not b) Q → Decides (not (a || b)) ((P → ⊥) × Q)
 step true b d e = ((λ h. cc), (λ k. absurd (k.0 (d.0 refl))))
 step false b d e = ((λ h. ((λ p. let t : false ≡ true = d.1 p in cc), e.0 h)), (λ k. e.1 k.1))
 
 module _ (R : List EntryParts) (rise : NumbersRise R) (e : EntryParts) (there : Contains R e) where
+  -- `o` is the number of the record that makes the core `c` valid: whether `e` is this record is told by its number
   Decides-number : (c : CoreParts) (o : Option ℕ) → IsValidatedBy R c o → Decides (is_number e.number o) (Validates R c e)
   Decides-number c None v = ((λ h. cc), (λ w. absurd (v e w)))
   Decides-number c (Some m) v =
@@ -114,12 +123,14 @@ module _ (R : List EntryParts) (rise : NumbersRise R) (e : EntryParts) (there : 
       let back : Validates R c e → m ≡ e.number = λ w. (let one = w.second in let two = v.1.second in let n = v.2 in let x : v.0 ≡ e = cc in cc) in
       Decides-like (m == e.number) (λ h. subst (Validates R c) (same h) v.1) back (Decides-eqb m e.number)
 
+  -- whether `e` is none of the records that make the cores `cs` valid is told by their numbers, `os`
   Decides-numbers : (cs : List CoreParts) (os : List (Option ℕ)) → AreValidatedBy R cs os → Decides (not (list_any (is_number e.number) os)) (AllByRecursion (λ (c : CoreParts). Validates R c e → ⊥) cs)
   Decides-numbers [] [] v = ((λ h. tt), (λ h. refl))
   Decides-numbers (c ∷ cs) (o ∷ os) v = step (is_number e.number o) (list_any (is_number e.number) os) (Decides-number c o v.0) (Decides-numbers cs os v.1)
   Decides-numbers _ _ v = absurd v
 
-  -- a record whose tag is one of the 26, if it is a grandfathered one
+  -- a record whose tag is one of the 26, if it is a grandfathered one, meets C8 exactly if its number is none of those
+  -- of the records that make regular cores valid
   pub fits_verdict : (os : List (Option ℕ)) → AreValidatedBy R regular_cores os → (e.kind ≡ kinds.Grandfathered → (number : ℕ) × (e.name ≡ names.Whole (Grandfathered number))) → (b : Bool) → b ≡ list_any (is_number e.number) os → Decides (not b) (HasFittingGrandfathered R e)
   fits_verdict os v named b h =
       Decides-at (not b) (not (list_any (is_number e.number) os)) (ap not h)

@@ -52,7 +52,7 @@ pub record MeetsByRecord (R : List EntryParts) (e : EntryParts) : Type 0 where
   pub valid_whole : HasValidWhole R e
   pub no_range_value : HasNoRangeValue e
 
--- all records meet each such condition
+-- all records meet each condition that a look at one record after another decides
 abbrev pub MeetByRecord : List EntryParts → Type 0
 MeetByRecord R = (condition : Condition) → is_by_record condition ≡ true → All (Meets condition R) R
 

@@ -16,11 +16,11 @@ use Rattle.lt_check.specs.Staying.{has_no_value, replaces_plain_of, stays}
 abbrev pub flag : List ℕ → ℕ → Bool
 flag words n = bit_at (slice_index words (n / 64)) (n % 64) == 1
 
--- the flag of each subtag that has a place is the answer of the test to it, in whatever letter case
+-- the flag of each subtag that has a place is the answer of the test to its kind and to it in lower case
 abbrev pub Tell : (Kind → List ℕ → Bool) → List ℕ → Type 0
 Tell test words = (k : Kind) (s : List ℕ) (n : ℕ) → place k s ≡ Some n → flag words n ≡ test k (folded s)
 
--- the test, with the answer `set` to one subtag
+-- the test, but with the answer `set` to the subtag `t` of kind `j`
 abbrev pub with_subtag : Kind → List ℕ → Bool → (Kind → List ℕ → Bool) → Kind → List ℕ → Bool
 with_subtag j t set test k s = if same_kind j k && bytes_eq t s then set else test k s
 
@@ -28,8 +28,8 @@ with_subtag j t set test k s = if same_kind j k && bytes_eq t s then set else te
 abbrev pub TellSingles : List EntryParts → List ℕ → Type 0
 TellSingles R words = Tell (has_no_value R) words
 
--- whether a subtag has a record of its own without a value, and, if it is a language, none of these records replaces a
--- tag of it without extlangs and variants
+-- whether a subtag has a record of its own in `R`, without a value, and, if it is a language, none of the records `es`
+-- replaces a tag of it without extlangs and variants
 abbrev pub stays_beside : List EntryParts → List EntryParts → Kind → List ℕ → Bool
 stays_beside R es k s = has_no_value R k s && not (same_kind k kinds.Language && list_any (replaces_plain_of s) es)
 

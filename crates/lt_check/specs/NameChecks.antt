@@ -10,7 +10,7 @@ use Rattle.lt_check.specs.Flags.{flag}
 use Rattle.lt_check.specs.Places.{place}
 use Rattle.lt_check.specs.declared.range_names.RangeName.{RangeName}
 
--- a number for each kind of record
+-- a number for each kind of record, by which ranges of all kinds are kept in one order
 abbrev pub kind_number : Kind → ℕ
 kind_number kinds.Language = 0
 kind_number kinds.Extlang = 1
@@ -38,27 +38,27 @@ range_of e = range_at e.kind e.name
 abbrev pub IsNew : List EntryParts → List RangeName → EntryParts → Type 0
 IsNew R seen e = MatchOption (range_of e) (HasOwnName R e) (λ name. Contains seen name → ⊥)
 
--- the range that a record names, if it names one, is added to those that were seen
+-- the range that a record names, if it names one, was added to those seen before, `old`, which made `new`
 abbrev pub SeesRange : EntryParts → List RangeName → List RangeName → Type 0
 SeesRange e old new =
     MatchOption (range_of e) (new ≡ old)
     (λ range. (name : RangeName) → Contains new name ↔ (Contains old name ⊎ (range ≡ name)))
 
--- the subtag has a place, whose flag is clear
+-- the subtag of a kind has a place, whose flag is clear in `words`
 pub record WasClear (words : List ℕ) (kind : Kind) (s : List ℕ) : Type 0 where
   pub number : ℕ
   pub is_place : place kind s ≡ Some number
   pub clear : flag words number ≡ false
 
--- the flag of the record's subtag is set, if that has a place
+-- the flag of the record's subtag is set in `words`, if that has a place
 abbrev pub IsMarked : List ℕ → EntryParts → Type 0
 IsMarked words e = (s : List ℕ) (n : ℕ) → e.name ≡ names.Single s → place e.kind s ≡ Some n → flag words n ≡ true
 
--- the flags of the subtags of the records with lower numbers are set
+-- the flags of the subtags of the records of `R` with lower numbers than `e` are set in `words`
 abbrev pub AreMarked : List EntryParts → EntryParts → List ℕ → Type 0
 AreMarked R e words = (f : EntryParts) → Contains R f → f.number < e.number → IsMarked words f
 
--- no flag was cleared, and that of the record's subtag was set
+-- `new` has the flags that were set in `old`, and that of the subtag of the record `e`, if it has a place
 pub record MarksMore (e : EntryParts) (old new : List ℕ) : Type 0 where
   pub kept : (n : ℕ) → flag old n ≡ true → flag new n ≡ true
   pub own : IsMarked new e

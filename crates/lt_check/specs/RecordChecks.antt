@@ -9,7 +9,7 @@ use Rattle.lt_rewrite.specs.CoreSteps.{EndsIn}
 abbrev pub is_final : List EntryParts → List ℕ → Bool
 is_final R l = is_registered R kinds.Language l && is_none (preferred_value R kinds.Language l)
 
--- whether a Prefix is one subtag, a registered language without a value
+-- whether a Prefix is one subtag, which is a registered language without a value
 abbrev pub is_final_prefix : List EntryParts → List (List ℕ) → Bool
 is_final_prefix R (l ∷ []) = is_final R l
 is_final_prefix R _ = false

@@ -7,24 +7,25 @@ use Rattle.lt_check.specs.Flags.{flag}
 use Rattle.lt_check.specs.declared.texts.AfterLanguage.{AfterLanguage}
 use Rattle.lt_check.specs.declared.texts.Shown.{Shown}
 
--- a letter in lower case
+-- a letter in lower case: bit 32 is set in it
 abbrev pub lower : ℕ → ℕ
 lower b = bit_or b 32
 
--- a letter in upper case
+-- a letter in upper case: bit 32 is clear in it
 abbrev pub upper_byte : ℕ → ℕ
 upper_byte b = bit_and b 223
 
--- these bytes, of which the first `count` are shown after the language, if the test is true
+-- `bytes` as what is shown after the language, of which the first `count` count, if the test is true
 abbrev pub after_if : Bool → ℕ → List ℕ → Option AfterLanguage
 after_if holds count bytes = if holds then Some (record { count = count; bytes = bytes }) else None
 
--- a hyphen (45), a script in conventional case, and what follows it (RFC 5646, 2.1.1)
+-- a hyphen (45), a script of these four letters in conventional case, and what follows it (RFC 5646, 2.1.1)
 abbrev pub script_before : ℕ → ℕ → ℕ → ℕ → List ℕ → List ℕ
 script_before a b c d rest =
     45 ∷ upper_byte a ∷ lower b ∷ lower c ∷ lower d ∷ rest
 
--- what is shown after the language where that is a script, or a script and a region, filled up with zeros to nine bytes
+-- what is shown after the language where that is a script, or a script and a region, filled up with zeros to nine
+-- bytes; `F` has the flags of subtags
 abbrev pub from_script : List ℕ → List ℕ → Option AfterLanguage
 from_script F (h ∷ a ∷ b ∷ c ∷ d ∷ []) = after_if ((h == 45) && flag F (script_4 a b c d)) 5
     (script_before a b c d (0 ∷ 0 ∷ 0 ∷ 0 ∷ []))
@@ -36,7 +37,8 @@ from_script F (h ∷ a ∷ b ∷ c ∷ d ∷ i ∷ e ∷ f ∷ g ∷ []) =
     (script_before a b c d (45 ∷ e ∷ f ∷ g ∷ []))
 from_script F _ = None
 
--- what is shown after the language (nothing, a region, a script, or both), filled up with zeros to nine bytes
+-- what is shown after the language (nothing, a region, a script, or both), filled up with zeros to nine bytes; `F` has
+-- the flags of subtags
 abbrev pub after_language : List ℕ → List ℕ → Option AfterLanguage
 after_language F [] = after_if true 0 (0 ∷ 0 ∷ 0 ∷ 0 ∷ 0 ∷ 0 ∷ 0 ∷ 0 ∷ 0 ∷ [])
 after_language F (h ∷ a ∷ b ∷ []) = after_if ((h == 45) && flag F (region_2 a b)) 3
@@ -45,37 +47,37 @@ after_language F (h ∷ a ∷ b ∷ c ∷ []) = after_if ((h == 45) && flag F (r
     (45 ∷ a ∷ b ∷ c ∷ 0 ∷ 0 ∷ 0 ∷ 0 ∷ 0 ∷ [])
 after_language F rest = from_script F rest
 
--- the first nine of these bytes, and what follows them
+-- the first nine of `bytes`, and then `rest`
 abbrev pub nine_before : List ℕ → List ℕ → List ℕ
 nine_before bytes rest =
     slice_index bytes 0 ∷ slice_index bytes 1 ∷ slice_index bytes 2 ∷ slice_index bytes 3 ∷ slice_index bytes 4
     ∷ slice_index bytes 5 ∷ slice_index bytes 6 ∷ slice_index bytes 7 ∷ slice_index bytes 8 ∷ rest
 
--- what is shown of a text: a language of 2 letters, and what is shown after it
+-- what is shown of a text: the language `a`, `b`, and what is shown after it, with zeros to twelve bytes
 abbrev pub with_two : ℕ → ℕ → AfterLanguage → Shown
 with_two a b after = record {
   count = 2 + after.count;
   bytes = lower a ∷ lower b ∷ nine_before after.bytes (0 ∷ []);
 }
 
--- what is shown of a text: a language of 3 letters, and what is shown after it
+-- what is shown of a text: the language `a`, `b`, `c`, and what is shown after it, with zeros to twelve bytes
 abbrev pub with_three : ℕ → ℕ → ℕ → AfterLanguage → Shown
 with_three a b c after = record {
   count = 3 + after.count;
   bytes = lower a ∷ lower b ∷ lower c ∷ nine_before after.bytes [];
 }
 
--- what is shown of a text that begins with a language of 2 letters; None if a subtag has no flag
+-- what is shown of a text of the language `a`, `b` and then `rest`, by the flags `F`; None if a subtag has no flag
 abbrev pub shown_two : List ℕ → ℕ → ℕ → List ℕ → Option Shown
 shown_two F a b rest =
     if flag F (language_2 a b) then option_map (with_two a b) (after_language F rest) else None
 
--- what is shown of a text that begins with a language of 3 letters; None if a subtag has no flag
+-- what is shown of a text of the language `a`, `b`, `c` and then `rest`, by the flags `F`; None if a subtag has no flag
 abbrev pub shown_three : List ℕ → ℕ → ℕ → ℕ → List ℕ → Option Shown
 shown_three F a b c rest =
     if flag F (language_3 a b c) then option_map (with_three a b c) (after_language F rest) else None
 
--- what is shown of a text; None if a subtag has no flag, or the text has another form
+-- what is shown of a text, by the flags `F`; None if a subtag has no flag, or the text has another form
 abbrev pub shown_text : List ℕ → List ℕ → Option Shown
 shown_text F (a ∷ b ∷ []) = shown_two F a b []
 shown_text F (a ∷ b ∷ c ∷ rest) = if c == 45 then shown_two F a b (c ∷ rest) else shown_three F a b c rest

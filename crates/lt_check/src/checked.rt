@@ -18,7 +18,9 @@ use std::marker::Model;
 /// A table of entries that passes the check: each record meets each [`Condition`](crate::Condition).
 pub struct Checked<L: Lookup> {
     table: L,
+    /// The ends of the table's chains of values.
     shortcuts: Shortcuts,
+    /// Which subtags stay as they are.
     usual: UsualSubtags,
 }
 

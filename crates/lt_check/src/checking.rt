@@ -1,4 +1,5 @@
-//! The check of a registry, condition by condition.
+//! The check of a registry, condition by condition. Its parts are not inlined, so that their locals don't add up on the
+//! stack.
 ghost use Rattle.std.specs.Prelude.{◌≡◌, ◌↔◌, true, IsTrue, IfOk};
 ghost use Rattle.lt_rewrite.specs.Shortcuts.{AreShortcuts};
 ghost use Rattle.lt_check.specs.Conditions.{Meets, rank_of};
@@ -60,7 +61,8 @@ fn meets<L: Lookup>(
     }
 }
 
-/// Whether a record is one of a language, a script or a region that is one subtag without a value, as most are.
+/// Whether a record is one of a language, a script or a region that is one subtag without a value, as most are: it
+/// meets each condition that is decided by a look at one record after another, so the look is spared.
 #[inline(always)]
 fn is_bare(entry: &Entry) -> bool
     ensures { IsTrue result → IsBare entry.now }
@@ -152,6 +154,7 @@ fn first_misfit<L: Lookup>(table: &L) -> Option<Finding>
 }
 
 /// What the check finds by the tenth and the eleventh condition, where all records meet those before. None if all meet both.
+/// They are judged in one pass, as both need the same core normal forms.
 #[inline(never)]
 fn first_whole_fault<L: Lookup>(
     alloc: Global,
@@ -178,8 +181,9 @@ fn first_whole_fault<L: Lookup>(
     Ok(found)
 }
 
-/// What the check finds by a condition, where all records meet the conditions before it. None if all meet this one too.
-/// `all_meet` tells whether all meet each condition that is decided by a look at one record after another.
+/// What the check finds by a condition, where all records meet the conditions before it. None if all meet this one
+/// too. `all_meet` tells whether all meet each condition that is decided by a look at one record after another: these
+/// then need no further pass over the records.
 fn lowest_fault<L: Lookup>(
     alloc: Global,
     table: &L,

@@ -21,7 +21,7 @@ use lt_subtag::Subtag;
 /// extlangs as a langtag, and so is never valid.
 const REGULAR: usize = 8;
 
-/// The subtag that a text in lower case spells.
+/// The subtag that a text in lower case spells. By its clause it spells one, so it is never refused.
 fn subtag(text: &[u8]) -> Subtag
     requires { subtag_of text.now ≡ Ok text.now }
     ensures { result ≡ text.now }

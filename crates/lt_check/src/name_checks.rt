@@ -24,9 +24,9 @@ fn is_entry(found: Option<&Entry>, entry: &Entry) -> bool
     }
 }
 
-/// Whether a record's name is new: the flag of its subtag was clear, or a look-up of its subtag or its tag finds the record
-/// itself, or its range is not among those seen before, to which it is then added. The flags of the subtags of the records
-/// before it are set, and its own is then.
+/// Whether a record's name is new. A subtag is if its flag was clear, which spares most records a look-up, or if a
+/// look-up finds the record itself; a tag is in that case too; a range is if it is not in `seen`. In `flags` those of
+/// the subtags of the records before it are set. The flag of its own subtag is then set, or its range added to `seen`.
 fn is_new<L: Lookup>(
     table: &L,
     flags: &mut [u64],

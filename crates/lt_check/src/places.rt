@@ -4,10 +4,12 @@ ghost use Rattle.lt_check.specs.Places as places;
 
 use lt_registry::Kind;
 
-/// How many places there are.
+/// How many places there are: 27² and 27³ of languages, 27⁴ of scripts, 27² and 11³ of regions. A byte that is no
+/// letter or no digit has a number too, so that each subtag of these lengths has a place.
 pub(crate) const PLACES: usize = 553_913;
 
-/// The place of each byte among the letters, in either case, and 26 for one that is no letter.
+/// The place of each byte among the letters, in either case, and 26 for one that is no letter. It is a table, so that
+/// no byte needs a branch.
 static LETTERS: [u8; 256] = [
     26, 26, 26, 26, 26, 26, 26, 26, 26, 26, 26, 26, 26, 26, 26, 26, 26, 26, 26, 26, 26, 26, 26, 26,
     26, 26, 26, 26, 26, 26, 26, 26, 26, 26, 26, 26, 26, 26, 26, 26, 26, 26, 26, 26, 26, 26, 26, 26,
@@ -37,6 +39,7 @@ fn digit(byte: u8) -> usize
     ensures value { result ≡ places.digit byte }
     ensures below { result ≤ 10 }
 {
+    // A byte below `0` wraps to more than 10.
     usize::from(byte.wrapping_sub(b'0').min(10))
 }
 

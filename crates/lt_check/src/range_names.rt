@@ -12,6 +12,7 @@ use std::marker::Model;
 /// A range under a kind.
 #[derive(Drop, PartialEq, Eq, PartialOrd, Ord)]
 pub(crate) struct RangeName {
+    /// The kind's number.
     kind: u8,
     first: Subtag,
     last: Subtag,
@@ -55,7 +56,8 @@ impl RangeNames {
         }
     }
 
-    /// Adds a range, and tells whether it is new.
+    /// Adds the range of a kind from `first` to `last`, and tells whether it is new. Refused only where memory runs
+    /// out.
     pub(crate) fn add(
         &mut self,
         kind: Kind,

@@ -1,4 +1,5 @@
-//! Texts of subtags that stay, in conventional case.
+//! Texts of subtags that stay, in conventional case. For speed all is inlined into the one call that a text takes, and
+//! tests are joined by `&`, so that one branch can do for all subtags of a text.
 ghost use Rattle.std.specs.Prelude.{◌≡◌, ◌≤◌, IfSome};
 ghost use Rattle.lt_check.specs.Shown as shown;
 
@@ -19,7 +20,7 @@ pub(crate) struct Shown {
     pub(crate) bytes: [u8; 12],
 }
 
-/// What follows the language in the text that is written, its first `count` bytes, if the test holds; else None.
+/// `bytes` as what follows the language, of which the first `count` are shown, if the test `holds`; else None.
 #[inline(always)]
 fn after_if(holds: bool, count: usize, bytes: [u8; 9]) -> Option<AfterLanguage>
     ensures { result ≡ shown.after_if holds count bytes }
@@ -31,7 +32,8 @@ fn after_if(holds: bool, count: usize, bytes: [u8; 9]) -> Option<AfterLanguage>
     }
 }
 
-/// A letter in lower case; what another byte becomes doesn't matter.
+/// A letter in lower case, by the bit in which the cases differ; what another byte becomes doesn't matter, since no
+/// subtag with one has a flag.
 #[inline(always)]
 fn lower(byte: u8) -> u8
     ensures { result ≡ shown.lower byte }
@@ -39,7 +41,7 @@ fn lower(byte: u8) -> u8
     byte | 0x20
 }
 
-/// A letter in upper case; what another byte becomes doesn't matter.
+/// A letter in upper case; what another byte becomes doesn't matter either.
 #[inline(always)]
 fn upper(byte: u8) -> u8
     ensures { result ≡ shown.upper_byte byte }
@@ -48,8 +50,8 @@ fn upper(byte: u8) -> u8
 }
 
 impl UsualSubtags {
-    /// What follows the language, in conventional case. None unless it is nothing, or a script, a region or both, which have
-    /// flags.
+    /// What follows the language, `rest`, in conventional case. None unless that is nothing, or a hyphen and a script,
+    /// a hyphen and a region, or both, each of which has its flag.
     #[inline(always)]
     fn after_language(&self, rest: &[u8]) -> Option<AfterLanguage>
         ensures value { result ≡ shown.after_language self.now rest.now }
@@ -71,8 +73,8 @@ impl UsualSubtags {
         }
     }
 
-    /// What follows the language, in conventional case, if it is a script, and a region where there is one, that have flags;
-    /// else None.
+    /// What follows the language, `rest`, in conventional case, if that is a script, and a region where there is one,
+    /// that have flags, each after a hyphen; else None.
     #[inline(always)]
     #[tactic(auto, using(crate::proofs::TextLemmas::nine_reads))]
     fn from_script(&self, rest: &[u8]) -> Option<AfterLanguage>

@@ -23,7 +23,7 @@ pub(crate) const WORDS: usize = 8655;
 /// The languages of 2 or 3 letters, the scripts and the regions of a registry that stay as they are.
 #[derive(Debug, Drop)]
 pub struct UsualSubtags {
-    /// A bit for each place.
+    /// A bit for each place, from the lowest bit of the first word on.
     words: Vec<u64>,
 }
 
@@ -60,9 +60,9 @@ impl UsualSubtags {
         has(&self.words, place)
     }
 
-    /// Appends a text in conventional case if, by the registry of these flags, it is read as a langtag of a language of 2 or
-    /// 3 letters, and a script and a region where there is one, and each of these stays as it is. Gives true exactly then;
-    /// else it appends nothing. Refused only where memory runs out.
+    /// Appends `text` to `texts`, in conventional case, if, by the registry of these flags, it is read as a langtag of
+    /// a language of 2 or 3 letters, and a script and a region where there is one, and each of these stays as it is.
+    /// Gives true exactly then; else it appends nothing. Refused only where memory runs out.
     #[inline(always)]
     pub fn append_text(&self, text: &[u8], texts: &mut Vec<u8>) -> Result<bool, AllocError>
         ensures exact { IfOk result (λ told. (R : List EntryParts) → AreFlags R self.now → IsTrue told ↔ IsStaying R text.now) }
@@ -73,6 +73,7 @@ impl UsualSubtags {
         let Some(shown) = self.shown(text) else {
             return Ok(false);
         };
+        // All twelve bytes are appended, since a copy of fixed length is quick, and the zeros then taken off.
         let end = texts.len() + shown.count;
         texts.extend_from_slice(&shown.bytes)?;
         texts.truncate(end);
@@ -106,7 +107,7 @@ pub(crate) fn mark(words: &mut [u64], kind: Kind, subtag: &Subtag) -> bool
     !was_set
 }
 
-/// Sets the flag of a place, or clears it unless `set`.
+/// Sets the flag of a place if `set`, and else clears it.
 #[tactic(auto, using(crate::proofs::FlagLemmas::set_flag, crate::proofs::FlagLemmas::clear_flag))]
 fn put(words: &mut [u64], place: usize, set: bool)
     requires room { length words.old ≡ 8655 }
@@ -121,7 +122,7 @@ fn put(words: &mut [u64], place: usize, set: bool)
     }
 }
 
-/// Sets the flag of a subtag, or clears it unless `set`. A subtag without a place is passed over.
+/// Sets the flag of a subtag if `set`, and else clears it. A subtag without a place is passed over.
 fn put_subtag(words: &mut [u64], kind: Kind, subtag: &Subtag, set: bool)
     requires room { length words.old ≡ 8655 }
     requires form { has_form kind subtag.now ≡ true }
@@ -150,6 +151,7 @@ fn put_singles(words: &mut [u64], entries: &[Entry])
     requires clear { TellSingles [] words.old }
     ensures { TellSingles entries.now words.new }
 {
+    // From the last record to the first, so that the first record of a subtag writes its flag last.
     let count = entries.len();
     for index in 0..count {
         put_single(words, &entries[count - 1 - index]);

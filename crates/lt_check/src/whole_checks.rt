@@ -1,4 +1,5 @@
-//! The conditions on whole records (RFC 5646, 2.2.8 and 3.1.7).
+//! The conditions on whole records (RFC 5646, 2.2.8 and 3.1.7). The parts of their check are not inlined, so that their
+//! locals don't add up on the stack.
 ghost use Rattle.std.specs.Prelude.{◌≡◌, ◌↔◌, Some, IsTrue, IfOk, MatchOption, Contains};
 ghost use Rattle.std.specs.Option.{option_copied};
 ghost use Rattle.lt_tag.specs.Parts.{CoreParts};
@@ -51,7 +52,7 @@ pub(crate) fn know_entries<L: Lookup>(table: &L)
     let _ = table.entries();
 }
 
-/// The core normal form of a proper core, whose text is no grandfathered tag.
+/// The core normal form of a proper core. Its text is no grandfathered tag. Refused only where memory runs out.
 #[inline(never)]
 fn settled<L: Lookup>(
     alloc: Global,
@@ -67,7 +68,7 @@ fn settled<L: Lookup>(
 {
     let mut form = core.copy(alloc)?;
     shortcuts.settle_core(table, &mut form);
-    // So that its shape is known.
+    // So that the shape of the form is known.
     let _ = form.language();
     Ok(form)
 }

@@ -19,22 +19,25 @@ use Rattle.lt_match.specs.declared.refusals.RangeRefusal.{RangeRefusal}
 use Rattle.lt_match.specs.declared.refusals.RangeRefusal.TheVariants as refusals
 
 module _ (R : List EntryParts) (text : List ℕ) where
-  -- a text that is read as no tag
+  -- a text that is refused as no tag is no valid tag
   pub unread : (refusal : TextRefusal) (fault : TagFault) → refusal ≡ texts.NotATag fault → IsTextRefusal R text refusal → IsNoValidTag R text
   unread refusal fault is h = λ tag read valid.
       text_repeats_answered R text (texts.NotATag fault) (subst (λ (r : TextRefusal). IsTextRefusal R text r) is h) tag read
 
-  -- a text that is read as a tag that is not valid
+  -- a text that is refused as a tag that is not valid is no valid tag
   pub unvalid : (refusal : TextRefusal) (fault : ValidFault) → refusal ≡ texts.Invalid fault → IsTextRefusal R text refusal → IsNoValidTag R text
   unvalid refusal fault is h = λ tag read valid.
       let other = text_repeats_answered R text (texts.Invalid fault) (subst (λ (r : TextRefusal). IsTextRefusal R text r) is h) in
       other.2 (subst (λ (t : TagForm). IsValid R t) (one_tag_of_text text tag other.0 read other.1) valid)
 
-  -- what is owed of it is the range that it is as it is written
+  -- `r` is what the text, which is no valid tag, is read as, as it is written: where it is a range, it is the canonical
+  -- range
   pub plain_ok : (r : Result RangeParts RangeRefusal) → IsNoValidTag R text → IfOk r (λ range. range_of text ≡ Ok range) → IfOk r (λ range. IsCanonicalRange R text range)
   plain_ok (Ok range) n h = inr (n, h)
   plain_ok (Err refusal) n h = tt
 
+  -- `r` is what the text, which is no valid tag, is read as, as it is written: where it is a refusal, it is that of the
+  -- canonical range
   pub plain_err : (r : Result RangeParts RangeRefusal) → IsNoValidTag R text → IfErr r (IsPlainRefusal text) → IfErr r (λ refusal. IsRangeRefusal R text refusal)
   plain_err (Ok range) n h = tt
   plain_err (Err (refusals.NotARange fault)) n h = (n, h)

@@ -18,7 +18,7 @@ IsRangeRefusal R text (refusals.NotARange fault) = IsNoValidTag R text × (range
 IsRangeRefusal R text (refusals.ReplacementRepeats v) = ReadsAs text (λ tag. IsRepeatOf R tag v)
 IsRangeRefusal R text refusals.OutOfMemory = Unit {0}
 
--- why a text is no range as it is written; OutOfMemory may be answered of any text
+-- why a text, as it is written, is no range; OutOfMemory may be answered of any text
 abbrev pub IsPlainRefusal : List ℕ → RangeRefusal → Type 0
 IsPlainRefusal text (refusals.NotARange fault) = range_of text ≡ Err fault
 IsPlainRefusal text (refusals.ReplacementRepeats v) = ⊥

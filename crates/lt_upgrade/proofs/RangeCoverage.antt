@@ -28,23 +28,28 @@ use Rattle.lt_registry.specs.declared.entries.EntryName.TheVariants as names
 
 -- the order of ends
 
+-- the order of ends of ranges is a total order
 pub end_total : IsTotalOrder end_cmp
 end_total =
     then_total (on_total (λ (e : RangeEnd). e.kind) nat_cmp_total)
     (then_total (on_total (λ (e : RangeEnd). e.length) nat_cmp_total) (on_total (λ (e : RangeEnd). e.subtag) nat_list_cmp_total))
 
+-- an order is greater exactly if it is not less or equal
 gt_is : (o : Ordering) → is_gt o ≡ not (is_le o)
 gt_is Less = refl
 gt_is _ = refl
 
+-- a total order is transitive
 pub further : {K : Type 0} {R : K → K → Ordering} → IsTotalOrder R → (a b c : K) → is_le (R a b) ≡ true → is_le (R b c) ≡ true → is_le (R a c) ≡ true
 further {R = R} total a b c h k = not-false (is_le (R a c)) (sym (gt_is (R a c)) ∙ upto total a b c (gt_is (R a b) ∙ ap not h) (gt_is (R b c) ∙ ap not k))
 
+-- of two ends, one is up to the other
 other_way : (a b : RangeEnd) → is_up_to a b ≡ false → is_up_to b a ≡ true
 other_way a b h = ap is_le (end_total.antisymm b a) ∙ (elim (end_cmp a b) as (λ o. is_le o ≡ false → is_le (ordering_reverse o) ≡ true) [ Greater ↦ λ h. refl | _ ↦ λ h. cc ]) h
 
 -- sorted ranges
 
+-- the order by which ranges are sorted: one begins before another
 abbrev pub begins_before : RangeRow → RangeRow → Bool
 begins_before v w = is_lt (end_cmp v.first w.first)
 
@@ -54,27 +59,34 @@ Precedes v w = is_up_to v.first w.first ≡ true
 
 -- those are left out that end no later than an earlier one
 
+-- a range ends no later than one that is kept
 abbrev pub ends_by : RangeRow → RangeRow → Bool
 ends_by later kept = is_up_to later.last kept.last
 
+-- where `y` implies `x`, leaving `y` out of a disjunction with `x` changes nothing
 absorbed : (x y z : Bool) → (y ≡ true → x ≡ true) → (x || z) ≡ (x || (y || z))
 absorbed false true z h = absurd (true≢false (sym (h refl)))
 absorbed _ _ z h = refl
 
+-- a range `v` that begins no later and ends no earlier than `w` holds what `w` holds; `a` and `b` are the ends of what
+-- is held
 contained : (a b : RangeEnd) (v w : RangeRow) → is_up_to v.first w.first ≡ true → is_up_to w.last v.last ≡ true → contains a b w ≡ true → contains a b v ≡ true
 contained a b v w first last h =
     let p = and_parts (is_up_to w.first a) (is_up_to b w.last) h in
     and_from (is_up_to v.first a) (is_up_to b v.last) (further end_total v.first w.first a first p.0) (further end_total b w.last v.last p.1 last)
 
+-- `v` neither begins after `w` begins nor ends after `w` ends
 abbrev IsBefore : RangeRow → RangeRow → Type 0
 IsBefore v w = (is_up_to v.first w.first ≡ true) × (is_up_to v.last w.last ≡ true)
 
--- what is kept of ranges, the first of which is kept
+-- what is kept of `v` and the ranges after it, `v` first: they hold what all hold, come after what is before `v`, and
+-- rise
 record AreWidest (v : RangeRow) (rows kept : List RangeRow) : Type 0 where
   held : (a b : RangeEnd) → list_any (contains a b) kept ≡ list_any (contains a b) (v ∷ rows)
   after : (u : RangeRow) → IsBefore u v → AllByRecursion (IsBefore u) kept
   rise : EndsRise kept
 
+-- sorted ranges, `v` and `rows`, without each that ends no later than the last one kept before it, are the widest
 widest : (v : RangeRow) (rows : List RangeRow) → All (Precedes v) rows → AllPairs Precedes rows → AreWidest v rows (dedup_from ends_by v rows)
 widest v [] first up = record { held = λ a b. refl; after = λ u h. (h, tt); rise = (tt, tt) }
 widest v (w ∷ rows) first up =
@@ -94,6 +106,8 @@ widest v (w ∷ rows) first up =
       rise = (beside.after v (next, other_way w.last v.last is), beside.rise);
     })
 
+-- ranges are sorted, and each that ends no later than the last one kept is left out: those that are kept rise, and hold
+-- what all hold
 pub widest_of : (rows sorted kept : List RangeRow) → IsPermutation rows sorted → IsSortedBy begins_before sorted → kept ≡ dedup ends_by sorted
     → EndsRise kept × ((a b : RangeEnd) → list_any (contains a b) kept ≡ list_any (contains a b) rows)
 widest_of rows [] kept moved up is = (rw is tt, λ a b. rw is (sym (list_any-IsPermutation (contains a b) rows [] moved)))
@@ -107,11 +121,12 @@ widest_of rows (v ∷ vs) kept moved up is =
 
 -- the last that begins no later than an end is the one that ends last
 
+-- the last of the first `i` ranges ends no earlier than `b`; `d` stands for an index past the end
 abbrev pub last_holds : RangeEnd → List RangeRow → ℕ → RangeRow → Bool
 last_holds b rows zero d = false
 last_holds b rows (suc i) d = is_up_to b (get_or rows i d).last
 
--- neither end of a range is before those of a range at an earlier place
+-- of ranges that rise, neither end of an earlier one is after that of a later one
 rise_at : (rows : List RangeRow) → EndsRise rows → (i j : ℕ) (d e : RangeRow) → i ≤ j → j < length rows → IsBefore (get_or rows i d) (get_or rows j e)
 rise_at (v ∷ rows) up zero zero d e le l = (itself v.first, itself v.last)
   where
@@ -121,6 +136,8 @@ rise_at (v ∷ rows) up zero (suc j) d e le l = All-from_recursion (IsBefore v) 
 rise_at (v ∷ rows) up (suc i) (suc j) d e le l = rise_at rows up.1 i j d e (omega (arith, le)) (omega (arith, l))
 rise_at _ up i j d e le l = absurd (omega (arith, le, l))
 
+-- where the first `i` of ranges that rise begin no later than `a`, and no others, some range holds `a` to `b` exactly
+-- if the last of these does
 held_at : (a b : RangeEnd) (rows : List RangeRow) (i : ℕ) (d : RangeRow) → EndsRise rows → i ≤ length rows
     → IsPartitionPoint (λ (v : RangeRow). is_up_to v.first a ≡ true) (λ (v : RangeRow). is_up_to v.first a ≡ false) rows i → list_any (contains a b) rows ≡ last_holds b rows i d
 held_at a b rows zero d up l point = false_from_ne_true (list_any (contains a b) rows) (λ h.
@@ -138,7 +155,8 @@ held_at a b rows (suc i) d up l point = both_ways (list_any (contains a b) rows)
     ])
     (λ h. list_any_at (contains a b) rows i d (omega (arith, l)) (and_from (is_up_to (get_or rows i d).first a) (is_up_to b (get_or rows i d).last) (point.0 i d (omega (arith, l)) (omega arith)) h))
 
--- what a search for an end asks of the ranges, and finds
+-- the ranges are parted by whether they begin no later than `a`, as a binary search asks, and the index `i` that it
+-- finds tells whether some range holds `a` to `b`
 pub search_finds : (a b : RangeEnd) (rows found : List RangeRow) (i : ℕ) (d : RangeRow) → EndsRise rows → found ≡ rows → i ≤ length found
     → (IsPartitionedBy (λ (v : RangeRow). is_up_to v.first a) found → IsPartitionPoint (λ (v : RangeRow). is_up_to v.first a ≡ true) (λ (v : RangeRow). is_up_to v.first a ≡ false) found i) → list_any (contains a b) rows ≡ last_holds b rows i d
 search_finds a b rows found i d up same l point =
@@ -148,24 +166,31 @@ search_finds a b rows found i d up same l point =
 
 -- a range contains what it covers
 
--- what is compared first has to be equal
+-- `o` is compared first, once as it is and once reversed, and `p` and `q` after it: both allow exactly if `o` ties,
+-- `t`, and the rest allows, `r`
 first_equal : (o p q : Ordering) (t r : Bool) → t ≡ is_eq o → (is_le p && is_le q) ≡ r → (is_le (ordering_then o p) && is_le (ordering_then (ordering_reverse o) q)) ≡ (t && r)
 first_equal Equal p q t r e h = rw e h
 first_equal _ p q t r e h = rw e refl
 
+-- where the numbers `m` and `n` are compared first, once up and once reversed, both allow exactly if these are equal,
+-- `t`, and the rest allows, `r`
 layer : (m n : ℕ) (t : Bool) (p q : Ordering) (r : Bool) → t ≡ eqb m n → (is_le p && is_le q) ≡ r → (is_le (ordering_then (nat_cmp m n) p) && is_le (ordering_then (nat_cmp n m) q)) ≡ (t && r)
 layer m n t p q r test rest =
     ap (λ o. is_le (ordering_then (nat_cmp m n) p) && is_le (ordering_then o q)) (nat_cmp_total.antisymm n m)
     ∙ first_equal (nat_cmp m n) p q t r (test ∙ unsigned_ties m n) rest
 
+-- kinds are one exactly if their numbers are
 kinds_compared : (k l : Kind) → same_kind k l ≡ eqb (kind_number k) (kind_number l)
 kinds_compared k l =
     both_ways (same_kind k l) (eqb (kind_number k) (kind_number l)) (λ h. eq-eqb (kind_number k) (kind_number l) (ap kind_number (same_kind_is k l h)))
     (λ h. ap (same_kind k) (sym (kinds_same k l (eqb-true (kind_number k) (kind_number l) h))) ∙ same_kind_itself k)
 
+-- the order of bytes is the order of letters
 pub letters_compared : (a b : List ℕ) → is_le (slice_cmp nat_cmp a b) ≡ letters_le a b
 letters_compared a b = sym (letters_le_is a b ∙ elim (slice_cmp nat_cmp a b) as (λ o. at_most o ≡ is_le o) [ Less ↦ refl | Equal ↦ refl | Greater ↦ refl ])
 
+-- the range from `c` to `d` of kind `k` contains, by its ends, that from `a` to `b` of kind `l` exactly if the kinds
+-- are one and it covers that by its letters
 range_agrees : (k l : Kind) (c d a b : List ℕ) → length c ≡ length d → length a ≡ length b
     → contains (range_end l a) (range_end l b) (record { first = range_end k c; last = range_end k d }) ≡ (same_kind k l && covers (names.Range c d) a b)
 range_agrees k l c d a b one other =
@@ -174,23 +199,29 @@ range_agrees k l c d a b one other =
     (rw (← other, ← one) (layer (length c) (length a) (length c == length a) (slice_cmp nat_cmp c a) (slice_cmp nat_cmp b d) (letters_le c a && letters_le b d) refl (rw (letters_compared c a, letters_compared b d) refl)))
 
 module _ (kind : Kind) (first last : List ℕ) (one : length first ≡ length last) where
+  -- a range holds the whole range that is asked for, from `first` to `last` of the kind
   abbrev asked : RangeRow → Bool
   asked = contains (range_end kind first) (range_end kind last)
 
+  -- with the range of a record, if its name is one, before `rows`, whose answer is `rest`: one holds the range that is
+  -- asked for exactly if the record covers it or `rest` is true
   name_agrees : (k : Kind) (name : EntryName) (rows : List RangeRow) (rest : Bool) → FitsName k name → list_any asked rows ≡ rest
       → list_any asked (cons_option (range_row k name) rows) ≡ ((same_kind k kind && covers name first last) || rest)
   name_agrees k (names.Range a b) rows rest fits h = rw (range_agrees k kind a b first last fits.one_length one, h) refl
   name_agrees k _ rows rest fits h = rw (and_right (same_kind k kind) false refl) h
 
+  -- one of the ranges of a registry holds the range that is asked for exactly if a record covers it
   rows_agree : (R : List EntryParts) → AllByRecursion IsEntry R → list_any asked (range_rows R) ≡ some_covers R kind first last
   rows_agree [] forms = refl
   rows_agree (e ∷ es) forms = name_agrees e.kind e.name (range_rows es) (some_covers es kind first last) forms.0.name (rows_agree es forms.1)
 
+-- the ranges of a registry hold what its records cover
 pub rows_hold : (R : List EntryParts) → All IsEntry R → HoldRanges R (range_rows R)
 rows_hold R forms kind first last one = rows_agree kind first last one R (recursion_from_All IsEntry R forms)
 
 -- a range is covered
 
+-- where the record `f` covers the range from `a` to `b`, the newer registry `B` covers it
 covered_at : (B : List EntryParts) (k : Kind) (a b : List ℕ) (f : EntryParts) → Contains B f → f.kind ≡ k → (n : EntryName) → f.name ≡ n → covers n a b ≡ true → IsCovered B k a b
 covered_at B k a b f c e (names.Range x y) m h =
     let p = and_parts (length x == length a) (letters_le x a && letters_le b y) h in
@@ -198,6 +229,7 @@ covered_at B k a b f c e (names.Range x y) m h =
     record { entry = f; there = c; of_kind = e; low = x; high = y; range = m; one_length = eqb-true (length x) (length a) p.0; from = q.0; to = q.1 }
 covered_at B k a b f c e _ m h = cc
 
+-- `r`, whether some record of the newer registry covers the range of the record `e`, tells whether `e` meets U1
 pub covered_compared : (B : List EntryParts) (e : EntryParts) (k : Kind) (a b : List ℕ) (r : Bool) → e.name ≡ names.Range a b → k ≡ e.kind → r ≡ some_covers B k a b → IsTrue r ↔ StaysRegistered B e
 covered_compared B e k a b r n m same =
     let covering : EntryParts → Bool = λ f. same_kind f.kind k && covers f.name a b in (

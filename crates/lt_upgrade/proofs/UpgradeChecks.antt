@@ -41,7 +41,8 @@ use Rattle.lt_canon.specs.declared.refusals.Refusal.TheVariants as refusals
 use Rattle.lt_upgrade.specs.declared.conditions.UpgradeCondition.TheVariants as upgrades
 use Rattle.lt_upgrade.specs.declared.upgrades.TheConstants.{IN_ORDER}
 
--- two chains that end come to one end exactly if their ends are equal
+-- `d` and `e` are the ends of the chains from `s` and `t`, and `b` is whether they are equal: it tells whether the
+-- chains end in one subtag
 pub ends_compared : (R : List EntryParts) (k : Kind) → (k ≡ kinds.Extlang → ⊥) → (s t d e : List ℕ) (b : Bool) → ChainEndsIn R k s d → ChainEndsIn R k t e → b ≡ bytes_eq d e → IsTrue b ↔ SameEnd (next_value R k) s t
 ends_compared R kinds.Extlang n s t d e b h i same = absurd (n refl)
 ends_compared R k n s t d e b h i same = (
@@ -49,7 +50,7 @@ ends_compared R k n s t d e b h i same = (
   (λ (a : SameEnd (next_value R k) s t). same ∙ (bytes_eq-Decides d e).1 (one_end (next_value R k) s d a.end h a.left ∙ sym (one_end (next_value R k) t e a.end i a.right))),
 )
 
--- a chain without an end has none with another
+-- where the chain from `t` has no end, the chains from `s` and `t` do not end in one subtag
 pub endless_apart : (R : List EntryParts) (k : Kind) → (k ≡ kinds.Extlang → ⊥) → (s t : List ℕ) → (ChainEnds R k t → ⊥) → IsTrue false ↔ SameEnd (next_value R k) s t
 endless_apart R kinds.Extlang n s t endless = absurd (n refl)
 endless_apart R k n s t endless = (
@@ -57,7 +58,8 @@ endless_apart R k n s t endless = (
   (λ (a : SameEnd (next_value R k) s t). absurd (endless (a.right.0, ap (next_value R k) a.right.1 ∙ a.right.2))),
 )
 
--- a subtag and its old value
+-- `b` tells whether the chains from the subtag `s` of a record and from its older value `v` end in one: so whether it
+-- meets U2
 pub ends_kept : (B : List EntryParts) (e : EntryParts) (s v : List ℕ) (b : Bool) → e.name ≡ names.Single s → Some v ≡ one_of e.value → KeepsKind e.kind v → IsTrue b ↔ SameEnd (next_value B e.kind) s v → IsTrue b ↔ KeepsEnds B e
 ends_kept B e s v b n o k h = (
   (λ x t w m p _.
@@ -67,7 +69,8 @@ ends_kept B e s v b n o k h = (
   (λ f. h.1 (f s v n (sym o) k)),
 )
 
--- an extlang in the newer registry
+-- the newer registry has the extlang `s` in the record `f`, with the same Prefix: `b`, whether the chains from the
+-- older and the newer replacement end in one language, tells whether it is the same extlang
 pub extlang_compared : (B : List EntryParts) (e f : EntryParts) (s old new : List ℕ) (b : Bool) → Some f ≡ entry B kinds.Extlang s → f.prefixes ≡ e.prefixes → old ≡ unwrap_or (one_of e.value) s → new ≡ unwrap_or (one_of f.value) s → IsTrue b ↔ SameEnd (next_value B kinds.Language) old new → IsTrue b ↔ IsSameExtlang B e s
 extlang_compared B e f s old new b there same o n h = (
   (λ x. record { newer = f; there = sym there; prefixes = same; ends = rw (← o, ← n) (h.0 x) }),
@@ -78,12 +81,14 @@ extlang_compared B e f s old new b there same o n h = (
 
 -- sets of Prefixes
 
+-- where each Prefix of one subtag of `ps` is among `qs`, each language that is a Prefix in `ps` is one in `qs`
 within_of : (ps qs : List (List (List ℕ))) → list_all (is_among qs) ps ≡ true → (l : List ℕ) → has_prefix ps l ≡ true → has_prefix qs l ≡ true
 within_of ps qs all l h =
     let found = Any-from_list_any (λ p. same_list p (l ∷ [])) ps h in
     let among = (Decides-all (λ p. is_among qs p ≡ true) (is_among qs) (λ p. Decides-true (is_among qs p)) ps).0 all found.0 found.1 found.2 in
     ap (is_among qs) (sym (found.3 ∙ (Decides-list found.1 (l ∷ [])).0 found.4)) ∙ among
 
+-- where each language that is a Prefix in `ps` is one in `qs`, each Prefix of one subtag of `ps` is among `qs`
 of_within : (ps qs : List (List (List ℕ))) → ((l : List ℕ) → has_prefix ps l ≡ true → has_prefix qs l ≡ true) → list_all (is_among qs) ps ≡ true
 of_within ps qs h = (Decides-all (λ p. is_among qs p ≡ true) (is_among qs) (λ p. Decides-true (is_among qs p)) ps).1 (λ k d n. one k d n (slice_index_or ps k d) refl)
   where
@@ -91,6 +96,8 @@ of_within ps qs h = (Decides-all (λ p. is_among qs p ≡ true) (is_among qs) (�
     one k d n (l ∷ []) e = ap (is_among qs) e ∙ h l (list_any_at (λ p. same_list p (l ∷ [])) ps k d n ((Decides-list (slice_index_or ps k d) (l ∷ [])).1 e))
     one k d n _ e = ap (is_among qs) e
 
+-- `r`, whether the Prefixes of one subtag are among each other both ways, tells whether they are the same; `a` is the
+-- first way
 pub languages_compared : (ps qs : List (List (List ℕ))) (a r : Bool) → list_all (is_among qs) ps ≡ a → r ≡ (a && list_all (is_among ps) qs) → IsTrue r ↔ ((l : List ℕ) → has_prefix ps l ≡ has_prefix qs l)
 languages_compared ps qs a r first second =
     let same : r ≡ (list_all (is_among qs) ps && list_all (is_among ps) qs) = rw first second in (
@@ -100,7 +107,8 @@ languages_compared ps qs a r first second =
       (λ f. same ∙ and_from (list_all (is_among qs) ps) (list_all (is_among ps) qs) (of_within ps qs (λ l h. sym (f l) ∙ h)) (of_within qs ps (λ l h. f l ∙ h))),
     )
 
--- a variant with a language value in the newer registry
+-- the newer registry gives the variant `s`, in the record `f`, the language `w`, and the same Prefixes of one subtag:
+-- `b`, whether the chains from the older language `v` and from `w` end in one, tells whether U4 is met
 pub variant_language_compared : (B : List EntryParts) (e f : EntryParts) (s v w : List ℕ) (b : Bool) → Some f ≡ entry B kinds.Variant s → Some w ≡ one_of f.value → is_short w ≡ true → ((l : List ℕ) → has_prefix f.prefixes l ≡ has_prefix e.prefixes l) → IsTrue b ↔ SameEnd (next_value B kinds.Language) v w → IsTrue b ↔ IsSameVariantLanguage B e s v
 variant_language_compared B e f s v w b there gives short same h =
     let short_of : List ℕ → Option (List ℕ) = λ x. cond (is_short x) (Some x) None in
@@ -111,7 +119,7 @@ variant_language_compared B e f s v w b there gives short same h =
           h.1 (subst (λ z. SameEnd (preferred_value B kinds.Language) v z) is k.ends)),
     )
 
--- a variant with a language value that the older registry has
+-- the older registry has the variant `s`: `b`, whether it has a language as its value there, tells whether U5 is met
 pub had_compared : (A : List EntryParts) (e : EntryParts) (s v : List ℕ) (b : Bool) → e.kind ≡ kinds.Variant → e.name ≡ names.Single s → one_of e.value ≡ Some v → is_short v ≡ true → is_registered A kinds.Variant s ≡ true → b ≡ is_some (language_value A s) → IsTrue b ↔ HadVariantLanguage A e
 had_compared A e s v b k n o short there same = (
   (λ x t w _ m _ _ _. let a : s ≡ t = cc in subst (λ z. (y : List ℕ) × (language_value A z ≡ Some y)) a ((elim (language_value A s) as (λ o. is_some o ≡ true → (y : List ℕ) × (o ≡ Some y)) [ None ↦ λ h. cc | Some y ↦ λ h. (y, refl) ]) (sym same ∙ x))),
@@ -121,10 +129,12 @@ had_compared A e s v b k n o short there same = (
 -- ---- whether two tags reach one canonical tag by a newer registry
 
 module _ (R : List EntryParts) (C : IsChecked R) where
+  -- a canonical tag that steps reach from `t` is the end form of `t`
   pub canonical_end : (t c : TagForm) → IsCanonical R c → IsReached R t c → tag_end R C t ≡ c
   canonical_end t c K r = star_end (end_form R C) r ∙ rest_is_end (end_form R C) c K.valid.proper K.at_rest
 
-  -- two canonical forms are equal exactly if the tags meet in a canonical tag
+  -- `answer`, whether the canonical forms of `t` and `u` are equal, tells whether one canonical tag is reached from
+  -- both
   pub forms_compared : (t u : TagForm) (answer : Bool) → IsEquivalenceAnswer R t u answer → IsTrue answer ↔ MeetInCanonical R t u
   forms_compared t u answer a = (
     (λ h. record { tag = a.first; canonical = a.first_form.canonical; left = a.first_form.reached; right = subst (IsReached R u) (sym (a.equal.0 h)) a.second_form.reached }),
@@ -134,7 +144,7 @@ module _ (R : List EntryParts) (C : IsChecked R) where
         ∙ sym (canonical_end u m.tag m.canonical m.right) ∙ form_is_end R C u a.second a.second_form)),
   )
 
-  -- a tag without repeats that reaches a canonical tag is not refused
+  -- a tag without repeats that reaches a canonical tag is refused only for memory
   not_refused : (t c : TagForm) (refusal : Refusal) → RepeatsNoVariant t → (refusal ≡ refusals.OutOfMemory → ⊥) → IsCanonical R c → IsReached R t c → IsRefusedWith R t refusal → ⊥
   not_refused t c (refusals.Invalid fault) d n K r h =
       let P : IsProper R t = star_keeps (λ x. IsProper R x → IsProper R t) (λ a b (s : TagStep R a b) held p. held s.from) r (λ p. p) K.valid.proper in
@@ -143,6 +153,7 @@ module _ (R : List EntryParts) (C : IsChecked R) where
       repeats_at_end R C t h.valid h.repeats (subst RepeatsNoVariant (sym (canonical_end t c K r)) K.valid.distinct)
   not_refused t c refusals.OutOfMemory d n K r h = n refl
 
+  -- of two tags without repeats one is refused, and not for memory: no canonical tag is reached from both
   pub refused_apart : (t u : TagForm) (refusal : Refusal) → RepeatsNoVariant t → RepeatsNoVariant u → (refusal ≡ refusals.OutOfMemory → ⊥) → IsFirstRefusal R t u refusal → IsTrue false ↔ MeetInCanonical R t u
   refused_apart t u refusal dt du n h = (
     (λ x. cc),
@@ -170,12 +181,12 @@ module _ (R : List EntryParts) (C : IsChecked R) where
           (plain.valid, subst CanBeReplacedWhole (sym plain.is) (refl, refl))
       by _ k h = cc
 
-  -- neither it nor its value repeats a variant
+  -- neither the tag of a whole record nor its value repeats a variant
   pub whole_distinct : (e : EntryParts) → Contains R e → (t u : TagForm) → e.name ≡ names.Whole t → tag_of e.value ≡ Some u → RepeatsNoVariant t × RepeatsNoVariant u
   whole_distinct e c t u n o =
       ((whole_replaced e c t u n o).0.distinct, (All-contains (HasValidWhole R) R e C.passes.valid_whole c t u n o).0.valid.distinct)
 
-  -- a tag that is replaced whole by a value meets it
+  -- a tag that is replaced whole by a value and that value reach one canonical tag
   pub value_meets : (t u : TagForm) → whole_value R t ≡ Some u → MeetInCanonical R t u
   value_meets t u e =
       let w = valued_whole R t u e in
@@ -192,11 +203,11 @@ module _ (R : List EntryParts) (C : IsChecked R) where
 
 -- ---- the first record that does not meet a condition is the lowest at fault
 
--- each record before a place meets a condition
+-- each of the records that a condition is on, before index `i`, meets it
 abbrev pub EachBefore : List EntryParts → List EntryParts → UpgradeCondition → ℕ → Type 0
 EachBefore A B condition i = (k : ℕ) (d : EntryParts) → k < i → MeetsUpgrade condition A B (slice_index_or (records_of condition A B) k d)
 
--- the record at a place is the first at fault
+-- where each before index `i` meets the condition `k` and the record `e` there does not, `e` is the lowest at fault
 pub lowest_of : (A B : List EntryParts) (k : UpgradeCondition) (i : ℕ) (e : EntryParts) (number : ℕ) → NumbersRise (records_of k A B) → IsAt (records_of k A B) i e → number ≡ e.number
     → EachBefore A B k i → (MeetsUpgrade k A B e → ⊥) → IsFirstAtUpgradeFault A B k number
 lowest_of A B k i e number rising a is before fails = record {
@@ -210,10 +221,12 @@ lowest_of A B k i e number rising a is before fails = record {
 
 -- the conditions in the order of their ranks
 
+-- a condition stands in the order at its rank, counted from 1
 place_of : (k : UpgradeCondition) → slice_index_or IN_ORDER (upgrade_rank_of k - 1) upgrades.StaysRegistered ≡ k
 place_of upgrades.StaysRegistered = refl
 place_of _ = refl
 
+-- where the first `i` conditions are met, and the next one is, those with ranks below the next after it are met
 pub one_more : (A B : List EntryParts) (i : ℕ) → MeetsUpgradeBelow (i + 1) A B
     → All (MeetsUpgrade (slice_index_or IN_ORDER i upgrades.StaysRegistered) A B) (records_of (slice_index_or IN_ORDER i upgrades.StaysRegistered) A B) → MeetsUpgradeBelow (i + 1 + 1) A B
 one_more A B i lower meets other m = elim (below_or_not (upgrade_rank_of other) (i + 1)) [

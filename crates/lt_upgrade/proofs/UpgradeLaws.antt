@@ -53,17 +53,18 @@ use Rattle.lt_upgrade.proofs.UpgradeChecks.{canonical_end}
 
 -- ---- what follows for tags from an upgrade
 
--- the letter order is transitive
+-- the order of letters is transitive
 letters_trans : (a b c : List ℕ) → letters_le a b ≡ true → letters_le b c ≡ true → letters_le a c ≡ true
 letters_trans a b c h k = sym (letters_compared a c) ∙ further nat_list_cmp_total a b c (letters_compared a b ∙ h) (letters_compared b c ∙ k)
 
--- a range of the new registry that holds it registers it
+-- a range of the registry that holds a subtag registers it
 by_range : (B : List EntryParts) → NumbersRise B → (k : Kind) (s : List ℕ) (f : EntryParts) → Contains B f → f.kind ≡ k → holds s f.name ≡ true → is_registered B k s ≡ true
 by_range B rising k s f g e h =
     let test : EntryParts → Bool = λ x. same_kind x.kind k && holds s x.name in
     elim (find (λ (x : EntryParts). same_kind x.kind k && is_named s x.name) B) as (λ o. is_some (option_or o (find test B)) ≡ true) [ None ↦ ap is_some (least test B rising f g.0 g.1 g.2 (and_from (same_kind f.kind k) (holds s f.name) (ap (λ x. same_kind x k) e ∙ same_kind_itself k) h)).1 | Some _ ↦ refl ]
 
 module _ (A B : List EntryParts) (CA : IsChecked A) (CB : IsChecked B) (U : Upgrades A B) where
+  -- a subtag that the older record `e` names, by itself or in a range, is registered in the newer registry
   stays_at : (k : Kind) (s : List ℕ) (e : EntryParts) → StaysRegistered B e → e.kind ≡ k → (n : EntryName) → e.name ≡ n → (is_named s n ≡ true) ⊎ (holds s n ≡ true) → is_registered B k s ≡ true
   stays_at k s e has ek (names.Single t) eq (inl h) =
       ap (λ x. is_registered B x s) (sym ek) ∙ ap (is_registered B e.kind) (sym ((bytes_eq-Decides t s).0 h)) ∙ has.single t eq
@@ -77,17 +78,20 @@ module _ (A B : List EntryParts) (CA : IsChecked A) (CB : IsChecked B) (U : Upgr
   stays_at k s e has ek _ eq (inl h) = cc
   stays_at k s e has ek _ eq (inr h) = cc
 
+  -- a subtag that is registered in the older registry is registered in the newer one (U1)
   stays : (k : Kind) (s : List ℕ) → is_registered A k s ≡ true → is_registered B k s ≡ true
   stays k s h =
       let en = registered_entry A k s h in
       let has : StaysRegistered B en.0 × IsEntryOf k s en.0 = entry_has A k s (StaysRegistered B) (U upgrades.StaysRegistered) en.0 en.1 in
       stays_at k s en.0 has.0 has.1.of_kind en.0.name refl has.1.names
 
+  -- an extlang of the older registry is the same in the newer one (U3)
   same_extlang : (x : List ℕ) (en : ExtlangEntry A x) → IsSameExtlang B en.at x
   same_extlang x en =
       let has : KeepsExtlang B en.at × IsEntryOf kinds.Extlang x en.at = entry_has A kinds.Extlang x (KeepsExtlang B) (U upgrades.SameExtlang) en.at en.found in
       has.0 x has.1.of_kind (en.fits.single ∙ ap names.Single en.same)
 
+  -- extlangs that fit a language by the older registry fit it by the newer
   fit_stays : (l : List ℕ) (xs : List (List ℕ)) → ExtlangsFit A l xs → ExtlangsFit B l xs
   fit_stays l [] h = tt
   fit_stays l (x ∷ []) h =
@@ -96,6 +100,7 @@ module _ (A B : List EntryParts) (CA : IsChecked A) (CB : IsChecked B) (U : Upgr
       (stays kinds.Extlang x h.0, ap (λ ps. has_prefix ps l) (prefixes_at B kinds.Extlang x k.newer k.there ∙ k.prefixes ∙ sym (prefixes_at A kinds.Extlang x en.at en.found)) ∙ h.1)
   fit_stays l (x ∷ y ∷ r) h = h
 
+  -- a core that is proper by the older registry is proper by the newer
   core_stays : (c : CoreParts) → IsProperCore A c → IsProperCore B c
   core_stays c P = record {
     language = stays kinds.Language c.language P.language;
@@ -105,9 +110,11 @@ module _ (A B : List EntryParts) (CA : IsChecked A) (CB : IsChecked B) (U : Upgr
     variants = AllByRecursion-weaker (λ s. is_registered A kinds.Variant s ≡ true) (λ s. is_registered B kinds.Variant s ≡ true) (stays kinds.Variant) c.variants P.variants;
   }
 
+  -- an extension that is proper by the older registry is proper by the newer
   extension_stays : (e : ExtensionParts) → IsProperExtension A e → IsProperExtension B e
   extension_stays e P h = let m = P h in (m.0, m.1, IfSome_then m.0.source m.2 core_stays)
 
+  -- a tag with proper parts by the older registry has them by the newer
   parts_stay : (t : TagForm) → HasProperParts A t → HasProperParts B t
   parts_stay (LangTag c es ps) P = record {
     core = core_stays c P.core;
@@ -116,9 +123,11 @@ module _ (A B : List EntryParts) (CA : IsChecked A) (CB : IsChecked B) (U : Upgr
   }
   parts_stay _ P = tt
 
+  -- a tag that is proper by the older registry is proper by the newer
   proper_stays : (t : TagForm) → IsProper A t → IsProper B t
   proper_stays t P = record { tag = P.tag; parts = parts_stay t P.parts }
 
+  -- a tag that is valid by the older registry is valid by the newer
   valid_stays : (t : TagForm) → IsValid A t → IsValid B t
   valid_stays t V = record { proper = proper_stays t V.proper; distinct = V.distinct }
 
@@ -126,29 +135,36 @@ module _ (A B : List EntryParts) (CA : IsChecked A) (CB : IsChecked B) (U : Upgr
 
   -- an entry with a value is a single
 
+  -- an entry of the subtag `s` that names no range names `s` alone
   has_name : (s : List ℕ) (n : EntryName) → ((a b : List ℕ) → n ≡ names.Range a b → ⊥) → (is_named s n ≡ true) ⊎ (holds s n ≡ true) → n ≡ names.Single s
   has_name s (names.Single t) h (inl e) = ap names.Single ((bytes_eq-Decides t s).0 e)
   has_name s (names.Range a b) h k = absurd (h a b refl)
   has_name s _ h (inl e) = cc
   has_name s _ h (inr e) = cc
 
+  -- an entry with a value names a single subtag, since a range has none (C12)
   valued_single : (R : List EntryParts) → IsChecked R → (k : Kind) (s v : List ℕ) (n : ValuedEntry R k s v) → n.at.name ≡ names.Single s
   valued_single R C k s v n =
       has_name s n.at.name (λ a b e.
       cc (ap one_of (valued_has R k s v HasNoRangeValue (C.passes.no_range_value) n a b e), n.gives))
       (entry_of R k s n.at n.found).names
 
-  -- cores that differ in a subtag, of which the chains have one end
+  -- where the chains from `s` and `t` end in one, the cores that differ in that subtag, `at s` and `at t`, have one
+  -- core normal form; a step `f` on the subtag is a step on the core
   one_form : (f : List ℕ → Option (List ℕ)) (at : List ℕ → CoreParts) → ((s t : List ℕ) → f s ≡ Some t → CoreStep B (at s) (at t)) → (s t : List ℕ) → SameEnd f s t → core_end B CB (at s) ≡ core_end B CB (at t)
   one_form f at step s t h = one_end_one_form B CB.passes.core_conditions f at step s t h.end h.left h.right
 
+  -- where the chains from the languages `a` and `b` end in one, cores that differ in them have one core normal form
   language_same : (c : CoreParts) (a b : List ℕ) → SameEnd (preferred_value B kinds.Language) a b → c.extlangs ≡ [] → core_end B CB (record c { language = a }) ≡ core_end B CB (record c { language = b })
   language_same c a b h alone = one_form (preferred_value B kinds.Language) (λ u. record c { language = u }) (λ s t e. by_language B (record c { language = s }) t alone e) a b h
 
+  -- a variant with the language value `m` in the older registry keeps it in the newer one (U4)
   same_variant_language : (v m : List ℕ) → language_value A v ≡ Some m → (n : ValuedEntry A kinds.Variant v m) → IsSameVariantLanguage B n.at v m
   same_variant_language v m h n =
       valued_has A kinds.Variant v m (KeepsVariantLanguage B) (U upgrades.SameVariantLanguage) n v m n.of_kind (valued_single A CA kinds.Variant v m n) n.gives (language_value_is A v m h).1
 
+  -- where a variant beside the language `l` has a VariantLanguage step to `m` by the older registry, it has one by the
+  -- newer, to a language with the same end
   variant_language_both : (l v m : List ℕ) → language_beside A l v ≡ Some m → (w : List ℕ) × (language_beside B l v ≡ Some w) × SameEnd (preferred_value B kinds.Language) m w
   variant_language_both l v m h =
       let t = variant_language_is A l v m h in
@@ -157,7 +173,8 @@ module _ (A B : List EntryParts) (CA : IsChecked A) (CB : IsChecked B) (U : Upgr
       let listed : has_prefix (prefixes B kinds.Variant v) l ≡ true = k.prefixes l ∙ ap (λ ps. has_prefix ps l) (sym (prefixes_at A kinds.Variant v n.at n.found)) ∙ t.0 in
       (k.newer, ap (λ b. cond b (language_value B v) None) listed ∙ k.has, k.ends)
 
-  -- what has a VariantLanguage step by the new registry has one by the old
+  -- where a registered variant `u` beside the language `l` has no VariantLanguage step by the older registry, it has
+  -- none by the newer (U5)
   variant_language_back : (l u : List ℕ) → is_registered A kinds.Variant u ≡ true → language_beside A l u ≡ None → language_beside B l u ≡ None
   variant_language_back l u r h = (elim (language_beside B l u) as (λ o. language_beside B l u ≡ o → o ≡ None) [
     | None ↦ λ found. refl
@@ -172,17 +189,20 @@ module _ (A B : List EntryParts) (CA : IsChecked A) (CB : IsChecked B) (U : Upgr
         cc
   ]) refl
 
+  -- where none of the variants `before` others has a VariantLanguage step by the older registry, none has one by the
+  -- newer
   variant_languages_back : (l : List ℕ) (before after : List (List ℕ)) → AllByRecursion (λ v. is_registered A kinds.Variant v ≡ true) (before ++ after) → AllByRecursion (λ u. language_beside A l u ≡ None) before → AllByRecursion (λ u. language_beside B l u ≡ None) before
   variant_languages_back l [] after r h = tt
   variant_languages_back l (u ∷ us) after r h = (variant_language_back l u r.0 h.0, variant_languages_back l us after r.1 h.1)
 
+  -- the chains from a subtag and from its older value of the same kind end in one (U2)
   value_same : (k : Kind) (s v : List ℕ) → KeepsKind k v → preferred_value A k s ≡ Some v → SameEnd (next_value B k) s v
   value_same k s v keeps h =
       let n : ValuedEntry A k s v = valued A k s v h in
       subst (λ k. SameEnd (next_value B k) s v) n.of_kind
       (valued_has A k s v (KeepsEnds B) (U upgrades.SameEnds) n s v (valued_single A CA k s v n) n.gives (subst (λ k. KeepsKind k v) (sym n.of_kind) keeps))
 
-  -- an old core step keeps the new core normal form
+  -- a core step by the older registry keeps the core normal form by the newer
   old_core_step : (c d : CoreParts) → IsProperCore A c → CoreStep A c d → core_end B CB c ≡ core_end B CB d
   old_core_step c d P = each_step A c (λ d. core_end B CB c ≡ core_end B CB d) (record {
     extlang = λ x one.
@@ -213,6 +233,7 @@ module _ (A B : List EntryParts) (CA : IsChecked A) (CB : IsChecked B) (U : Upgr
 
   -- ---- an old step keeps the new end form
 
+  -- a step on an extension by the older registry keeps the normal form of the extension by the newer
   old_extension_step : (e f : ExtensionParts) → IsProperExtension A e → ExtensionStep A e f → extension_end B CB e ≡ extension_end B CB f
   old_extension_step e f P (in_unicode p q is_u kept from to s) = (extension_formed B CB.registry CB.passes.core_conditions).kept e f (in_unicode p q is_u kept from to s)
   old_extension_step e f P (in_transform p q is_t kept from to (on_source c d begins ends k same_fields)) =
@@ -220,6 +241,7 @@ module _ (A B : List EntryParts) (CA : IsChecked A) (CB : IsChecked B) (U : Upgr
       same_source B CB.registry CB.passes.core_conditions e f p q is_t (kept ∙ is_t) from to source (sym same_fields)
   old_extension_step e f P (in_transform p q is_t kept from to (on_fields a k)) = (extension_formed B CB.registry CB.passes.core_conditions).kept e f (in_transform p q is_t kept from to (on_fields a k))
 
+  -- a step on extensions by the older registry keeps their normal form by the newer
   old_extensions_step : (es fs : List ExtensionParts) → AllByRecursion (IsProperExtension A) es → ExtensionsStep A es fs → extensions_end B CB es ≡ extensions_end B CB fs
   old_extensions_step es fs P (inside before e f after there result s) =
       let one : extension_end B CB e ≡ extension_end B CB f = old_extension_step e f (all_middle (IsProperExtension A) before e after (subst (AllByRecursion (IsProperExtension A)) there P)) s in
@@ -231,7 +253,7 @@ module _ (A B : List EntryParts) (CA : IsChecked A) (CB : IsChecked B) (U : Upgr
       ∙ sym (ap (extensions_end B CB) result)
   old_extensions_step es fs P (among s) = (extensions_end_formed B CB).kept es fs (among s)
 
-  -- an old step keeps the new end form
+  -- a step on a tag by the older registry keeps the end form by the newer
   old_step : (t u : TagForm) → TagStep A t u → tag_end B CB t ≡ tag_end B CB u
   old_step t u s = elim s.change [
     | on_core c d es ps from to k ↦
@@ -248,7 +270,7 @@ module _ (A B : List EntryParts) (CA : IsChecked A) (CB : IsChecked B) (U : Upgr
         star_end (end_form B CB) m.left ∙ sym (star_end (end_form B CB) m.right)
   ]
 
-  -- equivalent by the old registry: one end form by the new
+  -- tags that are equivalent by the older registry have one end form by the newer
   old_equivalent : {t u : TagForm} → Equivalent (TagStep A) t u → tag_end B CB t ≡ tag_end B CB u
   old_equivalent no_steps = refl
   old_equivalent (forth {a = a} {b = b} s r) = old_step a b s ∙ old_equivalent r
@@ -256,26 +278,29 @@ module _ (A B : List EntryParts) (CA : IsChecked A) (CB : IsChecked B) (U : Upgr
 
   -- ---- the variant that a refusal of a newer registry names is one for a tag and for its old canonical form
 
-  -- in another order each is there still
+  -- a list of extensions in which two changed places still contains each of them
   swap_keeps : (es fs : List ExtensionParts) → ListStep false singleton_cmp es fs → All (Contains fs) es
   swap_keeps es fs (by_swap before a b after s) =
       All-from_recursion (Contains fs) es
       (subst (AllByRecursion (Contains fs)) (sym s.there) (all_swapped (Contains fs) before b a after (subst (AllByRecursion (Contains fs)) s.result (recursion_from_All (Contains fs) fs (All-contains_itself fs)))))
   swap_keeps es fs (by_drop before a between b after o s) = cc
 
-  -- an extension whose source repeats the variant
+  -- the extension has a source that repeats `v` in its core normal form by the newer registry
   record Carries (v : List ℕ) (e : ExtensionParts) : Type 0 where
     source : CoreParts
     has_source : HasSource e source
     repeat : IsRepeatOfCore B source v
 
+  -- where `c` and `d` have one core normal form, what is that of `c` is that of `d`
   normal_moves : (c d f : CoreParts) → core_end B CB c ≡ core_end B CB d → IsCoreNormalForm B c f → IsCoreNormalForm B d f
   normal_moves c d f e n =
       subst (λ x. IsCoreNormalForm B d x) (sym e ∙ normal_is_form (cores_formed B CB) c f n) (form_is_normal (cores_formed B CB) d)
 
+  -- cores with one core normal form repeat the same variants there
   repeat_moves : (c d : CoreParts) (v : List ℕ) → core_end B CB c ≡ core_end B CB d → IsRepeatOfCore B c v → IsRepeatOfCore B d v
   repeat_moves c d v e r = record { form = r.form; normal = normal_moves c d r.form e r.normal; second = r.second }
 
+  -- a step by the older registry on an extension whose source repeats `v` keeps that
   carried : (v : List ℕ) (e f : ExtensionParts) → IsProperExtension A e → ExtensionStep A e f → Carries v e → Carries v f
   carried v e f P (in_unicode p q is_u _ _ _ _) k = absurd (omega (arith, k.has_source.transforms, is_u))
   carried v e f P (in_transform p q is_t kept from to (on_source c d begins ends j _)) k =
@@ -289,6 +314,7 @@ module _ (A B : List EntryParts) (CA : IsChecked A) (CB : IsChecked B) (U : Upgr
       let there : p.source ≡ Some k.source = ap (λ (z : TForm). z.source) (sym (one_transform e.subtags k.has_source.parts p k.has_source.formed from)) ∙ k.has_source.there in
       record { source = k.source; has_source = record { transforms = kept ∙ is_t; parts = q; formed = to; there = a ∙ there }; repeat = k.repeat }
 
+  -- a step by the older registry on extensions of which a source repeats `v` keeps that
   source_moves : (v : List ℕ) (es fs : List ExtensionParts) → AllByRecursion (IsProperExtension A) es → ExtensionsStep A es fs → IsRepeatOfSource B es v → IsRepeatOfSource B fs v
   source_moves v es fs P s r =
       by s (rw r.there (Contains-append_right r.before (r.extension ∷ r.after) r.extension (0, omega arith, refl))) (record { source = r.source; has_source = r.has_source; repeat = r.repeat })
@@ -306,12 +332,12 @@ module _ (A B : List EntryParts) (CA : IsChecked A) (CB : IsChecked B) (U : Upgr
       by (inside before e f after there result t) m c =
           inner before e f after (all_middle (IsProperExtension A) before e after (subst (AllByRecursion (IsProperExtension A)) there P)) t result r.extension (Contains-append_cases before (e ∷ after) r.extension (rw there at m)) c
 
-  -- a plain core whose end repeats no variant
+  -- a core `d` alone, with the value `o`, if it has one: if the end form repeats no variant, nor does the core
   end_distinct : (d : CoreParts) → (o : Option TagForm) → whole_value B (core_alone d) ≡ o → RepeatsNoVariant (or_value (core_alone d) (value_end B CB) o) → Distinct d.variants
   end_distinct d None e h = h.0
   end_distinct d (Some u) e h = elim (tag_plain B CB (core_alone d) u e) [ inl g ↦ let x = g.is in cc | inr g ↦ g.valid.distinct.0 ]
 
-  -- the tag of a whole record with a value is refused for no repeat
+  -- of a tag that can be replaced whole, whose end form repeats no variant, a refusal names no variant
   plain_unnamed : (t : TagForm) (v : List ℕ) → CanBeReplacedWhole t → RepeatsNoVariant (tag_end B CB t) → IsNamedRepeat B t v → ⊥
   plain_unnamed (LangTag c [] []) v p d (inl r) =
       let distinct : Distinct (core_end B CB c).variants = end_distinct (core_end B CB c) (whole_value B (core_alone (core_end B CB c))) refl d in
@@ -320,6 +346,7 @@ module _ (A B : List EntryParts) (CA : IsChecked A) (CB : IsChecked B) (U : Upgr
   plain_unnamed (LangTag c es ps) v p d r = let a = p.0 in let b = p.1 in cc
   plain_unnamed _ v p d r = r
 
+  -- a step by the older registry keeps the variant that a refusal by the newer names
   step_named : (t u : TagForm) (v : List ℕ) → TagStep A t u → IsNamedRepeat B t v → IsNamedRepeat B u v
   step_named t u v s r = elim s.change [
     | on_core c d es ps from to k ↦
@@ -336,7 +363,7 @@ module _ (A B : List EntryParts) (CA : IsChecked A) (CB : IsChecked B) (U : Upgr
   -- ---- after an upgrade valid tags stay valid, equivalent tags equivalent, and an old canonical form comes to what its tag
   -- comes to.
 
-  -- one end form: one canonical form
+  -- a valid tag `u` with the end form of `t` has the canonical form of `t`
   form_moves : (t u c : TagForm) → IsValid B u → tag_end B CB t ≡ tag_end B CB u → IsCanonicalFormOf B t c → IsCanonicalFormOf B u c
   form_moves t u c V e h =
       let end : tag_end B CB u ≡ c = sym e ∙ form_is_end B CB t c h in
@@ -347,12 +374,16 @@ module _ (A B : List EntryParts) (CA : IsChecked A) (CB : IsChecked B) (U : Upgr
         repeats_none = λ r. repeats_at_end B CB u V r (subst RepeatsNoVariant (sym end) h.canonical.valid.distinct);
       }
 
+  -- a tag and its older canonical form have one end form by the newer registry
   ends_meet : (t c : TagForm) → IsCanonicalFormOf A t c → tag_end B CB t ≡ tag_end B CB c
   ends_meet t c h = old_equivalent (star_equivalent h.reached)
 
+  -- a tag and its older canonical form are equivalent by the newer registry
   class_of_form : (t c : TagForm) → IsCanonicalFormOf A t c → AreEquivalent B t c
   class_of_form t c h = end_equivalent (end_form B CB) t c (valid_stays t h.valid).proper (valid_stays c h.canonical.valid).proper (ends_meet t c h)
 
+  -- the law of upgrades: valid tags stay valid, equivalent tags equivalent, and an older canonical form comes to what
+  -- its tag comes to
   pub upgrade_keeps : UpgradeKeepsTags A B
   upgrade_keeps = record {
     valid = valid_stays;

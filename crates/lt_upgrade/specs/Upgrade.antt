@@ -15,7 +15,7 @@ use Rattle.lt_check.specs.Conditions.{OfWhole}
 use Rattle.lt_upgrade.specs.declared.conditions.UpgradeCondition.{UpgradeCondition}
 use Rattle.lt_upgrade.specs.declared.conditions.UpgradeCondition.TheVariants as upgrades
 
--- the chains of values from `s` and from `t` end in one subtag
+-- by the values that `next` gives, the chains from `s` and from `t` end in one subtag
 pub record SameEnd (next : List ℕ → Option (List ℕ)) (s t : List ℕ) : Type 0 where
   pub end : List ℕ
   pub left : EndsIn next s end
@@ -38,7 +38,7 @@ pub record StaysRegistered (B : List EntryParts) (e : EntryParts) : Type 0 where
   pub single : (s : List ℕ) → e.name ≡ names.Single s → is_registered B e.kind s ≡ true
   pub range : (first last : List ℕ) → e.name ≡ names.Range first last → IsCovered B e.kind first last
 
--- the value `v` of a record of this kind is a subtag of the same kind
+-- the value `v` of a record of this kind is a subtag of the same kind, so that it goes on the same chain of values
 abbrev pub KeepsKind : Kind → List ℕ → Type 0
 KeepsKind kinds.Language v = Unit {0}
 KeepsKind kinds.Extlang v = ⊥
@@ -55,8 +55,8 @@ KeepsEnds B e =
     (s v : List ℕ) → e.name ≡ names.Single s → one_of e.value ≡ Some v
     → KeepsKind e.kind v → SameEnd (next_value B e.kind) s v
 
--- the newer registry has the extlang with the same Prefix, and the chains from its older and its newer replacement end
--- in one language
+-- the newer registry has the extlang `s`, the record `e` of the older one, with the same Prefix; the chains from its
+-- older and its newer replacement end in one language
 pub record IsSameExtlang (B : List EntryParts) (e : EntryParts) (s : List ℕ) : Type 0 where
   pub newer : EntryParts
   pub there : entry B kinds.Extlang s ≡ Some newer
@@ -68,8 +68,8 @@ pub record IsSameExtlang (B : List EntryParts) (e : EntryParts) (s : List ℕ) :
 abbrev pub KeepsExtlang : List EntryParts → EntryParts → Type 0
 KeepsExtlang B e = (s : List ℕ) → e.kind ≡ kinds.Extlang → e.name ≡ names.Single s → IsSameExtlang B e s
 
--- in the newer registry the variant has a language as its value, whose chain ends as that of `v`, and Prefixes of the
--- same languages
+-- in the newer registry the variant `s`, the record `e` of the older one, has a language as its value, whose chain ends
+-- as that of its older value `v`, and Prefixes of the same languages
 pub record IsSameVariantLanguage (B : List EntryParts) (e : EntryParts) (s v : List ℕ) : Type 0 where
   pub newer : List ℕ
   pub has : language_value B s ≡ Some newer
@@ -100,7 +100,7 @@ pub record MeetInCanonical (B : List EntryParts) (t u : TagForm) : Type 0 where
 abbrev pub KeepsWhole : List EntryParts → EntryParts → Type 0
 KeepsWhole B e = OfWhole e (MeetInCanonical B)
 
--- the record `e` meets a condition on an upgrade from A to B
+-- the record `e` meets a condition on an upgrade from `A` to `B`
 abbrev pub MeetsUpgrade : UpgradeCondition → List EntryParts → List EntryParts → EntryParts → Type 0
 MeetsUpgrade upgrades.StaysRegistered A B e = StaysRegistered B e
 MeetsUpgrade upgrades.SameEnds A B e = KeepsEnds B e

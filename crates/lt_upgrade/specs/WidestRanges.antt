@@ -13,7 +13,7 @@ use Rattle.lt_upgrade.specs.UpgradeChecking.{some_covers}
 use Rattle.lt_upgrade.specs.declared.widest_ranges.RangeEnd.{RangeEnd}
 use Rattle.lt_upgrade.specs.declared.widest_ranges.RangeRow.{RangeRow}
 
--- an end of a range of subtags of this kind
+-- the end of a range of subtags of a kind, by its subtag
 abbrev pub range_end : Kind → List ℕ → RangeEnd
 range_end kind subtag = record { kind = kind_number kind; length = length subtag; subtag = subtag }
 
@@ -26,7 +26,7 @@ end_cmp a b = ordering_then (nat_cmp a.kind b.kind)
 abbrev pub is_up_to : RangeEnd → RangeEnd → Bool
 is_up_to a b = is_le (end_cmp a b)
 
--- whether a range holds the whole range from `first` to `last`
+-- whether a range, by its ends, holds the whole range from the end `first` to the end `last`
 abbrev pub contains : RangeEnd → RangeEnd → RangeRow → Bool
 contains first last row = is_up_to row.first first && is_up_to last row.last
 

@@ -35,7 +35,8 @@ pub(crate) fn stays_registered<L: Lookup>(newer: &L, ranges: &WidestRanges, entr
     }
 }
 
-/// Whether the chains of values of two subtags have the same end. False if one has none. The kind is not that of extlangs.
+/// Whether the chains of values of two subtags of a kind have the same end. False if one has none. The kind is not
+/// that of extlangs.
 #[tactic(auto, using(crate::proofs::UpgradeChecks::endless_apart))]
 fn have_same_end<L: Lookup>(
     table: &L,
@@ -89,7 +90,7 @@ fn same_prefixes(left: &[Prefix], right: &[Prefix]) -> bool
     left == right
 }
 
-/// The preferred value of an extlang, or the extlang itself if it has none.
+/// The preferred value of the record of an extlang, or the extlang itself, `subtag`, if it has none.
 fn replacement<'a>(entry: &'a Entry, subtag: &'a Subtag) -> &'a Subtag
     ensures { result.now ≡ unwrap_or (entries.one_of entry.now.value) subtag.now }
 {
@@ -100,7 +101,7 @@ fn replacement<'a>(entry: &'a Entry, subtag: &'a Subtag) -> &'a Subtag
 }
 
 /// Whether an extlang has, in the newer registry, the same Prefixes, and a replacement whose chain of values has the same
-/// end.
+/// end. `entry` is its older record.
 fn is_same_extlang<L: Lookup>(
     newer: &L,
     shortcuts: &Shortcuts,
@@ -174,7 +175,8 @@ pub(crate) fn keeps_variant_language<L: Lookup>(
 }
 
 /// Whether a variant has, in the newer registry, a language of the same end as its value, and the same Prefixes of one
-/// subtag: so whether VariantLanguage steps lead to the same end beside the same languages. `value` is its older value.
+/// subtag: so whether VariantLanguage steps lead to the same end beside the same languages. `entry` is its older
+/// record, and `value` its older value.
 fn have_same_variant_language<L: Lookup>(
     newer: &L,
     shortcuts: &Shortcuts,

@@ -87,7 +87,7 @@ fn records_of<'a, A: Lookup, B: Lookup>(
     }
 }
 
-/// Whether a record that a condition speaks of meets it.
+/// Whether a record that a condition speaks of meets it. `ranges` are those of the newer registry.
 fn meets<A: Lookup, B: Lookup>(
     alloc: Global,
     older: &Checked<A>,
@@ -114,7 +114,8 @@ fn meets<A: Lookup, B: Lookup>(
     }
 }
 
-/// The number of the first record that does not meet a condition, or None if each does.
+/// The number of the first record that does not meet a condition, or None if each does. `ranges` are those of the newer
+/// registry.
 fn lowest_fault<A: Lookup, B: Lookup>(
     alloc: Global,
     older: &Checked<A>,

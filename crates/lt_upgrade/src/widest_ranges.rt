@@ -16,7 +16,9 @@ use std::marker::Model;
 /// length.
 #[derive(Drop, PartialEq, Eq, PartialOrd, Ord)]
 pub(crate) struct RangeEnd {
+    /// The kind's number.
     kind: u8,
+    /// How many letters the subtag has.
     length: usize,
     subtag: Subtag,
 }
