@@ -12,18 +12,19 @@ use Rattle.lt_tag.proofs.ListLemmas.{list_all-append}
 use Rattle.lt_rewrite.proofs.PartLists.{all_middle, all_replaced}
 use Rattle.lt_cache.specs.KeywordEnds.{AddsSubtag, hyphened, of_keywords}
 
+-- keywords and one further keyword at their end have all the form of one
 all_then : (ks : List KeywordParts) (k : KeywordParts) → AllByRecursion IsKeyword ks → IsKeyword k → AllByRecursion IsKeyword (ks ++ k ∷ [])
 all_then [] k h i = (i, tt)
 all_then (j ∷ ks) k h i = (h.0, all_then ks k h.1 i)
 
--- a key begins a further keyword
+-- a key adds a subtag to keywords as the key of a further one
 pub added_key : (s : List ℕ) (old new : List KeywordParts) → is_key s ≡ true → new ≡ old ++ record { key = s; types = [] } ∷ [] → AddsSubtag s old new
 added_key s old new key grown = record {
   spelled = ap (flat_map spell_keyword) grown ∙ flat_map-append spell_keyword old _;
   shaped = λ h. subst (AllByRecursion IsKeyword) (sym grown) (all_then old _ h (record { key = key; types = refl }));
 }
 
--- a type goes to the last keyword
+-- a type adds a subtag to keywords in the last one, which is `k` before and `l` after
 pub added_type : (s : List ℕ) (old new before : List KeywordParts) (k l : KeywordParts) → is_long s ≡ true → old ≡ before ++ k ∷ [] → l ≡ record { key = k.key; types = k.types ++ s ∷ [] } → new ≡ before ++ l ∷ []
     → AddsSubtag s old new
 added_type s old new before k l long was is grown = record {
@@ -37,14 +38,14 @@ added_type s old new before k l long was is grown = record {
       (all_replaced IsKeyword before k _ [] there (record { key = last.key; types = list_all-append is_long k.types _ last.types (and_from _ _ long refl) }));
 }
 
--- they are the parts of a `u` extension
+-- keywords that spell subtags are what these are read as in a `u` extension without attributes
 pub keywords_read : (ss : List (List ℕ)) (ks : List KeywordParts) → 0 < length ss → flat_map spell_keyword ks ≡ ss → AllByRecursion IsKeyword ks → IsUnicode ss (of_keywords ks)
 keywords_read ss ks some spelled h = record {
   shaped = record { attributes = refl; keywords = h; some = rw spelled some };
   spelled = spelled;
 }
 
--- subtags after a first one, each after a hyphen
+-- a subtag `x` and then others, each after a hyphen (45), are all of them joined by hyphens
 pub hyphened_joined : (x : List ℕ) (ss : List (List ℕ)) → x ++ flat_map hyphened ss ≡ join_with_byte 45 (x ∷ ss)
 hyphened_joined x [] = append-nil x
 hyphened_joined x (s ∷ ss) = ap (λ (l : List ℕ). x ++ 45 ∷ l) (hyphened_joined s ss)

@@ -37,11 +37,12 @@ use Rattle.lt_cache.specs.KeywordEnds.{IsKeywordEnd}
 use Rattle.lt_cache.proofs.KeywordEnds.{hyphened_joined}
 use Rattle.lt_rewrite.proofs.KeysRise.{rise, parts, parts_found, parts_rest}
 
--- the text of the list of a text
+-- the list of a text joined by hyphens (45) is the text in lower case
 list_text : (text : List ℕ) → join_with_byte 45 (list_of text) ≡ folded text
 list_text text = ap (join_with_byte 45) (list_of_is text) ∙ join_pieces (folded text)
 
--- after another subtag
+-- a one-byte subtag, `b`, and the list of a text joined by hyphens (45) are the byte, a hyphen, and the text in lower
+-- case
 after_first : (b : ℕ) (text : List ℕ) → join_with_byte 45 ((b ∷ []) ∷ list_of text) ≡ b ∷ 45 ∷ folded text
 after_first b text = go (list_of text) (omega (arith, length-map (pieces text) folded, some_pieces text)) ∙ ap (λ (l : List ℕ). b ∷ 45 ∷ l) (list_text text)
   where
@@ -49,37 +50,45 @@ after_first b text = go (list_of text) (omega (arith, length-map (pieces text) f
     go [] n = absurd (omega arith)
     go (s ∷ ss) n = refl
 
+-- the list of a text is not empty
 pub some_list : (text : List ℕ) → 0 < length (list_of text)
 some_list text = omega (arith, length-map (pieces text) folded, some_pieces text)
 
+-- the list of a text has at most one subtag more than the text has bytes
 few_list : (text : List ℕ) → length (list_of text) ≤ length text + 1
 few_list text = omega (arith, length-map (pieces text) folded, length-pieces text)
 
--- an end of a letter and a rest
+-- the end of a singleton, between two hyphens (45), and a rest
 abbrev end_of : ℕ → List ℕ → List ℕ
 end_of s rest = 45 ∷ s ∷ 45 ∷ rest
 
--- one extension is in order
+-- one extension alone is in order: no step swaps it or drops it
 no_step : (e : ExtensionParts) (fs : List ExtensionParts) → ListStep false singleton_cmp (e ∷ []) fs → ⊥
 no_step e fs (by_swap before a b after s) = omega (arith, ap length s.there, length-append before (a ∷ b ∷ after))
 no_step e fs (by_drop before a between b after o s) = let bad : false ≡ true = o in cc
 
+-- subtags that are read as the parts of a `u` extension are those of a well-formed one
 u_shaped : (ss : List (List ℕ)) (p : UForm) → IsUnicode ss p → IsExtension (extension unicode ss)
 unfolding is_singleton is_subtag
 u_shaped ss p u = record { singleton = refl; subtags = subst (λ (l : List (List ℕ)). list_all is_extension_subtag l ≡ true) u.spelled (u_extension p u.shaped); some = rw (← u.spelled) u.shaped.some }
 
+-- in a registry that passes the check
 module _ (R : List EntryParts) (C : IsChecked R) where
+  -- the `u` extension of these subtags
   abbrev u_of : List (List ℕ) → ExtensionParts
   u_of ss = extension unicode ss
 
+  -- a `u` extension alone ends as that of `q`, the normal form of its parts, `p`
   u_ended : (ss : List (List ℕ)) (p q : UForm) → IsUnicode ss p → IsNormalForm UnicodeStep p q → extensions_end R C (u_of ss ∷ []) ≡ u_of (spell_u q) ∷ []
   u_ended ss p q found n =
       sym (star_rests (extensions_ordered R C.registry C.passes.core_conditions (u_of ss ∷ [])) (no_step (extension_end R C (u_of ss))))
       ∙ ap (λ (e : ExtensionParts). e ∷ []) (normal_is_form (extension_formed R C.registry C.passes.core_conditions) (u_of ss) (u_of (spell_u q)) (unicode_settled R (u_of ss) p q refl found n))
 
+  -- a `u` extension has no source, and so no variant that repeats
   u_distinct : (ss : List (List ℕ)) → HasDistinctSource (u_of ss)
   u_distinct ss = λ t q k. absurd (omega (arith, t))
 
+  -- a `u` extension, whose parts `p` have the normal form `q`, can follow each canonical core
   u_follows : (ss : List (List ℕ)) (p q : UForm) → IsUnicode ss p → IsNormalForm UnicodeStep p q → length ss ≤ longest_text → CanFollow R C (u_of ss ∷ []) []
   u_follows ss p q found n few = record {
     parts = λ c k. record {
@@ -96,7 +105,7 @@ module _ (R : List EntryParts) (C : IsChecked R) where
     some = omega arith;
   }
 
-  -- a `u` extension, by the normal form of its parts
+  -- a `u` extension follows each canonical core as the normal form, `q`, of its parts, `p`
   pub unicode_text : (s : ℕ) (rest : List ℕ) (p q : UForm) → to_ascii_lowercase s ≡ 117 → IsUnicode (list_of rest) p → IsNormalForm UnicodeStep p q
       → IsEndText R (end_of s rest) (45 ∷ join_with_byte 45 ((117 ∷ []) ∷ spell_u q))
   unicode_text s rest p q is_u found n front F short =
@@ -107,7 +116,7 @@ module _ (R : List EntryParts) (C : IsChecked R) where
       (whole_list front (end_of s rest) F.core E F.read ∙ ap (λ (l : List (List ℕ)). spell_core F.core ++ l) ((λ i. (is_u i ∷ []) ∷ ss) ∙ sym (extension_alone (u_of ss))))
       (ap (λ (es : List ExtensionParts). join_with_byte 45 (spell_rest es [])) (u_ended ss p q found n) ∙ ap (join_with_byte 45) (extension_alone (u_of (spell_u q)))) short
 
-  -- of keywords whose keys rise
+  -- a `u` extension of keywords whose keys rise follows each canonical core as it is, in lower case
   u_text : (s : ℕ) (rest : List ℕ) → to_ascii_lowercase s ≡ 117 → keys_rise None (list_of rest) ≡ true → IsEndText R (end_of s rest) (45 ∷ 117 ∷ 45 ∷ folded rest)
   u_text s rest is_u h =
       let ss = list_of rest in
@@ -116,14 +125,16 @@ module _ (R : List EntryParts) (C : IsChecked R) where
       subst (IsEndText R (end_of s rest)) (ap (λ (l : List (List ℕ)). 45 ∷ join_with_byte 45 ((117 ∷ []) ∷ l)) found.spelled ∙ ap (λ (l : List ℕ). 45 ∷ l) (after_first 117 rest))
       (unicode_text s rest (parts ss) (parts ss) is_u found (parts_rest ss r))
 
+  -- no extensions end as none
   x_ended : extensions_end R C [] ≡ []
   x_ended = rest_is_form (extensions_end_formed R C) [] (none_rests R)
 
-  -- private use
+  -- the subtags of private use alone: `x` (120), and those after it
   private_list : (ps : List (List ℕ)) → 0 < length ps → spell_rest [] ps ≡ (120 ∷ []) ∷ ps
   private_list [] n = absurd (omega arith)
   private_list (p ∷ ps) n = refl
 
+  -- private use follows each canonical core as it is, in lower case
   x_text : (s : ℕ) (rest : List ℕ) → to_ascii_lowercase s ≡ 120 → list_all is_subtag (list_of rest) ≡ true → IsEndText R (end_of s rest) (45 ∷ 120 ∷ 45 ∷ folded rest)
   x_text s rest is_x h front F short =
       let ps = list_of rest in
@@ -147,7 +158,7 @@ module _ (R : List EntryParts) (C : IsChecked R) where
       (whole_list front (end_of s rest) F.core E F.read ∙ ap (λ (l : List (List ℕ)). spell_core F.core ++ l) ((λ i. (is_x i ∷ []) ∷ ps) ∙ sym (private_list ps some)))
       (ap (λ (es : List ExtensionParts). join_with_byte 45 (spell_rest es ps)) x_ended ∙ ap (join_with_byte 45) (private_list ps some) ∙ after_first 120 rest) short
 
-  -- the one or the other
+  -- a settled end has the singleton `u` (117, or 85) and keywords whose keys rise, or `x` (120, or 88) and subtags
   cases : (s : ℕ) (rest : List ℕ) → ((((s == 117) || (s == 85)) && keys_rise None (list_of rest)) || (((s == 120) || (s == 88)) && list_all is_subtag (list_of rest))) ≡ true
       → ((to_ascii_lowercase s ≡ 117) × (keys_rise None (list_of rest) ≡ true)) ⊎ ((to_ascii_lowercase s ≡ 120) × (list_all is_subtag (list_of rest) ≡ true))
   cases s rest h = elim (cases_Bool (((s == 117) || (s == 85)) && keys_rise None (list_of rest))) [
@@ -155,11 +166,13 @@ module _ (R : List EntryParts) (C : IsChecked R) where
     | inr e ↦ inr (grind (arith, nat_tests), grind (arith, nat_tests))
   ]
 
+  -- an end with `u` and keywords whose keys rise, or with `x`, follows each canonical core as it is, in lower case
   by_letter : (s : ℕ) (rest : List ℕ) → ((to_ascii_lowercase s ≡ 117) × (keys_rise None (list_of rest) ≡ true)) ⊎ ((to_ascii_lowercase s ≡ 120) × (list_all is_subtag (list_of rest) ≡ true))
       → IsEndText R (end_of s rest) (folded (end_of s rest))
   by_letter s rest (inl u) = subst (λ (b : ℕ). IsEndText R (end_of s rest) (45 ∷ b ∷ 45 ∷ folded rest)) (sym u.0) (u_text s rest u.0 u.1)
   by_letter s rest (inr x) = subst (λ (b : ℕ). IsEndText R (end_of s rest) (45 ∷ b ∷ 45 ∷ folded rest)) (sym x.0) (x_text s rest x.0 x.1)
 
+  -- a settled end follows each canonical core as it is, in lower case
   settled_text : (end : List ℕ) → is_settled_end end ≡ true → IsEndText R end (folded end)
   settled_text (h ∷ s ∷ i ∷ rest) t =
       let q = and_parts ((h == 45) && (i == 45)) _ t in
@@ -167,22 +180,23 @@ module _ (R : List EntryParts) (C : IsChecked R) where
       subst₂ (λ (a b : ℕ). IsEndText R (a ∷ s ∷ b ∷ rest) (folded (a ∷ s ∷ b ∷ rest))) (sym (eqb-true h 45 hyphens.0)) (sym (eqb-true i 45 hyphens.1)) (by_letter s rest (cases s rest q.1))
   settled_text _ t = cc
 
--- what holds where there is no error
+-- what a clause says of all results but errors is true of a result that is no error
 pub ok_holds : {A B : Type 0} (r : Result A B) (P : Type 0) → is_err r ≡ false → OnOk r P → P
 ok_holds (Ok a) P none holds = holds
 ok_holds (Err b) P none holds = cc
 
--- such an end was appended in lower case
+-- a settled end was appended in lower case, and that is its canonical form
 pub settled_appends : (end old new : List ℕ) → is_settled_end end ≡ true → new ≡ old ++ folded end → AppendsEndText end old new
 settled_appends end old new settled grown = (folded end, λ R C. settled_text R C end settled, grown)
 
--- the normal form of keywords was appended
+-- the normal form of an end of keywords was appended, and that is its canonical form
 pub keywords_append : (end text old new : List ℕ) → IsKeywordEnd end text → new ≡ old ++ text → AppendsEndText end old new
 keywords_append end text old new k grown =
     let joined : text ≡ 45 ∷ join_with_byte 45 ((117 ∷ []) ∷ spell_u k.to) = k.written ∙ ap (λ (l : List ℕ). 45 ∷ l) (hyphened_joined (117 ∷ []) (spell_u k.to)) in
     (text, λ R C. subst₂ (IsEndText R) (sym k.whole) (sym joined) (unicode_text R C k.singleton k.rest k.from k.to k.is_u k.read k.settled), grown)
 
--- the canonical text of a front that stays and an end was appended
+-- a front whose subtags stay and the canonical form of an end were appended, and that is the text's canonical text;
+-- `middle` is what was there between the two
 pub end_appended : (R : List EntryParts) → IsChecked R → (front end text old middle new : List ℕ) → IsStaying R front → front ++ end ≡ text → length text ≤ longest_text
     → middle ≡ old ++ conventional (list_of front) → AppendsEndText end middle new → AppendsCanonicalText R text old new
 end_appended R C front end text old middle new stay whole short front_grown a =

@@ -40,22 +40,23 @@ use Rattle.lt_cache.proofs.EndLemmas.{CanFollow, core_list, core_no_single, core
 
 -- ---- the subtags of a source and fields
 
--- a source and fields, and the extension of them
+-- the parts of a `t` extension of a source and fields
 abbrev with_source : CoreParts → List FieldParts → TForm
 with_source c fs = record { source = Some c; fields = fs }
 
+-- the `t` extension of a source and fields
 abbrev t_of : CoreParts → List FieldParts → ExtensionParts
 t_of c fs = record { singleton = transform; subtags = spell_t (with_source c fs) }
 
--- the fields after a source are those of the subtags after it
+-- the fields in a core's subtags and others are those in the others, as a core has no separator of a field
 fields_after : (c : CoreParts) (ss : List (List ℕ)) → IsCore c → fields_of (spell_core c ++ ss) ≡ fields_of ss
 fields_after c ss k = fields-append (spell_core c) ss (core_parts (λ (s : List ℕ). not (is_separator s)) (λ s p. p.no_separator) c k)
 
--- fields spell the subtags that they are found in
+-- the list of a text of fields is what these spell
 fields_list : {fields : List ℕ} (K : IsFields fields) → list_of K.rest ≡ flat_map spell_field (fields_of (list_of K.rest))
 fields_list K = sym (fields-spelled (list_of K.rest)) ∙ ap (λ (l : List (List ℕ)). l ++ flat_map spell_field (fields_of (list_of K.rest))) K.separator
 
--- a `t` extension is an end, with a list of its own
+-- a `t` extension of a source and fields is an end
 abbrev transformed_end : (source fields end : List ℕ) → IsTransformed source fields end → IsEnd end
 transformed_end source fields end T = record {
   singleton = T.singleton;
@@ -64,6 +65,7 @@ transformed_end source fields end T = record {
   whole = T.whole;
 }
 
+-- the list of such an end is the subtags of the extension; `c` is the source that is read
 transformed_list : (source fields end : List ℕ) (c : CoreParts) (T : IsTransformed source fields end) → HasTag source (core_alone c)
     → list_after (transformed_end source fields end T) ≡ spell_extension (t_of c (fields_of (list_of T.is_fields.rest)))
 transformed_list source fields end c T read =
@@ -71,11 +73,12 @@ transformed_list source fields end c T read =
     let list = ap (λ (l : List ℕ). list_of (source ++ l)) K.whole ∙ list_append source K.rest ∙ (λ i. core_list source c read i ++ fields_list K i) in
     λ i. (T.is_t i ∷ []) ∷ list i
 
--- no more than one extension
+-- extensions and private use without a one-character subtag are none
 none_more : (es : List ExtensionParts) (ps : List (List ℕ)) → no_single (spell_rest es ps) ≡ true → (es ≡ []) × (ps ≡ [])
 none_more [] [] h = (refl, refl)
 none_more es ps h = cc
 
+-- extensions and private use that spell `t` (116) and subtags, `xs`, none of one character, are one `t` extension
 one_extension : (es : List ExtensionParts) (ps xs : List (List ℕ)) → spell_rest es ps ≡ (116 ∷ []) ∷ xs → no_single xs ≡ true → (es ≡ record { singleton = transform; subtags = xs } ∷ []) × (ps ≡ [])
 one_extension [] [] xs e h = cc
 one_extension [] (p ∷ ps) xs e h = absurd (omega (arith, head_is 120 116 [] [] (head_is x_subtag (116 ∷ []) (p ∷ ps) xs e)))
@@ -86,15 +89,16 @@ one_extension (x ∷ es) ps xs e h =
     let subtags : x.subtags ≡ xs = sym (append-nil x.subtags) ∙ (λ i. x.subtags ++ spell_rest (sym none.0 i) (sym none.1 i)) ∙ rest in
     ((λ i. let e : ExtensionParts = record { singleton = first i; subtags = subtags i } in e ∷ none.0 i), none.1)
 
--- some fields
+-- these are well-formed fields, at least one
 record AreFields (fs : List FieldParts) : Type 0 where
   each : AllByRecursion IsField fs
   some : fs ≢ []
 
+-- a text of fields has at least one
 fields_some : {fields : List ℕ} (K : IsFields fields) → fields_of (list_of K.rest) ≢ []
 fields_some K none = omega (arith, some_pieces K.rest, length-map (pieces K.rest) folded, ap length (fields_list K ∙ ap (flat_map spell_field) none))
 
--- the text of a `t` extension
+-- the text of a `t` extension alone: `t` (116), the source in lower case, and the fields, after hyphens (45)
 extension_text : (source : List ℕ) (c : CoreParts) (fs : List FieldParts) → HasTag source (core_alone c) → fs ≢ []
     → join_with_byte 45 (spell_rest (t_of c fs ∷ []) []) ≡ 116 ∷ 45 ∷ (folded source ++ 45 ∷ join_with_byte 45 (flat_map spell_field fs))
 extension_text source c [] read some = absurd (some refl)
@@ -102,32 +106,39 @@ extension_text source c (f ∷ fs) read some =
     ap (join_with_byte 45) (extension_alone (t_of c (f ∷ fs))) ∙ ap (λ (l : List ℕ). 116 ∷ 45 ∷ l) (join_append c.language _ f.separator _)
     ∙ ap (λ (l : List ℕ). 116 ∷ 45 ∷ (l ++ 45 ∷ join_with_byte 45 (flat_map spell_field (f ∷ fs)))) (ap (join_with_byte 45) (sym (core_list source c read) ∙ list_of_is source) ∙ join_pieces (folded source))
 
+-- in a registry that passes the check
 module _ (R : List EntryParts) (C : IsChecked R) where
+  -- a canonical source and well-formed fields are the parts of the `t` extension that they spell
   formed : {source : List ℕ} (G : IsCanonicalCore R source) (fs : List FieldParts) → AreFields fs → IsTransform (spell_t (with_source G.core fs)) (with_source G.core fs)
   formed G fs A = record { shaped = record { source = G.read.tag.0.shaped_core; fields = A.each; some = omega arith }; spelled = refl }
 
   -- ---- the end of fields after a canonical source
 
+  -- a step within a `t` extension leaves its fields well-formed
   fields_kept : (p q : TForm) → TransformStep R p q → AreFields p.fields → AreFields q.fields
   fields_kept p q (on_source _ _ _ _ _ same) A = subst AreFields (sym same) A
   fields_kept p q (on_fields _ s) A = record { each = all_step IsField p.fields q.fields s A.each; some = step_some p.fields q.fields s }
 
+  -- the normal form of a `t` extension's parts
   abbrev parts_end : TForm → TForm
   parts_end = t_form R C.passes.core_conditions
 
+  -- the normal form of fields
   abbrev fields_end : List FieldParts → List FieldParts
   fields_end fs = (parts_end (record { source = None; fields = fs })).fields
 
+  -- the normal form of well-formed fields is well-formed
   fields_ended : (fs : List FieldParts) → AreFields fs → AreFields (fields_end fs)
   fields_ended fs A =
       let none : TForm = record { source = None; fields = fs } in
       star_keeps (λ (p : TForm). AreFields p.fields) fields_kept ((t_formed R C.passes.core_conditions).reached none) A
 
-  -- one extension is in order
+  -- one extension alone is in order: no step swaps it or drops it
   no_step : (e : ExtensionParts) (fs : List ExtensionParts) → ListStep false singleton_cmp (e ∷ []) fs → ⊥
   no_step e fs (by_swap before a b after s) = omega (arith, ap length s.there, length-append before (a ∷ b ∷ after))
   no_step e fs (by_drop before a between b after o s) = let bad : false ≡ true = o in cc
 
+  -- a `t` extension alone with a canonical source ends with the same source and the normal form of its fields
   extension_ended : {source : List ℕ} (G : IsCanonicalCore R source) (fs : List FieldParts) → AreFields fs → extensions_end R C (t_of G.core fs ∷ []) ≡ t_of G.core (fields_end fs) ∷ []
   extension_ended G fs A =
       let p = with_source G.core fs in
@@ -136,11 +147,12 @@ module _ (R : List EntryParts) (C : IsChecked R) where
       ∙ ap (λ (e : ExtensionParts). e ∷ []) (normal_is_form (extension_formed R C.registry C.passes.core_conditions) (t_of G.core fs) (t_of (core_end R C G.core) (fields_end fs)) settled)
       ∙ ap (λ (c : CoreParts). t_of c (fields_end fs) ∷ []) (rest_is_form (cores_formed R C) G.core (core_rests R C G.core G.canonical))
 
-  -- they can follow each canonical core
+  -- a canonical source repeats no variant
   distinct_source : {source : List ℕ} (G : IsCanonicalCore R source) (fs : List FieldParts) → AreFields fs → HasDistinctSource (t_of G.core fs)
   distinct_source G fs A = λ t q k.
       subst (λ (p : TForm). IfSome p.source (λ (c : CoreParts). Distinct c.variants)) (one_transform _ _ q (formed G fs A) k) G.canonical.valid.distinct.0
 
+  -- fields follow each canonical source, after each canonical core, as their normal form
   with_fields : (fields : List ℕ) (K : IsFields fields) → AreFields (fields_of (list_of K.rest)) → IsFieldsText R fields (45 ∷ join_with_byte 45 (flat_map spell_field (fields_end (fields_of (list_of K.rest)))))
   with_fields fields K A front source end F G U short =
       let fs = fields_of (list_of K.rest) in
@@ -169,6 +181,7 @@ module _ (R : List EntryParts) (C : IsChecked R) where
       (whole_list front end F.core (transformed_end source fields end T) F.read ∙ ap (λ (l : List (List ℕ)). spell_core F.core ++ l) (list ∙ sym (extension_alone (t_of G.core fs))))
       (ap (λ (es : List ExtensionParts). join_with_byte 45 (spell_rest es [])) reached ∙ extension_text source G.core (fields_end fs) G.read B.some) short
 
+  -- what follows one canonical source with fields, in its canonical text, follows each with the same fields
   pub fields_shared : FieldsAreShared R
   fields_shared front source fields end canonical F G T a =
       let K = T.is_fields in
@@ -183,17 +196,18 @@ module _ (R : List EntryParts) (C : IsChecked R) where
       let shared = with_fields fields K A in
       record { rest = _; whole = one_text R C (front ++ end) _ _ a (shared front source end F G T a.read.short); shared = shared }
 
--- a letter and a digit are a separator, in either case
+-- a letter and a digit are a separator of a field, in either case
 pub pair_separator : (letter digit : ℕ) → is_ascii_alphabetic letter ≡ true → is_ascii_digit digit ≡ true → is_separator (folded (letter ∷ digit ∷ [])) ≡ true
 unfolding is_separator
 pair_separator letter digit a d = grind (arith, nat_tests)
 
--- so fields begin with a separator
+-- a text that begins with a separator and a hyphen (45) has no subtag before its first separator
 first_separator : (letter digit : ℕ) (rest : List ℕ) → is_separator (folded (letter ∷ digit ∷ [])) ≡ true → before is_separator (list_of (letter ∷ digit ∷ 45 ∷ rest)) ≡ []
 unfolding is_separator
 first_separator letter digit rest h = grind (arith, nat_tests)
 
--- a source and fields after a singleton
+-- an end of the singleton `t`, a source, and fields that begin with a separator and have no one-character subtag is a
+-- `t` extension of these
 pub transformed : (end rest source fields : List ℕ) → FollowsSingleton rest end → source ++ fields ≡ rest → BeginsWithSeparator fields
     → list_all (λ (s : List ℕ). not (length s == 1)) (list_of (take (length fields - 1) (drop 1 fields))) ≡ true → IsTransformed source fields end
 transformed end rest source fields F whole S none = record {

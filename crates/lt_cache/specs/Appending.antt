@@ -31,7 +31,8 @@ AppendsTransformed table source fields old new true =
     × (new ≡ old ++ (45 ∷ transform ∷ 45 ∷ folded source ++ answer))
 AppendsTransformed table source fields old new false = new ≡ old
 
--- what follows each canonical core with this end in its canonical text was appended; or, if false, nothing was
+-- what follows the core in the canonical text of each canonical core with this end was appended; or, if false, nothing
+-- was
 abbrev pub AppendsEnd : List EntryParts → List (Option Kept) → (end old new : List ℕ) → Bool → Type 0
 AppendsEnd R table end old new true = (rest : List ℕ) × (AreEnds R table → IsEndText R end rest) × (new ≡ old ++ rest)
 AppendsEnd R table end old new false = new ≡ old

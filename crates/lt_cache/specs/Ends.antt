@@ -53,7 +53,7 @@ IsEndText R end canonical =
     (front : List ℕ) → IsCanonicalCore R front → length (front ++ end) ≤ longest_text →
     IsCanonicalTextOf R (front ++ end) (conventional (list_of front) ++ canonical)
 
--- what follows the core in this canonical text follows each canonical core with the same end
+-- `canonical`, the canonical text of a core, `front`, and an end, tells what follows each canonical core with this end
 pub record TellsEnd (R : List EntryParts) (front end canonical : List ℕ) : Type 0 where
   pub rest : List ℕ
   pub whole : canonical ≡ conventional (list_of front) ++ rest
@@ -75,7 +75,8 @@ IsFieldsText R fields canonical =
     IsCanonicalTextOf R (front ++ end)
     (conventional (list_of front) ++ (45 ∷ transform ∷ 45 ∷ folded source ++ canonical))
 
--- what follows the source in this canonical text follows each canonical core and source with the same fields
+-- `canonical`, the canonical text of a core, `front`, and a `t` extension of a source and fields, tells what follows
+-- each canonical source with these fields
 pub record TellsFields (R : List EntryParts) (front source fields canonical : List ℕ) : Type 0 where
   pub rest : List ℕ
   pub whole : canonical ≡ conventional (list_of front) ++ (45 ∷ transform ∷ 45 ∷ folded source ++ rest)

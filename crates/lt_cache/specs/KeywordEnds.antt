@@ -17,7 +17,7 @@ of_keywords keywords = record { attributes = []; keywords = keywords }
 abbrev pub hyphened : List ℕ → List ℕ
 hyphened s = 45 ∷ s
 
--- the keywords have one subtag more, and the form of keywords if they had it before
+-- the keywords `new` are `old` with one subtag more, `s`, and have the form of keywords if `old` have it
 pub record AddsSubtag (s : List ℕ) (old new : List KeywordParts) : Type 0 where
   pub spelled : flat_map spell_keyword new ≡ flat_map spell_keyword old ++ s ∷ []
   pub shaped : AllByRecursion IsKeyword old → AllByRecursion IsKeyword new

@@ -18,8 +18,8 @@ pub(crate) fn read_piece(piece: &[u8]) -> Option<Subtag>
     Subtag::read(piece).ok()
 }
 
-/// The last key after a further piece: the piece if it is a key after the last one, or the last key if the piece is a type
-/// of it other than `true`. None if the piece is neither.
+/// The last key after a further piece, `last` being the one before it: the piece if it is a key after `last`, or `last`
+/// if the piece is a type of it other than `true`. None if the piece is neither.
 #[tactic(auto, using(crate::proofs::PieceLemmas::next_none))]
 fn key_after(last: Option<Subtag>, piece: &[u8]) -> Option<Subtag>
     ensures { result ≡ rising.next_key last (folded piece.now) }
@@ -27,7 +27,8 @@ fn key_after(last: Option<Subtag>, piece: &[u8]) -> Option<Subtag>
     next_key(last, read_piece(piece)?)
 }
 
-/// Whether a text consists of keywords whose keys rise, none of which has the type `true`.
+/// Whether a text consists of keywords whose keys rise, none of which has the type `true`: so they are in canonical
+/// form but for their case (RFC 5646, 4.5; RFC 6067, 2.1.1).
 fn keys_rise(text: &[u8]) -> bool
     ensures { result ≡ rising.keys_rise None (list_of text.now) }
 {

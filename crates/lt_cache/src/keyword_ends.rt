@@ -46,7 +46,7 @@ fn add_subtag(
     Ok(true)
 }
 
-/// The keywords that a text consists of. None if it is no list of keywords.
+/// The keywords that a text consists of, without the singleton before them. None if it is no list of keywords.
 fn read_keywords(alloc: Global, text: &[u8]) -> Result<Option<Vec<Keyword>>, OutOfMemory>
     ensures { IfOk result (λ found. IfSome found (λ keywords. IsUnicode (list_of text.now) (of_keywords keywords.items))) }
 {

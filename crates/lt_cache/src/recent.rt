@@ -11,10 +11,11 @@ use std::marker::Model;
 /// How many pairs of places the table has. A place takes 67 bytes.
 const PAIRS: usize = 4096;
 
-/// After so many answers in a row that were put while none came again, one of eight is.
+/// Once this many answers in a row were to be put and none was found again, only one of eight is put: where lines don't
+/// repeat, putting each would take time for nothing.
 const MANY_NEW: u32 = 256;
 
-/// An answer, the line that it was given to, and whether it is a refusal.
+/// An answer, the line to which it was given, and whether it is a refusal.
 #[derive(Drop)]
 struct Kept {
     line: ShortText,
@@ -31,9 +32,9 @@ pub struct Found<'t> {
     pub refused: bool,
 }
 
-/// The answers that were given lately, each in one of the two places that its line gives: the first has what was put
-/// last, and the second what was put before. Its places are made for the first answer. Where there is no memory for
-/// them, it keeps nothing.
+/// The answers that were given lately. The hash of a line gives the line two places, side by side: the first has what
+/// was put last, and the second what was put before. The places are made for the first answer. Where there is no memory
+/// for them, it keeps nothing.
 #[derive(Drop)]
 pub struct Recent {
     alloc: Global,
@@ -87,7 +88,7 @@ impl Recent {
         }
     }
 
-    /// The answer at this place, if it is that of `line`. None if the place is empty or has another line.
+    /// The answer at the place `index`, if it is that of `line`. None if the place is empty or has another line.
     #[inline(always)]
     fn at(&self, index: usize, line: &ShortText) -> Option<Found<'_>>
         ensures { IfSome result (λ found. Holds self.now line.now found.answer.now found.refused) }
@@ -101,7 +102,8 @@ impl Recent {
         }
     }
 
-    /// The answer that was put for the first `count` bytes of `text`, or None if the table doesn't hold it.
+    /// The answer that was put for the first `count` bytes of `text`, or None if the table doesn't hold it. What
+    /// follows these bytes is for speed alone, as 32 bytes are taken at once.
     pub fn find(&self, text: &[u8], count: usize) -> Option<Found<'_>>
         requires { count ≤ length text.now }
         ensures { IfSome result (λ found. Holds self.now (take count text.now) found.answer.now found.refused) }
@@ -122,9 +124,9 @@ impl Recent {
         self.unfound = 0;
     }
 
-    /// Puts an answer for a line, if both have at most 32 bytes and there is memory for the table; where answers don't come
-    /// again, not each. A line has two places, which it shares with others: what was put there the time before last is
-    /// lost.
+    /// Puts an answer for a line, if both have at most 32 bytes and there is memory for the table. Where answers are
+    /// not found again, only one of eight is put. A line has two places, which it shares with others: of what was put
+    /// there, only the last two answers are held. `refused` is whether the answer is a refusal.
     #[inline(always)]
     pub fn put(&mut self, line: &[u8], answer: &[u8], refused: bool)
         ensures { PutsIn self.old self.new line.now answer.now refused }
@@ -135,7 +137,8 @@ impl Recent {
         }
     }
 
-    /// Puts an answer for a line, if both have at most 32 bytes and there is memory for the table.
+    /// Puts an answer for a line, if both have at most 32 bytes and there is memory for the table. `refused` is whether
+    /// it is a refusal.
     #[inline(never)]
     fn put_short(&mut self, line: &[u8], answer: &[u8], refused: bool)
         ensures { PutsIn self.old self.new line.now answer.now refused }

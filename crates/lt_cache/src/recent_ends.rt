@@ -15,7 +15,8 @@ use lt_tag::OutOfMemory;
 use std::alloc::Global;
 use std::marker::Model;
 
-/// The most bytes of a text whose end may be kept.
+/// The most bytes of a text whose end may be kept: the longest front, and an end of 32 bytes, as a table holds no
+/// longer one.
 const LONGEST: usize = LONGEST_FRONT + 32;
 
 /// The ends of tags that were made canonical lately, each with the end of the canonical text. An end begins with the
@@ -148,8 +149,8 @@ impl RecentEnds {
         }
     }
 
-    /// Appends the canonical form of an end, if it is kept for the end, or for its fields after a source that stays as it is.
-    /// Tells whether it did, and else appends nothing.
+    /// Appends the canonical form of an end, if it is kept for the end, or for its fields after a source that stays as
+    /// it is. Tells whether it did, and else appends nothing.
     #[inline(always)]
     #[tactic(auto, using(crate::proofs::KeptEnds::kept_appended_after))]
     fn append_end<L: Lookup>(
@@ -167,7 +168,7 @@ impl RecentEnds {
         Ok(self.append_kept(end, texts)?)
     }
 
-    /// Keeps the end of `texts` from the place `from` on, which is canonical for `end`. Of a `t` extension it keeps what
+    /// Keeps what `texts` have from the place `from` on, which is canonical for `end`. Of a `t` extension it keeps what
     /// follows the source, for the fields. `texts` is left as it was.
     fn keep<L: Lookup>(
         &mut self,
@@ -192,6 +193,7 @@ impl RecentEnds {
     }
 
     /// Appends the canonical text of `text`, and keeps what follows its first `count` bytes, as canonical for `end`.
+    /// `end` is the end of `text`, and `count` is how many bytes the core before it has in the canonical text.
     #[tactic(auto, using(crate::proofs::KeptEnds::end_stands))]
     fn append_new<L: Lookup>(
         &mut self,
@@ -216,9 +218,9 @@ impl RecentEnds {
         Ok(())
     }
 
-    /// Appends the canonical text of the tag that a text is read as, with the refusals of `append_canonical_text`. The end
-    /// of a text after a language, and a script and a region where there is one, that stay as they are is not made canonical
-    /// again if that was done lately.
+    /// Appends the canonical text of the tag that a text is read as, with the refusals of `append_canonical_text`. An
+    /// end that was made canonical lately is not made so again, if before it are a language, and a script and a region
+    /// where there is one, that stay as they are.
     pub fn append_canonical_text<L: Lookup>(
         &mut self,
         alloc: Global,

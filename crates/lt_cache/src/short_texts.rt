@@ -9,7 +9,7 @@ use std::simd::prelude::*;
 /// The most bytes of a short text.
 const MOST: usize = 32;
 
-/// The number of each lane.
+/// The number of each lane, a place for one of the 32 bytes that are handled at once.
 const LANES: [u8; MOST] = [
     0, 1, 2, 3, 4, 5, 6, 7, 8, 9, 10, 11, 12, 13, 14, 15, 16, 17, 18, 19, 20, 21, 22, 23, 24, 25,
     26, 27, 28, 29, 30, 31,
@@ -57,7 +57,8 @@ fn pad(bytes: &[u8]) -> [u8; MOST]
 }
 
 impl ShortText {
-    /// The first `count` bytes of a text, or None if they are more than 32.
+    /// The first `count` bytes of a text, or None if they are more than 32. Of a text with at least 32 bytes they are
+    /// taken at once.
     #[inline(always)]
     pub fn front(text: &[u8], count: usize) -> Option<ShortText>
         requires { count ≤ length text.now }
@@ -87,14 +88,16 @@ impl ShortText {
         self.count == other.count && differ.to_bitmask() == 0
     }
 
-    /// A number by which texts are spread over the places of a table. A text has always the same.
+    /// A number of 24 bits by which texts are spread over the places of a table. A text has always the same.
     #[inline(always)]
     pub(crate) fn hash(&self) -> usize {
         let words = u64x4::from_le_bytes(u8x32::from_array(self.bytes)).to_array();
+        // Each word has a factor of its own, odd and of well mixed bits, so that the order of the words counts.
         let mixed = words[0].wrapping_mul(0x9e37_79b9_7f4a_7c15)
             ^ words[1].wrapping_mul(0xc2b2_ae3d_27d4_eb4f)
             ^ words[2].wrapping_mul(0x1656_67b1_9e37_79f9)
             ^ words[3].wrapping_mul(0x27d4_eb2f_1656_67c5);
+        // A bit of a product depends on no higher bit of its word, so the upper bits depend on the most.
         (mixed >> 40) as usize
     }
 

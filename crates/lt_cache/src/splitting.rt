@@ -11,8 +11,8 @@ ghost use Rattle.lt_cache.specs.Appending.{FollowsSingleton, BeginsWithSeparator
 pub(crate) const LONGEST_FRONT: usize = 12;
 
 /// What is before the first one-character subtag, and the end that begins with the hyphen before it: `ar` and
-/// `-u-nu-latn` of `ar-u-nu-latn`. None where there is no such subtag within the first bytes, it is the last one, or the text
-/// has more than `longest` bytes.
+/// `-u-nu-latn` of `ar-u-nu-latn`. None where more than `LONGEST_FRONT` bytes are before any such subtag, it is the
+/// last one, or the text has more than `longest` bytes.
 #[inline(always)]
 pub(crate) fn split_end(text: &[u8], longest: usize) -> Option<(&[u8], &[u8])>
     requires { longest ≤ longest_text }
@@ -23,6 +23,7 @@ pub(crate) fn split_end(text: &[u8], longest: usize) -> Option<(&[u8], &[u8])>
     if text.len() > longest {
         return None;
     }
+    // A front has two bytes at least, as a language has.
     for place in 2..text.len().saturating_sub(2).min(LONGEST_FRONT + 1) {
         if text[place] == b'-' && text[place + 2] == b'-' && text[place + 1] != b'-' {
             return Some(text.split_at(place));
@@ -40,13 +41,15 @@ fn is_separator(letter: u8, digit: u8) -> bool
     letter.is_ascii_alphabetic() && digit.is_ascii_digit()
 }
 
-/// What is before the first separator of a field, and the rest from the hyphen before the separator on: `it` and `-m0-names`
-/// of `it-m0-names`. None where there is no separator within the first bytes.
+/// What is before the first separator of a field that has a hyphen after it, and the rest from the hyphen before the
+/// separator on: `it` and `-m0-names` of `it-m0-names`. None where more than `LONGEST_FRONT` bytes are before any such
+/// separator.
 #[inline(always)]
 fn split_fields(text: &[u8]) -> Option<(&[u8], &[u8])>
     ensures whole { IfSome result (λ parts. parts.0.now ++ parts.1.now ≡ text.now) }
     ensures fields { IfSome result (λ parts. BeginsWithSeparator parts.1.now) }
 {
+    // A source has two bytes at least, as a language has.
     for at in 2..text.len().saturating_sub(3).min(LONGEST_FRONT + 1) {
         if text[at] == b'-' && text[at + 3] == b'-' && is_separator(text[at + 1], text[at + 2]) {
             return Some(text.split_at(at));
@@ -55,7 +58,7 @@ fn split_fields(text: &[u8]) -> Option<(&[u8], &[u8])>
     None
 }
 
-/// Whether no piece between hyphens has just one character.
+/// Whether no piece between hyphens has just one character, as a singleton has.
 #[inline(always)]
 fn has_no_singleton(text: &[u8]) -> bool
     ensures { result ≡ list_all (λ (s : List ℕ). not (length s == 1)) (list_of text.now) }
@@ -75,9 +78,9 @@ fn after_singleton(end: &[u8]) -> Option<&[u8]>
     None
 }
 
-/// What is between `-t-` and the first separator of a field, and the fields, which end the text: `it` and `-m0-names` of
-/// `-t-it-m0-names`. Of the source nothing else is asked. None if the text does not begin so, if no separator with a hyphen
-/// after it is within the first bytes, or if a singleton follows.
+/// What is between `-t-` and the first separator of a field, and the fields, which end the text: `it` and `-m0-names`
+/// of `-t-it-m0-names`. Of the source nothing else is asked. None if the text does not begin so, if more than
+/// `LONGEST_FRONT` bytes are before any separator with a hyphen after it, or if a one-character subtag follows.
 #[inline(always)]
 #[tactic(auto, using(crate::proofs::SourceLemmas::transformed))]
 pub(crate) fn split_source(end: &[u8]) -> Option<(&[u8], &[u8])>

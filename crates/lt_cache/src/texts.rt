@@ -20,7 +20,8 @@ use std::alloc::Global;
 /// The most bytes of a text that is read.
 const LONGEST_TEXT: usize = 1024;
 
-/// Appends a front in conventional case if each of its subtags stays as it is, and gives true; else it appends nothing.
+/// Appends to `texts` a front in conventional case if each of its subtags stays as it is, and gives true; else it
+/// appends nothing.
 #[inline(always)]
 pub(crate) fn append_front<L: Lookup>(
     checked: &Checked<L>,
@@ -50,8 +51,8 @@ fn append_lower(text: &[u8], texts: &mut Vec<u8>) -> Result<(), OutOfMemory>
     Ok(())
 }
 
-/// Appends the canonical form of an end that is keywords or private use. Tells whether it did; of any other end, or where
-/// memory runs out, it does nothing. Memory of its own is taken only for keywords that don't stay as they are.
+/// Appends the canonical form of an end that is keywords or private use. Tells whether it did; of any other end, or
+/// where memory runs out, it appends nothing. Memory of its own is taken only for keywords that don't stay as they are.
 #[tactic(auto, using(crate::proofs::SettledEnds::settled_appends))]
 fn append_end(alloc: Global, end: &[u8], texts: &mut Vec<u8>) -> bool
     ensures appended { IsTrue result → AppendsEndText end.now texts.old.items texts.new.items }
@@ -66,9 +67,9 @@ fn append_end(alloc: Global, end: &[u8], texts: &mut Vec<u8>) -> bool
     }
 }
 
-/// Appends the canonical text of a text without reading it as a tag, if its front is a language, and a script and a region
-/// where there is one, that stay as they are, and its end is keywords or private use. Tells whether it did; of any other
-/// text, or where memory runs out, it does nothing.
+/// Appends the canonical text of a text without reading it as a tag, if its front is a language, and a script and a
+/// region where there is one, that stay as they are, and its end is keywords or private use. Tells whether it did; of
+/// any other text, or where memory runs out, it appends nothing.
 fn append_settled_text<L: Lookup>(
     alloc: Global,
     checked: &Checked<L>,

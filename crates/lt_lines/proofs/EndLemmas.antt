@@ -15,21 +15,21 @@ use Rattle.lt_lines.proofs.FormLemmas.{ended-length, ended_first, feeds_in-appen
 use Rattle.lt_lines.proofs.PartLemmas.{all_of_grammar, all_short, kept_long, kept_open, long_by, nothing_kept, short_kept}
 use Rattle.lt_lines.proofs.TakenLemmas.{replies-length}
 
--- whether a quote is open at the end
+-- the place at the end of the bytes is the place at the end of their unfinished line
 taken_open : (T : Terms) (bytes out : List ℕ) (state : Answering) → (t : IsTaken T bytes out state) → place_of T.form bytes ≡ place_of T.form t.last
 taken_open T bytes out state t = ap (place_of T.form) t.cut ∙ place_of_ended T.form t.lines t.last t.each_one
 
--- the lines of the bytes, where nothing is kept
+-- where nothing is kept, the lines of the bytes are those that were taken
 units_taken : (T : Terms) (bytes out : List ℕ) (state : Answering) (t : IsTaken T bytes out state) → state.kept.items ≡ [] → units_of T.form bytes ≡ t.lines
 units_taken T bytes out state t none =
     rw (t.cut, ended_first T.form t.lines t.last t.each_one, nothing_kept T.form state.kept.items t.last t.kept none, (of_none T.form).units, append-nil t.lines) refl
 
--- the bytes are the lines that were taken, where nothing is kept
+-- where nothing is kept, the bytes are the lines that were taken, each with its line feed
 lines_taken : (T : Terms) (bytes out : List ℕ) (state : Answering) (t : IsTaken T bytes out state) → state.kept.items ≡ [] → bytes ≡ ended t.lines
 lines_taken T bytes out state t none =
     t.cut ∙ ap (λ (l : List ℕ). ended t.lines ++ l) (nothing_kept T.form state.kept.items t.last t.kept none) ∙ append-nil (ended t.lines)
 
--- what was taken of other bytes answers these, if they have the same lines
+-- what was taken of `others` answers `bytes` as well, if these have the same lines and end outside of quotes
 answered_by : (T : Terms) (bytes others out : List ℕ) (state : Answering) (t : IsTaken T others out state) → is_open T.form bytes ≡ false → AreLinesIn bytes t.lines → units_of T.form bytes ≡ t.lines → IsAnswered T bytes out state
 answered_by T bytes others out state t closed are all = record {
   closed = closed;
@@ -44,13 +44,13 @@ answered_by T bytes others out state t closed are all = record {
   tallied = rw all t.tallied;
 }
 
--- no line feed is at the end, or all lines are ended
+-- where nothing is kept, each line of the bytes is ended, and all are answered
 pub answered_none : (T : Terms) (bytes out : List ℕ) (state : Answering) → IsTaken T bytes out state → state.kept.items ≡ [] → IsAnswered T bytes out state
 answered_none T bytes out state t none =
     let last = nothing_kept T.form state.kept.items t.last t.kept none in
     answered_by T bytes bytes out state t (ap is_quoted (taken_open T bytes out state t ∙ ap (place_of T.form) last ∙ (of_none T.form).closed)) (inl (lines_taken T bytes out state t none)) (units_taken T bytes out state t none)
 
--- a line feed after a last line ends no further line
+-- where a last line is kept and ends outside of quotes, a line feed (10) after the bytes leaves their lines the same
 last_ended : (T : Terms) (bytes out : List ℕ) (state : Answering) → IsTaken T bytes out state → (state.kept.items ≡ [] → ⊥) → is_quoted state.place ≡ false
     → units_of T.form (bytes ++ 10 ∷ []) ≡ units_of T.form bytes
 last_ended T bytes out state t some closed =
@@ -62,11 +62,13 @@ last_ended T bytes out state t some closed =
     last_length [] is = absurd (some (is ∙ (of_none T.form).kept))
     last_length (byte ∷ last) is = omega arith
 
+-- a place outside of quotes stays so after no bytes
 nothing_after : (form : LineForm) (place : Place) → is_quoted place ≡ false → is_quoted (place_then form place []) ≡ false
 nothing_after (forms.Csv row delimiter) place closed = closed
 nothing_after form place closed = refl
 
--- whether the last line was answered
+-- if answering the kept last line, as if a line feed followed it, leaves nothing kept, then all lines of the bytes are
+-- answered; `r` is the result of answering it
 pub last_answered : {E : Type 0} (T : Terms) (old new : Answering) (r : Result (Unit {0}) E) → (old.kept.items ≡ [] → ⊥) → is_quoted old.place ≡ false
     → OnOk r ((bytes out : List ℕ) → IsWholeAfter T.form old.kept.items old.place [] → IsTaken T bytes out old → IsTaken T (bytes ++ ([] ++ 10 ∷ [])) out new) → OnOk r (new.kept.items ≡ [])
     → OnOk r ((bytes out : List ℕ) → IsTaken T bytes out old → IsAnswered T bytes out new)
@@ -75,7 +77,7 @@ last_answered T old new (Ok _) some closed taken none =
     answered_by T bytes (bytes ++ 10 ∷ []) out new after (ap is_quoted (taken_open T bytes out old t ∙ sym t.goes_on) ∙ closed) (inr (lines_taken T (bytes ++ 10 ∷ []) out new after none)) (sym (last_ended T bytes out old t some closed) ∙ units_taken T (bytes ++ 10 ∷ []) out new after none)
 last_answered T old new (Err _) some closed taken none = tt
 
--- all that is owed was written
+-- once the last of the waiting answers, `part`, is written, all that is owed for the bytes was written
 pub owed_all : (T : Terms) (bytes out part : List ℕ) (state new : Answering) → IsAnswered T bytes out state → KeepsLine state new
     → state.owed.items ≡ part ++ new.owed.items → new.owed.items ≡ [] → OwesAll T bytes (out ++ part) new.counts new.tallies
 owed_all T bytes out part state new a same wrote none = record {
@@ -93,7 +95,7 @@ owed_all T bytes out part state new a same wrote none = record {
   tallied = rw same.tallies a.tallied;
 }
 
--- what is answered is a front of what is owed
+-- what was written, `out`, and a front of the waiting answers, `part`, are a front of what is owed
 pub begun_answered : (T : Terms) (bytes out part : List ℕ) (state : Answering) → IsAnswered T bytes out state → IsFrontOf part state.owed.items → IsBegun T bytes (out ++ part)
 begun_answered T bytes out part state a front = record {
   lines = units_of T.form bytes;
@@ -105,7 +107,7 @@ begun_answered T bytes out part state a front = record {
   front = sym a.all ∙ ap (λ (l : List ℕ). out ++ l) front.1 ∙ sym (append_assoc out part front.0);
 }
 
--- the counts of what was taken
+-- no more lines or line feeds are counted than there are bytes, and no more refused lines than lines
 pub taken_room : (T : Terms) (bytes out : List ℕ) (state : Answering) → IsTaken T bytes out state
     → (state.counts.lines ≤ length bytes) × (state.counts.refused ≤ state.counts.lines) × (state.feeds ≤ length bytes)
 taken_room T bytes out state t =
@@ -114,7 +116,7 @@ taken_room T bytes out state t =
     let fewer = count_by-le-length (λ (r : Reply). r.refused) t.owed in
     (omega (arith, t.count, all, most, ap length t.cut, length-append (ended t.lines) t.last), omega (arith, t.count, t.refused, fewer), omega (arith, t.feeds, count_by-le-length (λ (byte : ℕ). byte == 10) bytes))
 
--- what is owed for the lines that are ended was written
+-- where no answers wait, what was written is what is owed up to the last line feed that ends a line
 abbrev pub owed_to_last_feed : (T : Terms) (read written : List ℕ) (state : Answering) → IsTaken T read written state → state.owed.items ≡ [] → IsOwedToLastFeed T read written
 owed_to_last_feed T read written state t none = record {
   lines = t.lines;
@@ -127,7 +129,8 @@ owed_to_last_feed T read written state t none = record {
   all = sym (append-nil written) ∙ ap (λ (l : List ℕ). written ++ l) (sym none) ∙ t.all;
 }
 
--- a quote is open at the end
+-- where a quote is open at the end of the bytes, the unfinished record begins in the line after those line feeds that
+-- are not kept
 pub ends_in_quotes : (T : Terms) (bytes out : List ℕ) (state : Answering) (line : ℕ) → IsTaken T bytes out state → state.owed.items ≡ [] → is_quoted state.place ≡ true
     → line ≡ (state.feeds - feeds_in state.kept.items) + 1 → (e : EndsInQuotes T bytes out line) × AreTalliesOf T.form e.owed.lines e.owed.owed state.tallies
 ends_in_quotes T bytes out state line t none inside begins =
@@ -153,7 +156,8 @@ begun_to_last_feed T bytes written o = record {
   front = sym o.all ∙ sym (append-nil written);
 }
 
--- a row or a record is too long
+-- a row or a record is too long with its next bytes, `part`: what was written, `out`, and the answers that wait are
+-- those to the lines before it; `more` is what follows `part`
 abbrev pub ends_too_long : (T : Terms) (bytes out part more : List ℕ) (state : Answering) → IsTaken T bytes out state → IsOneLine part → IsLongBy T.form (length state.kept.items) (length part)
     → EndsTooLong T (bytes ++ (part ++ more)) (out ++ state.owed.items) (line_of state)
 ends_too_long T bytes out part more state t one long =
@@ -173,7 +177,7 @@ ends_too_long T bytes out part more state t one long =
       begins = omega (arith, t.feeds, all, ap feeds_in last);
     }
 
--- what is owed for the lines before it is a front of what is owed
+-- the answers to the lines before a row or a record that is too long are a front of what is owed
 pub begun_too_long : (T : Terms) (bytes written : List ℕ) (line : ℕ) → EndsTooLong T bytes written line → IsBegun T bytes written
 begun_too_long T bytes written line e = record {
   lines = e.lines;
@@ -185,7 +189,7 @@ begun_too_long T bytes written line e = record {
   front = sym e.all ∙ sym (append-nil written);
 }
 
--- and what was refused of them is in the tallies
+-- where a row or a record is too long with its next bytes, `part`, the tallies count the refused lines before it
 pub too_long : (T : Terms) (bytes out part more : List ℕ) (state : Answering) → IsTaken T bytes out state → IsOneLine part → IsLongBy T.form (length state.kept.items) (length part)
     → TalliesTooLong T (line_of state) state.tallies (bytes ++ (part ++ more)) (out ++ state.owed.items)
 too_long T bytes out part more state t one long = (ends_too_long T bytes out part more state t one long, t.tallied)

@@ -11,13 +11,14 @@ use Rattle.lt_lines.specs.declared.forms.LineForm.{LineForm}
 use Rattle.lt_lines.specs.declared.forms.LineForm.TheVariants as forms
 use Rattle.lt_lines.proofs.PartLemmas.{kept_more, nothing_kept}
 
--- the front of the content of a long line is its own
+-- of a line longer than `most_shown` the same front is shown with and without a carriage return at its end
 content_front : (line : List ℕ) → most_shown < length line → take most_shown (content_of line) ≡ take most_shown line
 content_front line long = elim (ends_with_byte 13 line) as (λ t. take most_shown (if t then take (length line - 1) line else line) ≡ take most_shown line) [
   | true ↦ take-take most_shown (length line - 1) line (omega (arith, long))
   | false ↦ refl
 ]
 
+-- of a line and of its kept front the same is shown: what is kept is longer than what is shown
 front_kept : (line : List ℕ) → take most_shown (content_of (take longest_kept line)) ≡ take most_shown (content_of line)
 front_kept line = elim (leb_tells (length line) longest_kept) [
   | inl short ↦ ap (λ (l : List ℕ). take most_shown (content_of l)) (take_all longest_kept line short.1)
@@ -26,7 +27,7 @@ front_kept line = elim (leb_tells (length line) longest_kept) [
       ∙ take-take most_shown longest_kept line (omega arith) ∙ sym (content_front line (omega (arith, long.1)))
 ]
 
--- what is counted of the front of a line, as far as it is kept, is counted of the line
+-- a line that is counted by what is kept of it is counted as by all of it
 counts_for_kept : (form : LineForm) (number : ℕ) (line bytes : List ℕ) (refused : Bool) (old new : List Tally) → CountsIf form number (kept_of form line) bytes refused old new → CountsIf form number line bytes refused old new
 counts_for_kept form number line bytes false old new same = same
 counts_for_kept forms.Tag number line bytes true old new c =
@@ -38,7 +39,8 @@ counts_for_kept forms.Tag number line bytes true old new c =
     }
 counts_for_kept form number line bytes true old new c = c
 
--- what is counted of what is kept of a whole line, or of its last bytes where nothing is, is counted of the line
+-- the line of the front `last` and the last bytes `part` is counted as by all of it where it is counted by what is
+-- kept: `before` was kept of `last`, and `kept` with `part`; where nothing was kept, the line is `part` alone
 pub counts_line : (form : LineForm) (number : ℕ) (last part bytes before kept : List ℕ) (refused : Bool) (old new : List Tally) → before ≡ kept_of form last → KeepsPart form before part kept
     → CountsIf form number (line_at kept part) bytes refused old new → CountsIf form number (last ++ part) bytes refused old new
 counts_line form number last part bytes [] kept refused old new is keeps c =
@@ -50,10 +52,11 @@ counts_line form number last part bytes (byte ∷ before) kept refused old new i
     (subst (λ (l : List ℕ). CountsIf form number l bytes refused old new) (kept_more form (byte ∷ before) last part whole is refl)
     (subst (λ (l : List ℕ). CountsIf form number (line_at l part) bytes refused old new) keeps c))
 
--- what is kept of a line once it is whole
+-- where nothing was kept of a line before its last bytes, nothing is kept of it
 pub keeps_none : (form : LineForm) (old part : List ℕ) → old ≡ [] → KeepsPart form old part old
 keeps_none form old part none = subst (λ (l : List ℕ). KeepsPart form l part l) (sym none) refl
 
+-- where some bytes were kept of a line, what is to be kept of its last bytes follows them
 pub keeps_some : (form : LineForm) (old part new : List ℕ) → (old ≡ [] → ⊥) → new ≡ old ++ part_kept form (length old) part → KeepsPart form old part new
 keeps_some form [] part new some is = absurd (some refl)
 keeps_some form (byte ∷ old) part new some is = is

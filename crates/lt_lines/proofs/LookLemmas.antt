@@ -24,7 +24,7 @@ use Rattle.lt_lines.specs.declared.forms.LineForm.TheVariants as forms
 use Rattle.lt_lines.proofs.FormLemmas.{of_none}
 use Rattle.lt_lines.proofs.PartLemmas.{nothing_kept}
 
--- the content of a line is a front of the text that the line is a front of
+-- a line that is the first `count` bytes of a text has for its content the first bytes of the same text
 pub content_front : (text : List ℕ) (count : ℕ) → count ≤ length text → take (length (content_of (take count text))) text ≡ content_of (take count text)
 content_front text count le =
     let line = take count text in
@@ -34,6 +34,7 @@ content_front text count le =
       | false ↦ ap (λ n. take n text) long
     ]
 
+-- the content of a line, the first `count` bytes of a text, is no longer than the line
 pub content_short : (text : List ℕ) (count : ℕ) → count ≤ length text → length (content_of (take count text)) ≤ count
 content_short text count le =
     let line = take count text in
@@ -43,11 +44,12 @@ content_short text count le =
       | false ↦ omega (arith, long)
     ]
 
--- a line that a carriage return ends
+-- both of two tests are true if their conjunction is
 both : (x y : Bool) → (x && y) ≡ true → (x ≡ true) × (y ≡ true)
 both true y e = (refl, e)
 both false y e = let bad : false ≡ true = e in cc
 
+-- a line that a carriage return (13) ends is the bytes before that, and the carriage return
 last_return : (line : List ℕ) → ends_with_byte 13 line ≡ true → line ≡ take (length line - 1) line ++ 13 ∷ []
 last_return line e =
     let is = both _ _ e in
@@ -55,12 +57,13 @@ last_return line e =
     split_there 13 line (length line - 1) (omega (arith, some)) (eqb-true _ 13 is.1)
     ∙ ap (λ l. take (length line - 1) line ++ 13 ∷ l) (drop_all (length line - 1 + 1) line (omega (arith, some)))
 
--- it changes nothing of what is within quotes
+-- a carriage return (13) neither opens nor closes quotes; `d` is the delimiter
 return_quoted : (d : ℕ) (place : Place) → is_quoted (place_after d place 13) ≡ is_quoted place
 return_quoted d places.Fresh = outside_closed d 13
 return_quoted d places.Plain = outside_closed d 13
 return_quoted d places.Quoted = refl
 
+-- a line and its content end both within quotes, or both outside; `d` is the delimiter
 content_quoted : (d : ℕ) (line : List ℕ) → is_quoted (place_at d places.Fresh (content_of line)) ≡ is_quoted (place_at d places.Fresh line)
 content_quoted d line = elim (cases_Bool (ends_with_byte 13 line)) [
   | inl e ↦
@@ -71,24 +74,27 @@ content_quoted d line = elim (cases_Bool (ends_with_byte 13 line)) [
   | inr e ↦ rw e refl
 ]
 
--- what a look tells of a line of which nothing is kept
+-- a look at a whole line, which begins outside of quotes, finds whether it ends within quotes
 look_open : (form : LineForm) (line : List ℕ) (look : Look) → IsLook form line (Some look) → look.is_open ≡ is_quoted (place_then form places.Fresh line)
 look_open forms.Tag line look is = let bad : Some look ≡ None = is in cc
 look_open (forms.Row row) line look is = is.ends
 look_open (forms.Csv row delimiter) line look is = is.ends ∙ content_quoted delimiter line
 
+-- `result` tells whether a line ends within quotes: it is what the look found, or, where there was none, follows from
+-- the place before the bytes `line` that came now
 pub open_is : (form : LineForm) (kept line : List ℕ) (place : Place) (look : Option Look) (result : Bool) → IsAhead form kept line look
     → MatchOption look (result ≡ is_quoted (place_then form place line)) (λ l. result ≡ l.is_open) → (kept ≡ [] → place ≡ places.Fresh) → result ≡ is_quoted (place_then form place line)
 open_is form kept line place None result ahead tells fresh = tells
 open_is form kept line place (Some look) result ahead tells fresh =
     tells ∙ look_open form line look ahead.is_look ∙ ap (λ p. is_quoted (place_then form p line)) (sym (fresh ahead.whole))
 
--- a line of which nothing is kept begins fresh
+-- where nothing is kept of the unfinished line, the place is that of a line's beginning
 pub fresh_place : (T : Terms) (bytes out : List ℕ) (state : Answering) → IsTaken T bytes out state → state.kept.items ≡ [] → state.place ≡ places.Fresh
 fresh_place T bytes out state t none = t.goes_on ∙ ap (place_of T.form) (nothing_kept T.form state.kept.items t.last t.kept none) ∙ (of_none T.form).closed
 
 -- ---- what lines lack
 
+-- the first `n` bytes of a text lack what the text lacks
 lacks_front : (text : List ℕ) (lacks : Lacks) (n : ℕ) → LacksIn text lacks → LacksIn (take n text) lacks
 lacks_front text lacks n known = record {
   returns = λ is. (All-take (λ byte. byte ≢ 13) n text (known.returns is).0, All-take (λ byte. byte ≢ 10) n text (known.returns is).1);
@@ -102,7 +108,7 @@ content_lacks line lacks known = elim (ends_with_byte 13 line) as (λ t. LacksIn
   | false ↦ known
 ]
 
--- a line of a text lacks what the text is known to lack
+-- the first line of a text lacks what the text is known to lack
 pub line_lacks : (line after text : List ℕ) (lacks : Lacks) → IsOneLine line → text ≡ line ++ 10 ∷ after → IsKnownToLack text lacks
     → LacksIn (take (length line) text) lacks
 line_lacks line after text lacks one split known = record {
@@ -113,7 +119,7 @@ line_lacks line after text lacks one split known = record {
   quotes = λ is. All-take (λ byte. byte ≢ 34) (length line) text (known.quotes is);
 }
 
--- so does what follows it
+-- what follows the first line of a text is known to lack what the text is known to lack
 pub after_lacks : (line after text : List ℕ) (lacks : Lacks) → text ≡ line ++ 10 ∷ after → IsKnownToLack text lacks → IsKnownToLack after lacks
 after_lacks line after text lacks split known =
     let ended = line ++ 10 ∷ [] in

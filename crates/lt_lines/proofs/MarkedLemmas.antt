@@ -21,27 +21,31 @@ use Rattle.lt_lines.proofs.TakenLemmas.{begun_nothing, taken_part}
 
 -- ---- the mark and the text
 
+-- the bytes are their byte order mark, if there is one, and the text after it
 pub splits_whole : (form : LineForm) (bytes mark text : List ℕ) → SplitsText form bytes mark text → bytes ≡ mark ++ text
 splits_whole forms.Tag bytes mark text s = rw (s.0, s.1) refl
 splits_whole (forms.Row row) bytes mark text s = s.whole
 splits_whole (forms.Csv row delimiter) bytes mark text s = s.whole
 
+-- bytes that tell whether they begin with a mark have the same mark whatever follows them
 pub splits_more : (form : LineForm) (bytes mark text more : List ℕ) → (MayBeMark bytes → ⊥) → SplitsText form bytes mark text → SplitsText form (bytes ++ more) mark (text ++ more)
 splits_more forms.Tag bytes mark text more none s = (s.0, ap (λ (l : List ℕ). l ++ more) s.1)
 splits_more (forms.Row row) bytes mark text more none s = split_more bytes mark text more none s
 splits_more (forms.Csv row delimiter) bytes mark text more none s = split_more bytes mark text more none s
 
+-- bytes that may be part of a mark are all text as long as nothing follows them
 splits_short : (form : LineForm) (bytes : List ℕ) → MayBeMark bytes → SplitsText form bytes [] bytes
 splits_short forms.Tag bytes may = (refl, refl)
 splits_short (forms.Row row) bytes may = short_unmarked bytes may
 splits_short (forms.Csv row delimiter) bytes may = short_unmarked bytes may
 
+-- all bytes are split into a mark, if there is one, and a text
 splits_some : (form : LineForm) (bytes : List ℕ) → (mark : List ℕ) × (text : List ℕ) × SplitsText form bytes mark text
 splits_some forms.Tag bytes = ([], bytes, (refl, refl))
 splits_some (forms.Row row) bytes = split_of bytes
 splits_some (forms.Csv row delimiter) bytes = split_of bytes
 
--- nothing of what is owed was written
+-- where nothing was written, that is a front of what is owed
 pub begun_none : (T : Terms) (bytes : List ℕ) → IsBegunText T bytes []
 begun_none T bytes =
     let s = splits_some T.form bytes in
@@ -49,7 +53,7 @@ begun_none T bytes =
 
 -- ---- what was taken
 
--- the text after a mark was taken
+-- the mark of these bytes, if they have one, was written, and the text after it was taken in
 pub record IsAt (T : Terms) (bytes written : List ℕ) (state : Answering) : Type 0 where
   pub mark : List ℕ
   pub text : List ℕ
@@ -59,6 +63,7 @@ pub record IsAt (T : Terms) (bytes written : List ℕ) (state : Answering) : Typ
   pub written_is : written ≡ mark ++ out
   pub taken : IsTaken T text out state
 
+-- of a state past the mark the mark was written, and the text after it was taken in
 pub at_after : (T : Terms) (bytes written : List ℕ) (state : Marked) → IsTakenAfter T bytes written state → IsAt T bytes written state.answering
 at_after T bytes written state a = record {
   mark = a.mark;
@@ -76,18 +81,19 @@ none_kept T state t =
     let last : t.last ≡ [] = nil_from_length t.last (omega (arith, ap length t.cut, length-append (ended t.lines) t.last)) in
     t.kept ∙ ap (kept_of T.form) last ∙ (of_none T.form).kept
 
--- a few bytes are kept whole
+-- fewer than 3 bytes, which may be part of a mark, are kept whole
 part_whole : (form : LineForm) (part : List ℕ) → length part < 3 → part ≡ part_kept form 0 part
 part_whole forms.Tag part few = sym (take_all longest_kept part (omega (arith, few)))
 part_whole (forms.Row row) part few = refl
 part_whole (forms.Csv row delimiter) part few = refl
 
+-- fewer than 3 bytes are not too long
 few_short : (form : LineForm) (count : ℕ) → count < 3 → IsLongBy form 0 count → ⊥
 few_short forms.Tag count few long = long
 few_short (forms.Row row) count few long = omega (arith, few, long)
 few_short (forms.Csv row delimiter) count few long = omega (arith, few, long)
 
--- with the front that is kept
+-- where the first bytes are kept, there is a state that has taken them in as text without a mark, with the same tallies
 at_front : (T : Terms) (bytes written : List ℕ) (state : Marked) → IsKeptFront T bytes written state → state.answering.owed.items ≡ [] → (a : Answering) × IsAt T bytes written a × (a.owed.items ≡ []) × (a.tallies ≡ state.answering.tallies)
 at_front T bytes written state k none =
     let old = state.answering in
@@ -109,24 +115,25 @@ at_front T bytes written state k none =
       refl,
     )
 
--- in both cases
+-- past the mark, and where the first bytes are kept, there is a state that has taken in the text after the mark, with
+-- the same tallies
 pub at_text : (T : Terms) (bytes written : List ℕ) (state : Marked) → IsTakenText T bytes written state → state.answering.owed.items ≡ [] → (a : Answering) × IsAt T bytes written a × (a.owed.items ≡ []) × (a.tallies ≡ state.answering.tallies)
 at_text T bytes written state (inl a) none = (state.answering, at_after T bytes written state a, none, refl)
 at_text T bytes written state (inr k) none = at_front T bytes written state k none
 
--- what is owed up to the last line feed was written
+-- where no answers wait, what is owed up to the last line feed was written
 pub text_to_last_feed : (T : Terms) (bytes written : List ℕ) (state : Marked) → IsTakenText T bytes written state → state.answering.owed.items ≡ [] → AfterMark T (TalliesToLastFeed T state.answering.tallies) bytes written
 text_to_last_feed T bytes written state t none =
     let a = at_text T bytes written state t none in
     record { mark = a.1.mark; text = a.1.text; split = a.1.split; narrow = a.1.narrow; more = a.1.out; written_is = a.1.written_is; holds = (owed_to_last_feed T a.1.text a.1.out a.0 a.1.taken a.2, subst (AreTalliesOf T.form a.1.taken.lines a.1.taken.owed) a.3 a.1.taken.tallied) }
 
--- it is a front of what is owed
+-- where no answers wait, what was written is a front of what is owed
 pub text_begun : (T : Terms) (bytes written : List ℕ) (state : Marked) → IsTakenText T bytes written state → state.answering.owed.items ≡ [] → IsBegunText T bytes written
 text_begun T bytes written state t none =
     let a = at_text T bytes written state t none in
     record { mark = a.1.mark; text = a.1.text; split = a.1.split; front = inr (a.1.out, a.1.written_is, begun_nothing T a.1.text a.1.out [] a.1.text a.0 a.1.taken (sym (append-nil a.1.text))) }
 
--- there is room for the lines of a piece
+-- the counts have room for the kept bytes, fewer than 3, and for a piece of `count` bytes
 pub text_room : (T : Terms) (bytes written : List ℕ) (state : Marked) (count : ℕ) → IsTakenText T bytes written state → length bytes + count + 3 < 18446744073709551616 → HasRoomFor state count
 text_room T bytes written state count (inl a) most =
     let room = taken_room T a.text a.out state.answering a.taken in
@@ -144,11 +151,12 @@ text_room T bytes written state count (inr k) most =
 
 -- ---- the ways in which a run ends
 
+-- a write or memory failed after `between`, and so after `before`, from which on no write had failed
 pub stop_from : {W : Type 0} (before between after : Device W) (f : ToolFault) → failures_of between ≡ failures_of before → IsStop between after f → IsStop before after f
 stop_from before between after f same (inl wrote) = inl (wrote.0, failed_from before between after same wrote.1)
 stop_from before between after f same (inr lacks) = inr (lacks.0, lacks.1 ∙ same)
 
--- a piece of the text after the mark stopped the run
+-- a piece of the text after the mark ends the run
 pub piece_stopped : {W : Type 0} (T : Terms) (bytes text out piece wrote mark : List ℕ) (state new : Answering) (before between after : Device W) (f : ToolFault) → SplitsText T.form bytes mark (text ++ piece)
     → (IsWide bytes → ⊥) → IsTaken T text out state → failures_of between ≡ failures_of before → IsPieceStop T piece state new between after wrote f → EndsText T before after bytes (mark ++ (out ++ wrote)) new.tallies f
 piece_stopped T bytes text out piece wrote mark state new before between after f split narrow taken same (inl long) = inr (inr (

@@ -10,24 +10,24 @@ use Rattle.lt_stream.proofs.PartLemmas.{kept_front, nothing_kept as none_kept}
 use Rattle.std.proofs.lemmas.Bool.Decides.{leb_tells}
 use Rattle.lt_lines.specs.declared.forms.LineForm.TheVariants as forms
 
--- what is kept of a line that goes on
+-- `kept` is kept of a line, `last`; with what is to be kept of its next bytes, `part`, it is what is kept of both
 pub kept_more : (form : LineForm) (kept last part new : List ℕ) → kept ≡ kept_of form last → new ≡ kept ++ part_kept form (length kept) part → new ≡ kept_of form (last ++ part)
 kept_more forms.Tag kept last part new is e = kept_front longest_kept kept last part new is e
 kept_more form kept last part new is e = e ∙ ap (λ (l : List ℕ). l ++ part) is
 
--- a line of which nothing is kept is empty
+-- a line, `last`, of which nothing is kept is empty
 pub nothing_kept : (form : LineForm) (kept last : List ℕ) → kept ≡ kept_of form last → kept ≡ [] → last ≡ []
 nothing_kept forms.Tag kept last is none = none_kept longest_kept kept last (omega arith) is none
 nothing_kept form kept last is none = sym is ∙ none
 
--- all is kept of a line that can go on after a line feed
+-- all is kept of a line, `last`, that is within quotes, and so goes on after a line feed
 pub kept_open : (form : LineForm) (kept last : List ℕ) → kept ≡ kept_of form last → is_open form last ≡ true → kept ≡ last
 kept_open forms.Tag kept last is inside = let bad : false ≡ true = inside in cc
 kept_open form kept last is inside = is
 
 -- ---- rows and records that are too long
 
--- what is kept is short with no more bytes than there is room for
+-- the kept bytes are short with next bytes, `part`, that do not make the line too long
 pub short_by : (form : LineForm) (kept part : List ℕ) → (IsLongBy form (length kept) (length part) → ⊥) → IsShort form (kept ++ part)
 short_by forms.Tag kept part room = tt
 short_by (forms.Row row) kept part room = elim (leb_tells (length (kept ++ part)) longest_row) [
@@ -39,38 +39,39 @@ short_by (forms.Csv row delimiter) kept part room = elim (leb_tells (length (kep
   | inr long ↦ absurd (room (omega (arith, long.1, length-append kept part)))
 ]
 
--- so is the line of which it is kept
+-- a line, `last`, is short with its next bytes, `part`, if what is kept of it is
 pub short_line : (form : LineForm) (kept last part : List ℕ) → kept ≡ kept_of form last → IsShort form (kept ++ part) → IsShort form (last ++ part)
 short_line forms.Tag kept last part is short = tt
 short_line form kept last part is short = subst (λ (l : List ℕ). IsShort form (l ++ part)) is short
 
--- a line of which a short one is kept
+-- what is kept of a short line, `last`, is short, with nothing after it
 pub short_kept : (form : LineForm) (kept last : List ℕ) → kept ≡ kept_of form last → IsShort form last → IsShort form (kept ++ [])
 short_kept forms.Tag kept last is short = tt
 short_kept form kept last is short = subst (IsShort form) (sym is ∙ sym (append-nil kept)) short
 
--- with more bytes than there is room for it is long
+-- a line, `last`, is not short with next bytes, `part`, that make it too long
 pub long_by : (form : LineForm) (kept last part : List ℕ) → kept ≡ kept_of form last → IsLongBy form (length kept) (length part) → IsShort form (last ++ part) → ⊥
 long_by forms.Tag kept last part is long short = long
 long_by (forms.Row row) kept last part is long short = omega (arith, long, short, ap length is, length-append last part)
 long_by (forms.Csv row delimiter) kept last part is long short = omega (arith, long, short, ap length is, length-append last part)
 
--- all of a row or a record is kept
+-- of a line, `last`, that `count` further bytes make too long all is kept, as it is a row or a record
 pub kept_long : (form : LineForm) (kept last : List ℕ) (count : ℕ) → kept ≡ kept_of form last → IsLongBy form (length kept) count → kept ≡ last
 kept_long forms.Tag kept last count is long = absurd long
 kept_long form kept last count is long = is
 
--- lines that are ended are those of the grammar
+-- a whole line is one of the grammar of its form
 of_grammar : (form : LineForm) (line : List ℕ) → IsWhole form line → IsOfGrammar form line
 of_grammar forms.Tag line w = tt
 of_grammar (forms.Row row) line w = tt
 of_grammar (forms.Csv row delimiter) line w = λ unquoted fed. closed_is_record delimiter unquoted line (record { free = w.unit; closed = w.closed })
 
+-- whole lines are all of the grammar of their form
 pub all_of_grammar : (form : LineForm) (lines : List (List ℕ)) → AllByRecursion (IsWhole form) lines → AllByRecursion (IsOfGrammar form) lines
 all_of_grammar form [] h = tt
 all_of_grammar form (line ∷ lines) h = (of_grammar form line h.0, all_of_grammar form lines h.1)
 
--- lines that are ended are short
+-- whole lines are all short
 pub all_short : (form : LineForm) (lines : List (List ℕ)) → AllByRecursion (IsWhole form) lines → AllByRecursion (IsShort form) lines
 all_short form [] h = tt
 all_short form (line ∷ lines) h = (h.0.short, all_short form lines h.1)

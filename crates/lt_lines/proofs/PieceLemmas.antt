@@ -15,7 +15,8 @@ use Rattle.lt_stream.proofs.DeviceLemmas.{failed_from}
 use Rattle.lt_lines.proofs.EndLemmas.{too_long}
 use Rattle.lt_lines.proofs.TakenLemmas.{begun_front, taken_part, taken_write}
 
--- so far the front of the piece was taken
+-- the turns over a piece took its front, and `rest` is left: `old` and `before` are the state and the output at its
+-- beginning, `now` and `after` those after the last turn
 pub record PieceTurn {W : Type 0} (T : Terms) (contents : W → Option (List ℕ)) (piece rest : List ℕ) (old now : Answering) (before after : Device W) : Type 0 where
   pub front : List ℕ
   pub split : piece ≡ front ++ rest
@@ -27,9 +28,11 @@ pub record PieceTurn {W : Type 0} (T : Terms) (contents : W → Option (List ℕ
   pub feeds : now.feeds + length rest ≤ old.feeds + length piece
   pub refused : now.counts.refused ≤ now.counts.lines
 
+-- a further turn; `now` and `between` are the state and the output before it
 module _ {W : Type 0} (T : Terms) (contents : W → Option (List ℕ)) (piece rest : List ℕ) (old now : Answering) (before between : Device W)
     (t : PieceTurn T contents piece rest old now before between) where
-  -- a line of the piece was answered
+  -- the next line of the piece and its line feed (10) were taken; `after` is what follows them, and `mid` the state
+  -- then
   pub turn_line : (line after : List ℕ) (mid : Answering) → IsOneLine line × (rest ≡ line ++ 10 ∷ after)
       → (IsLongBy T.form (length now.kept.items) (length line) → ⊥)
       → ((bytes out : List ℕ) → IsOneLine (take (length line) rest) → (IsLongBy T.form (length now.kept.items) (length (take (length line) rest)) → ⊥) → IsTaken T bytes out now → IsTaken T (bytes ++ (take (length line) rest ++ 10 ∷ [])) out mid)
@@ -51,7 +54,7 @@ module _ {W : Type 0} (T : Terms) (contents : W → Option (List ℕ)) (piece re
         refused = counted.refused;
       }
 
-  -- some of what is owed was written
+  -- some of the waiting answers were written
   pub turn_written : (new : Answering) (last : Device W) → WritesOwed contents now new between last (Ok tt) → PieceTurn T contents piece rest old new before last
   turn_written new last w = record {
     front = t.front;
@@ -66,7 +69,7 @@ module _ {W : Type 0} (T : Terms) (contents : W → Option (List ℕ)) (piece re
     refused = rw w.same.counts t.refused;
   }
 
-  -- memory ran out, or a write failed that wrote a part of what is owed
+  -- memory ran out, or a write failed that wrote a front of the waiting answers, `part`
   pub turn_stops : (new : Answering) (last : Device W) (f : ToolFault) (part : List ℕ) → Appends (contents (inner_of between)) (contents (inner_of last)) part → IsStop before last f
       → IsFrontOf part now.owed.items → TakesPiece T contents piece old new before last (Err f)
   turn_stops new last f part appends stop front = record {
@@ -77,10 +80,11 @@ module _ {W : Type 0} (T : Terms) (contents : W → Option (List ℕ)) (piece re
     stopped = inr (stop, λ bytes out taken. begun_front T _ _ part rest _ _ now (t.taken bytes out taken) front (rw (t.split, append_assoc bytes t.front rest) refl) (sym (append_assoc out t.written part)));
   }
 
+  -- a write of waiting answers failed
   pub turn_fails : (new : Answering) (last : Device W) (f : ToolFault) → WritesOwed contents now new between last (Err f) → TakesPiece T contents piece old new before last (Err f)
   turn_fails new last f w = turn_stops new last f w.written w.appends (inl (w.stopped.0, failed_from before between last t.failures w.stopped.1)) w.stopped.2
 
-  -- a row or a record is too long
+  -- a row or a record is too long with its next bytes, `part`; `more` is what follows them
   pub turn_long : (new : Answering) (last : Device W) (f : ToolFault) (part more : List ℕ) → IsOneLine part → rest ≡ part ++ more → IsLongBy T.form (length now.kept.items) (length part)
       → StopsLong T.form contents now new between last f → TakesPiece T contents piece old new before last (Err f)
   turn_long new last f part more one split long s = elim s.ends [
@@ -100,7 +104,7 @@ module _ {W : Type 0} (T : Terms) (contents : W → Option (List ℕ)) (piece re
     }
   ]
 
-  -- the rest of the piece is kept
+  -- the rest of the piece, which has no line feed, is kept
   pub turn_kept : (mid : Answering) → IsOneLine rest → (IsLongBy T.form (length now.kept.items) (length rest) → ⊥) → mid.kept.items ≡ now.kept.items ++ part_kept T.form (length now.kept.items) rest
       → mid.place ≡ place_then T.form now.place rest → mid.feeds ≡ now.feeds → mid.owed.items ≡ now.owed.items → mid.counts ≡ now.counts → mid.tallies ≡ now.tallies → mid.recent ≡ now.recent
       → PieceTurn T contents piece [] old mid before between
@@ -117,7 +121,7 @@ module _ {W : Type 0} (T : Terms) (contents : W → Option (List ℕ)) (piece re
     refused = rw counts t.refused;
   }
 
--- the last write over the piece
+-- after the last turn all waiting answers are written, and the piece is taken; or the write fails
 pub turn_last : {W : Type 0} (T : Terms) (contents : W → Option (List ℕ)) (piece : List ℕ) (old mid new : Answering) (before between last : Device W) (r : Result (Unit {0}) ToolFault)
     → PieceTurn T contents piece [] old mid before between → WritesOwed contents mid new between last r → OnOk r (new.owed.items ≡ []) → TakesPiece T contents piece old new before last r
 turn_last T contents piece old mid new before between last (Ok u) t w none =

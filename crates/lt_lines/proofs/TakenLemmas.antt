@@ -17,7 +17,8 @@ use Rattle.lt_lines.proofs.PartLemmas.{kept_more, short_by, short_line}
 
 -- ---- answers
 
--- a line after these is the first of all if there are none
+-- the answers to some lines, and the answer `r` to one line after them, which is the first of the text if there are
+-- none
 replies-append : (T : Terms) (first : Bool) (lines : List (List ℕ)) (owed : List Reply) (line : List ℕ) (r : Reply)
     → AreRepliesFrom T first lines owed → IsReplyTo T ((length owed == 0) && first) line r → AreRepliesFrom T first (lines ++ line ∷ []) (owed ++ r ∷ [])
 replies-append T first [] [] line r h one = (one, tt)
@@ -26,23 +27,25 @@ replies-append T first (l ∷ lines) (o ∷ owed) line r h one =
     (h.0, replies-append T false lines owed line r h.1 (rw (and-false (length owed == 0)) later))
 replies-append T first lines owed line r h one = absurd h
 
--- an answer is owed for each line
+-- there are as many answers as lines
 pub replies-length : (T : Terms) (first : Bool) (lines : List (List ℕ)) (owed : List Reply) → AreRepliesFrom T first lines owed → length owed ≡ length lines
 replies-length T first [] [] h = refl
 replies-length T first (l ∷ lines) (o ∷ owed) h = ap (λ n. suc n) (replies-length T false lines owed h.1)
 replies-length T first lines owed h = absurd h
 
+-- the bytes of some answers, and of one more
 pub bytes_in-last : (owed : List Reply) (r : Reply) → bytes_in (owed ++ r ∷ []) ≡ bytes_in owed ++ r.bytes
 bytes_in-last [] r = append-nil r.bytes
 bytes_in-last (o ∷ owed) r = ap (λ l. o.bytes ++ l) (bytes_in-last owed r) ∙ sym (append_assoc o.bytes (bytes_in owed) r.bytes)
 
+-- the refusals among some answers, and one more
 pub refused_in-last : (owed : List Reply) (r : Reply) → refused_in (owed ++ r ∷ []) ≡ refused_in owed + one_if r.refused
 refused_in-last owed r =
     sum_by-append (λ (o : Reply). cond o.refused 1 0) owed (r ∷ []) ∙ ap (λ n. refused_in owed + n) (elim r.refused as (λ t. 0 + cond t 1 0 ≡ one_if t) [ true ↦ refl | false ↦ refl ])
 
 -- ---- what was taken
 
--- a line was ended and answered
+-- `part` and a line feed (10) ended the unfinished line, and it was answered by `r`
 pub taken_line : (T : Terms) (bytes out part : List ℕ) (r : Reply) (old new : Answering) → IsTaken T bytes out old → IsWholeAfter T.form old.kept.items old.place part
     → ((last : List ℕ) → old.kept.items ≡ kept_of T.form last → IsReplyTo T (old.counts.lines == 0) (last ++ part) r)
     → new.owed.items ≡ old.owed.items ++ r.bytes → new.kept.items ≡ [] → new.place ≡ places.Fresh → new.feeds ≡ old.feeds + 1 → new.counts.lines ≡ old.counts.lines + 1
@@ -75,7 +78,7 @@ taken_line T bytes out part r old new t one owed_for grown none closed feeds lin
       recent = recent;
     }
 
--- a line went on
+-- the unfinished line went on with the bytes `more`, and no line was answered
 taken_more : (T : Terms) (bytes out more : List ℕ) (old new : Answering) (t : IsTaken T bytes out old) → IsUnit T.form (t.last ++ more) → new.kept.items ≡ kept_of T.form (t.last ++ more)
     → new.place ≡ place_of T.form (t.last ++ more) → (is_quoted new.place ≡ false → IsShort T.form (t.last ++ more)) → new.feeds ≡ old.feeds + feeds_in more → new.owed.items ≡ old.owed.items → new.counts ≡ old.counts → new.tallies ≡ old.tallies → new.recent ≡ old.recent → IsTaken T (bytes ++ more) out new
 taken_more T bytes out more old new t one kept inside short feeds owed counts tallies recent = record {
@@ -97,7 +100,7 @@ taken_more T bytes out more old new t one kept inside short feeds owed counts ta
   recent = rw recent t.recent;
 }
 
--- after a line feed
+-- the unfinished line went on with `part` and a line feed (10) within quotes
 pub taken_within : (T : Terms) (bytes out part : List ℕ) (old new : Answering) → IsTaken T bytes out old → IsOneLine part → is_quoted (place_then T.form old.place part) ≡ true
     → GoesOn T.form part old new → IsTaken T (bytes ++ (part ++ 10 ∷ [])) out new
 taken_within T bytes out part old new t one inside g =
@@ -110,7 +113,7 @@ taken_within T bytes out part old new t one inside g =
     (kept_more T.form front whole (10 ∷ []) new.kept.items (kept_more T.form old.kept.items t.last part front t.kept refl) g.kept ∙ ap (kept_of T.form) split)
     (g.goes_on ∙ sym fed.1 ∙ ap (place_of T.form) split) (λ closed. let bad : true ≡ false = ap is_quoted (sym g.goes_on) ∙ closed in cc) (g.feeds ∙ ap (λ n. old.feeds + n) (sym (one_feed [] part one))) g.owed g.counts g.tallies g.recent
 
--- with no line feed
+-- the unfinished line went on with `part`, which has no line feed, and is not too long
 pub taken_part : (T : Terms) (bytes out part : List ℕ) (old new : Answering) → IsTaken T bytes out old → IsOneLine part → (IsLongBy T.form (length old.kept.items) (length part) → ⊥)
     → new.kept.items ≡ old.kept.items ++ part_kept T.form (length old.kept.items) part → new.place ≡ place_then T.form old.place part → new.feeds ≡ old.feeds
     → new.owed.items ≡ old.owed.items → new.counts ≡ old.counts → new.tallies ≡ old.tallies → new.recent ≡ old.recent → IsTaken T (bytes ++ part) out new
@@ -119,7 +122,7 @@ taken_part T bytes out part old new t one room kept inside feeds owed counts tal
     (inside ∙ ap (λ p. place_then T.form p part) t.goes_on ∙ sym (place_of-append T.form t.last part))
     (λ _. short_line T.form old.kept.items t.last part t.kept (short_by T.form old.kept.items part room)) (omega (arith, feeds, no_feeds part one)) owed counts tallies recent
 
--- some of what is owed was written
+-- a front of the waiting answers, `part`, was written
 pub taken_write : (T : Terms) (bytes out part : List ℕ) (old new : Answering) → IsTaken T bytes out old → KeepsLine old new
     → old.owed.items ≡ part ++ new.owed.items → IsTaken T bytes (out ++ part) new
 taken_write T bytes out part old new t same wrote = record {
@@ -141,7 +144,8 @@ taken_write T bytes out part old new t same wrote = record {
   recent = rw same.recent t.recent;
 }
 
--- a front of what is owed was written, whatever follows
+-- what was written, `wrote`, ends with a front of the waiting answers, `part`; so it is a front of what is owed for all
+-- bytes, `all`, whichever follow those that were taken
 pub begun_front : (T : Terms) (bytes out part more all wrote : List ℕ) (state : Answering) → IsTaken T bytes out state → IsFrontOf part state.owed.items
     → all ≡ bytes ++ more → wrote ≡ out ++ part → IsBegun T all wrote
 begun_front T bytes out part more all wrote state t front all_is wrote_is = record {
@@ -154,6 +158,6 @@ begun_front T bytes out part more all wrote state t front all_is wrote_is = reco
   front = sym t.all ∙ ap (λ (l : List ℕ). out ++ l) front.1 ∙ sym (append_assoc out part front.0) ∙ ap (λ (l : List ℕ). l ++ front.0) (sym wrote_is);
 }
 
--- nothing more was written
+-- what was written, `out`, is a front of what is owed for all bytes, `all`, whichever follow those that were taken
 pub begun_nothing : (T : Terms) (bytes out more all : List ℕ) (state : Answering) → IsTaken T bytes out state → all ≡ bytes ++ more → IsBegun T all out
 begun_nothing T bytes out more all state t all_is = begun_front T bytes out [] more all out state t (state.owed.items, refl) all_is (sym (append-nil out))

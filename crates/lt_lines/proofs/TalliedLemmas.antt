@@ -13,7 +13,7 @@ refused_fewer form number (line ∷ lines) (r ∷ replies) refusals (inr h) =
     let fewer = refused_fewer form (number + 1) lines replies h.1 h.5 in omega (arith, ap length h.3, fewer)
 refused_fewer form number lines replies refusals h = omega (arith, ap length h)
 
--- a line after these that is not refused
+-- after a further line, whose answer `r` is no refusal, the refused lines are the same
 none_more : (T : Terms) (form : LineForm) (first : Bool) (number : ℕ) (lines : List (List ℕ)) (replies : List Reply) (refusals : List Refused) (line : List ℕ) (r : Reply) → AreRepliesFrom T first lines replies
     → r.refused ≡ false → AreRefused form number lines replies refusals → AreRefused form number (lines ++ line ∷ []) (replies ++ r ∷ []) refusals
 none_more T form first number [] [] refusals line r each stays h = inl (stays, h)
@@ -23,7 +23,7 @@ none_more T form first number (l ∷ lines) (o ∷ replies) refusals line r each
     inr (h.0, h.1, h.2, h.3, h.4, none_more T form false (number + 1) lines replies h.1 line r each.1 stays h.5)
 none_more T form first number lines replies refusals line r each stays h = absurd each
 
--- one that is
+-- after a further line, whose answer `r` is a refusal, the refused lines have one more at their end, `one`
 one_more : (T : Terms) (form : LineForm) (first : Bool) (number : ℕ) (lines : List (List ℕ)) (replies : List Reply) (refusals : List Refused) (line : List ℕ) (r : Reply) (one : Refused)
     → AreRepliesFrom T first lines replies → r.refused ≡ true → IsRefusedAs form (number + length replies) line r.bytes one
     → AreRefused form number lines replies refusals → AreRefused form number (lines ++ line ∷ []) (replies ++ r ∷ []) (refusals ++ one ∷ [])
@@ -42,7 +42,7 @@ one_more T form first number (l ∷ lines) (o ∷ replies) refusals line r one e
     )
 one_more T form first number lines replies refusals line r one each refuses is h = absurd each
 
--- a line was answered
+-- a further line was answered by `r`, and counted if that is a refusal: the new tallies are those of all lines
 pub tallied_more : (T : Terms) (lines : List (List ℕ)) (replies : List Reply) (line : List ℕ) (r : Reply) (old new : List Tally) → AreRepliesFrom T true lines replies
     → length replies + 1 < 18446744073709551616 → AreTalliesOf T.form lines replies old → CountsIf T.form (length replies + 1) line r.bytes r.refused old new
     → AreTalliesOf T.form (lines ++ line ∷ []) (replies ++ r ∷ []) new

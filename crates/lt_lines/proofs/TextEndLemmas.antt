@@ -18,7 +18,7 @@ use Rattle.lt_lines.proofs.TextRunLemmas.{unbegun}
 
 -- ---- the end
 
--- after the mark
+-- all lines after the mark were answered: all that is owed for the bytes was written; `a` is the state before the end
 finish_done : {W : Type 0} (T : Terms) (contents : W → Option (List ℕ)) (bytes out : List ℕ) (a new : Answering) (before after : Device W) (counts : Counts) → IsAt T bytes out a
     → (f : FinishesLines T contents a new before after (Ok counts)) → AfterMark T (λ text more. OwesAll T text more counts new.tallies) bytes (out ++ f.written)
 finish_done T contents bytes out a new before after counts at f = record {
@@ -31,6 +31,8 @@ finish_done T contents bytes out a new before after counts at f = record {
   holds = f.done.1 at.text at.out at.taken;
 }
 
+-- the end of the text after the mark ended the run by the fault `e`; `between` is the output before the last answers,
+-- and no write had failed from `before` to it
 finish_ends : {W : Type 0} (T : Terms) (contents : W → Option (List ℕ)) (bytes out : List ℕ) (a new : Answering) (before between after : Device W) (e : ToolFault) → IsAt T bytes out a → a.owed.items ≡ []
     → failures_of between ≡ failures_of before → (f : FinishesLines T contents a new between after (Err e)) → EndsTextInQuotes T before after bytes (out ++ f.written) new.tallies e ⊎ EndsText T before after bytes (out ++ f.written) new.tallies e
 finish_ends T contents bytes out a new before between after e at none same f =
@@ -48,6 +50,7 @@ finish_ends T contents bytes out a new before between after e at none same f =
       ))
     ]
 
+-- the end of a text that is past its mark
 pub finish_text : {W : Type 0} (T : Terms) (contents : W → Option (List ℕ)) (old new : Marked) (before after : Device W) (r : Result Counts ToolFault) → old.is_begun ≡ true → FinishesLines T contents old.answering new.answering before after r
     → FinishesText T contents old new before after r
 finish_text T contents old new before after (Ok counts) begun f = record {
@@ -72,8 +75,10 @@ finish_text T contents old new before after (Err e) begun f = record {
   ];
 }
 
+-- the end of a text of which the first bytes are still kept: `mid` and `between` are the state and the output once they
+-- are taken as text, `new` and `after` once the lines are finished
 module _ {W : Type 0} (T : Terms) (contents : W → Option (List ℕ)) (old mid new : Marked) (before between after : Device W) (begun : old.is_begun ≡ false) where
-  -- of a text that is shorter than a mark
+  -- the bytes, fewer than a mark has, were taken as text
   at_begun : (bytes out : List ℕ) → IsKeptFront T bytes out old → (b : BeginsText T contents old mid before between (Ok tt)) → IsAt T bytes (out ++ b.written) mid.answering
   at_begun bytes out k b =
       let more = b.done.4 in
@@ -87,6 +92,7 @@ module _ {W : Type 0} (T : Terms) (contents : W → Option (List ℕ)) (old mid 
         taken = more.2 k.taken;
       }
 
+  -- the lines were finished, with counts or by a fault
   pub finish_front : (r : Result Counts ToolFault) → BeginsText T contents old mid before between (Ok tt) → FinishesLines T contents mid.answering new.answering between after r → FinishesText T contents old new before after r
   finish_front (Ok counts) b f = record {
     written = b.written ++ f.written;
@@ -110,6 +116,7 @@ module _ {W : Type 0} (T : Terms) (contents : W → Option (List ℕ)) (old mid 
     ];
   }
 
+  -- the run ended before, by the fault `e`
   pub finish_stopped : (e : ToolFault) → BeginsText T contents old mid before after (Err e) → FinishesText T contents old mid before after (Err e)
   finish_stopped e b = record {
     written = b.written;

@@ -36,7 +36,7 @@ use Rattle.lt_lines.specs.declared.forms.LineForm.TheVariants as forms
 
 -- ---- long texts
 
--- two long texts have the same fault
+-- two texts longer than `longest_text` are refused alike
 long_refusal : (R : List EntryParts) (text other : List ℕ) (refusal : TextRefusal) → longest_text < length text → longest_text < length other
     → IsTextRefusal R text refusal → IsTextRefusal R other refusal
 long_refusal R text other (refusals.NotATag fault) long longer f =
@@ -45,7 +45,7 @@ long_refusal R text other (refusals.NotATag fault) long longer f =
 long_refusal R text other refusals.OutOfMemory long longer f = tt
 long_refusal R text other refusal long longer f = absurd (omega (arith, f.read.short))
 
--- what is owed for a long text is owed for any other
+-- what is owed for a text longer than `longest_text` is owed for any other such text
 reply_for_long : (R : List EntryParts) (text other : List ℕ) (r : Reply) → longest_text < length text → longest_text < length other → IsTextReply R text r → IsTextReply R other r
 reply_for_long R text other r long longer is = record {
   owed = elim is.owed [
@@ -57,14 +57,14 @@ reply_for_long R text other r long longer is = record {
   marked = is.marked;
 }
 
--- a line has at most one byte more than its text
+-- a line has at most one byte more than its content: the carriage return (13) that may end it
 content-length : (line : List ℕ) → length line ≤ length (content_of line) + 1
 content-length line = elim (ends_with_byte 13 line) as (λ t. length line ≤ length (if t then take (length line - 1) line else line) + 1) [
   | true ↦ omega (arith, length-take-le (length line - 1) line (omega arith))
   | false ↦ omega arith
 ]
 
--- what is owed for the front of a line, as far as it is kept, is owed for the line
+-- what is owed for the kept front of a line is owed for the line
 pub reply_for_kept : (G : Ground) (form : LineForm) (first : Bool) (line : List ℕ) (r : Reply) → All IsCode G.codes → IsReplyIn G form first (kept_of form line) r → IsReplyIn G form first line r
 reply_for_kept G forms.Tag first line r each owed = elim (leb_tells (length line) longest_kept) [
   | inl short ↦ subst (λ (l : List ℕ). IsTextReply G.entries (registered_text G.codes (content_of l)) r) (take_all longest_kept line short.1) owed
@@ -78,27 +78,30 @@ reply_for_kept G form first line r each owed = owed
 
 -- ---- refusals
 
--- no subtag begins with an exclamation mark
+-- a text that begins with an exclamation mark (33) is no list of subtags
 marked : (text : List ℕ) → HasList (33 ∷ text) → ⊥
 unfolding is_subtag
 marked text listed = by_pieces (pieces text) (from_HasList (33 ∷ text) listed)
   where
+    -- pieces of which the first begins with an exclamation mark are no list of subtags
     by_pieces : (ps : List (List ℕ)) → list_all is_subtag (map folded (onto_first 33 ps)) ≡ true → ⊥
     by_pieces [] h = cc
     by_pieces (p ∷ ps) h = cc
 
+-- a list of subtags begins with another byte than an exclamation mark (33)
 unmarked_byte : (byte : ℕ) (text : List ℕ) → HasList (byte ∷ text) → (byte == 33) ≡ false
 unmarked_byte byte text listed = elim (cases_Bool (byte == 33)) [
   | inl e ↦ absurd (marked text (subst (λ (b : ℕ). HasList (b ∷ text)) (eqb-true byte 33 e) listed))
   | inr e ↦ e
 ]
 
+-- a list of subtags with a line feed (10) after it is not taken for a refusal
 unmarked : (text : List ℕ) → HasList text → is_refusal (text ++ 10 ∷ []) ≡ false
 unmarked [] listed = refl
 unmarked (a ∷ []) listed = ap (λ t. t && (10 == 32)) (unmarked_byte a [] listed)
 unmarked (a ∷ b ∷ text) listed = ap (λ t. t && (b == 32)) (unmarked_byte a (b ∷ text) listed)
 
--- a canonical text is no refusal, and answers a text, with a line feed after it
+-- a canonical text with a line feed (10) after it is the answer to its text, and no refusal
 pub canonical_reply : (R : List EntryParts) (text old new ended : List ℕ) → AppendsCanonicalText R text old new → ended ≡ new ++ 10 ∷ [] → AppendsTextReply R text old ended false
 canonical_reply R text old new ended a last = record {
   bytes = a.canonical ++ 10 ∷ [];
@@ -113,19 +116,20 @@ canonical_reply R text old new ended a last = record {
 pub replaced_none : (text : List ℕ) → registered_text [] text ≡ text
 replaced_none text = front_rest (position_or_len (λ byte. byte == 45) text) text
   where
+    -- the first elements and the rest make up the list
     front_rest : (n : ℕ) (l : List ℕ) → take n l ++ drop (length (take n l)) l ≡ l
     front_rest zero l = refl
     front_rest (suc n) [] = refl
     front_rest (suc n) (byte ∷ l) = ap (λ (m : List ℕ). byte ∷ m) (front_rest n l)
 
--- what was appended for a text may be put
+-- a cache stays right where an answer that was appended for `text` is put: `items` from `start` on are its bytes
 pub put_appended : (R : List EntryParts) (form : LineForm) (before after : List (Option Kept)) (text bytes old new items : List ℕ) (start : ℕ) (refused : Bool) → PutsIn before after text (take (length items - start) (drop start items)) refused
     → items ≡ new → start ≡ length old → new ≡ old ++ bytes → IsRecent R form (kept text bytes refused) → All (IsRecent R form) before → All (IsRecent R form) after
 put_appended R form before after text bytes old new items start refused puts is from grown right =
     let same : take (length items - start) (drop start items) ≡ bytes = take_rest items start ∙ rw (is, from, grown) (drop-append_seam old bytes) in
     all_put (IsRecent R form) before after text (take (length items - start) (drop start items)) refused puts (subst (λ (l : List ℕ). IsRecent R form (kept text l refused)) (sym same) right)
 
--- the canonical texts of fields are kept alike where tabs part fields and where commas do
+-- a step that keeps a cache right for rows keeps it right for CSV, as the same is kept of fields
 pub csv_recent : (R : List EntryParts) (row : RowForm) (delimiter : ℕ) (form : LineForm) (r : Result Bool OutOfMemory) (old new : RecentAnswers) → form ≡ forms.Csv row delimiter
     → OnOk r (AreRecent R (forms.Row row) old → AreRecent R (forms.Row row) new) → OnOk r (AreRecent R form old → AreRecent R form new)
 csv_recent R row delimiter form r old new is h =

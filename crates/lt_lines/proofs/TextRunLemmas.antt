@@ -18,10 +18,11 @@ use Rattle.lt_stream.specs.declared.faults.ToolFault.TheVariants as faults
 use Rattle.lt_lines.proofs.FormLemmas.{of_none}
 use Rattle.lt_lines.proofs.MarkedLemmas.{begun_none, piece_stopped, splits_more, splits_whole}
 
+-- anything follows where a flag is both true and false
 pub unbegun : {P : Type 0} (b : Bool) → b ≡ true → b ≡ false → P
 unbegun b begun not = let bad : true ≡ false = sym begun ∙ not in cc
 
--- nothing was taken
+-- a state that keeps no bytes and has not begun has read nothing of a text
 pub new_text : (T : Terms) (state : Marked) → state.front.items ≡ [] → state.is_begun ≡ false → IsFresh state.answering → IsNew T state
 new_text T state front begun fresh = record {
   kept = record {
@@ -54,7 +55,10 @@ new_text T state front begun fresh = record {
 
 -- ---- the mark is written
 
+-- the kept first bytes were split into `mark` and `text`: the output is `before` until the mark is written, then
+-- `between`, and `after` once the text was taken in
 module _ {W : Type 0} (T : Terms) (contents : W → Option (List ℕ)) (old new : Marked) (before between after : Device W) (mark text : List ℕ) (split : SplitsText T.form old.front.items mark text) where
+  -- the mark could not be written
   pub begin_unwritten : (f : ToolFault) → WritesText contents mark before after (Err f) → BeginsText T contents old new before after (Err f)
   begin_unwritten f w = record {
     written = w.written;
@@ -67,6 +71,7 @@ module _ {W : Type 0} (T : Terms) (contents : W → Option (List ℕ)) (old new 
     stopped = λ narrow taken. inl (inl w.stopped, record { mark = mark; text = text; split = split; front = inl w.front });
   }
 
+  -- the mark was written, and the text after it ended the run
   pub begin_stopped : (f : ToolFault) → WritesText contents mark before between (Ok tt) → TakesPiece T contents text old.answering new.answering between after (Err f) → BeginsText T contents old new before after (Err f)
   begin_stopped f w p = record {
     written = mark ++ p.written;
@@ -79,6 +84,7 @@ module _ {W : Type 0} (T : Terms) (contents : W → Option (List ℕ)) (old new 
     stopped = λ narrow taken. piece_stopped T old.front.items [] [] text p.written mark old.answering new.answering before between after f split narrow taken w.done.1 p.stopped;
   }
 
+  -- the mark was written, and the text after it was taken in
   pub begin_done : WritesText contents mark before between (Ok tt) → TakesPiece T contents text old.answering new.answering between after (Ok tt) → new.is_begun ≡ true → new.front.items ≡ []
       → BeginsText T contents old new before after (Ok tt)
   begin_done w p begun emptied = record {
@@ -98,8 +104,9 @@ module _ {W : Type 0} (T : Terms) (contents : W → Option (List ℕ)) (old new 
 
 -- ---- pieces
 
+-- a piece of a text comes in
 module _ {W : Type 0} (T : Terms) (contents : W → Option (List ℕ)) (piece : List ℕ) (old new : Marked) (before after : Device W) where
-  -- after the mark
+  -- after the mark a piece is taken in by the state that answers lines
   pub text_piece : (r : Result (Unit {0}) ToolFault) → old.is_begun ≡ true → new.is_begun ≡ true → new.front.items ≡ old.front.items → TakesPiece T contents piece old.answering new.answering before after r
       → TakesText T contents piece old new before after r
   text_piece (Ok u) begun begins front p = record {
@@ -137,8 +144,9 @@ module _ {W : Type 0} (T : Terms) (contents : W → Option (List ℕ)) (piece : 
     ];
   }
 
+-- a piece of a text comes in before it is known whether the text begins with a mark
 module _ {W : Type 0} (T : Terms) (contents : W → Option (List ℕ)) (piece : List ℕ) (old new : Marked) (before : Device W) (begun : old.is_begun ≡ false) where
-  -- the text is in UTF-16
+  -- the bytes begin with a byte order mark of UTF-16
   pub text_wide : new.answering ≡ old.answering → IsWide (old.front.items ++ piece) → TakesText T contents piece old new before before (Err faults.Utf16)
   text_wide same wide = record {
     written = [];
@@ -150,7 +158,7 @@ module _ {W : Type 0} (T : Terms) (contents : W → Option (List ℕ)) (piece : 
     ];
   }
 
-  -- memory ran out
+  -- there was no memory to keep the piece, and nothing was written
   pub text_lacks : TakesText T contents piece old new before before (Err faults.OutOfMemory)
   text_lacks = record {
     written = [];
@@ -162,7 +170,7 @@ module _ {W : Type 0} (T : Terms) (contents : W → Option (List ℕ)) (piece : 
     ];
   }
 
-  -- it may begin with a mark
+  -- the bytes may still be part of a mark, and are kept
   pub text_may_be : new.is_begun ≡ false → new.front.items ≡ old.front.items ++ piece → new.answering ≡ old.answering → MayBeMark (old.front.items ++ piece) → TakesText T contents piece old new before before (Ok tt)
   text_may_be still front same may = record {
     written = [];
@@ -187,7 +195,7 @@ module _ {W : Type 0} (T : Terms) (contents : W → Option (List ℕ)) (piece : 
     stopped = tt;
   }
 
-  -- it begins with a mark or without one
+  -- the bytes tell whether there is a mark: `mid` keeps them all, and they are split
   pub text_begins : (mid : Marked) (after : Device W) (r : Result (Unit {0}) ToolFault) → mid.front.items ≡ old.front.items ++ piece → mid.answering ≡ old.answering → (IsWide (old.front.items ++ piece) → ⊥) → (MayBeMark (old.front.items ++ piece) → ⊥)
       → BeginsText T contents mid new before after r → TakesText T contents piece old new before after r
   text_begins mid after (Ok u) front same narrow none b = record {

@@ -33,8 +33,8 @@ use Rattle.lt_lines.specs.declared.runs.Counts.{Counts}
 use Rattle.lt_stream.specs.declared.faults.ToolFault.{ToolFault}
 use Rattle.lt_stream.specs.declared.faults.ToolFault.TheVariants as faults
 
--- of a line that is a tag no more bytes are kept, since a longer tag is too long, whatever follows: 1,026 bytes, or one
--- less with the registered code, and a carriage return (13)
+-- the most bytes that are kept of a line that is a tag: 1,024 of the longest tag, one as a code may be a byte longer
+-- than the subtag that replaces it, one that tells that the line is too long, and a carriage return (13)
 abbrev pub longest_kept : ℕ
 longest_kept = 1027
 
@@ -79,20 +79,22 @@ IsLongBy (forms.Csv row delimiter) kept count = longest_row < kept + count
 abbrev pub line_of : Answering → ℕ
 line_of state = (state.feeds - feeds_in state.kept.items) + 1
 
--- these are a line's last bytes, after those that are kept: they end outside of quotes, and the line is short enough
+-- `part` is the last bytes of a line, after those that are kept and the place that these end at: the line ends outside
+-- of quotes, and is short enough
 pub record IsWholeAfter (form : LineForm) (kept : List ℕ) (place : Place) (part : List ℕ) : Type 0 where
   pub one : IsOneLine part
   pub closed : is_quoted (place_then form place part) ≡ false
   pub short : IsShort form (kept ++ part)
 
--- the answer to a text was appended to the answers that wait to be written
+-- the answer to a text was appended to the answers that wait, `old`, which gives `new`; `refused` is whether it is a
+-- refusal
 pub record AppendsTextReply (R : List EntryParts) (text old new : List ℕ) (refused : Bool) : Type 0 where
   pub bytes : List ℕ
   pub grown : new ≡ old ++ bytes
   pub owed : IsTextReply R text (reply bytes refused)
 
--- the row was appended unchanged, with two further fields, one of them empty: the canonical text of its field, and why
--- that is refused
+-- the row was appended unchanged, with two further fields, one of them empty: the canonical text of `text`, the text of
+-- its field, and why that is refused
 pub record AppendsKept (S : Separator) (G : Ground) (text line old new : List ℕ) (refused : Bool) : Type 0 where
   pub canonical : List ℕ
   pub told : List ℕ
@@ -101,44 +103,51 @@ pub record AppendsKept (S : Separator) (G : Ground) (text line old new : List �
       ⊎ ((refusal : TextRefusal) × IsTextRefusal G.entries (registered_text G.codes text) refusal × IsTold refusal told
       × (canonical ≡ []) × (refused ≡ true))
 
--- the answer to a row was appended
+-- the answer to a row, `line`, was appended to the answers `old`, which gives `new`; `refused` is whether it is a
+-- refusal
 pub record AppendsRowReply (S : Separator) (G : Ground) (row : RowForm) (line old new : List ℕ)
     (refused : Bool) : Type 0 where
   pub bytes : List ℕ
   pub grown : new ≡ old ++ bytes
   pub owed : IsRowReply S G row line (reply bytes refused)
 
--- the answer to a heading was appended
+-- the answer to a heading, `line`, was appended to the answers `old`, which gives `new`; `kept` is whether rows are
+-- kept, and `refused` whether the answer is a refusal
 pub record AppendsHeadingReply (kept : Bool) (S : Separator) (line old new : List ℕ) (refused : Bool) : Type 0 where
   pub bytes : List ℕ
   pub grown : new ≡ old ++ bytes
   pub owed : IsHeadingReply kept S line (reply bytes refused)
 
--- the answer to a line of a table, which is its heading or a row, was appended
+-- the answer to a line of a table was appended to the answers `old`, which gives `new`: `heading` is whether the line
+-- is the table's heading, else it is a row, and `refused` is whether the answer is a refusal
 pub record AppendsReplyAmong (S : Separator) (G : Ground) (row : RowForm) (heading : Bool) (line old new : List ℕ)
     (refused : Bool) : Type 0 where
   pub bytes : List ℕ
   pub grown : new ≡ old ++ bytes
   pub owed : IsReplyAmong S G row heading line (reply bytes refused)
 
--- the answer to a line was appended
+-- the answer to a line was appended to the answers `old`, which gives `new`: `first` is whether the line is the first
+-- of the text, and `refused` whether the answer is a refusal
 pub record AppendsReply (T : Terms) (first : Bool) (line old new : List ℕ) (refused : Bool) : Type 0 where
   pub bytes : List ℕ
   pub grown : new ≡ old ++ bytes
   pub owed : IsReplyTo T first line (reply bytes refused)
 
--- the answer to a line was appended, of whose front `kept` was kept, and whose last bytes are `part`
+-- the answer to a line, of whose front `kept` was kept, and whose last bytes are `part`, was appended to the answers
+-- `old`, which gives `new`: `first` is whether the line is the first of the text, and `refused` whether the answer is a
+-- refusal
 pub record AppendsLine (T : Terms) (first : Bool) (kept part old new : List ℕ) (refused : Bool) : Type 0 where
   pub bytes : List ℕ
   pub grown : new ≡ old ++ bytes
   pub owed : (last : List ℕ) → kept ≡ kept_of T.form last → IsReplyTo T first (last ++ part) (reply bytes refused)
 
--- the canonical text of a field was appended, or the field is refused
+-- the canonical text of a field was appended to the answers `old`, which gives `new`, or the field is refused
 abbrev pub FieldReply : List EntryParts → List ℕ → (old new : List ℕ) → Option TextRefusal → Type 0
 FieldReply R field old new None = AppendsCanonicalText R field old new
 FieldReply R field old new (Some refusal) = IsTextRefusal R field refusal × (new ≡ old)
 
--- a row was appended with a last field that says why its field is refused
+-- the rest of a row, `text`, was appended, and a last field that says why the row's field is refused; `line` is the
+-- row's line, whose end the answer keeps
 pub record EndsRefused (S : Separator) (refusal : TextRefusal) (text line old new : List ℕ) : Type 0 where
   pub told : List ℕ
   pub is_told : IsTold refusal told
@@ -160,8 +169,8 @@ pub record AreRecent (R : List EntryParts) (form : LineForm) (recent : RecentAns
   pub whole : All (IsRecent R form) recent.whole
   pub ends : AreEnds R recent.ends
 
--- These bytes were read. Their whole lines are answered, each answer is written or waits to be, and what is needed of
--- the rest is kept.
+-- The bytes `bytes` were read, and `written` was written. Their whole lines are answered, each answer is written or
+-- waits to be, and what is needed of the rest is kept.
 pub record IsTaken (T : Terms) (bytes written : List ℕ) (state : Answering) : Type 0 where
   pub lines : List (List ℕ)
   pub last : List ℕ
@@ -180,7 +189,8 @@ pub record IsTaken (T : Terms) (bytes written : List ℕ) (state : Answering) : 
   pub tallied : AreTalliesOf T.form lines owed state.tallies
   pub recent : AreRecent T.ground.entries T.form state.recent
 
--- these bytes were read to their end: each of their lines is answered, and each answer is written or waits to be
+-- the bytes `bytes` were read to their end, and `written` was written: each of their lines is answered, and each answer
+-- is written or waits to be
 pub record IsAnswered (T : Terms) (bytes written : List ℕ) (state : Answering) : Type 0 where
   pub closed : is_open T.form bytes ≡ false
   pub lines_are : AreLinesIn bytes (units_of T.form bytes)
@@ -233,7 +243,8 @@ pub record KeepsLine (old new : Answering) : Type 0 where
   pub tallies : new.tallies ≡ old.tallies
   pub recent : new.recent ≡ old.recent
 
--- some of the answers that wait were written; or a write failed
+-- a front of the answers that wait, `written`, was written, perhaps none of them; or a write failed after it.
+-- `contents` gives the bytes that an output was given, and `before` and `after` are the output before and after
 pub record WritesOwed {W : Type 0} (contents : W → Option (List ℕ)) (old new : Answering) (before after : Device W)
     (result : Result (Unit {0}) ToolFault) : Type 0 where
   pub written : List ℕ
@@ -242,12 +253,13 @@ pub record WritesOwed {W : Type 0} (contents : W → Option (List ℕ)) (old new
   pub done : IfOk result (λ _. (old.owed.items ≡ written ++ new.owed.items) × (failures_of after ≡ failures_of before))
   pub stopped : IfErr result (λ f. (f ≡ faults.Write) × HasFailed before after × IsFrontOf written old.owed.items)
 
--- why a run that answers lines ends early: a write failed, or memory ran out
+-- why a run that answers lines ends early: a write failed from the output `before` to `after`, or memory ran out
 abbrev pub IsStop : {W : Type 0} → Device W → Device W → ToolFault → Type 0
 IsStop before after f = ((f ≡ faults.Write) × HasFailed before after)
     ⊎ ((f ≡ faults.OutOfMemory) × (failures_of after ≡ failures_of before))
 
--- all answers that wait were written, and the kept row or record is too long; or a write failed
+-- all answers that wait were written, and the kept row or record is too long; or a write failed. `old` and `before` are
+-- the state and the output before that, `new` and `after` those after it
 pub record StopsLong {W : Type 0} (form : LineForm) (contents : W → Option (List ℕ)) (old new : Answering)
     (before after : Device W) (f : ToolFault) : Type 0 where
   pub written : List ℕ
@@ -256,7 +268,8 @@ pub record StopsLong {W : Type 0} (form : LineForm) (contents : W → Option (Li
   pub ends : ((f ≡ faults.Write) × HasFailed before after × IsFrontOf written old.owed.items)
       ⊎ ((f ≡ long_fault form (line_of old)) × (failures_of after ≡ failures_of before) × (written ≡ old.owed.items))
 
--- a row or record that goes on in this piece is too long, and the answers to those before it were written
+-- a row or record that goes on in this piece is too long, and the answers to those before it were written: `written` is
+-- those that were written from the output `before` to `after`
 pub record StopsTooLong {W : Type 0} (T : Terms) (piece : List ℕ) (old new : Answering) (before after : Device W)
     (written : List ℕ) (f : ToolFault) : Type 0 where
   pub line : ℕ
@@ -265,14 +278,16 @@ pub record StopsTooLong {W : Type 0} (T : Terms) (piece : List ℕ) (old new : A
   pub ends : (bytes out : List ℕ) → IsTaken T bytes out old
       → TalliesTooLong T line new.tallies (bytes ++ piece) (out ++ written)
 
--- why a piece of the reader's bytes ends a run: a row or record is too long, a write failed, or memory ran out
+-- why a piece of the reader's bytes ends a run: a row or record is too long, a write failed, or memory ran out;
+-- `written` was written from the output `before` to `after`
 abbrev pub IsPieceStop : {W : Type 0} → Terms → List ℕ → (old new : Answering) → Device W → Device W → List ℕ
     → ToolFault → Type 0
 IsPieceStop T piece old new before after written f = StopsTooLong T piece old new before after written f
     ⊎ (IsStop before after f ×
     ((bytes out : List ℕ) → IsTaken T bytes out old → IsBegun T (bytes ++ piece) (out ++ written)))
 
--- a piece of the reader's bytes was taken in, and all answers that are due were written; or a fault ended the run
+-- a piece of the reader's bytes was taken in, and all answers that are due were written; or a fault ended the run.
+-- `old` and `before` are the state and the output before that, `new` and `after` those after it
 pub record TakesPiece {W : Type 0} (T : Terms) (contents : W → Option (List ℕ)) (piece : List ℕ)
     (old new : Answering) (before after : Device W) (result : Result (Unit {0}) ToolFault) : Type 0 where
   pub written : List ℕ
@@ -291,12 +306,14 @@ pub record StopsInQuotes {W : Type 0} (T : Terms) (old new : Answering) (before 
   pub ends : (bytes out : List ℕ) → IsTaken T bytes out old → old.owed.items ≡ []
       → TalliesInQuotes T line new.tallies bytes (out ++ written)
 
--- why a run ends early after the reader's last byte: the text ends within quotes, a write failed, or memory ran out
+-- why a run ends early after the reader's last byte: the text ends within quotes, a write failed, or memory ran out;
+-- `written` was written from the output `before` to `after`
 abbrev pub IsLastStop : {W : Type 0} → Terms → (old new : Answering) → Device W → Device W → List ℕ → ToolFault → Type 0
 IsLastStop T old new before after written f = StopsInQuotes T old new before after written f
     ⊎ (IsStop before after f × ((bytes out : List ℕ) → IsTaken T bytes out old → IsBegun T bytes (out ++ written)))
 
--- a last line without a line feed was answered too, and all answers were written; or a fault ended the run
+-- a last line without a line feed was answered too, and all answers were written; or a fault ended the run. `old` and
+-- `before` are the state and the output before that, `new` and `after` those after it
 pub record FinishesLines {W : Type 0} (T : Terms) (contents : W → Option (List ℕ)) (old new : Answering)
     (before after : Device W) (result : Result Counts ToolFault) : Type 0 where
   pub written : List ℕ

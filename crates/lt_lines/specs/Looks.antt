@@ -11,7 +11,8 @@ use Rattle.lt_rows.specs.declared.rows.Separator.TheVariants as separators
 use Rattle.lt_lines.specs.declared.forms.LineForm.{LineForm}
 use Rattle.lt_lines.specs.declared.forms.LineForm.TheVariants as forms
 
--- what a look at a row found, if there was a look, is true of the line without its line end
+-- what a look at a row found, if there was a look, is true of the line without its line end; the look was for the field
+-- after `before` others
 abbrev pub IsRowLook : Separator → ℕ → List ℕ → Option Look → Type 0
 IsRowLook S before line look = MatchOption look (Unit {0}) (λ l. IsLookAt S before (content_of line) l)
 

@@ -35,7 +35,8 @@ pub record IsKeptFront (T : Terms) (bytes written : List ℕ) (state : Marked) :
   pub none_refused : state.answering.tallies ≡ []
   pub taken : IsTaken T [] [] state.answering
 
--- these bytes of a text were read: their mark is passed, or they are kept as perhaps a part of one
+-- `bytes` of a text were read, and `written` was written: the mark of the bytes is passed, or they are kept as perhaps
+-- a part of one
 abbrev pub IsTakenText : Terms → List ℕ → List ℕ → Marked → Type 0
 IsTakenText T bytes written state = IsTakenAfter T bytes written state ⊎ IsKeptFront T bytes written state
 
@@ -48,7 +49,8 @@ pub record IsNew (T : Terms) (state : Marked) : Type 0 where
 abbrev pub HasRoomFor : Marked → ℕ → Type 0
 HasRoomFor state count = HasRoom state.answering (length state.front.items + count)
 
--- why a run over a text ends early: a write or memory failed, the text is UTF-16, or a row or record is too long
+-- why a run over a text ends early: a write or memory failed, the text is UTF-16, or a row or record is too long;
+-- `written` is what was written for `bytes`, the last of it from the output `before` to `after`
 abbrev pub EndsText : {W : Type 0} → Terms → Device W → Device W → (bytes written : List ℕ) → List Tally
     → ToolFault → Type 0
 EndsText T before after bytes written tallies f = (IsStop before after f × IsBegunText T bytes written)
@@ -56,7 +58,8 @@ EndsText T before after bytes written tallies f = (IsStop before after f × IsBe
     ⊎ ((line : ℕ) × (f ≡ long_fault T.form line) × (failures_of after ≡ failures_of before)
     × AfterMark T (TalliesTooLong T line tallies) bytes written))
 
--- the kept first bytes were split: their mark was written, and what follows it was taken in
+-- the kept first bytes were split: their mark was written, and what follows it was taken in; or a fault ended the run.
+-- `old` and `before` are the state and the output before that, `new` and `after` those after it
 pub record BeginsText {W : Type 0} (T : Terms) (contents : W → Option (List ℕ)) (old new : Marked)
     (before after : Device W)
     (result : Result (Unit {0}) ToolFault) : Type 0 where
@@ -72,7 +75,8 @@ pub record BeginsText {W : Type 0} (T : Terms) (contents : W → Option (List �
   pub stopped : IfErr result (λ f. (IsWide old.front.items → ⊥) → IsTaken T [] [] old.answering
       → EndsText T before after old.front.items written new.answering.tallies f)
 
--- a piece of the reader's bytes was taken in, and all answers that are due were written; or a fault ended the run
+-- a piece of the reader's bytes was taken in, and all answers that are due were written; or a fault ended the run.
+-- `old` and `before` are the state and the output before that, `new` and `after` those after it
 pub record TakesText {W : Type 0} (T : Terms) (contents : W → Option (List ℕ)) (piece : List ℕ) (old new : Marked)
     (before after : Device W) (result : Result (Unit {0}) ToolFault) : Type 0 where
   pub written : List ℕ
@@ -91,7 +95,8 @@ pub record EndsTextInQuotes {W : Type 0} (T : Terms) (before after : Device W) (
   pub same : failures_of after ≡ failures_of before
   pub ends : AfterMark T (TalliesInQuotes T line tallies) bytes written
 
--- a last line without a line feed was answered too, and all answers were written; or a fault ended the run
+-- a last line without a line feed was answered too, and all answers were written; or a fault ended the run. `old` and
+-- `before` are the state and the output before that, `new` and `after` those after it
 pub record FinishesText {W : Type 0} (T : Terms) (contents : W → Option (List ℕ)) (old new : Marked)
     (before after : Device W) (result : Result Counts ToolFault) : Type 0 where
   pub written : List ℕ

@@ -98,7 +98,7 @@ end_of line = if ends_with_byte 13 line then 13 ∷ 10 ∷ [] else 10 ∷ []
 abbrev pub row_line : Separator → List ℕ → List ℕ → List ℕ → List ℕ
 row_line S row last line = row ++ separator S ∷ last ++ end_of line
 
--- the row, where rows are kept with a further field: the canonical text of its tag
+-- the row; where rows are kept (true), with a further field, the canonical text of its tag
 abbrev pub with_canonical : Bool → Separator → (row canonical : List ℕ) → List ℕ
 with_canonical false S row canonical = row
 with_canonical true S row canonical = row ++ separator S ∷ canonical
@@ -107,8 +107,8 @@ with_canonical true S row canonical = row ++ separator S ∷ canonical
 abbrev pub refused_line : Bool → Separator → (line told : List ℕ) → List ℕ
 refused_line kept S line told = row_line S (with_canonical kept S (content_of line) []) told line
 
--- the answer to a row whose field has a canonical text: that replaces the field's text, and an empty last field is
--- added
+-- the answer to a row whose field, after `before` others, has a canonical text: that replaces the field's text, and an
+-- empty last field is added
 pub record AnswersRow (S : Separator) (G : Ground) (before : ℕ) (line bytes : List ℕ) : Type 0 where
   pub front : List ℕ
   pub field : List ℕ
@@ -121,7 +121,8 @@ pub record AnswersRow (S : Separator) (G : Ground) (before : ℕ) (line bytes : 
   pub is_canonical : IsCanonicalTextOf G.entries (registered_text G.codes text) canonical
   pub line_is : bytes ≡ row_line S ((front ++ quotes) ++ canonical ++ (quotes ++ after)) [] line
 
--- the answer to a row that is kept, whose field has a canonical text: two fields are added, that text and an empty one
+-- the answer to a row that is kept, whose field, after `before` others, has a canonical text: two fields are added,
+-- that text and an empty one
 pub record KeepsRow (S : Separator) (G : Ground) (before : ℕ) (line bytes : List ℕ) : Type 0 where
   pub front : List ℕ
   pub field : List ℕ
@@ -134,12 +135,13 @@ pub record KeepsRow (S : Separator) (G : Ground) (before : ℕ) (line bytes : Li
   pub is_canonical : IsCanonicalTextOf G.entries (registered_text G.codes text) canonical
   pub line_is : bytes ≡ row_line S (with_canonical true S (content_of line) canonical) [] line
 
--- the answer to a row whose field has a canonical text: the text is replaced, or, where rows are kept, added
+-- the answer to a row whose field has a canonical text: the text is replaced, or, where rows are kept (true), added
 abbrev pub AnswersOrKeeps : Bool → Separator → Ground → ℕ → (line bytes : List ℕ) → Type 0
 AnswersOrKeeps false S G before line bytes = AnswersRow S G before line bytes
 AnswersOrKeeps true S G before line bytes = KeepsRow S G before line bytes
 
--- the answer to a row whose field is refused: the last field says why
+-- the answer to a row whose field, after `before` others, is refused: the last field says why; `kept` is whether rows
+-- are kept
 pub record RefusesRow (kept : Bool) (S : Separator) (G : Ground) (before : ℕ) (line bytes : List ℕ) : Type 0 where
   pub front : List ℕ
   pub field : List ℕ
@@ -154,19 +156,20 @@ pub record RefusesRow (kept : Bool) (S : Separator) (G : Ground) (before : ℕ) 
   pub is_told : IsTold refusal told
   pub line_is : bytes ≡ refused_line kept S line told
 
--- the answer to a row without a field of that number: the last field says `NoColumn`
+-- the answer to a row of no more than `before` fields: the last field says `NoColumn`
 pub record LacksField (kept : Bool) (S : Separator) (before : ℕ) (line bytes : List ℕ) : Type 0 where
   pub fewer : HasFewer S before (content_of line)
   pub line_is : bytes ≡ refused_line kept S line (codes "NoColumn")
 
--- the answer that is owed for a row by its field; running out of memory aside
+-- the answer that is owed for a row by its field, but for one where memory runs out
 abbrev pub IsFieldReply : Separator → Ground → RowForm → List ℕ → Reply → Type 0
 IsFieldReply S G row line r =
     (AnswersOrKeeps row.is_kept S G row.before line r.bytes × (r.refused ≡ false))
     ⊎ ((RefusesRow row.is_kept S G row.before line r.bytes ⊎ LacksField row.is_kept S row.before line r.bytes)
     × (r.refused ≡ true))
 
--- the answer to a line with a carriage return outside of quotes: the last field says `BadReturn`
+-- the answer to a line with a carriage return outside of quotes: the last field says `BadReturn`; `kept` is whether
+-- rows are kept
 pub record RefusesReturn (kept : Bool) (S : Separator) (line : List ℕ) (r : Reply) : Type 0 where
   pub returns : HasReturn S (content_of line)
   pub line_is : r.bytes ≡ refused_line kept S line (codes "BadReturn")

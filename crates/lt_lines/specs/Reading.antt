@@ -11,7 +11,8 @@ use Rattle.lt_lines.specs.declared.marked.Marked.{Marked}
 use Rattle.lt_lines.specs.declared.runs.Counts.{Counts}
 use Rattle.lt_stream.specs.declared.tallies.Tally.{Tally}
 
--- these bytes were read, and all answers that are due for them were written
+-- the bytes `read` were read, and all answers that are due for them were written: `start` is the output at the
+-- beginning of the run, and `now` the output then; `contents` gives the bytes that an output was given
 pub record IsReading {W : Type 0} (T : Terms) (contents : W → Option (List ℕ)) (start now : Device W)
     (read : List ℕ) (state : Marked) : Type 0 where
   pub written : List ℕ
@@ -20,21 +21,24 @@ pub record IsReading {W : Type 0} (T : Terms) (contents : W → Option (List ℕ
   pub taken : IsTakenText T read written state
   pub emptied : state.answering.owed.items ≡ []
 
--- since `start` some bytes were written, of which `P` is true
+-- from the output `start` to the output `now` some bytes were written, of which `P` is true; `contents` gives the bytes
+-- that an output was given
 pub record HasWritten {W : Type 0} (contents : W → Option (List ℕ)) (start now : Device W)
     (P : (written : List ℕ) → Type 0) : Type 0 where
   pub written : List ℕ
   pub appends : Appends (contents (inner_of start)) (contents (inner_of now)) written
   pub holds : P written
 
--- a piece of the text ended the run, which it does by a fault alone
+-- a piece of the text ended the run, which it does by a fault alone; `start` and `now` are the output at the beginning
+-- and now
 abbrev pub StopsReading : {W : Type 0} → Terms → (W → Option (List ℕ)) → (start now : Device W) → List ℕ → List Tally
     → Result Counts ToolFault → Type 0
 StopsReading T contents start now read tallies (Ok counts) = ⊥
 StopsReading T contents start now read tallies (Err f) =
     HasWritten contents start now (λ written. EndsText T start now read written tallies f)
 
--- the end of the text ended the run: with its counts, or with a fault
+-- the end of the text ended the run: with its counts, or with a fault; `start` and `now` are the output at the
+-- beginning and now
 abbrev pub EndsReading : {W : Type 0} → Terms → (W → Option (List ℕ)) → (start now : Device W) → List ℕ → List Tally
     → Result Counts ToolFault → Type 0
 EndsReading T contents start now read tallies (Ok counts) =

@@ -34,13 +34,14 @@ pub record IsStoppedByTurns {I : Type 0} (T : Terms)
   pub last_gave : 0 < last_given_of input'
   pub owed : AfterMark T (TalliesToLastFeed T tallies) read written
 
--- the reader's bytes end within quotes; what is owed for the records before the unfinished one was written
+-- the reader's bytes end within quotes; what is owed for the records before the unfinished one, which begins in this
+-- line, was written
 pub record IsStoppedByQuotes {I : Type 0} (T : Terms) (remaining : I → Option (List ℕ)) (input' : Device I)
     (read written : List ℕ) (tallies : List Tally) (line : ℕ) : Type 0 where
   pub end : IsAtEnd (remaining (inner_of input'))
   pub ends : AfterMark T (TalliesInQuotes T line tallies) read written
 
--- a row or record is too long; what is owed for those before it was written
+-- the row or record that begins in this line is too long; what is owed for those before it was written
 pub record IsStoppedByLength (T : Terms) (read written : List ℕ) (tallies : List Tally) (f : ToolFault)
     (line : ℕ) : Type 0 where
   pub named : f ≡ long_fault T.form line
@@ -52,7 +53,8 @@ pub record IsStoppedByMark (read written : List ℕ) (tallies : List Tally) : Ty
   pub nothing : written ≡ []
   pub none : tallies ≡ []
 
--- how the run ended: with its counts, or with a fault; an end by OutOfMemory says nothing more
+-- how a run ended that read the bytes `read` in `reads` reads: with its counts, or with a fault; an end by OutOfMemory
+-- says nothing more
 abbrev pub EndsAs : {I O : Type 0} → Terms → (I → Option (List ℕ))
     → (input input' : Device I) → (output output' : Device O)
     → ℕ → (read written : List ℕ) → List Tally → Result Counts ToolFault → Type 0
@@ -73,7 +75,9 @@ EndsAs T remaining input input' output output' reads read written tallies (Err f
 EndsAs T remaining input input' output output' reads read written tallies (Err faults.OutOfMemory) = Unit {0}
 
 -- A run over the lines of a reader. Whatever ended it, what was written is a front of what is owed. The tallies are
--- those of the lines that were answered, but where a write or memory failed.
+-- those of the lines that were answered, but where a write or memory failed. `remaining` gives the bytes that a reader
+-- has left, and `contents` those that an output was given; `input'` and `output'` are the reader and the output after
+-- the run.
 pub record RunsLines {I O : Type 0} (T : Terms) (remaining : I → Option (List ℕ)) (contents : O → Option (List ℕ))
     (input input' : Device I) (output output' : Device O) (tallies : List Tally)
     (result : Result Counts ToolFault) : Type 0 where

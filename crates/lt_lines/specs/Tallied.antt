@@ -18,13 +18,15 @@ use Rattle.lt_rows.specs.declared.rows.Separator.TheVariants as separators
 abbrev pub separators_in : RowForm → ℕ
 separators_in row = if row.is_kept then 2 else 1
 
--- what the answer tells of a line's refusal: it follows `! `, or the row as it was and its separators
+-- what the answer to a line, `bytes`, tells of the line's refusal: it follows `! `, or the row as it was and its
+-- separators
 abbrev pub told_in : LineForm → (line bytes : List ℕ) → List ℕ
 told_in forms.Tag line bytes = drop 2 bytes
 told_in (forms.Row row) line bytes = drop (length (content_of line) + separators_in row) bytes
 told_in (forms.Csv row delimiter) line bytes = drop (length (content_of line) + separators_in row) bytes
 
--- the name of the fault that the answer to a refused line tells: what is before the first space (32) or end of line
+-- the name of the fault that the answer to a refused line, `bytes`, tells: what is before the first space (32) or end
+-- of line
 abbrev pub fault_in : LineForm → (line bytes : List ℕ) → List ℕ
 fault_in form line bytes = before_first (λ byte. nat_le byte 32) (told_in form line bytes)
 
@@ -52,7 +54,8 @@ IsTagIn (forms.Csv row delimiter) line text =
 abbrev pub most_shown : ℕ
 most_shown = 64
 
--- the line with this number was refused by this answer: the fault's name, and the front of the line's text
+-- line number `number` was refused by the answer `bytes`: `f` has the number, the fault's name, and the front of the
+-- line's text
 pub record IsRefusedAs (form : LineForm) (number : ℕ) (line bytes : List ℕ) (f : Refused) : Type 0 where
   pub number_is : f.number ≡ number
   pub fault : f.fault ≡ fault_in form line bytes
@@ -97,14 +100,16 @@ TalliesTooLong T line tallies bytes written =
 
 -- ---- the steps
 
--- a refused line was added to the tallies
+-- a refused line, whose number is `number` and whose answer is `bytes`, was added to the tallies `old`, which gives
+-- `new`, where fewer than 2 to the 64 lines were refused with it
 pub record CountsLine (form : LineForm) (number : ℕ) (line bytes : List ℕ) (old new : List Tally) : Type 0 where
   pub one : Refused
   pub is_refused : IsRefusedAs form number line bytes one
   pub counted : (refusals : List Refused) → length refusals + 1 < 2 ^ 64
       → AreTallies refusals old → AreTallies (refusals ++ one ∷ []) new
 
--- a line was added to the tallies if it was refused
+-- line number `number`, whose answer is `bytes`, was added to the tallies `old`, which gives `new`, if it was refused
+-- (true); else the tallies stay as they are
 abbrev pub CountsIf : LineForm → ℕ → (line bytes : List ℕ) → Bool → (old new : List Tally) → Type 0
 CountsIf form number line bytes false old new = new ≡ old
 CountsIf form number line bytes true old new = CountsLine form number line bytes old new

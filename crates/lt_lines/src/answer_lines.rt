@@ -1,4 +1,4 @@
-//! The line that is owed for a text.
+//! The line that answers a text.
 ghost use Rattle.std.specs.Prelude.{◌≡◌, ◌≤◌, ◌++◌, IfOk, OnOk, vec_len};
 ghost use Rattle.std.specs.Fmt.{decimal};
 ghost use Rattle.lt_jar.specs.Lines.{content_of};

@@ -1,4 +1,4 @@
-//! The line that is owed for a row.
+//! The line that answers a row.
 ghost use Rattle.std.specs.Prelude.{◌≡◌, ◌≤◌, ◌++◌, ◌&&◌, [], IfOk, OnOk, length, take};
 ghost use Rattle.lt_jar.specs.Lines.{content_of};
 ghost use Rattle.lt_rows.specs.Looks.{HasTextAt, IsLookAt};
@@ -32,8 +32,8 @@ fn append_end(lines: &mut Vec<u8>, line: &[u8]) -> Result<(), AllocError>
     }
 }
 
-/// Appends a row, then `canonical` as a further field if rows are kept, then `last` as the last field, and the end of the
-/// line. `line` is the line of the row, whose carriage return the answer keeps.
+/// Appends `row`, then `canonical` as a further field if rows are kept, then `last` as the last field, and the end of
+/// the line. `line` is `row` with the carriage return that may end it, which the answer keeps.
 #[inline(never)]
 fn append_longer(
     lines: &mut Vec<u8>,
@@ -91,9 +91,9 @@ fn end_refused(
     Ok(())
 }
 
-/// Appends a row as it is, and two fields after it: the canonical text of its tag and an empty one, or an empty one and why
-/// the tag is refused. Tells whether it is refused. The tag is the first `count` bytes of `text`; `line` is the line of the
-/// row.
+/// Appends a row as it is, and two fields after it: the canonical text of its tag and an empty one, or an empty one and
+/// why the tag is refused. Tells whether it is refused. The tag is the first `count` bytes of `text`; what follows them
+/// is for speed alone, as 32 bytes are taken at once. `line` is the line of the row.
 #[inline(never)]
 fn append_kept<L: Lookup>(
     lines: &mut Vec<u8>,
@@ -127,8 +127,9 @@ fn append_kept<L: Lookup>(
 }
 
 /// Appends the answer to a row whose tag stands at `place`, and tells whether the tag is refused. The row's line is the
-/// first `count` bytes of `text`, with no carriage return outside of quotes but one that ends it. The clauses suppose that
-/// all that `recent` has is right, and then it stays so; what is kept of fields is the same of rows and of CSV.
+/// first `count` bytes of `text`, with no carriage return outside of quotes but one that ends it; what follows them is
+/// for speed alone, as 32 bytes are taken at once. The clauses suppose that all that `recent` has is right, and then it
+/// stays so; what is kept of fields is the same of rows and of CSV.
 #[inline(always)]
 fn append_found<L: Lookup>(
     lines: &mut Vec<u8>,
@@ -172,8 +173,9 @@ fn append_found<L: Lookup>(
     }
 }
 
-/// Looks at a row that is whole only now, as its front was kept from an earlier piece, so that nothing is known of its
-/// bytes. The row's line is the first `count` bytes of `text`, and `before` is how many fields come before that of the tag.
+/// Looks at a row that is whole only with the bytes of this piece: its front was kept from an earlier one, so that
+/// nothing is known of its bytes. The row's line is the first `count` bytes of `text`, and `before` is how many fields
+/// come before that of the tag.
 #[inline(never)]
 fn look_at_kept(separator: Separator, before: usize, text: &[u8], count: usize) -> Look
     requires { count ≤ length text.now }
@@ -202,9 +204,9 @@ fn looked_at(
     }
 }
 
-/// Appends the answer to a row, and tells whether it is refused: `BadReturn` and `NoColumn` are told in its last field, and
-/// so is the refusal of its tag. The row's line is the first `count` bytes of `text`, and `look` is the look at it, if there
-/// was one.
+/// Appends the answer to a row, and tells whether it is refused: `BadReturn` and `NoColumn` are told in its last field,
+/// and so is the refusal of its tag. The row's line is the first `count` bytes of `text`; what follows them is for
+/// speed alone, as up to 64 bytes are taken at once. `look` is the look at it, if there was one.
 #[inline(always)]
 fn append_row<L: Lookup>(
     lines: &mut Vec<u8>,
@@ -241,8 +243,8 @@ fn append_row<L: Lookup>(
     }
 }
 
-/// Appends the answer to a heading, with the names of the fields that are added, `langtag` and `langtag_fault`, and tells
-/// whether it is refused, as it is with `BadReturn`.
+/// Appends the answer to a heading, with the names of the fields that are added, `langtag` (if rows are kept) and
+/// `langtag_fault`, and tells whether it is refused, as it is with `BadReturn`.
 #[inline(never)]
 fn append_heading(
     lines: &mut Vec<u8>,
@@ -269,8 +271,9 @@ fn append_heading(
     Ok(false)
 }
 
-/// Appends the answer to a line, and tells whether it is refused. The first line of all is a heading if the form has one;
-/// each other is a row. The line is the first `count` bytes of `text`, and `look` is the look at it, if there was one.
+/// Appends the answer to a line, and tells whether it is refused. The line is a heading if `is_first`, as the first of
+/// all is, and the form has one; each other is a row. It is the first `count` bytes of `text`; what follows them is for
+/// speed alone, as up to 64 bytes are taken at once. `look` is the look at it, if there was one.
 #[inline(always)]
 pub(crate) fn append_among<L: Lookup>(
     lines: &mut Vec<u8>,

@@ -27,17 +27,17 @@ use lt_tag::OutOfMemory;
 use std::alloc::{AllocError, Global};
 use std::io::Write;
 
-/// The most bytes that are kept of a line that is a tag. A longer one is too long, whatever follows: 1,026 bytes, of which
-/// what is registered for the first subtag may take one less, and a carriage return.
+/// The most bytes that are kept of a line that is a tag: 1,024 of the longest tag, one as a code may be a byte longer
+/// than the subtag that replaces it, one that tells that the line is too long, and a carriage return.
 const LONGEST_KEPT: usize = 1027;
 
 /// The most bytes of a row or a record, which is kept whole: 16 MiB.
 const LONGEST_ROW: usize = 16_777_216;
 
-/// Lines are written once this many bytes of them are owed, if no read comes before.
+/// The answers that wait are written once they are this many bytes, if no read comes before.
 const FULL: usize = 65536;
 
-/// Lines that come in pieces, and what is owed for them.
+/// Lines that come in pieces, and the answers that are owed for them.
 #[derive(Drop)]
 pub(crate) struct Answering {
     /// The front of the line that no line feed ended so far.
@@ -46,7 +46,7 @@ pub(crate) struct Answering {
     place: Place,
     /// The line feeds so far.
     feeds: u64,
-    /// Lines that are owed and not yet written.
+    /// Answers that wait to be written.
     owed: Vec<u8>,
     counts: Counts,
     /// The lines that were refused, by their faults.
@@ -78,8 +78,9 @@ fn long_fault(form: LineForm, line: u64) -> ToolFault
     }
 }
 
-/// Appends the answer to a line, and tells whether it was refused. The line is the first `count` bytes of `text`, and `look`
-/// is the look at it, if there was one.
+/// Appends the answer to a line, and tells whether it was refused. The line is the first `count` bytes of `text`; what
+/// follows them is for speed alone, as up to 64 bytes are taken at once. `is_first` is whether it is the first of all,
+/// so that it may be a heading, and `look` is the look at it, if there was one.
 #[tactic(auto, using(crate::proofs::TextLemmas::csv_recent))]
 #[inline(always)]
 fn append_reply<L: Lookup>(
@@ -135,8 +136,8 @@ fn append_reply<L: Lookup>(
     }
 }
 
-/// Appends the answer to a line of which a front was kept, and tells whether it was refused. The line is what is in `kept`
-/// and then `part`, which is kept too.
+/// Appends the answer to a line of which a front was kept, and tells whether it was refused. The line is what is in
+/// `kept` and then `part`, which is kept too; `is_first` is whether it is the first of all.
 #[inline(never)]
 fn append_kept_line<L: Lookup>(
     lines: &mut Vec<u8>,
@@ -169,8 +170,9 @@ fn append_kept_line<L: Lookup>(
     )
 }
 
-/// Appends the answer to a line, and tells whether it was refused. The line is what is in `kept` and then the first `count`
-/// bytes of `text`, which are kept too if anything was.
+/// Appends the answer to a line, and tells whether it was refused. The line is what is in `kept` and then the first
+/// `count` bytes of `text`, which are kept too if anything was; what follows them is for speed alone, as up to 64 bytes
+/// are taken at once. `is_first` is whether it is the first of all, and `look` is the look at it, if there was one.
 #[inline(always)]
 fn append_line<L: Lookup>(
     lines: &mut Vec<u8>,
@@ -216,7 +218,7 @@ fn line_at<'a>(kept: &'a [u8], part: &'a [u8]) -> &'a [u8]
 }
 
 impl Answering {
-    /// No bytes taken so far, and nothing owed.
+    /// No bytes were taken so far, and no answers wait.
     pub(crate) fn new(alloc: Global) -> Answering
         ensures items { (result.kept.items ≡ []) × (result.owed.items ≡ []) }
         ensures place { (result.place ≡ Place.Fresh) × (result.feeds ≡ 0) }
@@ -238,8 +240,9 @@ impl Answering {
         }
     }
 
-    /// Answers the line that ends after the first `count` bytes of `text`, counts it, and keeps nothing of it. `look` is the
-    /// look at it, if there was one.
+    /// Answers the line that ends after the first `count` bytes of `text`, counts it, and keeps nothing of it. What
+    /// follows these bytes is for speed alone, as up to 64 bytes are taken at once. `look` is the look at the line, if
+    /// there was one.
     #[inline(always)]
     fn answer_line<L: Lookup>(
         &mut self,
@@ -287,7 +290,7 @@ impl Answering {
         Ok(())
     }
 
-    /// Keeps the bytes before a line feed that is within quotes, and the line feed.
+    /// Keeps `part`, the bytes before a line feed that is within quotes, and the line feed.
     #[inline(never)]
     fn go_on(&mut self, form: LineForm, part: &[u8]) -> Result<(), OutOfMemory>
         requires { spec.HasRoom self.old 1 }
@@ -300,8 +303,9 @@ impl Answering {
         Ok(())
     }
 
-    /// Takes the first `count` bytes of `text` and the line feed after them: answers the row or the record that they end, or
-    /// keeps them if the line feed is within quotes. `lacks` is what these bytes are known to lack.
+    /// Takes the first `count` bytes of `text` and the line feed after them: answers the row or the record that they
+    /// end, or keeps them if the line feed is within quotes. What follows in `text` is for speed alone, as up to 64
+    /// bytes are taken at once. `lacks` is what the `count` bytes are known to lack.
     #[inline(never)]
     fn end_row<L: Lookup>(
         &mut self,
@@ -327,8 +331,9 @@ impl Answering {
         self.answer_line(alloc, basis, form, &look, text, count)
     }
 
-    /// Takes the first `count` bytes of `text` and the line feed after them: answers the line that they end, or keeps them
-    /// if the line feed is within the quotes of a record. `lacks` is what these bytes are known to lack.
+    /// Takes the first `count` bytes of `text` and the line feed after them: answers the line that they end, or keeps
+    /// them if the line feed is within the quotes of a record. What follows in `text` is for speed alone, as up to 64
+    /// bytes are taken at once. `lacks` is what the `count` bytes are known to lack.
     #[inline(always)]
     fn end_line<L: Lookup>(
         &mut self,
@@ -354,7 +359,7 @@ impl Answering {
         }
     }
 
-    /// Writes the lines that are owed, and owes none then.
+    /// Writes the answers that wait, so that none do then.
     fn write<W: Write>(&mut self, output: &mut Device<W>) -> Result<(), ToolFault>
         ensures writes { spec.WritesOwed W.contents self.old self.new output.old output.new result }
         ensures emptied { OnOk result (self.new.owed.items ≡ []) }
@@ -364,7 +369,7 @@ impl Answering {
         Ok(())
     }
 
-    /// Writes the lines that are owed if they are `FULL` bytes or more.
+    /// Writes the answers that wait if they are `FULL` bytes or more.
     fn write_much<W: Write>(&mut self, output: &mut Device<W>) -> Result<(), ToolFault>
         ensures writes { spec.WritesOwed W.contents self.old self.new output.old output.new result }
         ensures emptied { OnOk result (full ≤ vec_len self.old.owed → self.new.owed.items ≡ []) }
@@ -375,7 +380,8 @@ impl Answering {
         self.write(output)
     }
 
-    /// Whether what is kept of a row or a record is too long once `count` bytes follow. A tag's line is never too long.
+    /// Whether a row or a record is too long once `count` bytes follow what is kept of it. A tag's line is never too
+    /// long.
     fn is_too_long(&self, form: LineForm, count: usize) -> bool
         ensures { IsTrue result ↔ spec.IsLongBy form (length self.now.kept.items) count }
     {
@@ -396,7 +402,7 @@ impl Answering {
         self.feeds.saturating_sub(within as u64) + 1
     }
 
-    /// Ends the run at a row or a record that is too long: writes the lines that are owed, and gives the fault, which is
+    /// Ends the run at a row or a record that is too long: writes the answers that wait, and gives the fault, which is
     /// that of the write if it fails.
     #[inline(never)]
     fn stop_long<W: Write>(&mut self, form: LineForm, output: &mut Device<W>) -> ToolFault
@@ -409,8 +415,9 @@ impl Answering {
         }
     }
 
-    /// Takes the next bytes of the input, answers the lines that they end, and writes the answers. Stops at a row or a
-    /// record that is too long, and where memory or a write fails.
+    /// Takes `piece`, the next bytes of the input, answers the lines that they end, and writes the answers. A last line
+    /// without a line feed is kept for the next piece. Stops at a row or a record that is too long, and where memory or
+    /// a write fails.
     pub(crate) fn take_piece<L: Lookup, W: Write>(
         &mut self,
         alloc: Global,
@@ -458,7 +465,8 @@ impl Answering {
         self.answer_line(alloc, basis, form, &None, &[], 0)
     }
 
-    /// Answers a last line without a line feed, writes what is owed, and gives the counts. No quote may be open.
+    /// Answers a last line without a line feed, if there is one, writes the answers that wait, and gives the counts. No
+    /// quote may be open.
     fn finish_closed<L: Lookup, W: Write>(
         &mut self,
         alloc: Global,
@@ -475,8 +483,8 @@ impl Answering {
         Ok(self.counts)
     }
 
-    /// Answers a last line without a line feed, writes what is owed, and gives the counts. Refused with `BadCsv` if a quote
-    /// is open.
+    /// Answers a last line without a line feed, if there is one, writes the answers that wait, and gives the counts.
+    /// Refused with `BadCsv` if a quote is open.
     pub(crate) fn finish<L: Lookup, W: Write>(
         &mut self,
         alloc: Global,

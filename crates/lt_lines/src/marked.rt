@@ -14,7 +14,7 @@ use lt_stream::{ToolFault, write_text};
 use std::alloc::Global;
 use std::io::Write;
 
-/// A text that comes in pieces, and what is owed for its lines.
+/// A text that comes in pieces and may begin with a byte order mark, and the answers to its lines.
 #[derive(Drop)]
 pub(crate) struct Marked {
     /// The first bytes, while they may be a part of a mark.
@@ -49,7 +49,8 @@ impl Marked {
         }
     }
 
-    /// Writes the byte order mark that the first bytes begin with, if any, and answers what follows it.
+    /// Splits the first bytes, which are kept, into a byte order mark, if there is one, and text: writes the mark, and
+    /// answers the lines of the text.
     fn begin<L: Lookup, W: Write>(
         &mut self,
         alloc: Global,
@@ -94,8 +95,8 @@ impl Marked {
         self.begin(alloc, basis, form, output)
     }
 
-    /// Answers a last line without a line feed, writes what is owed, and gives the counts. Refused with `BadCsv` if a quote
-    /// is open.
+    /// Answers a last line without a line feed, if there is one, writes the answers that wait, and gives the counts.
+    /// Refused with `BadCsv` if a quote is open.
     pub(crate) fn finish<L: Lookup, W: Write>(
         &mut self,
         alloc: Global,

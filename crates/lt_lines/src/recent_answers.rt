@@ -15,7 +15,7 @@ use lt_registry::Lookup;
 use lt_tag::OutOfMemory;
 use std::alloc::{AllocError, Global};
 
-/// Answers that were given lately: those of whole lines, and ends of canonical texts.
+/// Answers that were given lately: those to whole texts, lines or fields, and ends of canonical texts.
 #[derive(Drop)]
 pub(crate) struct RecentAnswers {
     whole: Recent,
@@ -34,8 +34,8 @@ impl RecentAnswers {
     }
 }
 
-/// The text with the subtag that the table has for its first one in place of it. None if the table has no such code: the
-/// text stays as it is.
+/// The text with its first subtag replaced by what the table has for it. None if the table has no such code: the text
+/// stays as it is.
 fn replaced_text(
     alloc: Global,
     codes: &CodeTable,
@@ -51,8 +51,9 @@ fn replaced_text(
     }
 }
 
-/// Appends the answer to a tag, and tells whether it was refused. The tag is the first `count` bytes of `text`, read with
-/// the basis's table of codes if there is one.
+/// Appends the answer to a tag, and tells whether it was refused. The tag is the first `count` bytes of `text`, read
+/// with the basis's table of codes if there is one; what follows them is for speed alone, as 32 bytes are taken at
+/// once.
 pub(crate) fn append_again<L: Lookup>(
     lines: &mut Vec<u8>,
     alloc: Global,
@@ -73,8 +74,8 @@ pub(crate) fn append_again<L: Lookup>(
     }
 }
 
-/// Appends the answer to a tag, the first `count` bytes of `text`, read with the codes of a table, and tells whether it was
-/// refused.
+/// Appends the answer to a tag, the first `count` bytes of `text`, read with the codes of a table, and tells whether it
+/// was refused. What follows in `text` is for speed alone, as 32 bytes are taken at once.
 #[inline(never)]
 fn append_replaced<L: Lookup>(
     lines: &mut Vec<u8>,
@@ -141,7 +142,8 @@ fn append_usual_answer<L: Lookup>(
 }
 
 /// Appends the answer to a tag, the first `count` bytes of `text`, and tells whether it was refused. An answer that was
-/// given lately is taken; any other is worked out and put with those.
+/// given lately is taken; any other is worked out and put with those. What follows in `text` is for speed alone, as 32
+/// bytes are taken at once.
 fn append_found<L: Lookup>(
     lines: &mut Vec<u8>,
     alloc: Global,
@@ -169,8 +171,9 @@ fn append_found<L: Lookup>(
     Ok(refused)
 }
 
-/// Appends the canonical text of a field and gives None, or gives why it is refused. The field is the first `count` bytes of
-/// `rest`, read with the basis's table of codes if there is one.
+/// Appends the canonical text of a field and gives None, or gives why it is refused. The field is the first `count`
+/// bytes of `rest`, read with the basis's table of codes if there is one; what follows them is for speed alone, as 32
+/// bytes are taken at once.
 #[inline(always)]
 pub(crate) fn append_field<L: Lookup>(
     lines: &mut Vec<u8>,
@@ -195,8 +198,8 @@ pub(crate) fn append_field<L: Lookup>(
     }
 }
 
-/// Appends the canonical text of a field, the first `count` bytes of `rest` read with the codes of a table, and gives None,
-/// or gives why it is refused.
+/// Appends the canonical text of a field, the first `count` bytes of `rest` read with the codes of a table, and gives
+/// None, or gives why it is refused. What follows in `rest` is for speed alone, as 32 bytes are taken at once.
 #[inline(never)]
 fn append_replaced_field<L: Lookup>(
     lines: &mut Vec<u8>,
@@ -247,8 +250,9 @@ fn append_read_field<L: Lookup>(
     append_found_field(lines, alloc, checked, row, recent, rest, count)
 }
 
-/// Appends the canonical text of a field, the first `count` bytes of `rest`, and gives None, or gives why it is refused. A
-/// canonical text that was found lately is taken; any other is worked out and put with those.
+/// Appends the canonical text of a field, the first `count` bytes of `rest`, and gives None, or gives why it is
+/// refused. A canonical text that was found lately is taken; any other is worked out and put with those. What follows
+/// in `rest` is for speed alone, as 32 bytes are taken at once.
 #[inline(never)]
 fn append_found_field<L: Lookup>(
     lines: &mut Vec<u8>,

@@ -9,7 +9,7 @@ use lt_rows::{Separator, find_field, text_in};
 use lt_stream::Tallies;
 use std::alloc::{AllocError, Global};
 
-/// The most bytes that are shown of a text that is refused.
+/// The most bytes that are shown of a text that is refused; a longer one is cut.
 const MOST_SHOWN: usize = 64;
 
 /// How many separators are between a row as it was and what a refusal tells: two where rows are kept, as an empty field is
@@ -79,8 +79,8 @@ fn tag_in(form: LineForm, line: &[u8]) -> &[u8]
     }
 }
 
-/// Counts a line that `answer` refuses, by the name of its fault. Its number and the front of its tag go with it, as the
-/// first line of each fault is kept.
+/// Counts a line that `answer` refuses, by the name of its fault. `number` is the line's own, counted from 1: it and
+/// the front of the line's tag are kept of the first line of each fault.
 #[inline(never)]
 fn count_line(
     tallies: &mut Tallies,
@@ -97,7 +97,7 @@ fn count_line(
     tallies.count(alloc, fault_in(form, line, answer), number, shown)
 }
 
-/// Counts a line that was answered, if it was refused.
+/// Counts a line if `answer` refuses it, as `refused` tells. `number` is the line's own, counted from 1.
 #[inline(always)]
 pub(crate) fn count_if(
     tallies: &mut Tallies,

@@ -10,21 +10,22 @@ use Rattle.lt_select.specs.LookedUp.{LooksUp, LooksUpLine}
 use Rattle.lt_select.specs.declared.closest.Closest.{Closest}
 use Rattle.lt_select.proofs.ClosestLemmas.{finds_line, finds_none}
 
--- no range finds any of no lines
+-- among no lines none is the closest
 pub holds_none : (R : List EntryParts) (ranges : List RangeParts) → Holds R ranges [] None
 holds_none R ranges = record { lists = []; have = refl; among = λ i within k none. absurd (omega (arith, none)) }
 
--- what is found is the closest line
+-- the closest of the lines `each` is what lookup finds among them
 found_is : (R : List EntryParts) (ranges : List RangeParts) (each : List (List ℕ)) (closest : Option Closest) → Holds R ranges each closest
     → (found : _) → found ≡ option_map (λ (c : Closest). c.line) closest → LooksUp R ranges each found
 found_is R ranges each None h found same = rw same (finds_none R ranges each h)
 found_is R ranges each (Some closest) h found same = rw same (finds_line R ranges each closest h)
 
--- the lines that were answered are those of which the closest is held
+-- a run over lines; `closest` gives the line that its state has found, which `holds` says to be the closest of those
+-- that were answered
 module _ {I O A : Type 0} (R : List EntryParts) (ranges : List RangeParts) (Q : lines.Answered A) (closest : A → Option Closest)
     (holds : (answers : A) (each : List (List ℕ)) (bytes : List ℕ) → Q answers each bytes → Holds R ranges each (closest answers))
     (remaining : I → Option (List ℕ)) (contents : O → Option (List ℕ)) (input input' : Device I) (output output' : Device O) (answers : A) where
-  -- the run read all lines
+  -- a run that read all lines gives what lookup finds among them
   pub looks_up : lines.RunsOverLines Q remaining contents input input' output output' answers (Ok tt)
       → (found : _) → found ≡ option_map (λ (c : Closest). c.line) (closest answers) → LooksUpLine R ranges remaining input input' (Ok found)
   looks_up r found same = record {

@@ -20,12 +20,13 @@ use Rattle.lt_select.specs.declared.schemes.Scheme.{Scheme}
 
 -- ---- texts
 
+-- a text that is to be matched, by the entries of a registry
 module _ (R : List EntryParts) (text : List ℕ) where
-  -- the tag that the text is read as has these subtags
+  -- the subtags that a text has are those of the tag that it is read as
   same_tag : (tag : TagForm) → HasTag text tag → (list : List (List ℕ)) → HasSubtags R text list → HasCanonicalList R tag list
   same_tag tag read list h = subst (λ (t : TagForm). HasCanonicalList R t list) (one_tag_of_text text h.tag tag h.read read) h.holds
 
-  -- a text that is refused has none
+  -- a text that is refused is no tag with a canonical form, and has no subtags to match
   refused_none : (refusal : TextRefusal) → IsTextRefusal R text refusal → (refusal ≡ refusals.OutOfMemory → ⊥) → HasNoSubtags R text
   refused_none (refusals.NotATag fault) owed other = λ list h. text_repeats_answered R text (refusals.NotATag fault) owed h.tag h.read
   refused_none (refusals.Invalid fault) owed other = λ list h.
@@ -36,14 +37,17 @@ module _ (R : List EntryParts) (text : List ℕ) where
       (same_tag a.0 a.1 list h).is_form.repeats_none a.3
   refused_none refusals.OutOfMemory owed other = absurd (other refl)
 
+  -- a text that is refused, but not for lack of memory, has no subtags; `kind` is the refusal as the program tells it
+  -- apart
   pub none_of : (refusal kind : TextRefusal) → refusal ≡ kind → IsTextRefusal R text refusal → (kind ≡ refusals.OutOfMemory → ⊥) → HasNoSubtags R text
   none_of refusal kind is owed other = refused_none refusal owed (λ e. other (sym is ∙ e))
 
   module _ (scheme : Scheme) (ranges : List RangeParts) where
+    -- a text that is matched has the subtags that are matched
     has_subtags : (m : IsMatched R scheme ranges text) → HasSubtags R text m.list
     has_subtags m = record { tag = m.tag; read = m.read; holds = m.canonical }
 
-    -- a text with these subtags is matched where they are
+    -- a text with these subtags is matched where some range matches them; `matched` is what the program tells
     pub matched_as : (list : List (List ℕ)) (matched : Bool) → MatchingIsDetermined R → HasSubtags R text list → IsTrue matched ↔ AnyMatches (scheme_of scheme) ranges list
         → IsTrue matched ↔ IsMatched R scheme ranges text
     matched_as list matched one reads tells = (
@@ -51,7 +55,7 @@ module _ (R : List EntryParts) (text : List ℕ) where
       λ m. tells.1 (subst (AnyMatches (scheme_of scheme) ranges) (one.list reads.tag m.list list (same_tag reads.tag reads.read m.list (has_subtags m)) reads.holds) m.matches),
     )
 
-    -- one without is matched by none
+    -- a text without subtags is matched by no range
     pub none_matched : HasNoSubtags R text → IsTrue false ↔ IsMatched R scheme ranges text
     none_matched none = (
       λ no. let bad : false ≡ true = no in cc,
@@ -67,7 +71,8 @@ content-length line = elim (ends_with_byte 13 line) as (λ t. length line ≤ le
   | false ↦ omega arith
 ]
 
--- of which all is kept that tells whether it is selected
+-- what is kept of a line tells whether it is selected: only a line that is kept whole is, and only where the line is
+-- kept whole would its kept front be
 pub record TellsByFront (P : Selection) : Type 0 where
   pub short : (line : List ℕ) → P line → length line ≤ longest_kept
   pub front : (line : List ℕ) → P (take longest_kept line) → length line ≤ longest_kept
@@ -76,12 +81,13 @@ pub record TellsByFront (P : Selection) : Type 0 where
 pub selected_short : (R : List EntryParts) (scheme : Scheme) (ranges : List RangeParts) (line : List ℕ) → IsSelected R scheme ranges line → length line ≤ longest_kept
 selected_short R scheme ranges line m = omega (arith, m.read.short, content-length line)
 
--- nor is one of which the front that is kept would be selected, if it were the line
+-- a line is kept whole if its kept front would be selected as a line
 pub selected_front : (R : List EntryParts) (scheme : Scheme) (ranges : List RangeParts) (line : List ℕ) → IsSelected R scheme ranges (take longest_kept line) → length line ≤ longest_kept
 selected_front R scheme ranges line m = elim (leb_tells (length line) longest_kept) [
   | inl short ↦ short.1
   | inr long ↦ absurd (omega (arith, m.read.short, content-length (take longest_kept line), length-take-le longest_kept line (omega (arith, long.1))))
 ]
 
+-- what is kept of a line tells whether ranges select it
 pub selected_tells : (R : List EntryParts) (scheme : Scheme) (ranges : List RangeParts) → TellsByFront (IsSelected R scheme ranges)
 selected_tells R scheme ranges = record { short = selected_short R scheme ranges; front = selected_front R scheme ranges }

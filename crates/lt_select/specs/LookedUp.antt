@@ -55,8 +55,8 @@ abbrev pub LooksUp : List EntryParts → List RangeParts → (lines : List (List
 LooksUp R ranges lines None = FindsNoLine R ranges lines
 LooksUp R ranges lines (Some line) = FindsLine R ranges lines line.items
 
--- how a run ended: with what lookup finds among all lines of the reader, or with a fault; an end by OutOfMemory says
--- nothing more
+-- how a run ended that read the bytes `read` in `reads` reads: with what lookup finds among all lines of the reader, or
+-- with a fault; an end by OutOfMemory says nothing more
 abbrev pub EndsAs : {I : Type 0} → List EntryParts → List RangeParts → (I → Option (List ℕ)) → (input input' : Device I)
     → ℕ → List ℕ → Result (Option (Vec ℕ Global)) ToolFault → Type 0
 EndsAs R ranges remaining input input' reads read (Ok found) =
@@ -70,7 +70,8 @@ EndsAs R ranges remaining input input' reads read (Err (faults.BadTsv line)) = �
 EndsAs R ranges remaining input input' reads read (Err faults.Utf16) = ⊥
 EndsAs R ranges remaining input input' reads read (Err faults.OutOfMemory) = Unit {0}
 
--- a run that looks up one of the lines of a reader
+-- a run that looks up one of the lines of a reader: `remaining` gives the bytes that a reader has left, and `input` and
+-- `input'` are the reader before and after the run
 pub record LooksUpLine {I : Type 0} (R : List EntryParts) (ranges : List RangeParts) (remaining : I → Option (List ℕ))
     (input input' : Device I) (result : Result (Option (Vec ℕ Global)) ToolFault) : Type 0 where
   pub read : List ℕ

@@ -29,7 +29,8 @@ pub record IsStoppedByTurns {I : Type 0} (P : Selection) (input' : Device I) (re
   pub last_gave : 0 < last_given_of input'
   pub owed : IsOwedToLastFeed P read written
 
--- how the run ended: with how many lines it wrote, or with a fault; an end by OutOfMemory says nothing more
+-- how a run ended that read the bytes `read` in `reads` reads: with how many lines it wrote, or with a fault; an end by
+-- OutOfMemory says nothing more
 abbrev pub EndsAs : {I O : Type 0} → Selection → (I → Option (List ℕ)) → (input input' : Device I)
     → (output output' : Device O) → ℕ → (read written : List ℕ) → Result ℕ ToolFault → Type 0
 EndsAs P remaining input input' output output' reads read written (Ok count) =
@@ -45,7 +46,8 @@ EndsAs P remaining input input' output output' reads read written (Err (faults.B
 EndsAs P remaining input input' output output' reads read written (Err faults.Utf16) = ⊥
 
 -- A run that writes the lines of a reader that are selected. Whatever ended it, what was written is a front of those
--- lines.
+-- lines. `remaining` gives the bytes that a reader has left, and `contents` those that an output was given; `input'`
+-- and `output'` are the reader and the output after the run.
 pub record SelectsLines {I O : Type 0} (P : Selection) (remaining : I → Option (List ℕ))
     (contents : O → Option (List ℕ)) (input input' : Device I) (output output' : Device O)
     (result : Result ℕ ToolFault) : Type 0 where

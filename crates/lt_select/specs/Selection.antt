@@ -44,7 +44,7 @@ AreSelected P (line ∷ lines) selected =
     (P line × (rest : List (List ℕ)) × (selected ≡ line ∷ rest) × AreSelected P lines rest)
     ⊎ ((P line → ⊥) × AreSelected P lines selected)
 
--- of a line no more bytes are kept, since a longer one is too long for a tag, whatever follows: 1,025 bytes and a
+-- the most bytes that are kept of a line: 1,024 of the longest tag, one that tells that the line is too long, and a
 -- carriage return (13)
 abbrev pub longest_kept : ℕ
 longest_kept = 1026

@@ -20,7 +20,7 @@ pub(crate) struct Closest {
     pub(crate) line: Vec<u8>,
 }
 
-/// The index of the first range by which lookup finds a tag, or None if none does.
+/// The index of the first range that falls back to a tag, and so finds it in lookup. None if none does.
 fn first_falling(ranges: &[LanguageRange], tag: &TagSubtags) -> Option<usize>
     ensures { MatchOption result (spec.NoneFalls ranges.now (length ranges.now) tag.now) (spec.FallsFirst ranges.now tag.now) }
 {
@@ -52,7 +52,7 @@ fn copy_line(alloc: Global, line: &[u8]) -> Result<Vec<u8>, OutOfMemory>
     Ok(copy)
 }
 
-/// Takes a line with these subtags, if it is closer than what is found so far.
+/// Makes `line` the closest one, if its tag, whose subtags are `tag`, is closer than what is found so far.
 fn take_subtags(
     alloc: Global,
     ranges: &[LanguageRange],
@@ -73,8 +73,9 @@ fn take_subtags(
     Ok(())
 }
 
-/// Keeps a line if it is a tag whose canonical form is found by an earlier range than the line so far, or by the same range
-/// and has more subtags. The caller cuts a long line to LONGEST_KEPT bytes: what follows them changes nothing.
+/// Makes a line the closest one if it is a tag whose canonical form is found by an earlier range than the line so far,
+/// or by the same range and has more subtags. The caller cuts a long line to LONGEST_KEPT bytes: what follows them
+/// changes nothing.
 pub(crate) fn take_line<L: Lookup>(
     alloc: Global,
     checked: &Checked<L>,

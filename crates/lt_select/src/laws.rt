@@ -3,7 +3,7 @@ ghost use Rattle.std.specs.Prelude.{List};
 ghost use Rattle.lt_registry.specs.Parts.{EntryParts};
 ghost use Rattle.lt_select.specs.Laws.{SelectionIsDetermined};
 
-/// Of lines one list is selected, so that one text is owed for the bytes of a reader.
+/// Language ranges select one list of given lines, so that one text is to be written for the bytes of a reader.
 pub fn selection_is_determined()
     ensures { (R : List EntryParts) → SelectionIsDetermined R }
 {}

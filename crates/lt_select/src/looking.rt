@@ -36,7 +36,7 @@ impl<'a, L: Lookup> Lines for LookingUp<'a, L> {
         runs::LONGEST_KEPT
     }
 
-    /// Takes the line if it is closer than what is found so far; nothing is owed.
+    /// Takes the line if it is closer than what is found so far. Nothing is written for a line.
     fn take_line(
         &mut self,
         alloc: Global,

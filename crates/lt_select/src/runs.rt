@@ -14,7 +14,7 @@ use lt_tag::OutOfMemory;
 use std::alloc::Global;
 use std::io::{Read, Write};
 
-/// The most bytes that are kept of a line. A longer one is too long for a tag, whatever follows: 1,025 bytes and a
+/// The most bytes that are kept of a line: 1,024 of the longest tag, one that tells that the line is too long, and a
 /// carriage return.
 pub(crate) const LONGEST_KEPT: usize = 1026;
 

@@ -33,7 +33,7 @@ use Rattle.lt_verify.proofs.JudgingLemmas.{IsNoFeed, few, step_fits, tag_line, v
 
 -- ---- the lines
 
--- lines that lead to a tag, and what follows their text
+-- the printed lines of steps, `text`, lead from `t` to `end`, and what follows them begins a line of its own
 steps_led : (R : List EntryParts) → NumbersFit R → (steps : List Step) (end t : TagForm) (text : List ℕ) → printed.AreStepLines R steps end t text
     → (lines : List (List ℕ)) × Lead R t lines end × ((more : List ℕ) → lines_of (text ++ more) ≡ lines ++ lines_of more)
 steps_led R all [] end t text are = ([], are.0, λ more. ap (λ (l : List ℕ). lines_of (l ++ more)) are.1)
@@ -49,6 +49,7 @@ steps_led R all (step ∷ steps) end t text are =
       λ more. ap lines_of (whole more) ∙ lines_of-ended line (are.rest ++ more) one ∙ ap (λ (l : List (List ℕ)). line ∷ l) (rest.2 more),
     )
 
+-- an explanation as it is printed has the verdict Right
 pub explanations_right : (R : List EntryParts) → NumbersFit R → ExplanationsAreRight R
 explanations_right R all text shown t read is =
     let are = is.are_lines in
@@ -62,7 +63,7 @@ explanations_right R all text shown t read is =
       all = ap lines_of (are.all ∙ append_assoc are.of_steps (codes "= ") (printed.tag_line is.end)) ∙ led.2 (last ++ 10 ∷ []) ∙ ap (λ (l : List (List ℕ)). led.0 ++ l) (lines_of-ended last [] one);
     })
 
--- nothing was taken
+-- no bytes were taken
 pub takes_nothing : (R : List EntryParts) (state : Following) → IsProperIf R state.here → Takes R [] state state
 takes_nothing R state proper = record {
   proper = proper;
@@ -71,7 +72,7 @@ takes_nothing R state proper = record {
   follows = λ more v one judged. judged;
 }
 
--- bytes were taken, and more
+-- bytes were taken, `front`, and then more, `piece`
 takes_trans : (R : List EntryParts) (front piece : List ℕ) (old mid new : Following) → Takes R front old mid → Takes R piece mid new → Takes R (front ++ piece) old new
 takes_trans R front piece old mid new a b = record {
   proper = b.proper;
@@ -81,7 +82,7 @@ takes_trans R front piece old mid new a b = record {
       subst (λ (l : List ℕ). Judges R old.number old.here (lines_of (old.kept.items ++ l)) v) (sym (append_assoc front piece more)) (a.follows (piece ++ more) v was (b.follows more v (a.one was) judged));
 }
 
--- the line goes on with a part that ends none
+-- the unfinished line goes on with a part that has no line feed
 takes_part : {R : List EntryParts} {part : List ℕ} {old new : Following} → IsProperIf R old.here → IsOneLine part → KeepsMore part old new → Takes R part old new
 takes_part {R = R} {part = part} {old = old} proper one keeps = record {
   proper = subst (IsProperIf R) (sym keeps.here) proper;
@@ -90,7 +91,7 @@ takes_part {R = R} {part = part} {old = old} proper one keeps = record {
   follows = λ more v was judged. rw (keeps.number, keeps.here, keeps.kept, append_assoc old.kept.items part more) at judged;
 }
 
--- and a line feed ends it
+-- a line feed (10) ends the line, which was judged and settles nothing
 takes_feed : {R : List EntryParts} {old new : Following} → GoesOn R old new → Takes R (10 ∷ []) old new
 takes_feed {old = old} g = record {
   proper = g.proper;
@@ -101,31 +102,37 @@ takes_feed {old = old} g = record {
 
 -- ---- the lines of a piece
 
--- so far the lines of this front of a piece were judged
+-- the lines that end in the front of a piece were judged, and `rest` is left: `old` is the state before the piece, and
+-- `now` the state after its front
 pub record PieceTurn (R : List EntryParts) (piece rest : List ℕ) (old now : Following) : Type 0 where
   pub front : List ℕ
   pub cut : piece ≡ front ++ rest
   pub takes : Takes R front old now
 
+-- before the first line of a piece all of it is left
 pub first_turn : {R : List EntryParts} {piece : List ℕ} {state : Following} → IsProperIf R state.here → PieceTurn R piece piece state state
 first_turn {R = R} {state = state} proper = record { front = []; cut = refl; takes = takes_nothing R state proper }
 
--- the tag at hand is proper
+-- the tag to which the lines lead so far is proper
 pub turn_proper : {R : List EntryParts} {piece rest part : List ℕ} {old now mid : Following} → PieceTurn R piece rest old now → KeepsMore part now mid → IsProperIf R mid.here
 turn_proper {R = R} t keeps = subst (IsProperIf R) (sym keeps.here) t.takes.proper
 
--- a line more was ended, and kept
+-- the next line of a piece ends: its last bytes, `part`, were kept, which gives the state `mid`, and `after` follows
+-- the line feed
 module _ {R : List EntryParts} {piece rest : List ℕ} {old now mid : Following} (part after : List ℕ) (t : PieceTurn R piece rest old now) (split : IsOneLine part × (rest ≡ part ++ 10 ∷ after)) (keeps : KeepsMore part now mid) where
-  -- the number of the next line is far from the greatest
+  -- the number of the line after it is less than 2 to the 64
   pub turn_room : old.number + length piece + 1 < 2 ^ 64 → mid.number + 1 < 2 ^ 64
   turn_room few = omega (arith, few, keeps.number, t.takes.counted, ap length t.cut, length-append t.front rest, ap length split.1, length-append part (10 ∷ after))
 
+  -- the bytes before the line feed were taken
   part_taken : Takes R (t.front ++ part) old mid
   part_taken = takes_trans R t.front part old now mid t.takes (takes_part t.takes.proper split.0 keeps)
 
+  -- the piece is those bytes, a line feed (10), and `after`
   cut_more : piece ≡ (t.front ++ part) ++ 10 ∷ after
   cut_more = t.cut ∙ ap (λ l. t.front ++ l) split.1 ∙ sym (append_assoc t.front part (10 ∷ after))
 
+  -- the line settles nothing, and `after` is left
   pub next_turn : {new : Following} (judged : Option Verdict) → JudgesKept R mid new judged → judged ≡ None → PieceTurn R piece after old new
   next_turn {new = new} judged g none = record {
     front = (t.front ++ part) ++ 10 ∷ [];
@@ -133,16 +140,18 @@ module _ {R : List EntryParts} {piece rest : List ℕ} {old now mid : Following}
     takes = takes_trans R (t.front ++ part) (10 ∷ []) old mid new part_taken (takes_feed (rw none at g));
   }
 
+  -- the line settles the verdict `v`, whatever follows
   pub settled_turn : (new : Following) (v : Verdict) → ((lines : List (List ℕ)) → Judges R mid.number mid.here (mid.kept.items ∷ lines) v) → TakesPiece R piece old new (Some v)
   settled_turn new v judged = λ more was.
       let same : piece ++ more ≡ (t.front ++ part) ++ 10 ∷ (after ++ more) = ap (λ l. l ++ more) cut_more ∙ append_assoc (t.front ++ part) (10 ∷ after) more in
       rw same (part_taken.follows (10 ∷ (after ++ more)) v was (rw (lines_of-ended mid.kept.items (after ++ more) (part_taken.one was)) (judged (lines_of (after ++ more)))))
 
--- the rest of a piece was kept
+-- the rest of a piece, which has no line feed, was kept
 takes_rest : {R : List EntryParts} {piece rest : List ℕ} {old now new : Following} → PieceTurn R piece rest old now → IsOneLine rest → KeepsMore rest now new → Takes R piece old new
 takes_rest {R = R} {rest = rest} {old = old} {now = now} {new = new} t one keeps =
     subst (λ (l : List ℕ). Takes R l old new) (sym t.cut) (takes_trans R t.front rest old now new t.takes (takes_part t.takes.proper one keeps))
 
+-- the rest of a piece was kept: as the front of a line it settles a verdict, or the piece was taken
 pub last_turn : {R : List EntryParts} {piece rest : List ℕ} {old now new : Following} → PieceTurn R piece rest old now → IsOneLine rest → KeepsMore rest now new
     → (judged : Option Verdict) → SettlesKept R new judged → TakesPiece R piece old new judged
 last_turn t one keeps None settles = (takes_rest t one keeps, settles)
@@ -150,7 +159,7 @@ last_turn t one keeps (Some v) settles = λ more was. let takes = takes_rest t o
 
 -- ---- the line that is kept
 
--- it leads on, or is that of the end
+-- a line that leads to the tag `here`, or, if that is None, is that of the end, was judged and settles nothing
 pub went_on : {R : List EntryParts} {t : TagForm} {here : Option TagForm} {old new : Following} → old.here ≡ Some t → GoesTo here old new → IsProperIf R here
     → ((lines : List (List ℕ)) (v : Verdict) → Judges R (old.number + 1) here lines v → Judges R old.number (Some t) (old.kept.items ∷ lines) v) → GoesOn R old new
 went_on {R = R} there to proper follows = record {
@@ -160,18 +169,20 @@ went_on {R = R} there to proper follows = record {
   follows = λ lines v judged. rw there (follows lines v (rw (to.counted, to.there) at judged));
 }
 
+-- the line of the end was judged, and settles nothing
 pub ends_on : {R : List EntryParts} {t : TagForm} {line : List ℕ} {old new : Following} (flow : _) → old.here ≡ Some t → line ≡ old.kept.items → FlowIs R old.number t line flow → flow ≡ flows.Ends → GoesTo None old new → GoesOn R old new
 ends_on flow there same goes is to = went_on there to tt (λ lines v judged. inr (inl (rw (is, same) at goes, judged)))
 
+-- the line of a step to `u` was judged, and settles nothing
 pub leads_on : {R : List EntryParts} {t u : TagForm} {line : List ℕ} {old new : Following} (flow : _) → old.here ≡ Some t → line ≡ old.kept.items → FlowIs R old.number t line flow → flow ≡ flows.Leads u → GoesTo (Some u) old new → GoesOn R old new
 leads_on {u = u} flow there same goes is to = let leads = rw (is, same) at goes in went_on there to leads.0 (λ lines v judged. inl (u, leads.1, judged))
 
--- a line begins with its front
+-- the first line of a text begins with the front of the text, which has no line feed and is not empty
 pub begun_line : (front more : List ℕ) → IsOneLine front → (front ≡ [] → ⊥) → (rest : List ℕ) × (after : List (List ℕ)) × (lines_of (front ++ more) ≡ (front ++ rest) ∷ after)
 begun_line [] more one some = absurd (some refl)
 begun_line (byte ∷ front) more one some = first_goes_on byte front more one
 
--- which may settle what is judged
+-- what the kept front of a line settles behind the tag `t` is settled in the state that has reached this tag
 pub settled_rest : (R : List EntryParts) (t : TagForm) (state : Following) → state.here ≡ Some t → (judged : Option Verdict) → SettlesFront R state.number t state.kept.items judged → SettlesKept R state judged
 settled_rest R t state here None settles = rw here settles
 settled_rest R t state here (Some v) settles = λ more one.
@@ -180,12 +191,13 @@ settled_rest R t state here (Some v) settles = λ more one.
 
 -- ---- the end
 
--- what is judged of a last line that no line feed ends
+-- the verdict on a kept last line, which no line feed ends, is the verdict at the end of the bytes
 pub last_judged : (R : List EntryParts) (state : Following) (v : Verdict) → (state.kept.items ≡ [] → ⊥) → Judges R state.number state.here (state.kept.items ∷ []) v → JudgesEnd R state v
 last_judged R state v some judged = λ one. rw (lines_of-last state.kept.items one (some_long state.kept.items some)) judged
 
 -- ---- the bytes of a reader
 
+-- at the beginning of a run no bytes were taken
 pub followed_none : (R : List EntryParts) (t : TagForm) (first : Following) → Begins t first → IsProperIf R (Some t) → IsFollowed R first [] first
 followed_none R t first begins proper = record {
   one = subst IsOneLine (sym begins.kept) (All-nil (λ byte. byte ≢ 10));
@@ -193,43 +205,50 @@ followed_none R t first begins proper = record {
   takes = takes_nothing R first (subst (IsProperIf R) (sym begins.here) proper);
 }
 
+-- the bytes `read` were taken; `S` is the entries by the table that the state has, which are those at the beginning
 module _ (R S : List EntryParts) (same : S ≡ R) (first : Following) (read : List ℕ) (old : Following) (f : IsFollowed R first read old) where
-  -- the tag at hand is proper by the table, and the number of the next line is far from the greatest
+  -- the tag to which the lines lead so far is proper
   pub followed_proper : IsProperIf S old.here
   followed_proper = rw same f.takes.proper
 
+  -- while fewer than 2 to the 63 bytes are read, the number of a line is less than 2 to the 64
   pub followed_room : (count : ℕ) → length read + count < 2 ^ 63 → old.number + count + 1 < 2 ^ 64
   followed_room count few = omega (arith, few, f.number, f.takes.counted)
 
-  -- a piece more was taken
+  -- one piece more was taken, and settled no verdict
   pub followed_piece : (piece : List ℕ) (new : Following) (judged : Option Verdict) → judged ≡ None → TakesPiece S piece old new judged → IsFollowed R first (read ++ piece) new
   followed_piece piece new judged none takes = record { one = f.one; number = f.number; takes = takes_trans R read piece first old new f.takes (rw (none, same) at takes).0 }
 
-  -- or it settled what is judged
+  -- one piece more settled the verdict `v`
   pub settled_piece : (piece : List ℕ) (new : Following) (judged : Option Verdict) (v : Verdict) → judged ≡ Some v → TakesPiece S piece old new judged → Settles R first (read ++ piece) (Ok v)
   settled_piece piece new judged v is takes = λ more.
       rw (append_assoc read piece more) (f.takes.follows (piece ++ more) v f.one ((rw (is, same) at takes) more (f.takes.one f.one)))
 
-  -- nothing more follows
+  -- the verdict at the end of the bytes is that on all of them
   pub judged_all : (v : Verdict) → JudgesEnd S old v → JudgesAll R first read (Ok v)
   judged_all v ends =
       f.takes.follows [] v f.one (subst (λ (l : List ℕ). Judges R old.number old.here (lines_of l) v) (sym (append-nil old.kept.items)) ((rw same at ends) (f.takes.one f.one)))
 
+-- a run over the pieces of a reader that begins at the tag `t`: `here` is its state at the end, and `T` is true of the
+-- bytes read and this state
 module _ {I A : Type 0} (R : List EntryParts) (t : TagForm) (first : Following) (remaining : I → Option (List ℕ)) (input input' : Device I) (here : A) (T : List ℕ → A → Type 0) (begins : Begins t first) where
+  -- what such a run did, by its result
   abbrev Runs : Result Verdict ToolFault → Type 0
   Runs r = RunsPieces {O = Unit {0}} (λ _ _ read state. T read state) (λ _ _ read _ r. Settles R first read r) (λ _ _ read _ r. JudgesAll R first read r) remaining input input' tt tt here r
 
-  -- what is judged from the beginning is the verdict
+  -- what is judged of the lines from the beginning is the verdict on them
   verdict_of : (bytes : List ℕ) (v : Verdict) → Judges R first.number first.here (lines_of (first.kept.items ++ bytes)) v → IsVerdictOf R t v bytes
   verdict_of bytes v judged = verdict_behind R t t [] (lines_of bytes) v 1 refl refl (rw (begins.kept, begins.number, begins.here) at judged)
 
+  -- a run verified lines, if its end is one of those that are allowed, and if a failed read is its fault
   verifies : (r : Result Verdict ToolFault) (p : Runs r) → EndsAs R t remaining input input' p.reads p.read r → (failures_of input < failures_of input' → r ≡ Err faults.Read) → VerifiesLines R t remaining input input' r
   verifies r p ends rises = record { read = p.read; reads = p.reads; consumes = p.consumes; calls = p.calls; bounded = p.bounded; ends = ends; read_rises = rises }
 
+  -- a run that ended as memory ran out
   verifies_by : (r : Result Verdict ToolFault) (p : Runs r) (f : ToolFault) → r ≡ Err f → (f ≡ faults.OutOfMemory) → failures_of input' ≡ failures_of input → VerifiesLines R t remaining input input' r
   verifies_by r p f is memory same = verifies r p (rw (is, memory) tt) (λ lt. absurd (omega (arith, lt, same)))
 
-  -- what a run over the pieces of a reader did
+  -- a run over the pieces of a reader verified the lines of the reader, however it ended
   pub run_verifies : (r : Result Verdict ToolFault) → Runs r → VerifiesLines R t remaining input input' r
   run_verifies (Ok v) p = elim p.ends [
     | inl e ↦ verifies (Ok v) p (inr (e.end, subst (IsVerdictOf R t v) (append-nil p.read) (verdict_of (p.read ++ []) v e.finished))) (λ lt. absurd (omega (arith, lt, e.same)))
@@ -246,16 +265,19 @@ module _ {I A : Type 0} (R : List EntryParts) (t : TagForm) (first : Following) 
     | inr (inr (inr (inr s))) ↦ run_lacked (Err f) p s
   ]
     where
+      -- a failed read ended it
       run_failed : (r : Result Verdict ToolFault) (p : Runs r) → IsStoppedByRead (λ bytes. T bytes here) input input' p.read r → VerifiesLines R t remaining input input' r
       run_failed r p s = verifies r p (rw s.fault s.failed) (λ _. s.fault)
 
+      -- all reads that it may make were made
       run_turned : (r : Result Verdict ToolFault) (p : Runs r) → IsStoppedByTurns (λ bytes. T bytes here) input input' p.reads p.read r → VerifiesLines R t remaining input input' r
       run_turned r p s = verifies r p (rw s.fault (s.all_made, s.last_gave)) (λ lt. absurd (omega (arith, lt, s.same)))
 
+      -- there was no memory for a further piece
       run_lacked : (r : Result Verdict ToolFault) (p : Runs r) → IsWithoutMemory (λ bytes. T bytes here) input input' p.read r → VerifiesLines R t remaining input input' r
       run_lacked r p s = verifies r p (rw s.fault tt) (λ lt. absurd (omega (arith, lt, s.same)))
 
--- memory ran out before the first read
+-- a run that ran out of memory before the first read
 pub run_lacks : {I : Type 0} {R : List EntryParts} {t : TagForm} {remaining : I → Option (List ℕ)} {input : Device I} → (r : _) → IsErrAnd r (λ e. e ≡ faults.OutOfMemory) → VerifiesLines R t remaining input input r
 run_lacks r lacks = let p = err_from_is_err_and r lacks in rw (p.1, p.2) (record {
   read = [];
@@ -267,7 +289,8 @@ run_lacks r lacks = let p = err_from_is_err_and r lacks in rw (p.1, p.2) (record
   read_rises = λ lt. absurd (omega (arith, lt));
 })
 
--- what a piece that was taken did, or one that settled what is judged
+-- a piece was taken by the program, or settled the verdict: `judged` is what it settled, `T` what is true while the run
+-- reads, and `S` where a piece ends it
 pub takes_or_settles : {A : Type 0} (T : A → RunFact (Unit {0}) A) (S : A → EndFact (Unit {0}) A Verdict) (piece : List ℕ) (before after : Unit {0}) (old new : A) (judged : Option Verdict)
     → (judged ≡ None → (first : A) (start : Unit {0}) (read : List ℕ) → T first start before read old → T first start after (read ++ piece) new)
     → ((v : Verdict) → judged ≡ Some v → (first : A) (start : Unit {0}) (read : List ℕ) → T first start before read old → S first start after (read ++ piece) new (Ok v))

@@ -41,11 +41,13 @@ use Rattle.lt_verify.proofs.LineLemmas.{each_kind, lead_more, one_words, same_ki
 
 -- ---- what is judged is the verdict
 
--- behind lines that lead to a tag
+-- the lines `before` lead from `t` to `here`, and the next line has the number `n`
 module _ (R : List EntryParts) (t here : TagForm) (before : List (List ℕ)) (n : ℕ) (nth : n ≡ length before + 1) (lead : Lead R t before here) where
+  -- the lines stop at the next line, of which `Holds` is true
   stops : (line : List ℕ) (after : List (List ℕ)) (Holds : TagForm → List ℕ → Type 0) → Holds here line → StopsAt R t (before ++ line ∷ after) n Holds
   stops line after Holds holds = record { before = before; line = line; after = after; there = refl; nth = nth; here = here; lead = lead; holds = holds }
 
+  -- the next line is that of the end: what is judged of the lines after it is the verdict on all
   ended : (line : List ℕ) (after : List (List ℕ)) (v : Verdict) → EndsHere here line → Judges R (n + 1) None after v → IsVerdict R t (before ++ line ∷ after) v
   ended line [] v ends is = rw is (record { steps = before; end = here; lead = lead; all = ap (λ (l : List ℕ). before ++ l ∷ []) ends })
   ended line (next ∷ after) v ends is =
@@ -59,6 +61,7 @@ module _ (R : List EntryParts) (t here : TagForm) (before : List (List ℕ)) (n 
         nth = omega arith;
       })))
 
+-- what is judged of lines behind those that lead to `here` is the verdict on all
 pub verdict_behind : (R : List EntryParts) (t here : TagForm) (before lines : List (List ℕ)) (v : Verdict) (n : ℕ) → n ≡ length before + 1 → Lead R t before here → Judges R n (Some here) lines v
     → IsVerdict R t (before ++ lines) v
 verdict_behind R t here before [] v n nth lead is = rw (append-nil before, is) (inr (inl (record { here = here; lead = lead; nth = nth })))
@@ -71,7 +74,7 @@ verdict_behind R t here before (line ∷ lines) v n nth lead (inr (inr (inr (inr
 
 -- ---- the verdict is judged
 
--- what is judged behind lines that lead on
+-- what is judged of lines, from number `m` on, behind those that lead to `here` is judged of all, from number `n` on
 judged_behind : (R : List EntryParts) (n m : ℕ) (t here : TagForm) (before lines : List (List ℕ)) (v : Verdict) → m ≡ n + length before → Lead R t before here → Judges R m (Some here) lines v
     → Judges R n (Some t) (before ++ lines) v
 judged_behind R n m t here [] lines v nth lead judged =
@@ -79,10 +82,12 @@ judged_behind R n m t here [] lines v nth lead judged =
     rw (lead, same) judged
 judged_behind R n m t here (line ∷ before) lines v nth lead judged = inl (lead.0, lead.1, judged_behind R (n + 1) m lead.0 here before lines v (omega arith) lead.2 judged)
 
+-- where lines stop at one that settles a verdict, this verdict is judged of them
 judged_at : (R : List EntryParts) (t : TagForm) (lines : List (List ℕ)) (n : ℕ) (Holds : TagForm → List ℕ → Type 0) (v : Verdict) (s : StopsAt R t lines n Holds)
     → SettlesLine R n s.here s.line v → Judges R 1 (Some t) lines v
 judged_at R t lines n Holds v s settles = rw s.there (judged_behind R 1 n t s.here s.before (s.line ∷ s.after) v (omega (arith, s.nth)) s.lead (inr (inr settles)))
 
+-- the verdict on lines is judged of them, one by one
 pub judged_of : (R : List EntryParts) (t : TagForm) (lines : List (List ℕ)) (v : Verdict) → IsVerdict R t lines v → Judges R 1 (Some t) lines v
 judged_of R t lines verdicts.Right is =
     rw is.all (judged_behind R 1 (1 + length is.steps) t is.end is.steps (end_line (text_of is.end) ∷ []) verdicts.Right refl is.lead (inr (inl (refl, refl))))
@@ -96,6 +101,7 @@ judged_of R t lines (verdicts.BadStep n) (inr (inr is)) =
 
 -- ---- a line names one step
 
+-- a line names one step, with one text
 same_step : (line : List ℕ) (a b : Step) (x y : List ℕ) → IsStepLine line a x → IsStepLine line b y → (a ≡ b) × (x ≡ y)
 same_step line a b x y is are =
     let words = one_words (step_words is) (step_words are) in
@@ -111,7 +117,8 @@ not_both line step x text is ends =
 
 -- ---- one thing is judged
 
--- a line that names a step is settled only where the step leads nowhere, or to a tag of another text
+-- a line that names a step settles a verdict only where the step leads to no tag of the line's text; where it leads
+-- nowhere, the verdict is NoSuchStep
 step_settles : (R : List EntryParts) → TracesHaveOneEnd R → (n : ℕ) (t : TagForm) (line text : List ℕ) (step : Step) (v : Verdict) → IsStepLine line step text → SettlesLine R n t line v
     → ((u : TagForm) → LeadsBy R t step u → text ≢ text_of u) × (((u : TagForm) → LeadsBy R t step u → ⊥) → v ≡ verdicts.NoSuchStep n)
 step_settles R one n t line text step v a (inl (stuck, is)) =
@@ -124,7 +131,7 @@ step_settles R one n t line text step v a (inr (inr (inl other, is))) =
     (λ u led e. other.other (same.1 ∙ e ∙ ap text_of (one t u other.u (step ∷ []) (u, led, refl) (other.u, leads, refl))), λ none. absurd (none other.u leads))
 step_settles R one n t line text step v a (inr (inr (inr nothing, is))) = absurd (nothing.no_step step text a)
 
--- and that of an end only where it has another text than that of the tag
+-- the line of an end is settled only by WrongEnd, and where it has another text than that of the tag
 end_settles : (R : List EntryParts) (n : ℕ) (t : TagForm) (line text : List ℕ) (v : Verdict) → line ≡ end_line text → SettlesLine R n t line v → (text ≢ text_of t) × (v ≡ verdicts.WrongEnd)
 end_settles R n t line text v a (inl (stuck, is)) = absurd (not_both line stuck.step stuck.text text stuck.is_line a)
 end_settles R n t line text v a (inr (inl (ends, is))) =
@@ -132,6 +139,7 @@ end_settles R n t line text v a (inr (inl (ends, is))) =
 end_settles R n t line text v a (inr (inr (inl other, is))) = absurd (not_both line other.step other.text text other.is_line a)
 end_settles R n t line text v a (inr (inr (inr nothing, is))) = absurd (nothing.no_end text a)
 
+-- a line settles no two verdicts
 settled_once : (R : List EntryParts) → TracesHaveOneEnd R → (n : ℕ) (t : TagForm) (line : List ℕ) (v w : Verdict) → SettlesLine R n t line v → SettlesLine R n t line w → v ≡ w
 settled_once R one n t line v w (inl (stuck, is)) b = is ∙ sym ((step_settles R one n t line stuck.text stuck.step w stuck.is_line b).1 stuck.stuck)
 settled_once R one n t line v w (inr (inl (ends, is))) b = is ∙ sym (end_settles R n t line ends.text w ends.is_end b).1
@@ -139,6 +147,7 @@ settled_once R one n t line v w (inr (inr a)) (inl (stuck, is)) = (step_settles 
 settled_once R one n t line v w (inr (inr a)) (inr (inl (ends, is))) = (end_settles R n t line ends.text v ends.is_end (inr (inr a))).1 ∙ sym is
 settled_once R one n t line v w (inr (inr (bad, is))) (inr (inr (worse, are))) = is ∙ sym are
 
+-- no two verdicts are judged of the same lines
 judged_once : (R : List EntryParts) → TracesHaveOneEnd R → (n : ℕ) (here : Option TagForm) (lines : List (List ℕ)) (v w : Verdict) → Judges R n here lines v → Judges R n here lines w → v ≡ w
 judged_once R one n here [] v w a b = a ∙ sym b
 judged_once R one n None (line ∷ lines) v w a b = a ∙ sym b
@@ -155,24 +164,26 @@ judged_once R one n (Some t) (line ∷ lines) v w (inr (inr settles)) (inl (x, l
 judged_once R one n (Some t) (line ∷ lines) v w (inr (inr settles)) (inr (inl (ends, behind'))) = absurd ((end_settles R n t line (text_of t) v ends settles).0 refl)
 judged_once R one n (Some t) (line ∷ lines) v w (inr (inr settles)) (inr (inr settles')) = settled_once R one n t line v w settles settles'
 
+-- the lines of an explanation have no two verdicts
 pub one_verdict : (R : List EntryParts) → TracesHaveOneEnd R → HaveOneVerdict R
 one_verdict R one t lines v w is are = judged_once R one 1 (Some t) lines v w (judged_of R t lines v is) (judged_of R t lines w are)
 
 -- ---- numbers
 
--- the number of what is found, if anything is
+-- the number of an entry that may be found has 32 bits, also where none is
 pub few : (o : Option EntryParts) → ((e : EntryParts) → o ≡ Some e → e.number < 2 ^ 32) → number_of o < 2 ^ 32
 few None each = omega arith
 few (Some e) each = each e refl
 
 -- ---- places
 
--- the step has such a place, and the number of a record
+-- the place of the step is at most `most`, and its number has 32 bits
 record Fits (step : Step) (most : ℕ) : Type 0 where
   place : step.place ≤ most
   number : step.number < 2 ^ 32
 
--- a step on a list of parts, each of which has a subtag
+-- a step that swaps or drops parts of a list has a place among their subtags, which begin at `start`; each part has a
+-- subtag
 list_fits : {A : Type 0} {once : Bool} {cmp : A → A → Ordering} (xs ys : List A) (swap drop : StepKind) (spell : A → List (List ℕ)) (start : ℕ) → ((a : A) → 0 < length (spell a))
     → (s : ListStep once cmp xs ys) → Fits (list_label swap drop spell start s) (start + length (flat_map spell xs))
 list_fits xs ys swap drop spell start some (by_swap before a b after s) =
@@ -180,10 +191,13 @@ list_fits xs ys swap drop spell start some (by_swap before a b after s) =
 list_fits xs ys swap drop spell start some (by_drop before a between b after o s) =
     omega (arith, flat_length spell before a (between ++ b ∷ after), flat_length spell between b after, some b, ap (λ l. length (flat_map spell l)) s.there)
 
+-- where the number of each record has 32 bits
 module _ (R : List EntryParts) (all : NumbersFit R) where
+  -- a step on a core has a place among its subtags, which begin at `start`
   core_fits : (start : ℕ) (c d : CoreParts) (s : CoreStep R c d) → Fits (core_label R start s) (start + length (spell_core c))
   core_fits start c d s = record { place = core_high R start c d s; number = few (entry R _ s.subtag) (λ e is. (entry_has R _ s.subtag (λ (e : EntryParts). e.number < 2 ^ 32) all e is).0) }
 
+  -- a step within a `u` extension has a place among its subtags
   unicode_fits : (start : ℕ) (p q : UForm) (s : UnicodeStep p q) → Fits (unicode_label start s) (start + length (spell_u p) + 1)
   unicode_fits start p q (on_attributes s k) =
       omega (arith, list_fits p.attributes q.attributes kinds.SwapAttributes kinds.DropAttribute (λ a. a ∷ []) start (λ a. omega arith) s, length-append p.attributes (flat_map spell_keyword p.keywords), attributes_count p.attributes)
@@ -192,22 +206,25 @@ module _ (R : List EntryParts) (all : NumbersFit R) where
   unicode_fits start p q (on_types a before k after s) =
       omega (arith, flat_length spell_keyword before k after, length-append p.attributes (flat_map spell_keyword p.keywords), ap (λ l. length (flat_map spell_keyword l)) s.there)
 
+  -- a step within a `t` extension has a place among its subtags
   transform_fits : (start : ℕ) (p q : TForm) (s : TransformStep R p q) → Fits (transform_label R start s) (start + length (spell_t p))
   transform_fits start p q (on_source c d from _ s _) =
       omega (arith, core_fits start c d s, length-append (spell_source p.source) (flat_map spell_field p.fields), ap (λ o. length (spell_source o)) from)
   transform_fits start p q (on_fields a s) =
       omega (arith, list_fits p.fields q.fields kinds.SwapFields kinds.SwapFields spell_field (start + length (spell_source p.source)) (λ a. omega arith) s, length-append (spell_source p.source) (flat_map spell_field p.fields))
 
+  -- a step on an extension has a place among its subtags
   extension_fits : (start : ℕ) (e f : ExtensionParts) (s : ExtensionStep R e f) → Fits (extension_label R start s) (start + length e.subtags + 1)
   extension_fits start e f (in_unicode p q _ _ from _ s) = omega (arith, unicode_fits start p q s, ap length from.spelled)
   extension_fits start e f (in_transform p q _ _ from _ s) = omega (arith, transform_fits start p q s, ap length from.spelled)
 
+  -- a step on extensions has a place among their subtags
   extensions_fit : (start : ℕ) (es fs : List ExtensionParts) (s : ExtensionsStep R es fs) → Fits (extensions_label R start s) (start + length (spell_extensions es) + 1)
   extensions_fit start es fs (inside before e f after there result s) =
       omega (arith, extension_fits (start + length (spell_extensions before) + 1) e f s, flat_length spell_extension before e after, ap (λ l. length (spell_extensions l)) there)
   extensions_fit start es fs (among s) = omega (arith, list_fits es fs kinds.SwapExtensions kinds.SwapExtensions spell_extension start (λ a. omega arith) s)
 
-  -- what the parts of a tag have room for
+  -- a core of at most 1,024 variants has at most 1,100 subtags
   core_few : (c : CoreParts) → IsCore c → length c.variants ≤ 1024 → length (spell_core c) ≤ 1100
   core_few c is few = simp length-append (omega (arith, is.up_to_three, few, one c.script, one c.region))
     where
@@ -215,6 +232,7 @@ module _ (R : List EntryParts) (all : NumbersFit R) where
       one None = omega arith
       one (Some s) = omega arith
 
+  -- a step on a tag whose parts are within their limits has a place of at most 2,000,000
   change_fits : (t u : TagForm) → IsTagValue t → (s : TagChange R t u) → Fits (tag_label R s) 2000000
   change_fits t u value (on_core c d es ps from _ s) =
       let is = subst IsTagValue from value in
@@ -225,21 +243,25 @@ module _ (R : List EntryParts) (all : NumbersFit R) where
       omega (arith, extensions_fit (length (spell_core c)) es fs s, core_few c is.tag.0.shaped_core is.counts.0, few_subtags es counts.1, counts.0)
   change_fits t u value (on_whole _ _) = record { place = omega arith; number = few (whole R t) (λ e is. (find_has (λ (e : EntryParts). e.number < 2 ^ 32) (λ (e : EntryParts). is_whole t e.name) R e all is).0) }
 
+  -- the place and the number of a step that leads on have 32 bits
   pub step_fits : (t u : TagForm) (step : Step) → LeadsBy R t step u → (step.place < 2 ^ 32) × (step.number < 2 ^ 32)
   step_fits t u step leads =
       subst (λ (s : Step). (s.place < 2 ^ 32) × (s.number < 2 ^ 32)) leads.1 (omega (arith, change_fits t u leads.0.from.tag leads.0.change))
 
+-- the byte is no line feed (10)
 abbrev pub IsNoFeed : ℕ → Type 0
 IsNoFeed byte = byte ≢ 10
 
 -- ---- the text of a tag is one line
 
+-- letters and digits are one line
 bytes_line : (piece : List ℕ) → list_all is_subtag_byte (folded piece) ≡ true → IsOneLine piece
 bytes_line [] h = All-nil IsNoFeed
 bytes_line (b ∷ piece) h =
     let k = and_parts _ (list_all is_subtag_byte (folded piece)) h in
     All-cons IsNoFeed b piece (λ e. let bad = rw e at k.0 in cc) (bytes_line piece k.1)
 
+-- subtags joined by hyphens (45) are one line
 pieces_line : (ps : List (List ℕ)) → list_all is_subtag (map folded ps) ≡ true → IsOneLine (join_with_byte 45 ps)
 unfolding is_subtag
 pieces_line [] h = All-nil IsNoFeed
@@ -248,5 +270,6 @@ pieces_line (p ∷ q ∷ ps) h =
     let k = and_parts (is_subtag (folded p)) (list_all is_subtag (map folded (q ∷ ps))) h in
     All-append IsNoFeed p (45 ∷ join_with_byte 45 (q ∷ ps)) (bytes_line p (and_parts (list_all is_subtag_byte (folded p)) _ k.0).0) (All-cons IsNoFeed 45 (join_with_byte 45 (q ∷ ps)) (λ e. absurd (omega arith)) (pieces_line (q ∷ ps) k.1))
 
+-- the text of a tag is one line
 pub tag_line : (t : TagForm) → IsTag t → IsOneLine (text_of t)
 tag_line t is = subst IsOneLine (join_pieces (text_of t)) (pieces_line _ (from_HasList (text_of t) (text_of_tag t is).0))

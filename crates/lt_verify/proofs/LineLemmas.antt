@@ -25,7 +25,7 @@ use Rattle.lt_verify.specs.declared.labels.TheConstants.{KINDS}
 
 -- ---- words that are parted by a space
 
--- the first byte of a kind parts a list in one way
+-- a list is parted in one way at the first place where it has `byte`
 pub one_split : (byte : ℕ) (x y r s : List ℕ) → IsFreeOf byte x → IsFreeOf byte y → x ++ byte ∷ r ≡ y ++ byte ∷ s → (x ≡ y) × (r ≡ s)
 one_split byte [] [] r s fx fy e = (refl, cc)
 one_split byte [] (b ∷ y) r s fx fy e = absurd (All-head (λ other. other ≢ byte) b y fy (cc))
@@ -36,17 +36,17 @@ one_split byte (b ∷ x) (c ∷ y) r s fx fy e =
 
 -- ---- the kinds
 
--- each kind is among them
+-- each of the 14 kinds of step is in the program's list of them
 pub kind_at : (kind : StepKind) → (k : ℕ) × (k < 14) × (get_or KINDS k kinds.Extlang ≡ kind)
 kind_at kinds.Extlang = (0, omega arith, refl)
 kind_at kind = (min (rank_of kind - 1) 13, omega arith, refl)
 
--- what is the same of each of them is the same of each kind
+-- what two functions give alike for each kind in the program's list they give alike for every kind
 pub each_kind : {A : Type 0} (f g : StepKind → A) → map f KINDS ≡ map g KINDS → (kind : StepKind) → f kind ≡ g kind
 each_kind f g same kinds.Extlang = ap (λ l. get_or l 0 (f kinds.Extlang)) same
 each_kind f g same kind = ap (λ l. get_or l (min (rank_of kind - 1) 13) (f kinds.Extlang)) same
 
--- no two have one name
+-- no two kinds of step have the same name
 pub same_kind : (a b : StepKind) → name_of a ≡ name_of b → a ≡ b
 same_kind a b e =
     let by_name : List ℕ → Option StepKind = λ name. find (λ (k : StepKind). bytes_eq name (name_of k)) KINDS in
@@ -55,19 +55,21 @@ same_kind a b e =
 
 -- ---- names and numbers are free of spaces
 
+-- whether `byte` is not among these bytes
 abbrev is_free : ℕ → List ℕ → Bool
 is_free byte bytes = list_all (λ b. not (b == byte)) bytes
 
+-- a byte that is in no name of the program's list of kinds is in no kind's name
 pub name_free : (byte : ℕ) → map (λ k. is_free byte (name_of k)) KINDS ≡ map (λ _. true) KINDS → (kind : StepKind) → IsFreeOf byte (name_of kind)
 name_free byte free kind =
     (Decides-by_and (λ b. not (b == byte)) (λ b. b ≢ byte) (is_free byte) (λ b. Decides-not (b == byte) (Decides-eqb b byte)) refl (λ _ _. refl) (name_of kind)).0
     (each_kind (λ k. is_free byte (name_of k)) (λ _. true) free kind)
 
--- digits are neither a space nor a line feed
+-- a number in decimal has no byte less than 48, the digit 0: no space (32), and no line feed (10)
 pub number_free : (byte n : ℕ) → byte < 48 → n < 2 ^ 32 → IsFreeOf byte (decimal n)
 number_free byte n low h = All-from_get_or (λ other. other ≢ byte) (decimal n) 0 (λ i l e. absurd (omega (arith, low, e, digit_at (decimal n) i (decimal_is_IsNumeral n (omega (arith, h))).0.1 l)))
 
--- so the line of a step is one line where its text is
+-- the line of a step has no line feed (10) if its text has none
 pub step_is_line : (step : Step) (text : List ℕ) → step.place < 2 ^ 32 → step.number < 2 ^ 32 → IsFreeOf 10 text → IsFreeOf 10 (step_line step text)
 step_is_line step text place number one =
     word (name_of step.kind) _ (name_free 10 refl step.kind)
@@ -78,7 +80,7 @@ step_is_line step text place number one =
 
 -- ---- the words of a line
 
--- a line has its words in one way
+-- a line has its four words in one way
 pub one_words : {line a b c d x y z u : List ℕ} → HasWords line a b c d → HasWords line x y z u → (a ≡ x) × (b ≡ y) × (c ≡ z) × (d ≡ u)
 one_words {a = a} {b = b} {c = c} {x = x} {y = y} {z = z} v w =
     let first = one_split 32 a x _ _ v.name_free w.name_free (sym v.line_is ∙ w.line_is) in
@@ -86,17 +88,19 @@ one_words {a = a} {b = b} {c = c} {x = x} {y = y} {z = z} v w =
     let third = one_split 32 c z _ _ v.number_free w.number_free second.1 in
     (first.0, second.0, third.0, third.1)
 
+-- what is before each of the first three spaces (32) of a line, and what is after them, are its words
 pub three_words : {line name places place numbers number text : List ℕ} → IsFreeOf 32 name × (line ≡ name ++ 32 ∷ places) → IsFreeOf 32 place × (places ≡ place ++ 32 ∷ numbers) → IsFreeOf 32 number × (numbers ≡ number ++ 32 ∷ text)
     → HasWords line name place number text
 three_words first second third = record { name_free = first.0; place_free = second.0; number_free = third.0; line_is = cc (first.1, second.1, third.1) }
 
+-- the words of a step's line are the name of its kind, its place and its number in decimal, and the text
 pub step_words : {line text : List ℕ} {step : Step} → IsStepLine line step text → HasWords line (name_of step.kind) (decimal step.place) (decimal step.number) text
 step_words {step = step} is =
     record { name_free = name_free 32 refl step.kind; place_free = number_free 32 step.place (omega arith) is.place; number_free = number_free 32 step.number (omega arith) is.number; line_is = is.line_is }
 
 -- ---- what the front of a line says of the line
 
--- the first of two parts is the front of a longer one
+-- of two ways to part a list in two, the longer first part begins with the shorter one
 longer_front : (a b c d : List ℕ) → a ++ b ≡ c ++ d → length c ≤ length a → (rest : List ℕ) × (a ≡ c ++ rest)
 longer_front a b c d e le =
     let n = length c in
@@ -106,12 +110,14 @@ longer_front a b c d e le =
 pub step_line-append : (step : Step) (text more : List ℕ) → step_line step text ++ more ≡ step_line step (text ++ more)
 step_line-append step text more = simp append_assoc
 
+-- what is before the text of a step's line has at most 38 bytes: 15 for the kind's name, 10 for each number, and 3
+-- spaces
 label_short : (step : Step) → step.place < 2 ^ 32 → step.number < 2 ^ 32 → length (step_line step []) ≤ 38
 label_short step place number =
     let few : (n : ℕ) → n < 2 ^ 32 → length (decimal n) ≤ 10 = λ n h. length-decimal-le 10 n (omega arith) (omega arith) (omega arith) in
     omega (arith, leb-true (length (name_of step.kind)) 15 (each_kind (λ k. leb (length (name_of k)) 15) (λ _. true) refl step.kind), few step.place place, few step.number number, length-append {A = ℕ})
 
--- a long front that names no step and no end names none however it goes on
+-- a front of more than 38 bytes that names no step and no end names none however it goes on
 pub front_names_nothing : (front more : List ℕ) → 38 < length front → IsNoName front → NamesNoEnd front → NamesNothing (front ++ more)
 front_names_nothing front more long name end = record {
   no_step = λ step text is.
@@ -120,7 +126,7 @@ front_names_nothing front more long name end = record {
   no_end = λ text e. let rest = longer_front front more (61 ∷ 32 ∷ []) text e (omega (arith, long)) in end rest.0 rest.1;
 }
 
--- a step's line that goes on
+-- a step's line that goes on names the same step, with a longer text
 pub step_goes_on : {front text : List ℕ} {step : Step} (more : List ℕ) → IsStepLine front step text → IsStepLine (front ++ more) step (text ++ more)
 step_goes_on {text = text} {step = step} more is = record {
   place = is.place;
@@ -128,7 +134,8 @@ step_goes_on {text = text} {step = step} more is = record {
   line_is = ap (λ l. l ++ more) is.line_is ∙ step_line-append step text more;
 }
 
--- with a longer text than that of the tag to which the step leads
+-- a front that names a step, with a longer text than that of the tag to which the step leads, has another text however
+-- it goes on
 pub front_other : {R : List EntryParts} {t u : TagForm} {front text : List ℕ} {step : Step} (more : List ℕ) → IsStepLine front step text → LeadsBy R t step u → length (text_of u) < length text
     → HasOtherText R t (front ++ more)
 front_other {u = u} {text = text} {step = step} more is leads longer = record {
@@ -142,6 +149,7 @@ front_other {u = u} {text = text} {step = step} more is leads longer = record {
 
 -- ---- a front that may be kept
 
+-- a front that names a step, with a text no longer than that of the tag to which the step leads, may be kept
 pub step_within : {R : List EntryParts} {t u : TagForm} {front text : List ℕ} {step : Step} → IsStepLine front step text → LeadsBy R t step u → length text ≤ length (text_of u) → KeepsFew R (Some t) (length front)
 step_within {u = u} {text = text} {step = step} is leads short = inr (record {
   line = step_line step (text_of u);
@@ -149,7 +157,7 @@ step_within {u = u} {text = text} {step = step} is leads short = inr (record {
   long = omega (arith, short, length-append {A = ℕ}, ap length is.line_is);
 })
 
--- one line more leads on
+-- lines that lead to a tag, and one line more that leads on from there, lead to the next tag
 pub lead_more : (R : List EntryParts) (before : List (List ℕ)) (t here u : TagForm) (line : List ℕ) → Lead R t before here → LeadsOn R here line u → Lead R t (before ++ line ∷ []) u
 lead_more R [] t here u line lead leads = (u, subst (λ (x : TagForm). LeadsOn R x line u) (sym lead) leads, refl)
 lead_more R (first ∷ before) t here u line lead leads = (lead.0, lead.1, lead_more R before lead.0 here u line lead.2 leads)

@@ -19,8 +19,8 @@ use Rattle.lt_verify.specs.declared.verdicts.Verdict.{Verdict}
 abbrev pub IsVerdictOf : List EntryParts → TagForm → Verdict → List ℕ → Type 0
 IsVerdictOf R t v bytes = IsVerdict R t (lines_of bytes) v
 
--- how a run ended: with the verdict on all that the reader gives, read or not; or with a fault, of which OutOfMemory
--- says nothing more
+-- how a run ended that read the bytes `read` in `reads` reads: with the verdict on all that the reader gives, read or
+-- not; or with a fault, of which OutOfMemory says nothing more
 abbrev pub EndsAs : {I : Type 0} → List EntryParts → TagForm
     → (I → Option (List ℕ)) → (input input' : Device I) → ℕ → List ℕ
     → Result Verdict ToolFault → Type 0
@@ -35,7 +35,8 @@ EndsAs R t remaining input input' reads read (Err (faults.BadTsv line)) = ⊥
 EndsAs R t remaining input input' reads read (Err faults.Utf16) = ⊥
 EndsAs R t remaining input input' reads read (Err faults.OutOfMemory) = Unit {0}
 
--- a run over the lines of a reader, which are judged as an explanation of `t`
+-- a run over the lines of a reader, which are judged as an explanation of `t`: `remaining` gives the bytes that a
+-- reader has left, and `input` and `input'` are the reader before and after the run
 pub record VerifiesLines {I : Type 0} (R : List EntryParts) (t : TagForm)
     (remaining : I → Option (List ℕ)) (input input' : Device I)
     (result : Result Verdict ToolFault) : Type 0 where
@@ -108,19 +109,21 @@ JudgesEnd R state v = IsOneLine state.kept.items → Judges R state.number state
 
 -- ---- the bytes of a reader
 
--- the bytes `read` were taken in from the beginning
+-- the bytes `read` were taken in from the beginning, where the state was `first`; now it is `here`
 pub record IsFollowed (R : List EntryParts) (first : Following) (read : List ℕ) (here : Following) : Type 0 where
   pub one : IsOneLine first.kept.items
   pub number : first.number ≡ 1
   pub takes : Takes R read first here
 
--- the bytes `read` settle this verdict from the beginning, whatever follows; or memory ran out
+-- the bytes `read` settle this verdict from the beginning, where the state was `first`, whatever follows; or memory ran
+-- out
 abbrev pub Settles : List EntryParts → Following → List ℕ → Result Verdict ToolFault → Type 0
 Settles R first read (Ok v) =
     (more : List ℕ) → Judges R first.number first.here (lines_of (first.kept.items ++ (read ++ more))) v
 Settles R first read (Err f) = f ≡ faults.OutOfMemory
 
--- this is the verdict on the bytes `read` from the beginning, where nothing follows; or memory ran out
+-- this is the verdict on the bytes `read` from the beginning, where the state was `first`, and nothing follows; or
+-- memory ran out
 abbrev pub JudgesAll : List EntryParts → Following → List ℕ → Result Verdict ToolFault → Type 0
 JudgesAll R first read (Ok v) = Judges R first.number first.here (lines_of (first.kept.items ++ (read ++ []))) v
 JudgesAll R first read (Err f) = f ≡ faults.OutOfMemory

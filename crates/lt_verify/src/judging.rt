@@ -22,7 +22,7 @@ pub(crate) enum Flow {
     Settled(Verdict),
 }
 
-/// Whether a text is that of a tag in conventional case.
+/// Whether `text` is the text of a tag in conventional case.
 fn is_text_of(alloc: Global, tag: &Tag, text: &[u8]) -> Result<bool, OutOfMemory>
     ensures { IfOk result (λ same. MatchBool same (text.now ≡ text_of tag.now) (text.now ≢ text_of tag.now)) }
 {
@@ -30,7 +30,7 @@ fn is_text_of(alloc: Global, tag: &Tag, text: &[u8]) -> Result<bool, OutOfMemory
     Ok(text == written.as_slice())
 }
 
-/// Whether a text is longer than that of a tag in conventional case.
+/// Whether `text` is longer than the text of a tag in conventional case.
 fn is_longer(alloc: Global, tag: &Tag, text: &[u8]) -> Result<bool, OutOfMemory>
     ensures { IfOk result (λ longer. MatchBool longer (length (text_of tag.now) < length text.now) (length text.now ≤ length (text_of tag.now))) }
 {
@@ -38,7 +38,8 @@ fn is_longer(alloc: Global, tag: &Tag, text: &[u8]) -> Result<bool, OutOfMemory>
     Ok(written.len() < text.len())
 }
 
-/// Judges the line that says that the explanation ends with `text`: it does if that is the text of `here`.
+/// Judges the line that says that the explanation ends with `text`: it does if that is the text of `here`, the tag to
+/// which the lines before it lead.
 fn judge_end(alloc: Global, here: &Tag, text: &[u8]) -> Result<Flow, OutOfMemory>
     ensures { IfOk result (EndFlow here.now text.now) }
 {
@@ -49,7 +50,8 @@ fn judge_end(alloc: Global, here: &Tag, text: &[u8]) -> Result<Flow, OutOfMemory
     }
 }
 
-/// Judges a line of an explanation, whose lines before it lead to the tag `here`. `number` is the number of the step.
+/// Judges a line of an explanation. `here` is the tag to which the lines before it lead, and `number` is the line's
+/// own, counted from 1.
 pub(crate) fn judge_line<L: Lookup>(
     alloc: Global,
     table: &L,
@@ -79,11 +81,13 @@ pub(crate) fn judge_line<L: Lookup>(
     }
 }
 
-/// The most bytes of the kind, the place and the number of a step, with a space after each.
+/// The most bytes of the kind (15), the place and the number (10 digits each, as they have 32 bits) of a step, with a
+/// space after each.
 const LONGEST_LABEL: usize = 38;
 
-/// Judges the front of a line that goes on. None if the line may still become right; a verdict if it can't, since it is
-/// longer than the right line or names a wrong step.
+/// Judges the front of a line that goes on, with `number` and `here` as for `judge_line`. None if the line may still
+/// become right, as it may while the front is no longer than a label; a verdict if it can't, since it is longer than
+/// the right line or names a wrong step.
 pub(crate) fn judge_front<L: Lookup>(
     alloc: Global,
     table: &L,

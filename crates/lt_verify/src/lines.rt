@@ -26,7 +26,7 @@ pub(crate) struct Following {
 }
 
 impl Following {
-    /// The beginning of an explanation, at its tag, before step 1.
+    /// The beginning of an explanation of `tag`, before line 1.
     fn new(alloc: Global, tag: &Tag) -> Result<Following, OutOfMemory>
         ensures { IfOk result (spec.Begins tag.now) }
     {
@@ -45,7 +45,8 @@ impl Following {
         Ok(())
     }
 
-    /// Goes on to the next line, at the tag `here`, or at None if the line was the end of the explanation.
+    /// Goes on to the next line. `here` is the tag to which the last one led, or None if it was the end of the
+    /// explanation.
     fn go_on(&mut self, here: Option<Tag>)
         requires { self.old.number + 1 < 2 ^ 64 }
         ensures { spec.GoesTo here self.old self.new }
