@@ -10,7 +10,7 @@ use Rattle.lt_heading.specs.declared.names.Found.TheVariants as founds
 
 -- ---- where a name stands
 
--- a name that is repeated stays so
+-- a name that is more than one of `names` stays so when `other` is appended to them
 repeated_more : (name : List ℕ) (names : List (List ℕ)) (other : List ℕ) → IsRepeated name names → IsRepeated name (names ++ other ∷ [])
 repeated_more name names other f = record {
   first = f.first;
@@ -20,7 +20,8 @@ repeated_more name names other f = record {
       ∙ ap (λ l. f.first ++ name ∷ l) (append_assoc f.between (name ∷ f.last) (other ∷ []));
 }
 
--- with one name more
+-- how often `name` is among `names` and one more, `other`, which has this number, counted from 1; `is` says whether
+-- `other` is `name`
 pub found_more : (name : List ℕ) (names : List (List ℕ)) (found : Found) (number : ℕ) (is : Bool) (other : List ℕ) → number ≡ length names + 1
     → (is ≡ true → other ≡ name) → (other ≡ name → is ≡ true) → IsFound name names found → IsFound name (names ++ other ∷ []) (found_then found number is)
 found_more name names founds.Missing number false other n same same_is f = each-last (λ o. o ≢ name) names other f (λ e. let bad : false ≡ true = same_is e in cc)
@@ -51,13 +52,13 @@ found_more name names founds.Repeated number true other n same same_is f = repea
 
 -- ---- the fields of a row
 
--- the first field of a row
+-- a row whose first field is `field` is that field and what is after it
 pub first_is : (S : Separator) (row front field after : List ℕ) → HasField S 0 row front field after → row ≡ field ++ after
 first_is S row front field after h =
     let none : front ≡ [] = h.front_is ∙ ap (separated S) (nil_from_length h.before h.number) in
     rw none at h.row_is
 
--- and what follows it, where that is anything
+-- what is after a field, where it begins with a byte: that is the separator, and the field does not end within quotes
 pub after_is : (S : Separator) (field after more : List ℕ) (byte : ℕ) → IsAfterField S field after → after ≡ byte ∷ more → IsClosed S field × (after ≡ separator S ∷ more)
 after_is S field after more byte (inl none) is = let bad : [] ≡ byte ∷ more = sym none ∙ is in cc
 after_is S field after more byte (inr e) is =
@@ -65,7 +66,8 @@ after_is S field after more byte (inr e) is =
     let tails : e.0 ≡ more = cc in
     (e.1, e.2 ∙ ap (λ l. separator S ∷ l) tails)
 
--- one name more, which another follows
+-- `names` are those of the fields of `row` before `rest`, whose first field is `field`, named `name`, with a
+-- separator after it: then `names` and `name` are those of the fields before `more`
 names_more : (S : Separator) (row rest field more name : List ℕ) (names : List (List ℕ))
     → ((others : List (List ℕ)) → AreNames S rest others → AreNames S row (names ++ others))
     → IsEnded S field → rest ≡ field ++ separator S ∷ more → IsNameOf S field name
@@ -74,7 +76,8 @@ names_more S row rest field more name names so one cut is [] are = absurd are
 names_more S row rest field more name names so one cut is (next ∷ others) are =
     subst (AreNames S row) (sym (append_assoc names (name ∷ []) (next ∷ others))) (so (name ∷ next ∷ others) (field, more, one, cut, is, are))
 
--- the names so far, and one more
+-- the next turn of the look-up of `name` in `row`: the first field of `rest`, with a separator after it, gives the
+-- name `other`; `is` says whether that is `name`, and `more` is the new rest
 pub looks_next : (S : Separator) (row rest field more name other : List ℕ) (found : Found) (listed : List ℕ) (count : ℕ) (is : Bool)
     → LooksSo S row rest name found listed count → IsEnded S field → rest ≡ field ++ separator S ∷ more → IsNameOf S field other
     → (is ≡ true → other ≡ name) → (other ≡ name → is ≡ true)
@@ -88,7 +91,8 @@ looks_next S row rest field more name other found listed count is l one cut name
   room = omega (arith, l.room, ap length cut, length-append field (separator S ∷ more));
 }
 
--- and the last
+-- the last turn of the look-up of `name` in `row`: all of `rest` is one field, which gives the name `other`; so
+-- `names` are those of the whole row
 pub looks_last : (S : Separator) (row rest name other : List ℕ) (found : Found) (listed : List ℕ) (count : ℕ) (is : Bool)
     → LooksSo S row rest name found listed count → IsRowField S rest → IsNameOf S rest other
     → (is ≡ true → other ≡ name) → (other ≡ name → is ≡ true)

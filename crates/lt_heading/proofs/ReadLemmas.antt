@@ -21,11 +21,13 @@ use Rattle.lt_heading.proofs.RowLemmas.{rows_ended, rows_last, rows_none}
 
 -- ---- the heading
 
--- a row that a line feed ends
+-- the heading of a text whose first row a line feed (10) ends is that row
 heading_is : (row rest : List ℕ) → heading_in (row ++ 10 ∷ rest) (length row) ≡ Some row
 heading_is [] rest = refl
 heading_is (byte ∷ row) rest = ap (λ l. Some l) (take-append_seam (byte ∷ row) (10 ∷ rest))
 
+-- bytes with a first row that ends have it as their heading, whatever bytes `more` follow; `text` is what they have
+-- after the byte order mark, and `end` the length of the row
 heading_ended : (S : Separator) (bytes mark text more : List ℕ) (end : ℕ) → SplitsMark (bytes ++ more) mark (text ++ more) → (IsWide (bytes ++ more) → ⊥) → EndsRow S text end → HasHeading S (bytes ++ more) (heading_in text end)
 heading_ended S bytes mark text more end split narrow e = record {
   mark = mark;
@@ -35,7 +37,7 @@ heading_ended S bytes mark text more end split narrow e = record {
   first = rw (e.cut, e.end_is, heading_is e.row e.rest, append_assoc e.row (10 ∷ e.rest) more) (rows_of S (e.rest ++ more), rows_ended S e.row (e.rest ++ more) e.whole.one e.whole.closed, e.whole);
 }
 
--- the same at the end
+-- the same where no bytes follow
 heading_at_end : (S : Separator) (bytes mark text : List ℕ) (end : ℕ) → SplitsMark bytes mark text → (IsWide bytes → ⊥) → EndsRow S text end → HasHeading S bytes (heading_in text end)
 heading_at_end S bytes mark text end split narrow e = record {
   mark = mark;
@@ -45,7 +47,7 @@ heading_at_end S bytes mark text end split narrow e = record {
   first = rw (e.cut, e.end_is, heading_is e.row e.rest) (rows_of S e.rest, rows_ended S e.row e.rest e.whole.one e.whole.closed, e.whole);
 }
 
--- a row that the bytes end, or none
+-- bytes whose text after the byte order mark is one row have that as their heading, or none if the text is empty
 heading_last : (S : Separator) (bytes mark text : List ℕ) → SplitsMark bytes mark text → (IsWide bytes → ⊥) → IsWholeRow S text → HasHeading S bytes (heading_in text (length text))
 heading_last S bytes mark [] split narrow whole = record { mark = mark; text = []; split = split; narrow = narrow; first = rows_none S }
 heading_last S bytes mark (byte ∷ text) split narrow whole = record {
@@ -56,12 +58,14 @@ heading_last S bytes mark (byte ∷ text) split narrow whole = record {
   first = rw (take-length (byte ∷ text)) ([], rows_last S (byte ∷ text) whole.one (omega arith), whole);
 }
 
+-- the first row of a text is no longer than the text
 within : (S : Separator) (text : List ℕ) (end : ℕ) → EndsRow S text end → end ≤ length text
 within S text end e = omega (arith, e.end_is, ap length e.cut, length-append e.row (10 ∷ e.rest))
 
 -- ---- the reads
 
--- so far this was read, and its first row is not whole
+-- before the read of the number `turn`, counted from 0, at which the device `input` is `input'`: `read` was read so
+-- far, and does not end the first row
 pub record ReadTurn {I : Type 0} (S : Separator) (remaining : I → Option (List ℕ)) (input input' : Device I) (state : FirstRow) (turn : ℕ) : Type 0 where
   pub read : List ℕ
   pub consumes : Consumes (remaining (inner_of input)) (remaining (inner_of input')) read
@@ -70,13 +74,15 @@ pub record ReadTurn {I : Type 0} (S : Separator) (remaining : I → Option (List
   pub taken : taken_by state ≡ read
   pub going : IsGoing S state
 
+-- before the first read nothing was taken
 pub read_first : {I : Type 0} (S : Separator) (remaining : I → Option (List ℕ)) (input : Device I) (state : FirstRow) → IsUndecided state → taken_by state ≡ [] → ReadTurn S remaining input input state 0
 read_first S remaining input state u none = record { read = []; consumes = Consumes-nil _; calls = refl; failures = refl; taken = none; going = inr u }
 
--- memory ran out for the pieces
+-- memory ran out for the buffer before the first read
 pub read_lacks : {I : Type 0} (S : Separator) (remaining : I → Option (List ℕ)) (input : Device I) (state : FirstRow) → ReadsHeading S remaining input input state (Err faults.OutOfMemory)
 read_lacks S remaining input state = record { read = []; reads = 0; consumes = Consumes-nil _; calls = refl; bounded = omega arith; ends = tt }
 
+-- a fault for which the first row can't be taken is one for which the heading is not read
 stops : {I : Type 0} (S : Separator) (remaining : I → Option (List ℕ)) (before after : Device I) (reads : ℕ) (bytes : List ℕ) (f : ToolFault) → StopsText S bytes f → StopsHeading S remaining before after reads bytes f
 stops S remaining before after reads bytes f (inl memory) = rw memory tt
 stops S remaining before after reads bytes f (inr (inl wide)) = rw wide.0 wide.1
@@ -86,8 +92,10 @@ stops S remaining before after reads bytes f (inr (inr long)) = rw long.0 (of_lo
     of_long separators.Tab long = (refl, long)
     of_long (separators.Delimiter delimiter) long = inr (refl, long)
 
+-- `input` is the device before the first read, and `before` the device before the read of the number `turn`, counted
+-- from 0
 module _ {I : Type 0} (S : Separator) (remaining : I → Option (List ℕ)) (input before : Device I) (state : FirstRow) (turn : ℕ) (t : ReadTurn S remaining input before state turn) where
-  -- a piece was read that does not end the first row
+  -- a read gave a piece that does not end the first row
   pub read_next : (after : Device I) (new : FirstRow) (piece : List ℕ) → ReadsPiece remaining before after piece → TakesPiece S piece state new (Ok None) → ReadTurn S remaining input after new (turn + 1)
   read_next after new piece r p = record {
     read = t.read ++ piece;
@@ -98,7 +106,7 @@ module _ {I : Type 0} (S : Separator) (remaining : I → Option (List ℕ)) (inp
     going = p.1;
   }
 
-  -- what ends the reads after a piece
+  -- the read of a piece was the last, and the reading of the heading ended with the result `r`
   read_after : (after : Device I) (new : FirstRow) (piece : List ℕ) (r : Result ℕ ToolFault) → turn < most_reads → ReadsPiece remaining before after piece
       → EndsReading S remaining input after new (turn + 1) (t.read ++ piece) r → ReadsHeading S remaining input after new r
   read_after after new piece r few reads ends = record {
@@ -110,7 +118,7 @@ module _ {I : Type 0} (S : Separator) (remaining : I → Option (List ℕ)) (inp
     ends = ends;
   }
 
-  -- the first row is whole
+  -- a read gave a piece that ends the first row
   pub read_ended : (after : Device I) (new : FirstRow) (piece : List ℕ) (end : ℕ) → turn < most_reads → ReadsPiece remaining before after piece → TakesPiece S piece state new (Ok (Some end))
       → ReadsHeading S remaining input after new (Ok end)
   read_ended after new piece end few r p =
@@ -121,13 +129,13 @@ module _ {I : Type 0} (S : Separator) (remaining : I → Option (List ℕ)) (inp
         inl (λ more. subst (λ l. HasHeading S (l ++ more) (heading_in new.text.items end)) all (heading_ended S (taken_by new) new.mark.items new.text.items more end (p.1.split more) (p.1.narrow more) p.2)),
       )
 
-  -- it can't be
+  -- a read gave a piece that can't be taken, for the fault `f`
   pub read_stopped : (after : Device I) (new : FirstRow) (piece : List ℕ) (f : ToolFault) → turn < most_reads → ReadsPiece remaining before after piece → TakesPiece S piece state new (Err f)
       → ReadsHeading S remaining input after new (Err f)
   read_stopped after new piece f few r p = read_after after new piece (Err f) few r
       (stops S remaining input after (turn + 1) (t.read ++ piece) f (subst (λ l. StopsText S (l ++ piece) f) t.taken p))
 
-  -- the reader was at its end
+  -- a read gave no bytes: the reader is at its end, and the bytes so far end with the result `r`
   pub read_finished : (after : Device I) (new : FirstRow) (r : Result ℕ ToolFault) → turn < most_reads → ReadsPiece remaining before after [] → IsAtEnd (remaining (inner_of after)) → FinishesText S state new r
       → ReadsHeading S remaining input after new r
   read_finished after new (Ok end) few r at_end f =
@@ -161,6 +169,6 @@ module _ {I : Type 0} (S : Separator) (remaining : I → Option (List ℕ)) (inp
     ends = failed_from input before after t.failures failed;
   }
 
-  -- all reads were made
+  -- the most reads were made, and none ended the first row
   pub read_turns : turn ≡ most_reads → ReadsHeading S remaining input before state (Err faults.TooManyTurns)
   read_turns all = record { read = t.read; reads = turn; consumes = t.consumes; calls = t.calls; bounded = omega (arith, all); ends = all }

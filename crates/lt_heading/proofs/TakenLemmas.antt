@@ -8,27 +8,31 @@ use Rattle.lt_stream.specs.declared.faults.ToolFault.{ToolFault}
 use Rattle.lt_heading.specs.Headings.{AppendsPart, IsRowSoFar, IsWholeRow, TakesText, is_open}
 use Rattle.lt_heading.proofs.RowLemmas.{feed_within, one_more, place_more}
 
--- the front of the piece was appended, and the text is one row so far
+-- the state of the loop over a piece: its `front` was appended to `old`, the text before the piece, which gave
+-- `text`; that is one row so far, and `rest` of the piece is left
 pub record TextTurn (S : Separator) (old piece text : List ℕ) (place : Place) (rest : List ℕ) : Type 0 where
   pub front : List ℕ
   pub split : piece ≡ front ++ rest
   pub text_is : text ≡ old ++ front
   pub so_far : IsRowSoFar S text place
 
--- outside of quotes the row is whole
+-- a text that is one row so far is a whole row, if its place is outside of quotes
 pub whole_row : (S : Separator) (text : List ℕ) (place : Place) → IsRowSoFar S text place → is_quoted place ≡ false → IsWholeRow S text
 whole_row S text place h closed = record { one = h.one; closed = ap is_quoted (sym h.place_is) ∙ closed; short = h.short }
 
+-- before the loop nothing of the piece is appended
 pub turn_first : (S : Separator) (old piece : List ℕ) (place : Place) → IsRowSoFar S old place → TextTurn S old piece old place piece
 turn_first S old piece place h = record { front = []; split = refl; text_is = sym (append-nil old); so_far = h }
 
+-- `t` is the state of the loop over the piece
 module _ (S : Separator) (old piece text : List ℕ) (place : Place) (rest : List ℕ) (t : TextTurn S old piece text place rest) where
-  -- the text with the rest of the piece is all of both
+  -- the text with the rest of the piece is the old text with all of the piece
   whole : text ++ rest ≡ old ++ piece
   whole = ap (λ l. l ++ rest) t.text_is ∙ append_assoc old t.front rest ∙ ap (λ l. old ++ l) (sym t.split)
 
+  -- `part`, which has no line feed, was appended to the text, which gave `mid` and the place `next`
   module _ (part after mid : List ℕ) (next : Place) (one : IsOneLine part) (a : AppendsPart S place part text mid (Ok next)) where
-    -- more bytes of the row
+    -- the text `mid`, after `part` was appended, is one row so far
     pub part_so_far : IsRowSoFar S mid next
     part_so_far = record {
       one = rw a.0 (one_more S text part t.so_far.one one);
@@ -36,11 +40,13 @@ module _ (S : Separator) (old piece text : List ℕ) (place : Place) (rest : Lis
       short = a.2;
     }
 
+    -- `part` goes up to the first line feed of the rest, and `after` is what follows that
     module _ (cut : rest ≡ part ++ 10 ∷ after) where
+      -- `mid` with the line feed and what is after it is the old text with all of the piece
       whole_after : mid ++ 10 ∷ after ≡ old ++ piece
       whole_after = ap (λ l. l ++ 10 ∷ after) a.0 ∙ append_assoc text part (10 ∷ after) ∙ ap (λ l. text ++ l) (sym cut) ∙ whole
 
-      -- the line feed ends the row
+      -- a line feed outside of quotes ends the row, which is `mid`; the rest of the piece is appended too
       pub turn_ends : (last : Place) → is_quoted next ≡ false → TakesText S piece old ((mid ++ 10 ∷ []) ++ after) last (Ok (Some (length mid)))
       turn_ends last closed = (
         append_assoc mid (10 ∷ []) after ∙ whole_after,
@@ -53,10 +59,11 @@ module _ (S : Separator) (old piece text : List ℕ) (place : Place) (rest : Lis
         },
       )
 
-      -- it is within quotes
+      -- where the place after `part` is within quotes, `mid` ends within quotes
       inside_of : is_quoted next ≡ true → is_open S mid ≡ true
       inside_of inside = ap is_quoted (sym part_so_far.place_is) ∙ inside
 
+      -- a line feed within quotes is appended, which gives `more`, and the loop goes on with what is after it
       pub turn_next : (more : List ℕ) (further : Place) → is_quoted next ≡ true → AppendsPart S next (10 ∷ []) mid more (Ok further) → TextTurn S old piece more further after
       turn_next more further inside b = record {
         front = t.front ++ (part ++ 10 ∷ []);
@@ -70,7 +77,7 @@ module _ (S : Separator) (old piece text : List ℕ) (place : Place) (rest : Lis
         };
       }
 
-      -- with it the row is too long
+      -- a line feed within quotes makes the row too long, or memory runs out for it
       pub turn_feed_long : (more : List ℕ) (last : Place) (f : ToolFault) → is_quoted next ≡ true → AppendsPart S next (10 ∷ []) mid more (Err f) → TakesText S piece old more last (Err f)
       turn_feed_long more last f inside (inl memory) = inl memory
       turn_feed_long more last f inside (inr long) = inr (
@@ -78,7 +85,7 @@ module _ (S : Separator) (old piece text : List ℕ) (place : Place) (rest : Lis
         record { begun = mid ++ 10 ∷ []; rest = after; cut = sym (append_assoc mid (10 ∷ []) after ∙ whole_after); one = feed_within S mid part_so_far.one (inside_of inside); long = long.1 },
       )
 
-  -- a part of the rest makes the row too long
+  -- bytes `part` without a line feed make the row too long, or memory runs out for them
   pub turn_long : (part after new : List ℕ) (last : Place) (f : ToolFault) → IsOneLine part → rest ≡ part ++ after → AppendsPart S place part text new (Err f) → TakesText S piece old new last (Err f)
   turn_long part after new last f one cut (inl memory) = inl memory
   turn_long part after new last f one cut (inr long) = inr (
@@ -92,6 +99,6 @@ module _ (S : Separator) (old piece text : List ℕ) (place : Place) (rest : Lis
     },
   )
 
-  -- the rest has no line feed
+  -- the rest of the piece has no line feed: it is appended, and the text is one row so far
   pub turn_last : (new : List ℕ) (next : Place) → IsOneLine rest → AppendsPart S place rest text new (Ok next) → TakesText S piece old new next (Ok None)
   turn_last new next one a = (a.0 ∙ whole, part_so_far rest [] new next one a)

@@ -13,13 +13,13 @@ use Rattle.lt_heading.specs.declared.finding.ColumnFault.{ColumnFault}
 use Rattle.lt_heading.specs.declared.finding.ColumnFault.TheVariants as refusals
 use Rattle.lt_heading.specs.declared.finding.FoundColumn.{FoundColumn}
 
--- no column has the name, or more than one has it, and this is the line that says so
+-- none of the names of the columns is `name`, or more than one is, and `line` says so
 abbrev pub IsNameFault : (name : List ℕ) → List (List ℕ) → (line : List ℕ) → Type 0
 IsNameFault name names line =
     (Lacks name names × (line ≡ name_line (codes "no column") name names))
     ⊎ (IsRepeated name names × (line ≡ name_line (codes "more than one column") name names))
 
--- the names of the columns were read, and `Holds` is true of them
+-- the heading of a reader, of which `read` was read, gives the names of the columns, and `Holds` is true of them
 pub record ReadsNames {I : Type 0} (S : Separator) (remaining : I → Option (List ℕ)) (after : Device I) (read : List ℕ)
     (Holds : List (List ℕ) → Type 0) : Type 0 where
   pub heading : Option (List ℕ)
@@ -39,7 +39,8 @@ EndsFinding S name remaining before after reads read (Err (refusals.Name said)) 
 EndsFinding S name remaining before after reads read (Err (refusals.Heading f)) =
     StopsHeading S remaining before after reads read f
 
--- the column with a name was looked for in the heading of a reader's rows
+-- the column with a name was looked for in the heading of a reader's rows; `before` and `after` are the reader's
+-- device, whose bytes `remaining` gives
 pub record FindsColumn {I : Type 0} (S : Separator) (name : List ℕ) (remaining : I → Option (List ℕ))
     (before after : Device I) (result : Result FoundColumn ColumnFault) : Type 0 where
   pub read : List ℕ

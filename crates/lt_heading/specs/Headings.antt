@@ -83,7 +83,8 @@ abbrev pub long_fault : Separator → ToolFault
 long_fault separators.Tab = faults.BadTsv 1
 long_fault (separators.Delimiter delimiter) = faults.BadCsv 1
 
--- why a heading was not read; OutOfMemory may be answered of any
+-- why the heading of a reader was not read: `before` and `after` are its device, whose bytes `remaining` gives, and
+-- `read` the bytes that so many `reads` gave; OutOfMemory may be answered of any
 abbrev pub StopsHeading : {I : Type 0} → Separator → (I → Option (List ℕ)) → (before after : Device I)
     → (reads : ℕ) → (read : List ℕ) → ToolFault → Type 0
 StopsHeading S remaining before after reads read faults.Read = HasFailed before after
@@ -97,7 +98,8 @@ StopsHeading S remaining before after reads read faults.Utf16 = IsWide read
 StopsHeading S remaining before after reads read faults.Write = ⊥
 StopsHeading S remaining before after reads read faults.OutOfMemory = Unit {0}
 
--- the heading of all bytes of a reader, of which these were read: whatever follows them, or as they are all
+-- the heading of all bytes of a reader, of which `read` was read: it is the same whatever bytes follow, or none
+-- follow; `remaining` gives the bytes that are left
 abbrev pub KnowsHeading : {I : Type 0} → Separator → (I → Option (List ℕ)) → (after : Device I)
     → (read : List ℕ) → (heading : Option (List ℕ)) → Type 0
 KnowsHeading S remaining after read heading =
@@ -124,7 +126,8 @@ abbrev pub heading_in : (text : List ℕ) → (end : ℕ) → Option (List ℕ)
 heading_in [] end = None
 heading_in (byte ∷ text) end = Some (take end (byte ∷ text))
 
--- further bytes were appended to a row; or it got too long, or memory ran out
+-- `part` was appended to `old`, the text of a row at whose end the place is the given one, and this gave `new` and
+-- the next place; or the row got too long, or memory ran out
 abbrev pub AppendsPart : Separator → Place → (part old new : List ℕ) → Result Place ToolFault → Type 0
 AppendsPart S place part old new (Ok next) =
     (new ≡ old ++ part) × (next ≡ place_then S place part) × (length new ≤ longest_row)
@@ -136,7 +139,8 @@ abbrev pub IsRowIn : Separator → (text : List ℕ) → Place → (end : Option
 IsRowIn S text place None = IsRowSoFar S text place
 IsRowIn S text place (Some end) = EndsRow S text end
 
--- a piece was appended to a text that was one row so far; or the row got too long, or memory ran out
+-- a piece was appended to a text that was one row so far, and this gave `new` and the place after it; or the row got
+-- too long, or memory ran out
 abbrev pub TakesText : Separator → (piece old new : List ℕ) → Place → Result (Option ℕ) ToolFault → Type 0
 TakesText S piece old new place (Ok end) = (new ≡ old ++ piece) × IsRowIn S new place end
 TakesText S piece old new place (Err f) =
@@ -201,14 +205,15 @@ FinishesText S old new (Ok end) = (taken_by new ≡ taken_by old)
 FinishesText S old new (Err f) = ((f ≡ faults.BadCsv 1) × HasOpenHeading S (taken_by old))
     ⊎ StopsText S (taken_by old) f
 
--- how the reading of the heading of a reader ended
+-- how the reading of the heading of a reader ended, after so many reads, which gave the bytes `read`
 abbrev pub EndsReading : {I : Type 0} → Separator → (I → Option (List ℕ)) → (before after : Device I)
     → FirstRow → (reads : ℕ) → (read : List ℕ) → Result ℕ ToolFault → Type 0
 EndsReading S remaining before after state reads read (Ok end) = (taken_by state ≡ read)
     × (end ≤ length state.text.items) × KnowsHeading S remaining after read (heading_in state.text.items end)
 EndsReading S remaining before after state reads read (Err f) = StopsHeading S remaining before after reads read f
 
--- the heading of a reader was read
+-- the heading of a reader was read: `before` and `after` are its device, whose bytes `remaining` gives, `state` is
+-- the text that was taken, and `result` the length of its first row, or why there is none
 pub record ReadsHeading {I : Type 0} (S : Separator) (remaining : I → Option (List ℕ)) (before after : Device I)
     (state : FirstRow) (result : Result ℕ ToolFault) : Type 0 where
   pub read : List ℕ

@@ -17,7 +17,8 @@ undoubled after_quote [] = []
 undoubled after_quote (byte ∷ text) =
     if after_quote && (byte == 34) then undoubled false text else byte ∷ undoubled (byte == 34) text
 
--- the name that the text of a field gives: undoubled if there are quotes at its ends
+-- the name that a field gives, by the `quotes` at its ends, if it has any, and the `text` between them: the text as
+-- it is, or undoubled in quotes
 abbrev pub name_in : (quotes text : List ℕ) → List ℕ
 name_in [] text = text
 name_in (quote ∷ quotes) text = undoubled false text
@@ -78,12 +79,13 @@ shown_name name = 32 ∷ 34 ∷ escaped name ++ 34 ∷ []
 abbrev pub shown_names : List (List ℕ) → List ℕ
 shown_names names = flat_map shown_name names
 
--- the line that says how many columns have a name, and lists all names, which are shown already
+-- the line that says how many columns have a name, as `no column` (`whose`), and lists all names; the name (`shown`)
+-- and these (`listed`) are given as they are shown
 abbrev pub shown_line : (whose shown listed : List ℕ) → List ℕ
 shown_line whose shown listed =
     codes "error: " ++ whose ++ codes " has the name" ++ shown ++ codes "; names:" ++ listed ++ 10 ∷ []
 
--- the line for a name that no column has, or more than one
+-- the line for a name that no column has, or more than one, as `whose` says, with all names of the heading
 abbrev pub name_line : (whose : List ℕ) → (name : List ℕ) → List (List ℕ) → List ℕ
 name_line whose name names = shown_line whose (shown_name name) (shown_names names)
 
@@ -102,7 +104,8 @@ pub record LooksUp (S : Separator) (heading : Option (List ℕ)) (name : List �
   pub is_found : IsFound name names looked.found
   pub listed : string_bytes looked.listed ≡ shown_names names
 
--- the name was looked up among the first `count` names of a row, before its rest
+-- the name was looked up among the first `count` names of a row, before its `rest`; `listed` is these names as they
+-- are shown
 pub record LooksSo (S : Separator) (row rest name : List ℕ) (found : Found) (listed : List ℕ) (count : ℕ) : Type 0 where
   pub names : List (List ℕ)
   pub are_names : (more : List (List ℕ)) → AreNames S rest more → AreNames S row (names ++ more)

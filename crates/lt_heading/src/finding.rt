@@ -49,7 +49,8 @@ impl From<AllocError> for ColumnFault {
     }
 }
 
-/// The line that says why a name is not found: that `whose`, as `no column`, has the name `shown`. `listed` are all names.
+/// The line that says why a name is not found: that `whose`, as `no column`, has the name `shown`. `listed` are all
+/// names, and both are as they are shown.
 fn line_of(alloc: Global, whose: &str, shown: &str, listed: &str) -> Result<String, AllocError>
     ensures { IfOk result (λ line. string_bytes line ≡ shown_line whose.now shown.now listed.now) }
 {

@@ -9,10 +9,10 @@ use lt_stream::ToolFault;
 use std::alloc::{AllocError, Global};
 use std::io::Read;
 
-/// The most bytes of a row: 16 MiB.
+/// The most bytes of a row: 16 MiB, as of the rows that are answered after the heading.
 const LONGEST_ROW: usize = 16_777_216;
 
-/// The most reads of one heading.
+/// The most reads of one heading, as of one run over lines.
 const MOST_READS: u32 = 10_000_000;
 
 /// The most bytes that a read is asked for.
@@ -41,7 +41,7 @@ fn place_then(separator: Separator, place: Place, part: &[u8]) -> Place
     }
 }
 
-/// The fault of a first row that is too long.
+/// The fault of a first row that is too long, with the number of its line.
 fn long_fault(separator: Separator) -> ToolFault
     ensures { result ≡ spec.long_fault separator }
 {
@@ -51,7 +51,8 @@ fn long_fault(separator: Separator) -> ToolFault
     }
 }
 
-/// Appends a further part to a row, and gives the place after it. Refused if the row is too long then.
+/// Appends `part` to a row at whose end `place` is the place, within quotes or outside, and gives the place after it.
+/// Refused with `BadTsv(1)` or `BadCsv(1)` if the row is longer than 16 MiB then, and with `OutOfMemory`.
 fn append_part(
     separator: Separator,
     text: &mut Vec<u8>,
@@ -67,7 +68,8 @@ fn append_part(
     Ok(place_then(separator, place, part))
 }
 
-/// Appends a piece to a text that is one row so far, and gives the index at which the row ends, or None if it goes on.
+/// Appends a piece to a text that is one row so far, and gives the index at which the row ends, or None if it goes on;
+/// `place`, the place at the end of the text, moves on with it. Refused as `append_part` is.
 fn take_text(
     separator: Separator,
     text: &mut Vec<u8>,
@@ -107,8 +109,8 @@ impl FirstRow {
         }
     }
 
-    /// Splits the byte order mark off the bytes that are kept, and takes the text after it. It gives the index in that text
-    /// at which the first row ends, or None if it goes on.
+    /// Splits the byte order mark off the bytes that are kept, and takes the text after it. It gives the index in that
+    /// text at which the first row ends, or None if it goes on. Refused as `append_part` is.
     fn begin(&mut self, separator: Separator) -> Result<Option<usize>, ToolFault>
         requires none { self.old.text.items ≡ [] }
         requires fresh { self.old.place ≡ Place.Fresh }
@@ -122,8 +124,8 @@ impl FirstRow {
         Ok(end)
     }
 
-    /// Takes the next bytes, and gives the index in the text after the mark at which the first row ends, or None if it goes
-    /// on.
+    /// Takes the next bytes, and gives the index in the text after the mark at which the first row ends, or None if it
+    /// goes on. Refused with `Utf16` if the bytes begin with a byte order mark of UTF-16, or as `append_part` is.
     fn take_piece(&mut self, separator: Separator, piece: &[u8]) -> Result<Option<usize>, ToolFault>
         requires { IsGoing separator self.old }
         ensures { TakesPiece separator piece.now self.old self.new result }
@@ -141,7 +143,7 @@ impl FirstRow {
         self.begin(separator)
     }
 
-    /// All bytes that were taken.
+    /// All bytes that were taken: the mark, and the text after it.
     pub(crate) fn into_bytes(self) -> Result<Vec<u8>, AllocError>
         ensures { IfOk result (λ bytes. bytes.items ≡ spec.taken_by self) }
     {
@@ -155,7 +157,7 @@ impl FirstRow {
         Ok(mark)
     }
 
-    /// Ends the text, which is one row, and gives its length. Refused with `BadCsv` if a quote is open.
+    /// Ends the text, which is one row, and gives its length. Refused with `BadCsv(1)` if a quote is open.
     fn end_text(&self) -> Result<usize, ToolFault>
         ensures { (separator : Separator) → EndsText separator self.now result }
     {
@@ -165,7 +167,8 @@ impl FirstRow {
         Ok(self.text.len())
     }
 
-    /// Ends the bytes, and gives the index in the text after the mark at which the first row ends.
+    /// Ends the bytes, and gives the index in the text after the mark at which the first row ends. Refused with
+    /// `BadCsv(1)` if a quote is open, or as `append_part` is.
     fn finish(&mut self, separator: Separator) -> Result<usize, ToolFault>
         requires { IsGoing separator self.old }
         ensures { FinishesText separator self.old self.new result }
@@ -180,7 +183,8 @@ impl FirstRow {
     }
 }
 
-/// Reads the first row into `first`, and gives the index in the text after the mark at which it ends.
+/// Reads the first row into `first`, and gives the index in the text after the mark at which it ends. Refused with the
+/// fault that `find_column` answers in `Heading`.
 pub(crate) fn read_heading<R: Read>(
     alloc: Global,
     separator: Separator,

@@ -21,7 +21,8 @@ pub(crate) enum Found {
 }
 
 impl Found {
-    /// What is found after a further name, which has this number; `is_name` says whether it is the one that is looked for.
+    /// Where the name stands after a further name, which has this number, counted from 1; `is_name` says whether it is
+    /// the one that is looked for.
     fn with(self, number: usize, is_name: bool) -> Found
         ensures { result ≡ found_then self number is_name }
     {
@@ -41,7 +42,7 @@ pub(crate) struct Looked {
     pub(crate) listed: String,
 }
 
-/// The text between the quotes of a field, with each doubled quote as one.
+/// The text between the quotes of a field, with each doubled quote as one (RFC 4180, 2).
 fn undoubled(alloc: Global, text: &[u8]) -> Result<Vec<u8>, AllocError>
     ensures { IfOk result (λ name. name.items ≡ spec.undoubled false text.now) }
 {
@@ -81,7 +82,7 @@ pub(crate) fn append_shown(shown: &mut String, alloc: Global, name: &[u8]) -> Re
     shown.push('"')
 }
 
-/// Looks a name up among the names of the columns in a heading, which is this row.
+/// Looks a name up among the names of the columns in a heading: `row`, without the carriage return that may end it.
 fn look_up_in_row(
     alloc: Global,
     separator: Separator,

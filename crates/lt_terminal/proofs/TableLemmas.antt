@@ -5,7 +5,8 @@ use Rattle.std.proofs.lemmas.List.{take_more}
 use Rattle.lt_stream.specs.declared.tallies.Tally.{Tally}
 use Rattle.lt_terminal.specs.Table.{tallies_told, tally_told}
 
--- one fault more
+-- `told` is `old` with what is told of the first `i` tallies: with the tally of the index `i` appended, `new` is
+-- `old` with what is told of one more; `default` stands for a tally beyond the last
 pub told_more : (unit : List ℕ) (tallies : List Tally) (i : ℕ) (default : Tally) (old told new : List ℕ) → i < length tallies
     → told ≡ old ++ tallies_told unit (take i tallies) → new ≡ told ++ tally_told unit (get_or tallies i default)
     → new ≡ old ++ tallies_told unit (take (i + 1) tallies)

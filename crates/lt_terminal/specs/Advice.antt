@@ -18,7 +18,8 @@ code_message _ = None
 abbrev pub name_message : List ℕ
 name_message = codes "This is a name of a language and not a code: write en for English, de for German."
 
--- the advice for an unknown language: its two-letter code, or, if it has 5 letters or more, that it looks like a name
+-- the advice for an unknown language: its two-letter code, or, if it has 5 letters or more, that it looks like a
+-- name, since codes of languages have 2 or 3 letters, and 4 are reserved (RFC 5646, 2.2.1)
 abbrev pub language_advice : List ℕ → Option (List ℕ)
 language_advice subtag =
     option_or (code_message subtag) (if nat_lt 4 (length subtag) then Some name_message else None)
@@ -33,14 +34,14 @@ ends_in_uk text =
 abbrev pub region_advice : List ℕ → Option (List ℕ)
 region_advice text = if ends_in_uk text then Some (codes "UK: BCP 47 writes GB.") else None
 
--- the advice for this text in particular, if there is any
+-- the advice for this text in particular, if there is any; `fault` is the name of the fault that refused it
 abbrev pub advice_for : (fault text : List ℕ) → Option (List ℕ)
 advice_for fault text =
     if bytes_eq fault (codes "UnknownLanguage") then language_advice (first_subtag text)
     else if bytes_eq fault (codes "UnknownRegion") then region_advice text
     else None
 
--- the advice for any text with this fault: the fault's message without the name and `: `
+-- the advice for any text with the fault of this name: the fault's message without the name and `: `
 abbrev pub usual_advice : (fault : List ℕ) → Option (List ℕ)
 usual_advice fault = option_map (λ message. drop (length fault + 2) message) (message_of fault)
 
@@ -53,6 +54,6 @@ abbrev pub line_of : Option (List ℕ) → List ℕ
 line_of None = []
 line_of (Some advice) = said advice
 
--- the line of advice on a fault that refused this text: for this text in particular, or else the usual one
+-- the line of advice on a text that the fault of this name refused: for the text in particular, or else the usual one
 abbrev pub advice_line : (fault text : List ℕ) → List ℕ
 advice_line fault text = line_of (option_or (advice_for fault text) (usual_advice fault))

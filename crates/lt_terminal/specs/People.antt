@@ -58,32 +58,37 @@ meaning_of front = message_line (line_message (before_first (λ byte. byte == 10
     message_line None = []
     message_line (Some message) = message ++ 10 ∷ []
 
--- why a file could not be opened, if the message on the errors is that one could not
+-- `refusal`, which says why a file could not be opened, if `meaning`, the message on the errors, says that one could
+-- not
 abbrev pub refusal_of : (refusal meaning : List ℕ) → List ℕ
 refusal_of refusal meaning = if starts_with nat_eq meaning (codes "File: ") then refusal else []
 
--- What a person is told of the output. For lines, records or tags it is how many were refused, and by which faults. For
--- the one answer of another command, and where a file was refused (status 2), it is the message on it.
+-- What a person is told of the output. For lines, records or tags, as the unit is, it is how many were refused, and
+-- by which faults. For the one answer of another command, and where a file was refused (exit status 2), it is the
+-- message on `shown`, the first bytes of the output.
 abbrev pub told_of : Option (List ℕ) → (result : ℕ) → Answered → (shown : List ℕ) → List ℕ
 told_of None result answered shown = meaning_of shown
 told_of (Some unit) result answered shown =
     if result == 2 then meaning_of shown else counts_line unit answered.counts ++ tallies_told unit answered.tallies
 
--- a line that says where a record is, with `?` for each byte that is no printable byte of ASCII
+-- the line that says where a record is, with `?` for each byte that is no printable byte of ASCII; nothing where that
+-- is not known
 abbrev pub place_line : List ℕ → List ℕ
 place_line [] = []
 place_line (byte ∷ place) = map shown_byte (byte ∷ place) ++ 10 ∷ []
 
--- the line that says where a record is, if a registry or an upgrade was refused (status 2)
+-- the line that says where a record is, if a registry or an upgrade was refused (exit status 2)
 abbrev pub place_told : (result : ℕ) → (place : List ℕ) → List ℕ
 place_told result place = if result == 2 then place_line place else []
 
--- What a person is told of the errors: the message on them, and, if that is on a file that could not be opened, why. It
--- is nothing on wrong usage (status 3), where the errors may list names of columns, which are not searched for faults.
+-- What a person is told of the errors, whose first bytes are `said`: the message on them, and, if that is on a file
+-- that could not be opened, why (`refusal`). It is nothing on wrong usage (exit status 3), where the errors may list
+-- names of columns, which are not searched for faults.
 abbrev pub errors_told : (result : ℕ) → (refusal said : List ℕ) → List ℕ
 errors_told result refusal said = if result == 3 then [] else meaning_of said ++ refusal_of refusal (meaning_of said)
 
--- all lines that a person is told, by the first bytes of the output (`shown`) and of the errors (`said`)
+-- all lines that a person is told of a run with the exit status `result`, by the first bytes of the output (`shown`)
+-- and of the errors (`said`), the line on a record (`place`), and the line on a file (`refusal`)
 abbrev pub told_lines : Option (List ℕ) → (result : ℕ) → Answered → (place refusal shown said : List ℕ) → List ℕ
 told_lines unit result answered place refusal shown said =
     told_of unit result answered shown ++ place_told result place ++ errors_told result refusal said
@@ -92,7 +97,8 @@ told_lines unit result answered place refusal shown said =
 abbrev pub IsFront : Option (List ℕ) → List ℕ → Type 0
 IsFront contents front = (bytes : List ℕ) → contents ≡ Some bytes → front ≡ take most_kept bytes
 
--- the lines that a person is told, by what the output and the errors hold
+-- the lines that a person is told of a run with the exit status `result`, by what the output (`shown`) and the errors
+-- (`said`) hold, where that is known
 pub record AreTold (unit : Option (List ℕ)) (result : ℕ) (answered : Answered) (shown said : Option (List ℕ))
     (lines : List ℕ) : Type 0 where
   pub place : List ℕ
@@ -103,7 +109,8 @@ pub record AreTold (unit : Option (List ℕ)) (result : ℕ) (answered : Answere
   pub of_errors : IsFront said errors_front
   pub lines_are : lines ≡ told_lines unit result answered place refusal output_front errors_front
 
--- a person is told the lines that are due
+-- a person is told the lines on a run: its unit, its exit status, its answers, and what its output and its errors
+-- hold
 pub record SaysLines {T : Type 0} (unit : Option (List ℕ)) (result : ℕ) (answered : Answered)
     (shown said : Option (List ℕ))
     (people : Stream T) : Type 0 where
@@ -111,7 +118,8 @@ pub record SaysLines {T : Type 0} (unit : Option (List ℕ)) (result : ℕ) (ans
   pub are_told : AreTold unit result answered shown said lines
   pub says : Says people lines
 
--- what a person is told after a run: nothing, if nobody is told or there is no memory for it, or the lines that are due
+-- what a person is told after a run: nothing, if nobody is told or there is no memory for it, or the lines on the
+-- run; the outer None is for a run of which nobody is told, the inner one for a command without a unit
 abbrev pub Tells : {T : Type 0} → Option (Option (List ℕ)) → (result : ℕ) → Answered → (shown said : Option (List ℕ))
     → Stream T → Type 0
 Tells None result answered shown said people = IsUntouched people
@@ -124,7 +132,9 @@ pub record IsWatched {W : Type 0} (inner : W) (device : Device (Watched W)) : Ty
   pub none_kept : (inner_of device).front.items ≡ []
   pub new : IsNew (inner_of device) device
 
--- The program is run on devices that pass on what it writes, and then a person is told what it came to.
+-- The program is run on devices that pass on what it writes, and then a person is told what it came to. `of_none`
+-- gives the bytes of the reader that stands for a file that is not named, `of_output` and `of_errors` those of the
+-- writers.
 pub record RunsForPeople {P F N I O E T : Type 0} (words : GivenWords)
     (opener : Opener P F) (of_none : N → Option (List ℕ)) (input : Stream I)
     (of_output : Watched O → Option (List ℕ)) (output : O) (of_errors : Watched E → Option (List ℕ)) (errors : E)

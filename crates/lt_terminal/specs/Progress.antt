@@ -13,8 +13,8 @@ fills_million before after = not (after / 1000000 == before / 1000000)
 abbrev pub progress_line : (lines : ℕ) → List ℕ
 progress_line lines = decimal lines ++ codes " lines" ++ 13 ∷ []
 
--- A person is told nothing, or how many lines were answered, the latter only where a further million is full and lines
--- are told. It is not said that there is a line for each million.
+-- A person is told nothing, or how many lines were answered, the latter only where a further million is full between
+-- the counts `before` and `after`, and lines are told. It is not said that there is a line for each million.
 abbrev pub TellsProgress : {T : Type 0} → (told : Bool) → (before after : ℕ) → Stream T → Type 0
 TellsProgress told before after people =
     IsUntouched people ⊎ ((told && fills_million before after ≡ true) × Says people (progress_line after))

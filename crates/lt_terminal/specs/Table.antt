@@ -11,7 +11,8 @@ use Rattle.lt_terminal.specs.Advice.{advice_line}
 abbrev pub counted : (number : ℕ) → (unit : List ℕ) → List ℕ
 counted number unit = decimal number ++ 32 ∷ unit ++ (if number == 1 then [] else 115 ∷ [])
 
--- how many lines or records were answered, and how many of them refused
+-- how many lines or records, as the unit is, were answered, and how many of them refused; nothing if that is not
+-- known
 abbrev pub counts_line : (unit : List ℕ) → Option Counts → List ℕ
 counts_line unit None = []
 counts_line unit (Some counts) =
@@ -26,11 +27,11 @@ abbrev pub shown_text : List ℕ → List ℕ
 shown_text [] = []
 shown_text (byte ∷ text) = codes ": " ++ map shown_byte (byte ∷ text)
 
--- which line or record was the first that a fault refused
+-- which line or record, as the unit is, was the first that a fault refused
 abbrev pub first_told : (unit : List ℕ) → (first : ℕ) → List ℕ
 first_told unit first = codes ", first in " ++ unit ++ 32 ∷ decimal first
 
--- the line on a fault: how many lines it refused, its name, and the first of them
+-- the line on a fault: how many lines it refused, its name, and the first of them, with its text
 abbrev pub tally_line : (unit : List ℕ) → Tally → List ℕ
 tally_line unit tally =
     decimal tally.lines ++ 32 ∷ tally.fault.items ++ first_told unit tally.first

@@ -5,7 +5,8 @@ use Rattle.std.specs.Prelude.{ℕ, ◌==◌, ◌&&◌, if◌then◌else◌, List
 abbrev pub most_kept : ℕ
 most_kept = 256
 
--- the bytes that a writer holds, if they are known, `front` is the first of them, and none of those was given away
+-- the bytes that a writer holds, if they are known, `front` is the first of them, and none of those was read: `given`
+-- counts the kept bytes that were
 abbrev pub watched_contents : Option (List ℕ) → (front : List ℕ) → (given : ℕ) → Option (List ℕ)
 watched_contents None front given = None
 watched_contents (Some bytes) front given =
@@ -15,6 +16,6 @@ watched_contents (Some bytes) front given =
 abbrev pub front_then : (front more : List ℕ) → List ℕ
 front_then front more = take most_kept (front ++ more)
 
--- what is left of the first bytes, of which `given` were given away
+-- what is left of the first bytes, of which `given` were read
 abbrev pub front_left : (front : List ℕ) → ℕ → Option (List ℕ)
 front_left front given = Some (drop given front)

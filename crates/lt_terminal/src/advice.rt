@@ -50,7 +50,8 @@ fn first_subtag(text: &[u8]) -> &[u8]
     }
 }
 
-/// What to do about a language that is not registered; None if no more can be said.
+/// What to do about a language that is not registered; None if no more can be said. With 5 letters or more it is taken
+/// for a name: codes have 2 or 3, and 4 are reserved (RFC 5646, 2.2.1).
 fn language_advice(subtag: &[u8]) -> Option<&'static str>
     ensures { option_map (λ advice. advice.now) result ≡ spec.language_advice subtag.now }
 {
@@ -61,7 +62,8 @@ fn language_advice(subtag: &[u8]) -> Option<&'static str>
     }
 }
 
-/// What to do about a text whose region is not registered; None unless it ends with `-UK`, in any letter case.
+/// What to do about a text whose region is not registered; None unless it ends with `-UK`, in any letter case, for
+/// which ISO 3166 has GB.
 fn region_advice(text: &[u8]) -> Option<&'static str>
     ensures { option_map (λ advice. advice.now) result ≡ spec.region_advice text.now }
 {
@@ -76,7 +78,8 @@ fn region_advice(text: &[u8]) -> Option<&'static str>
     }
 }
 
-/// What to do about `text`, which `fault` refuses. None if there is no advice but that for the fault.
+/// What to do about `text`, which the fault with the name `fault` refuses. None if there is no advice but that for the
+/// fault.
 fn advice_for(fault: &[u8], text: &[u8]) -> Option<&'static str>
     ensures { option_map (λ advice. advice.now) result ≡ spec.advice_for fault.now text.now }
 {
@@ -89,7 +92,7 @@ fn advice_for(fault: &[u8], text: &[u8]) -> Option<&'static str>
     }
 }
 
-/// Appends a line of advice, after two spaces.
+/// Appends a line of advice, after two spaces, by which it stands under the line on its fault.
 fn append_line(told: &mut Vec<u8>, advice: &[u8]) -> Result<(), AllocError>
     ensures { OnOk result (told.new.items ≡ told.old.items ++ spec.said advice.now) }
 {
@@ -99,8 +102,8 @@ fn append_line(told: &mut Vec<u8>, advice: &[u8]) -> Result<(), AllocError>
     Ok(())
 }
 
-/// Appends a line that says what to do about a fault that refused `text`: advice for that text, or else what the fault
-/// means. Nothing for a fault without a message.
+/// Appends a line that says what to do about the fault with the name `fault`, which refused `text`: advice for that
+/// text, or else what the fault means. Nothing for a fault without a message.
 pub(crate) fn append_advice(told: &mut Vec<u8>, fault: &[u8], text: &[u8]) -> Result<(), AllocError>
     ensures { OnOk result (told.new.items ≡ told.old.items ++ spec.advice_line fault.now text.now) }
 {
@@ -109,6 +112,7 @@ pub(crate) fn append_advice(told: &mut Vec<u8>, fault: &[u8], text: &[u8]) -> Re
     }
     match message_of(fault) {
         Some(message) => {
+            // The message begins with the fault's name, a colon and a space, which are left out; it is never shorter.
             let after = (fault.len() + 2).min(message.len());
             append_line(told, &message.as_bytes()[after..])
         }

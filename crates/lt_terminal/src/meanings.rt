@@ -75,7 +75,7 @@ const MESSAGES: [&str; 68] = [
     "Utf16: The input is in UTF-16: write it in UTF-8, as by iconv -f UTF-16 -t UTF-8.",
 ];
 
-/// These messages, each of which begins with its name.
+/// All messages, each of which begins with the name of its fault.
 fn messages() -> &'static [&'static str]
     ensures { map (λ message. message.now) result.now ≡ spec.messages }
 {

@@ -57,6 +57,7 @@ impl Openings {
     pub fn traced<'a, F>(&'a self, alloc: Global, file: F) -> Traced<'a, F>
         ensures { result.inner ≡ file }
     {
+        // What is in a `Cell` is seen by taking it out; it is put back below.
         let first = self.first.take();
         let bytes = if first.is_some() {
             &self.second
@@ -88,7 +89,8 @@ impl Openings {
     }
 }
 
-/// Appends what was read. Refused if it is more than is kept of a file, or where memory runs out.
+/// Appends what was read to the bytes of a file. Refused if they are more then than is kept of a file, or where memory
+/// runs out.
 fn append_traced(bytes: &mut Vec<u8>, more: &[u8]) -> Result<(), AllocError> {
     if bytes.len().saturating_add(more.len()) > MOST_TRACED {
         return Err(AllocError);

@@ -52,8 +52,8 @@ impl<W, T> Progress<W, T> {
     }
 }
 
-/// Tells a person how many lines there are, if a multiple of a million was reached since there were `before`. Nothing unless
-/// `is_told`.
+/// Tells a person that `after` lines are answered, if a multiple of a million was reached since there were `before`.
+/// Nothing unless `is_told`.
 fn tell_progress<T: Write>(
     alloc: Global,
     is_told: bool,

@@ -10,7 +10,8 @@ pub(crate) struct Named {
     pub(crate) is_second: bool,
 }
 
-/// The record that a line names, which refuses a registry or an upgrade. None if the line names none.
+/// The record that a line names, which refuses a registry or an upgrade. None if the line names none. The record of
+/// condition U5 is one of the newer registry, those of the other conditions of an upgrade are of the older.
 pub(crate) fn named_in(line: &str) -> Option<Named> {
     let (front, after) = line.split_once("record ")?;
     let number = after.split(' ').next()?.parse::<u64>().ok()?;
@@ -52,7 +53,8 @@ impl<'a> Place<'a> {
 }
 
 /// Where the record of this number, counted from 1, begins in the text of a registry, and what it is. None if there are
-/// fewer.
+/// fewer. Lines `%%` part the records (RFC 5646, 3.1.1); where blank lines alone are between two of them, there is no
+/// record.
 fn place_in(text: &str, number: u64) -> Option<Place<'_>> {
     let mut place = None;
     let (mut seen, mut is_within) = (0u64, false);
@@ -78,7 +80,7 @@ fn place_in(text: &str, number: u64) -> Option<Place<'_>> {
     place
 }
 
-/// The line that says what a record is and where it begins: `record 570: region BU, line 4711`.
+/// The line, without a line feed, that says what a record is and where it begins: `record 570: region BU, line 4711`.
 fn place_line(alloc: Global, number: u64, place: &Place<'_>) -> Result<String, AllocError> {
     let Place { line, kind, name } = place;
     format!(in alloc; "record {number}: {kind} {name}, line {line}")

@@ -83,7 +83,7 @@ fn append_text(told: &mut Vec<u8>, text: &[u8]) -> Result<(), AllocError>
     append_shown(told, text)
 }
 
-/// Appends which line or record was the first that a fault refused, as `, first in line 3`.
+/// Appends which line or record, as `unit` names it, was the first that a fault refused, as `, first in line 3`.
 fn append_first(told: &mut Vec<u8>, alloc: Global, unit: &str, first: u64) -> Result<(), AllocError>
     ensures { OnOk result (told.new.items ≡ told.old.items ++ spec.first_told unit.now first) }
 {
@@ -93,7 +93,8 @@ fn append_first(told: &mut Vec<u8>, alloc: Global, unit: &str, first: u64) -> Re
     append_number(told, alloc, first)
 }
 
-/// Appends the line that tells how many lines a fault refused, which was the first, and its text.
+/// Appends the line that tells how many lines a fault refused, which was the first, and its text. `unit` names what is
+/// counted, as `line`.
 fn append_tally(
     told: &mut Vec<u8>,
     alloc: Global,
@@ -111,7 +112,8 @@ fn append_tally(
     Ok(())
 }
 
-/// Appends what a person is told of the lines that a fault refused: the tally of them, and what to do.
+/// Appends what a person is told of the lines that a fault refused: the tally of them, and what to do. `unit` names
+/// what is counted, as `line`.
 fn append_told(
     told: &mut Vec<u8>,
     alloc: Global,
@@ -124,7 +126,8 @@ fn append_told(
     append_advice(told, &tally.fault, &tally.text)
 }
 
-/// Appends what a person is told of all the lines that were refused.
+/// Appends what a person is told of all the lines that were refused, fault by fault. `unit` names what is counted, as
+/// `line`.
 pub(crate) fn append_tallies(
     told: &mut Vec<u8>,
     alloc: Global,

@@ -118,8 +118,9 @@ fn append_meaning(told: &mut Vec<u8>, front: &[u8]) -> Result<(), AllocError>
     Ok(())
 }
 
-/// Appends what a person is told of the output. If the command answers `unit`s one by one and no registry was refused, that
-/// is their counts and tallies; else the message for `shown`, which is the front of the output.
+/// Appends what a person is told of the output of a run with the exit status `status`. If the command answers `unit`s
+/// one by one and no registry was refused, that is their counts and tallies; else the message for `shown`, which is the
+/// front of the output.
 fn append_output(
     told: &mut Vec<u8>,
     alloc: Global,
@@ -182,8 +183,9 @@ fn front_of<W: Write>(alloc: Global, device: &mut Device<Watched<W>>) -> io::Res
     Ok(front)
 }
 
-/// The lines that a person is told of a run. `shown` is the front of the output and `said` that of the errors; `place` and
-/// `refusal` are lines on a record and on a file, or empty.
+/// The lines that a person is told of a run with the exit status `status`; `unit` names what the command answers one by
+/// one, if it does. `shown` is the front of the output and `said` that of the errors; `place` and `refusal` are lines
+/// on a record and on a file, or empty.
 fn lines_of(
     alloc: Global,
     unit: Option<&str>,
@@ -203,7 +205,8 @@ fn lines_of(
     Ok(told)
 }
 
-/// The lines that a person is told of a run that wrote to `output` and `errors`, and opened files by `openings`.
+/// The lines that a person is told of a run that wrote to `output` and `errors`, and opened files by `openings`. `unit`
+/// names what the command answers one by one, if it does.
 fn told_of_run<O: Write, E: Write>(
     alloc: Global,
     unit: Option<&str>,
@@ -233,7 +236,8 @@ pub(crate) fn say<T: Write>(text: &[u8], people: &mut Device<T>)
     let _ = write_text(text, people);
 }
 
-/// Tells a person what a run that ended with `status` came to. Nothing if `asked` is None, or if there is no memory for it.
+/// Tells a person what a run that ended with `status` came to; `asked` is the answer of `asked_by`. Nothing if that is
+/// None, or if there is no memory for it.
 pub(crate) fn tell<O: Write, E: Write, T: Write>(
     alloc: Global,
     asked: Option<Option<&str>>,

@@ -7,7 +7,7 @@ ghost use Rattle.lt_terminal.specs.Watching.{front_left, front_then, most_kept, 
 use arrayvec::ArrayVec;
 use std::io::{self, Read, Write};
 
-/// The most bytes that are kept.
+/// The most bytes that are kept: more than a line that tells a fault of a registry has.
 const MOST_KEPT: usize = 256;
 
 /// A writer, and the first 256 of the bytes that it took, which are read from it.
@@ -17,11 +17,11 @@ pub struct Watched<W> {
     pub inner: W,
     /// The first of the bytes that it took.
     front: ArrayVec<u8, MOST_KEPT>,
-    /// How many of them were given.
+    /// How many of those that are kept were read.
     given: usize,
 }
 
-/// Keeps the first of the bytes, as many as there is still room for.
+/// Keeps the first of the bytes after those that are kept in `front`, as many as there is still room for.
 #[tactic(auto, using(crate::proofs::WatchingLemmas::kept_front))]
 fn keep_front(front: &mut ArrayVec<u8, MOST_KEPT>, bytes: &[u8])
     ensures { front.new.items ≡ front_then front.old.items bytes.now }
@@ -82,6 +82,7 @@ impl<W> Read for Watched<W> {
         ensures same { (self.new.inner ≡ self.old.inner) × (self.new.front ≡ self.old.front) }
         ensures bytes { ReadConsumes (front_left self.old.front.items self.old.given) (front_left self.new.front.items self.new.given) result buf.new }
     {
+        // No more are read than are kept; the minimum makes that plain for the index.
         let mut rest = &self.front[self.given.min(self.front.len())..];
         let count = rest.read(buf)?;
         self.given += count;

@@ -26,27 +26,31 @@ use Rattle.lt_tool.specs.Written.{Says, WritesLines, memory_line, write_line}
 use Rattle.lt_tool.specs.declared.lines.Answer.{Answer}
 use Rattle.lt_tool.specs.declared.status.Status.TheVariants as status
 
--- a text after another, cut elsewhere
+-- a text of `before`, `kept` and `more`, cut within `kept`, which is `front` and `rest`
 cut_again : (before kept front rest more : List ℕ) → kept ≡ front ++ rest → (before ++ kept) ++ more ≡ (before ++ front) ++ (rest ++ more)
 cut_again before kept front rest more e = rw e (simp append_assoc)
 
--- the lines that were given were written, but for those that are kept
+-- the lines of the steps from `first`, a whole explanation, to `left`, what is left of it, were given: they were
+-- written to the device, which was `before` and is `after`, but for those at their end that are `kept` in memory
 pub record HasWritten {W : Type 0} (contents : W → Option (List ℕ)) (first left : StepsLeft) (before after : Device W) (kept : List ℕ) : Type 0 where
   pub written : List ℕ
   pub appends : Appends (contents (inner_of before)) (contents (inner_of after)) written
   pub worked : failures_of after ≡ failures_of before
   pub given : HasGiven first left (written ++ kept)
 
+-- `first` is the whole explanation, and `left` what is left of it; `start` is the device before all writes, and
+-- `before` the device before the next one
 module _ {W : Type 0} (contents : W → Option (List ℕ)) (first left : StepsLeft) (start before : Device W) where
+  -- at the start no line was given
   pub written_none : IsTrace first.entries first.here first.steps first.end → HasWritten contents first first start start []
   written_none h = record { written = []; appends = Appends-nil _; worked = refl; given = given_none first h }
 
-  -- the line of a step was kept
+  -- the line of a step was added to the kept lines, which leaves `next`
   pub written_step : (next : StepsLeft) (old new : List ℕ) → HasWritten contents first left start before old → AppendsStep left next old new → HasWritten contents first next start before new
   written_step next old new w on =
       record { written = w.written; appends = w.appends; worked = w.worked; given = given_step first left next w.written old new w.given on }
 
-  -- those that were kept were written
+  -- the kept lines were written, and none stays in memory
   pub written_kept : (after : Device W) (kept : List ℕ) → HasWritten contents first left start before kept → WritesText contents kept before after (Ok tt) → HasWritten contents first left start after []
   written_kept after kept w t = record {
     written = w.written ++ t.written;
@@ -55,7 +59,7 @@ module _ {W : Type 0} (contents : W → Option (List ℕ)) (first left : StepsLe
     given = rw (append-nil (w.written ++ t.written), t.done.0) w.given;
   }
 
-  -- a write of those that are kept failed
+  -- a write of the kept lines failed with `f`: a front of all lines was written
   pub written_less : (after : Device W) (kept : List ℕ) (f : ToolFault) → HasWritten contents first left start before kept → WritesText contents kept before after (Err f) → WritesLines contents first start after (Err f)
   written_less after kept f w t =
       let all = given_front first left (w.written ++ kept) w.given in
@@ -70,7 +74,7 @@ module _ {W : Type 0} (contents : W → Option (List ℕ)) (first left : StepsLe
         stopped = inl (t.stopped.0, failed_from start before after w.worked t.stopped.1);
       }
 
-  -- memory ran out for the next line
+  -- memory ran out for the next line: the kept lines are not written, so a front of all lines is
   pub written_lacks : (kept : List ℕ) (r : Result (Unit {0}) ToolFault) → HasWritten contents first left start before kept → IsErrAnd r (λ e. e ≡ faults.OutOfMemory) → WritesLines contents first start before r
   written_lacks kept r w lacks =
       let p = err_from_is_err_and r lacks in
@@ -85,7 +89,7 @@ module _ {W : Type 0} (contents : W → Option (List ℕ)) (first left : StepsLe
         stopped = inr (refl, w.worked);
       })
 
-  -- the last line was kept, and a write of those that are was the last
+  -- the line of the end was added to the kept lines, and these were written, with the result `r`
   pub written_all : (after : Device W) (next : StepsLeft) (old new : List ℕ) (r : Result (Unit {0}) ToolFault) → HasWritten contents first left start before old → AppendsEnd left next old new → WritesText contents new before after r → WritesLines contents first start after r
   written_all after next old new r w on t = record {
     lines = w.written ++ new;
@@ -97,14 +101,15 @@ module _ {W : Type 0} (contents : W → Option (List ℕ)) (first left : StepsLe
     stopped = IfErr-weaker r _ _ (λ _ h. inl (h.0, failed_from start before after w.worked h.1)) t.stopped;
   }
 
--- a text that is refused
+-- the answer for a text that has no explanation, with the line and the status of its refusal
 pub refused_text : (R : List EntryParts) (text : List ℕ) (refusal : TextRefusal) (answer : Result Answer OutOfMemory) → IsTextRefusal R text refusal → IfOk answer (λ a. IsRefusalLine refusal a.line.items)
     → IfOk answer (λ a. a.status ≡ status.Refused) → IfOk answer (λ a. Explains R text a.line.items a.status)
 refused_text R text refusal (Ok answer) is line end = rw end (record { refusal = refusal; is_refusal = is; line_is = line })
 refused_text R text refusal (Err none) is line end = tt
 
+-- `left` is the explanation of a text by a registry, of which no line was written yet
 module _ {O E : Type 0} (R : List EntryParts) (text : List ℕ) (left : StepsLeft) (output : Stream O) (errors : Stream E) (whole : IsWholeLeft R text left) where
-  -- all of an explanation was written
+  -- all lines of the explanation were written, and nothing is on the errors
   pub explained : WritesLines output.bytes left output.before output.after (Ok tt) → IsUntouched errors → ExplainsText R text output errors (code_of status.Done)
   explained w none = inl (inr (record {
     line = w.lines;
@@ -113,7 +118,7 @@ module _ {O E : Type 0} (R : List EntryParts) (text : List ℕ) (left : StepsLef
     prints = record { written = w.written; appends = w.appends; front = w.front; ends = inl (refl, w.done.0, w.done.1, none) };
   }))
 
-  -- a front of it was
+  -- a front of the lines was written, and the errors say why: a write failed, or memory ran out
   pub explained_less : (f : ToolFault) → WritesLines output.bytes left output.before output.after (Err f) → Says errors (fault_said f) → ExplainsText R text output errors (code_of status.Failed)
   explained_less f w said =
       let lines = whole_text R text w.lines left whole w.are_lines in

@@ -28,16 +28,20 @@ use Rattle.lt_tool.specs.declared.lines.Answer.{Answer}
 use Rattle.lt_tool.specs.declared.registries.RegistryRefusal.{RegistryRefusal}
 use Rattle.lt_tool.proofs.AnswerLemmas.{printed_answer, refused_answer}
 
+-- a flag is not changed by `or` with false
 or_none : (b : Bool) → b ≡ (b || false)
 or_none true = refl
 or_none false = refl
 
+-- three flags joined by `or` in two orders
 or_assoc : (a b c : Bool) → ((a || b) || c) ≡ (a || (b || c))
 or_assoc true b c = refl
 or_assoc false b c = refl
 
+-- `Shows` says what is shown of a text, and whether it is refused
 module _ (Shows : (text block : List ℕ) → Bool → Type 0) where
-  -- one text more
+  -- `texts` were shown as `bytes`, and `text` is shown after them as `block`; `any` and `refused` say whether one of
+  -- them is refused
   shown_push : (texts : List (List ℕ)) (bytes : List ℕ) (any : Bool) (text block : List ℕ) (refused : Bool) → AreShown Shows texts bytes any → Shows text block refused
       → AreShown Shows (texts ++ text ∷ []) (bytes ++ block) (any || refused)
   shown_push [] bytes any text block refused none shows = record {
@@ -61,7 +65,8 @@ module _ (Shows : (text block : List ℕ) → Bool → Type 0) where
     any_is = ap (λ (b : Bool). b || refused) are.any_is ∙ or_assoc are.refused are.more refused;
   }
 
--- the next of texts
+-- the texts before the index `i` are shown, and that of it is shown after them: `old` and `new` are the bytes before
+-- and after, and `f` gives the text of an element
 pub shown_more : {X : Type 0} (f : X → List ℕ) (json : Bool) (R : List EntryParts) (records : List (List Field)) (texts : List X) (i : ℕ) (text : X) (old new : List ℕ) (any refused : Bool) → i < length texts → text ≡ get_or texts i text
     → AreShown (ShowsAs json R records) (map f (take i texts)) old any → AppendsShown json R records (f text) old new refused
     → AreShown (ShowsAs json R records) (map f (take (i + 1) texts)) new (any || refused)
@@ -71,26 +76,26 @@ shown_more {X} f json R records texts i text old new any refused within is are a
     subst (λ (l : List ℕ). AreShown (ShowsAs json R records) (map f (take (i + 1) texts)) l (any || refused)) (sym appends.grown)
     (subst (λ (l : List (List ℕ)). AreShown (ShowsAs json R records) l (old ++ appends.block) (any || refused)) (sym front) pushed)
 
--- an answer to a registry that is refused
+-- the answer of `show` where the file gave entries and records (`both`), and the entries are refused
 pub kept_refused : (tags : Tags) (both : List EntryParts × List (List Field)) (refusal : RegistryRefusal) (answer : Result Answer OutOfMemory) → IsJudged (Ok both.0) (Err refusal) → IfOk answer (λ a. IsRegistryLine refusal a.line.items)
     → IfOk answer (λ a. a.status ≡ refused_end refusal) → IfOk answer (λ a. ShowsBy tags (Ok both) a.line.items a.status)
 kept_refused tags both refusal (Ok answer) is line end = inr (refused_answer (Ok both.0) refusal (Ok answer) is line end)
 kept_refused tags both refusal (Err none) is line end = tt
 
--- an answer to a file that gives none
+-- the answer of `show` where the file gave no entries, for this fault
 pub kept_fault : (tags : Tags) (fault : RecordsFault) (refusal : RegistryRefusal) (answer : Result Answer OutOfMemory) → IsKeptRefusal fault refusal → IfOk answer (λ a. IsRegistryLine refusal a.line.items)
     → IfOk answer (λ a. a.status ≡ refused_end refusal) → IfOk answer (λ a. ShowsBy tags (Err fault) a.line.items a.status)
 kept_fault tags fault refusal (Err none) is line end = tt
 kept_fault tags (kept_faults.Registry fault) refusal (Ok answer) is line end = refused_answer (Err fault) refusal (Ok answer) is line end
 kept_fault tags kept_faults.OutOfMemory refusal (Ok answer) is line end = subst (λ (r : RegistryRefusal). IsRegistryLine r answer.line.items) is line
 
--- an answer that was made and printed
+-- the answer of `show` by a file was printed, or memory ran out for it; `result` is the exit status
 pub printed_kept : {F O E : Type 0} (file : Stream F) (tags : Tags) (output : Stream O) (errors : Stream E) (answer : Result Answer OutOfMemory) (result : ℕ) → AnswersShown file tags answer
     → PrintsResult output errors answer result → ReadsKept file (λ reading. PrintsOrLacks (ShowsBy tags reading) output errors result)
 printed_kept file tags output errors answer result r prints =
     record { reading = r.reading; reads = r.reads; holds = printed_answer (ShowsBy tags r.reading) output errors answer result r.holds prints }
 
--- an answer by a registry that passes
+-- the answer of `show` by the entries of a file, which pass the check as the registry `S`, and by its records
 pub kept_shown : (tags : Tags) (R S : List EntryParts) (records : List (List Field)) (answer : Result Answer OutOfMemory) → HoldsRegistry (Ok R) S
     → IfOk answer (λ a. ShowsTexts tags.json S records (map string_bytes tags.texts.items) a.line.items a.status) → IfOk answer (λ a. ShowsBy tags (Ok (R, records)) a.line.items a.status)
 kept_shown tags R S records (Err none) holds shows = tt
@@ -101,10 +106,12 @@ kept_shown tags R S records (Ok answer) holds shows =
 
 -- ---- as JSON
 
+-- the last JSON members of a tag that has a canonical form `end`, and the end of its object, were appended to `old`
 pub members_explained : (R : List EntryParts) (tag end : TagForm) (steps : List Step) (old new : List ℕ) → IsExplanation R tag steps end → new ≡ old ++ ends_of (explained_members end steps) → AppendsMembers R tag old new false
 members_explained R tag end steps old new is grown =
     record { ending = ends_of (explained_members end steps); ends = record { steps = steps; end = end; is_explanation = is; ending_is = refl }; grown = grown }
 
+-- the last JSON members of a tag that is refused were appended to `old`; `shown` is what they say of the refusal
 pub members_refused : (R : List EntryParts) (tag : TagForm) (refusal : Refusal) (told shown old new : List ℕ) → IsRefusedWith R tag refusal → IsTold (of_refusal refusal) told → shown ≡ told → new ≡ old ++ ends_of (refused_members shown) → AppendsMembers R tag old new true
 members_refused R tag refusal told shown old new is is_told same grown = record {
   ending = ends_of (refused_members told);
@@ -112,6 +119,8 @@ members_refused R tag refusal told shown old new is is_told same grown = record 
   grown = grown ∙ ap (λ (t : List ℕ). old ++ ends_of (refused_members t)) same;
 }
 
+-- the JSON object of a tag was appended to `old`: its front up to the rows, which gave `one`, and then its last
+-- members
 pub object_told : (R : List EntryParts) (records : List (List Field)) (text old one new : List ℕ) (tag : TagForm) (refused : Bool) → HasTag text tag → one ≡ old ++ rows_front R records text tag → AppendsMembers R tag one new refused
     → AppendsShown true R records text old new refused
 object_told R records text old one new tag refused read first a = record {
@@ -120,6 +129,7 @@ object_told R records text old one new tag refused read first a = record {
   grown = after_that old one new (rows_front R records text tag) a.ending first a.grown;
 }
 
+-- the JSON object of a text that is no tag was appended to `old`
 pub object_refused : (R : List EntryParts) (records : List (List Field)) (text old new : List ℕ) (fault : TagFault) → HasFault text fault.kind fault.place → AppendsNoTag text (refusals.NotATag fault) old new → AppendsShown true R records text old new true
 object_refused R records text old new fault is a = record {
   block = no_rows text ++ ends_of (refused_members a.told);
@@ -127,11 +137,13 @@ object_refused R records text old new fault is a = record {
   grown = a.grown;
 }
 
--- a name and its value, after a byte
+-- a member's name `a` after the byte that begins it, with its colon (58), and its value `x`: the same text bracketed
+-- otherwise
 name_joined : (byte : ℕ) (a x rest : List ℕ) → (byte ∷ a ++ 58 ∷ []) ++ (x ++ rest) ≡ (byte ∷ (a ++ 58 ∷ x)) ++ rest
 name_joined byte a x rest = ap (λ (l : List ℕ). byte ∷ l) (append_assoc a (58 ∷ []) (x ++ rest) ∙ sym (append_assoc a (58 ∷ x) rest))
 
--- an object of three members, name by name and value by value
+-- a JSON object of three members, appended piece by piece: `a`, `b` and `c` are their names, `x`, `y` and `z` their
+-- values, `old` to `new` the texts between the appends; 123 and 125 are the braces, 44 the comma and 58 the colon
 pub three_told : (a b c x y z old one two three four five six new : List ℕ) → one ≡ old ++ (123 ∷ a ++ 58 ∷ []) → two ≡ one ++ x → three ≡ two ++ (44 ∷ b ++ 58 ∷ []) → four ≡ three ++ y
     → five ≡ four ++ (44 ∷ c ++ 58 ∷ []) → six ≡ five ++ z → new ≡ six ++ 125 ∷ []
     → new ≡ old ++ ((123 ∷ ((a ++ 58 ∷ x) ++ ((44 ∷ (b ++ 58 ∷ y)) ++ ((44 ∷ (c ++ 58 ∷ z)) ++ [])))) ++ 125 ∷ [])

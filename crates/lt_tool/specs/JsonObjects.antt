@@ -34,8 +34,8 @@ pub record WritesByFile {I O E : Type 0} (reading : Reading) (input : Stream I) 
   pub registry : HoldsRegistry reading entries
   pub writes : WritesObjects entries input output errors result
 
--- what a run of `json` did once its registry file was read: it refused the registry, without a look at the input, or
--- answered the lines
+-- what a run of `json` did once its registry file was read: it refused the registry, and read no input, or answered
+-- the lines
 abbrev pub AnswersInJson : {I O E : Type 0} → Printing → Stream I → Stream O → Stream E → ℕ → Reading → Type 0
 AnswersInJson Prints input output errors result reading =
     (IsUntouched input × Prints (RefusesRegistry reading)) ⊎ WritesByFile reading input output errors result

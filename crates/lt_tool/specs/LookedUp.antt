@@ -26,7 +26,8 @@ EndsLookup Prints output errors (Ok found) result = Prints (IsFoundLine found)
 EndsLookup Prints output errors (Err fault) result =
     IsUntouched output × Says errors (fault_said fault) × (result ≡ code_of status.Failed)
 
--- lookup by the ranges searched the lines of the input, and the run ended with its result or with a fault
+-- lookup by the ranges searched the lines of the input, and the run ended with its result, which is printed as
+-- `Prints` says, or with a fault
 pub record LooksUpBy {I O E : Type 0} (Prints : Printing) (R : List EntryParts) (ranges : List RangeParts)
     (input : Stream I) (output : Stream O) (errors : Stream E) (result : ℕ) : Type 0 where
   pub end : Result (Option (Vec ℕ Global)) ToolFault

@@ -76,7 +76,8 @@ Classifies text line status.RegistryRefused = ⊥
 Classifies text line status.Usage = ⊥
 Classifies text line status.Failed = ⊥
 
--- a run prints a line with an exit status, of both of which `IsAnswer` is true
+-- a run prints a line with an exit status, of both of which `IsAnswer` is true; `result` is the number of the status
+-- with which it ends
 pub record PrintsAnswer {O E : Type 0} (IsAnswer : List ℕ → Status → Type 0)
     (output : Stream O) (errors : Stream E) (result : ℕ) : Type 0 where
   pub line : List ℕ
@@ -89,7 +90,7 @@ abbrev pub PrintsOrLacks : {O E : Type 0} → (List ℕ → Status → Type 0) �
 PrintsOrLacks IsAnswer output errors result =
     LacksMemory output errors result ⊎ PrintsAnswer IsAnswer output errors result
 
--- the answer was printed, or there was no memory for it
+-- the answer was printed, or there was no memory for it; the last parameter is the number of the exit status
 abbrev pub PrintsResult : {O E : Type 0} → Stream O → Stream E → Result Answer OutOfMemory → ℕ → Type 0
 PrintsResult output errors (Ok answer) result = Prints output errors answer.line.items answer.status result
 PrintsResult output errors (Err none) result = LacksMemory output errors result
@@ -100,15 +101,15 @@ EndsRun errors (Ok counts) result =
     IsUntouched errors × (result ≡ code_of (if counts.refused == 0 then status.Done else status.Refused))
 EndsRun errors (Err fault) result = Says errors (fault_said fault) × (result ≡ code_of status.Failed)
 
--- the tallies of refused lines that a run hands up: none where a write or memory failed, since it isn't known which
--- answers were written
+-- the tallies of refused lines that the caller of a run is told: none where a write or memory failed, since it isn't
+-- known which answers were written
 abbrev pub tallies_after : Result Counts ToolFault → List Tally → List Tally
 tallies_after (Err faults.Write) tallies = []
 tallies_after (Err faults.OutOfMemory) tallies = []
 tallies_after end tallies = tallies
 
--- the lines of the input were answered by the registry that the file holds and by these codes, and what was refused was
--- handed up
+-- the lines of the input were answered by the registry that a file holds, of which `reading` is the reading, and by
+-- these codes, and the caller is told (`answered`) how many were answered and refused; `form` says what a line is
 pub record RunsCanon {I O E : Type 0} (form : LineForm) (codes : List Code) (reading : Reading)
     (input : Stream I) (output : Stream O) (errors : Stream E) (answered : Handed) (result : ℕ) : Type 0 where
   pub entries : List EntryParts
@@ -123,7 +124,8 @@ pub record RunsCanon {I O E : Type 0} (form : LineForm) (codes : List Code) (rea
 
 -- ---- rows
 
--- the form of rows by the options on the command line and by the number of the column with the tags, counted from 1
+-- the form of rows by the options on the command line and by the number of the column with the tags, counted from 1;
+-- the form counts the fields before the column
 abbrev pub row_form : Rows → ℕ → RowForm
 row_form rows number = record { before = number - 1; has_heading = rows.heading; is_kept = rows.keep }
 
@@ -150,14 +152,14 @@ pub record RunsAfter {I O E : Type 0} (form : LineForm) (codes : List Code) (rea
   pub same : Keeps all (bytes_ahead bytes (inner_of before))
   pub runs : RunsCanon form codes reading (stream (bytes_ahead bytes) before after) output errors answered result
 
--- a run that can't go on has printed nothing, says why on its errors, and ends with the status Usage
+-- a run that can't go on has printed nothing, says on its errors why (`text`), and ends with the status Usage
 pub record SaysUsage {O E : Type 0} (output : Stream O) (errors : Stream E) (text : List ℕ) (result : ℕ) : Type 0 where
   pub usage : result ≡ code_of status.Usage
   pub unprinted : IsUntouched output
   pub said : Says errors text
 
 -- How a run ends that looked for a column by its name. If it found the column, it answered the lines of all bytes of
--- the input. If not, it read no more, and the errors say why.
+-- the input. If not, it read no more after the search, which left the input as `between`, and the errors say why.
 abbrev pub EndsNamed : {I O E : Type 0} → Separator → Rows → List Code → Reading → Stream I
     → (between : Device I) → Stream O
     → Stream E → Handed → ℕ → Result FoundColumn ColumnFault → Type 0
@@ -207,14 +209,14 @@ abbrev pub RefusesRun : {I O E : Type 0} → (List ℕ → Status → Type 0) �
 RefusesRun IsLine input output errors answered result =
     IsUntouched input × HandsNone answered × PrintsOrLacks IsLine output errors result
 
--- the run by the codes of a table, if one is named, or the refusal of the table; if none is named, the run by no codes,
--- and no table is read
+-- the run by the codes of a table (`Runs`), if one is named, or the refusal of the table (`Refuses`); if none is
+-- named, the run by no codes, and no table is read
 abbrev pub RunsBy : {G : Type 0} → (named : Bool) → (List Code → Type 0) → (TableFault → Type 0) → Stream G → Type 0
 RunsBy false Runs Refuses table = IsUntouched table × Runs []
 RunsBy true Runs Refuses table = ReadsCodes table (λ reading. MatchResult reading Runs Refuses)
 
--- A run over lines reads and judges the registry first, then a table of codes, if one is named. If the registry is
--- refused, the table is not read.
+-- A run over lines reads and judges the registry (`first`), then a table of codes (`second`), if one is named. If the
+-- registry is refused, the table is not read. `Runs` is the run by the codes and the reading of the registry.
 abbrev pub AnswersLines : {F G I O E : Type 0} → (List Code → Reading → Type 0) → (named : Bool) → Stream F
     → Stream G → Stream I
     → Stream O → Stream E → Handed → ℕ → Type 0
@@ -245,8 +247,8 @@ ExplainsByFile text output errors result reading =
     PrintsOrLacks (RefusesRegistry reading) output errors result
     ⊎ ((R : List EntryParts) × HoldsRegistry reading R × ExplainsText R text output errors result)
 
--- for each command, what its run read of its files and its input, wrote to its output and its errors, handed up of its
--- lines, and its exit status
+-- for each command, what its run read of its files (`first` and `second`, in the order in which they are read) and of
+-- its input, wrote to its output and its errors, and told its caller of its lines (`answered`), and its exit status
 abbrev pub Performs : {F G I O E : Type 0} → Command → Stream F → Stream G → Stream I → Stream O → Stream E
     → Handed → ℕ → Type 0
 Performs (command.Classify tag) first second input output errors answered result =

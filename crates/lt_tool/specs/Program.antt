@@ -94,7 +94,8 @@ pub record Opens {P F : Type 0} (calls : P → List ℕ → Result F Error → P
   pub called : calls before path answer between
   pub goes_on : GoesOn answer (Goes between) (Ends between)
 
--- the command is performed on these devices, and nothing more is opened
+-- the command is performed on these devices, and nothing more is opened: `state` and `after` are the opener's states
+-- before and after
 pub record PerformsOn {P F G I O E : Type 0} (command : Command)
     (of_first : F → Option (List ℕ)) (of_second : G → Option (List ℕ))
     (state after : P) (first : Device F) (second : Device G) (input : Stream I)
@@ -105,13 +106,15 @@ pub record PerformsOn {P F G I O E : Type 0} (command : Command)
   pub performs : Performs command (stream of_first first first')
       (stream of_second second second') input output errors answered result
 
--- a file couldn't be opened: no other is opened after it, and the run ends with its error
+-- a file couldn't be opened: no other is opened after it, as the opener's states before and after (`state`, `after`)
+-- say, and the run ends with its error
 pub record EndsAt {P I O E : Type 0} (state after : P) (input : Stream I)
     (output : Stream O) (errors : Stream E) (answered : Handed) (result : ℕ) (error : Error) : Type 0 where
   pub opened : after ≡ state
   pub refuses : RefusesFile error input output errors answered result
 
--- the first file is open: the second is opened, if the command names one, and the command performed on both
+-- the first file is open: the second is opened, if the command names one, and the command performed on both;
+-- `of_none` gives the bytes of the reader that stands for a file that is not named
 abbrev pub RunsOnFirst : {P F N I O E : Type 0} → Command → Opener P F
     → (N → Option (List ℕ)) → Stream I → Stream O → Stream E → Handed → ℕ
     → Device F → Option (List ℕ) → Type 0
@@ -124,7 +127,8 @@ RunsOnFirst command opener of_none input output errors answered result first (So
     between opener.after first second input output errors answered result)
     (λ between error. EndsAt between opener.after input output errors answered result error)
 
--- the first file is opened, if the command names one, then the second, and the command performed on them
+-- the first file is opened, if the command names one, then the second, and the command performed on them; the last
+-- parameter is the name of the first
 abbrev pub RunsOnFiles : {P F N I O E : Type 0} → Command → Opener P F
     → (N → Option (List ℕ)) → Stream I → Stream O → Stream E → Handed → ℕ
     → Option (List ℕ) → Type 0
@@ -161,7 +165,8 @@ pub record RefusesInput {P F O E : Type 0} (opener : Opener P F)
   pub kept : HandsNone answered
   pub said : Says errors input_line
 
--- the input answered a read of no bytes: if with Ok, the run goes on, and if with an error, it ends
+-- the input answered a read of no bytes, which left it as `between`: if with Ok, the run goes on, and if with an
+-- error, it ends
 abbrev pub GoesOnWith : {P F N I O E : Type 0} → Command → Opener P F
     → (N → Option (List ℕ)) → (between : Device I) → Stream I → Stream O → Stream E → Handed → ℕ
     → Result ℕ Error → Type 0

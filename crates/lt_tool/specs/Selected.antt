@@ -96,7 +96,8 @@ MatchesBy Prints R ranges input output errors result (Some scheme) =
     SelectsBy R scheme ranges input output errors result
 MatchesBy Prints R ranges input output errors result None = LooksUpBy Prints R ranges input output errors result
 
--- how a run goes on once its ranges were read: lines were matched by them; or one is refused, and no line was read
+-- how a run goes on once its ranges were read: lines were matched by them, as the words ask for (`matching`); or one
+-- is refused, and no line was read
 abbrev pub GoesOnWith : {I O E : Type 0} → Printing → List EntryParts → Matching → Stream I → Stream O → Stream E → ℕ
     → Result (List RangeParts) RefusedRange → Type 0
 GoesOnWith Prints R matching input output errors result (Ok ranges) =
@@ -118,8 +119,8 @@ pub record SelectsByFile {I O E : Type 0} (Prints : Printing) (ranges : Ranges) 
   pub registry : HoldsRegistry reading entries
   pub selects : SelectsTexts Prints entries ranges input output errors result
 
--- what a run of `match` did once its registry file was read: it refused the registry, without a look at the input, or
--- went on with the ranges
+-- what a run of `match` did once its registry file was read: it refused the registry, and read no input, or went on
+-- with the ranges
 abbrev pub Selects : {I O E : Type 0} → Printing → Ranges → Stream I → Stream O → Stream E → ℕ → Reading → Type 0
 Selects Prints ranges input output errors result reading =
     (IsUntouched input × Prints (RefusesRegistry reading))

@@ -130,7 +130,8 @@ pub record AppendsShown (json : Bool) (R : List EntryParts) (records : List (Lis
   pub shows : ShowsAs json R records text block refused
   pub grown : new ≡ old ++ block
 
--- the first of several texts was shown, and then the others; `any` is whether one of them all is refused
+-- the first of several texts was shown as `Shows` says, and then the others as `Others` says; `any` is whether one of
+-- them all is refused
 pub record ShowsFirst (Shows : (text block : List ℕ) → Bool → Type 0) (Others : List ℕ → Bool → Type 0)
     (text bytes : List ℕ) (any : Bool) : Type 0 where
   pub block : List ℕ
@@ -142,7 +143,7 @@ pub record ShowsFirst (Shows : (text block : List ℕ) → Bool → Type 0) (Oth
   pub bytes_are : bytes ≡ block ++ rest
   pub any_is : any ≡ (refused || more)
 
--- the texts were shown one after another; `any` is whether one of them is refused
+-- the texts were shown one after another, each as the first parameter says; `any` is whether one of them is refused
 abbrev pub AreShown : ((text block : List ℕ) → Bool → Type 0) → List (List ℕ) → (bytes : List ℕ) → (any : Bool) → Type 0
 AreShown Shows [] bytes any = (bytes ≡ []) × (any ≡ false)
 AreShown Shows (text ∷ texts) bytes any = ShowsFirst Shows (AreShown Shows texts) text bytes any
@@ -168,8 +169,8 @@ abbrev pub IsKeptRefusal : RecordsFault → RegistryRefusal → Type 0
 IsKeptRefusal (kept_faults.Registry fault) refusal = IsRegistryRefusal (Err fault) refusal
 IsKeptRefusal kept_faults.OutOfMemory refusal = refusal ≡ registry_refusals.OutOfMemory
 
--- what `show` prints once its registry file was read: its tags, by a registry that passes the check; or why that is
--- refused
+-- what `show` prints once its registry file was read with its records (`both` are the entries and the records): its
+-- tags, by a registry that passes the check; or why that is refused
 abbrev pub ShowsBy : Tags → kept.RecordsReading → (bytes : List ℕ) → Status → Type 0
 ShowsBy tags (Ok both) bytes end =
     (IsChecked both.0 × ShowsAll tags both.0 both.1 bytes end) ⊎ RefusesRegistry (Ok both.0) bytes end

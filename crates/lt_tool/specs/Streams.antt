@@ -18,7 +18,7 @@ stream bytes before after = record { bytes = bytes; before = before; after = aft
 abbrev pub IsUntouched : {T : Type 0} → Stream T → Type 0
 IsUntouched s = s.after ≡ s.before
 
--- what is known of the lines that were answered, before the run and after it
+-- what the caller of a run is told of the lines that were answered, before the run and after it
 pub record Handed : Type 0 where
   pub before : Answered
   pub after : Answered
@@ -27,6 +27,6 @@ pub record Handed : Type 0 where
 abbrev pub handed : (before after : Answered) → Handed
 handed before after = record { before = before; after = after }
 
--- the run hands up nothing of lines
+-- the caller is told nothing of lines by this run: what was known before stays
 abbrev pub HandsNone : Handed → Type 0
 HandsNone answered = answered.after ≡ answered.before

@@ -31,7 +31,7 @@ pub record RefusesPair (R : List EntryParts) (first second line : List ℕ) : Ty
   pub is_refusal : IsPairRefusal R first second refusal
   pub line_is : IsRefusalLine refusal line
 
--- what `extlang` prints by a registry, and how it ends
+-- what `extlang` prints for a text by a registry, and the status with which it ends
 abbrev pub FormsExtlang : List EntryParts → List ℕ → List ℕ → Status → Type 0
 FormsExtlang R text line status.Done = PrintsExtlang R text line
 FormsExtlang R text line status.Refused = RefusesText R text line
@@ -39,7 +39,7 @@ FormsExtlang R text line status.RegistryRefused = ⊥
 FormsExtlang R text line status.Usage = ⊥
 FormsExtlang R text line status.Failed = ⊥
 
--- what `equal` prints by a registry, and how it ends
+-- what `equal` prints for two texts by a registry, and the status with which it ends
 abbrev pub Compares : List EntryParts → List ℕ → List ℕ → List ℕ → Status → Type 0
 Compares R first second line status.Done = PrintsEquality R first second line true
 Compares R first second line status.Refused = PrintsEquality R first second line false ⊎ RefusesPair R first second line
@@ -47,7 +47,7 @@ Compares R first second line status.RegistryRefused = ⊥
 Compares R first second line status.Usage = ⊥
 Compares R first second line status.Failed = ⊥
 
--- what `explain` prints by a registry, and how it ends
+-- what `explain` prints for a text by a registry, and the status with which it ends
 abbrev pub Explains : List EntryParts → List ℕ → List ℕ → Status → Type 0
 Explains R text lines status.Done = IsExplanationTextOf R text lines
 Explains R text lines status.Refused = RefusesText R text lines

@@ -62,7 +62,8 @@ abbrev pub JudgesNewer : List EntryParts → Reading → List ℕ → Status →
 JudgesNewer A newer line end =
     ((B : List EntryParts) × HoldsRegistry newer B × JudgesUpgrade A B line end) ⊎ RefusesMarked new_mark newer line end
 
--- The older file is read and judged first. If its registry is refused, the newer file is not read.
+-- The older file is read and judged first. If its registry is refused, the newer file is not read. `IsAnswered` takes
+-- a predicate on a line and its status to the claim that such a line is answered.
 abbrev pub UpgradesFiles : {F G : Type 0} → Stream F → Stream G → ((List ℕ → Status → Type 0) → Type 0) → Type 0
 UpgradesFiles old new IsAnswered = ReadsFile old (λ older.
     (IsUntouched new × IsAnswered (RefusesMarked old_mark older))

@@ -21,8 +21,8 @@ use Rattle.lt_tool.specs.Written.{Says}
 use Rattle.lt_tool.specs.declared.status.Status.{Status}
 use Rattle.lt_tool.specs.declared.status.Status.TheVariants as status
 
--- how printing is described: by what is true of a line and its status, that such a line is printed, or that there was
--- no memory for it
+-- how printing is stated: a predicate on a line and its status is taken to the claim that such a line is printed, or
+-- that there was no memory for it
 abbrev pub Printing : Type 1
 Printing = (List ℕ → Status → Type 0) → Type 0
 
@@ -78,8 +78,8 @@ pub record VerifiesBy {I O E : Type 0} (Prints : Printing) (text : List ℕ) (re
   pub registry : HoldsRegistry reading entries
   pub verifies : VerifiesText Prints entries text input output errors result
 
--- what a run of `verify` did once its registry file was read: it refused the registry, without a look at the input, or
--- judged the text and the lines
+-- what a run of `verify` did once its registry file was read: it refused the registry, and read no input, or judged
+-- the text and the lines
 abbrev pub Verifies : {I O E : Type 0} → Printing → List ℕ → Stream I → Stream O → Stream E → ℕ → Reading → Type 0
 Verifies Prints text input output errors result reading =
     (IsUntouched input × Prints (RefusesRegistry reading)) ⊎ VerifiesBy Prints text reading input output errors result

@@ -20,7 +20,8 @@ pub record Says {E : Type 0} (errors : Stream E) (text : List ℕ) : Type 0 wher
   pub all : ((written ≡ text) × (failures_of errors.after ≡ failures_of errors.before))
       ⊎ HasFailed errors.before errors.after
 
--- the lines of the rest of an explanation were written; or a write failed or memory ran out, and a front of them was
+-- the lines of `left`, the rest of an explanation, were written to a device whose bytes `contents` gives; or a write
+-- failed or memory ran out, and a front of them was
 pub record WritesLines {W : Type 0} (contents : W → Option (List ℕ)) (left : StepsLeft) (before after : Device W)
     (result : Result (Unit {0}) ToolFault) : Type 0 where
   pub lines : List ℕ

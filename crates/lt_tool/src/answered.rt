@@ -1,4 +1,4 @@
-//! What a run hands up of the lines that it answered.
+//! What a run tells its caller of the lines that it answered.
 ghost use Rattle.std.specs.Prelude.{◌≡◌, [], None};
 
 use lt_lines::{Counts, Tallies};

@@ -32,8 +32,8 @@ pub(crate) enum Lines<'a> {
     Rows(Separator, &'a Rows),
 }
 
-/// Answers the lines of the input by a registry, and by a table of codes if there is one. A fault that ends the run is told
-/// on `errors`.
+/// Answers the lines of the input, which have this form, by a registry, and by a table of codes if there is one, both
+/// in `basis`. A fault that ends the run is told on `errors`, and `answered` is set to what was answered and refused.
 pub(crate) fn run_by_registry<L: Lookup, I: Read, O: Write, E: Write>(
     alloc: Global,
     basis: &Basis<'_, L>,
@@ -53,7 +53,8 @@ pub(crate) fn run_by_registry<L: Lookup, I: Read, O: Write, E: Write>(
     end_run(end, errors)
 }
 
-/// Answers the lines of the input, which are tags, or rows with a column of tags.
+/// Answers the lines of the input, which are tags, or rows with a column of tags, by a registry, and by a table of
+/// codes if there is one, both in `basis`.
 fn run_as<L: Lookup, I: Read, O: Write, E: Write>(
     alloc: Global,
     basis: &Basis<'_, L>,
@@ -82,7 +83,7 @@ fn run_as<L: Lookup, I: Read, O: Write, E: Write>(
     }
 }
 
-/// Answers the lines of the input by a registry and a table of codes.
+/// Answers the lines of the input by a registry and the codes of a table.
 fn run_by_codes<'a, L: Lookup, I: Read, O: Write, E: Write>(
     alloc: Global,
     checked: &'a Checked<L>,

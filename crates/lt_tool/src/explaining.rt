@@ -17,7 +17,7 @@ use lt_stream::{ToolFault, write_text};
 use std::alloc::Global;
 use std::io::{Read, Write};
 
-/// Lines are written once this many bytes of them are there.
+/// Lines are written once this many bytes of them are there, so that few writes are made and little memory is held.
 const FULL: usize = 65536;
 
 /// Writes the lines of what is left of an explanation, and holds few of them in memory at a time.

@@ -16,7 +16,8 @@ use lt_stream::ToolFault;
 use std::alloc::Global;
 use std::io::{Read, Write};
 
-/// How a run ends, by whether it refused a line. A fault that ended it is told on `errors`.
+/// How a run ends, by whether it refused a line (`refused`) and by the fault that ended it, if one did (`end`), which
+/// is told on `errors`.
 fn end_objects<E: Write>(
     refused: bool,
     end: Result<(), ToolFault>,

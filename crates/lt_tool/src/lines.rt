@@ -46,8 +46,8 @@ pub(crate) fn answer_refusal(alloc: Global, refusal: &TextRefusal) -> Result<Ans
     })
 }
 
-/// What `classify` answers to a text: `grandfathered en-GB-oed` to `EN-gb-OED`, or the line of a refusal. The
-/// only refusal of its own is running out of memory.
+/// What `classify` answers to a text: `grandfathered en-GB-oed` to `EN-gb-OED`, or the line of a refusal, with the
+/// status `Refused`. The only refusal of its own is running out of memory.
 pub fn classify(alloc: Global, text: &[u8]) -> Result<Answer, OutOfMemory>
     ensures { IfOk result (λ answer. Classifies text.now answer.line.items answer.status) }
 {

@@ -62,7 +62,7 @@ fn print<O: Write, E: Write>(
     }
 }
 
-/// Names on `errors` that memory ran out, and gives the status of a failed run.
+/// Names on `errors` that memory ran out, and gives the status of a failed run, `Failed`.
 pub(crate) fn report_memory<E: Write>(errors: &mut Device<E>) -> Status
     ensures status { result ≡ Failed }
     ensures said { Says (stream E.contents errors.old errors.new) memory_line }
@@ -71,7 +71,8 @@ pub(crate) fn report_memory<E: Write>(errors: &mut Device<E>) -> Status
     Status::Failed
 }
 
-/// How a run over lines ends: refused if any line was. A fault that ended it is named on `errors`.
+/// How a run over lines ends: with `Refused` if any line was refused, else with `Done`. A fault that ended it is named
+/// on `errors`, and the run fails.
 pub(crate) fn end_run<E: Write>(end: Result<Counts, ToolFault>, errors: &mut Device<E>) -> Status
     ensures { EndsRun (stream E.contents errors.old errors.new) end (code_of result) }
 {
@@ -109,7 +110,8 @@ pub(crate) fn drop_unknown(alloc: Global, end: Result<Counts, ToolFault>, tallie
     }
 }
 
-/// Does what a command asks for, by its files and the input, and gives the status with which the run ends.
+/// Does what a command asks for, by its files and the input, and gives the status with which the run ends. `first` and
+/// `second` are the files as [`perform`] takes them.
 fn run<F: Read, G: Read, I: Read, O: Write, E: Write>(
     alloc: Global,
     command: &Command,

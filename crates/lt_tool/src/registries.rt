@@ -45,6 +45,8 @@ impl RegistryRefusal {
 impl From<RegistryFault> for RegistryRefusal {
     ghost from_gives = { λ fault refusal. IsRegistryRefusal (Err fault) refusal };
 
+    /// The refusal of a file that was read with this fault. Memory that ran out is a refusal of its own, whichever
+    /// fault says so.
     fn from(fault: RegistryFault) -> RegistryRefusal {
         match fault {
             RegistryFault::Jar(fault) if fault.kind == JarFaultKind::OutOfMemory => {
@@ -59,7 +61,8 @@ impl From<RegistryFault> for RegistryRefusal {
     }
 }
 
-/// The entries, as a table that passed the check, or the first finding of the check.
+/// The entries, as a table that passed the check, or why they are refused: the first finding of the check, or that
+/// memory ran out.
 pub(crate) fn check_entries(
     alloc: Global,
     registry: Registry,
@@ -117,7 +120,8 @@ pub(crate) fn line_of_refusal(
     Ok(line.into_bytes())
 }
 
-/// The answer for a refused registry: its line and the status.
+/// The answer for a refused registry: its line and the status. Refused where memory runs out, and for
+/// `RegistryRefusal::OutOfMemory`, which has no line.
 pub(crate) fn refuse(alloc: Global, refusal: &RegistryRefusal) -> Result<Answer, OutOfMemory>
     ensures line { IfOk result (λ answer. IsRegistryLine refusal.now answer.line.items) }
     ensures status { IfOk result (λ answer. answer.status ≡ refused_end refusal.now) }

@@ -23,7 +23,8 @@ use lt_words::{Column, Rows};
 use std::alloc::Global;
 use std::io::{Read, Write};
 
-/// The form of rows whose column has this number, counted from 1, by what the words say of headings and of keeping rows.
+/// The form of rows whose column has this number, counted from 1, by what the words say of headings and of keeping
+/// rows. It counts the fields before the column.
 fn row_form(rows: &Rows, number: usize) -> RowForm
     ensures { result ≡ spec.row_form rows.now number }
 {
@@ -106,6 +107,7 @@ fn answer_named<L: Lookup, I: Read, O: Write, E: Write>(
 }
 
 /// Answers the rows of the input by the column that the words name, by its number or by its name in the heading.
+/// `basis` has the registry, and the table of codes if there is one.
 pub(crate) fn answer_rows<L: Lookup, I: Read, O: Write, E: Write>(
     alloc: Global,
     basis: &Basis<'_, L>,

@@ -32,7 +32,8 @@ pub(crate) struct RefusedRange {
     refusal: RangeRefusal,
 }
 
-/// Puts a range after the others. `number` is named in the refusal, where memory runs out.
+/// Puts a range after the others. `number` is that of the range, counted from 1, which the refusal names where memory
+/// runs out.
 fn push_range(
     ranges: &mut Vec<LanguageRange>,
     number: usize,
@@ -51,7 +52,7 @@ fn push_range(
     }
 }
 
-/// The canonical range that a text is read as. `number` is named in the refusal.
+/// The canonical range that a text is read as. `number` is that of the text, counted from 1, which its refusal names.
 fn read_range<L: Lookup>(
     alloc: Global,
     checked: &Checked<L>,
@@ -98,7 +99,8 @@ fn scheme_of(matching: Matching) -> Option<Scheme>
     }
 }
 
-/// How a run ends that printed so many lines: refused if it printed none. A fault that ended it is named on `errors`.
+/// How a run ends that printed so many lines: with `Refused` if it printed none. A fault that ended it is named on
+/// `errors`.
 fn end_selecting<E: Write>(end: Result<u64, ToolFault>, errors: &mut Device<E>) -> Status
     ensures { EndsSelecting (stream E.contents errors.old errors.new) end (code_of result) }
 {
@@ -112,7 +114,8 @@ fn end_selecting<E: Write>(end: Result<u64, ToolFault>, errors: &mut Device<E>) 
     }
 }
 
-/// Names on `errors` why a range is refused, and its number, or that memory ran out, and gives the status.
+/// Names on `errors` why a range is refused, and its number, or that memory ran out, and gives the status. `output` is
+/// for the clause alone, by which nothing is printed.
 fn say_range<O: Write, E: Write>(
     alloc: Global,
     refused: &RefusedRange,
@@ -135,7 +138,7 @@ fn say_range<O: Write, E: Write>(
     }
 }
 
-/// Prints the lines of the input that one of the ranges matches by the scheme, and gives the status.
+/// Prints the lines of the input that one of the ranges matches by the scheme of filtering, and gives the status.
 fn select_by<L: Lookup, I: Read, O: Write, E: Write>(
     alloc: Global,
     checked: &Checked<L>,

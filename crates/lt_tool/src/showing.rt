@@ -18,7 +18,7 @@ use lt_words::Tags;
 use std::alloc::Global;
 use std::io::Read;
 
-/// Appends the explanation of a text, or the line of its refusal, and tells whether it is refused.
+/// Appends to `lines` the explanation of a text, or the line of its refusal, and tells whether it is refused.
 fn append_ending<L: Lookup>(
     lines: &mut Vec<u8>,
     alloc: Global,
@@ -85,14 +85,15 @@ fn append_shown<L: Lookup>(
     }
 }
 
-/// Whether one of two is true.
+/// Whether one of two is true. It is a function so that the proof of the loop over the texts has its clause.
 fn either(one: bool, other: bool) -> bool
     ensures { result ≡ (one || other) }
 {
     one || other
 }
 
-/// The answer of `show` for texts, by a registry and its records: as lines of JSON if `json`, or else for people.
+/// The answer of `show` for texts, by a registry and its records: as lines of JSON if `json`, or else for people. Its
+/// status is that of a refusal if one of the texts is refused.
 fn show_texts<L: Lookup>(
     alloc: Global,
     checked: &Checked<L>,
@@ -125,7 +126,7 @@ fn status_of(refused: bool) -> Status
     }
 }
 
-/// The refusal of a registry whose records were kept while it was read.
+/// The refusal of a registry that was read with its records: that of the registry alone, or that memory ran out.
 fn refusal_of(fault: RecordsFault) -> RegistryRefusal
     ensures { IsKeptRefusal fault result }
 {
@@ -135,7 +136,8 @@ fn refusal_of(fault: RecordsFault) -> RegistryRefusal
     }
 }
 
-/// The answer of `show` for tags, by a registry and its records, or the line of the refusal if the registry fails the check.
+/// The answer of `show` for tags, by a registry and its records (`both`), or the line of the refusal if the registry
+/// fails the check.
 fn show_kept(alloc: Global, both: (Registry, Jar), tags: &Tags) -> Result<Answer, OutOfMemory>
     ensures { IfOk result (λ answer. ShowsBy tags.now (Ok both) answer.line.items answer.status) }
 {

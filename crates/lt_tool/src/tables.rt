@@ -9,7 +9,8 @@ use lt_codes::{TableFault, TableFaultKind};
 use lt_tag::OutOfMemory;
 use std::alloc::Global;
 
-/// How a run ends that refuses a table of codes: failed if a read failed, else as for a refused registry.
+/// How a run ends that refuses a table of codes for a fault of this kind: failed if a read failed, else as for a
+/// refused registry.
 fn table_end(kind: TableFaultKind) -> Status
     ensures { result ≡ spec.table_end kind }
 {
@@ -19,7 +20,8 @@ fn table_end(kind: TableFaultKind) -> Status
     }
 }
 
-/// The answer for a refused table of codes: the name of its fault and the line, as `codes BadRow line 2`.
+/// The answer for a refused table of codes: the name of its fault and the line, as `codes BadRow line 2`. Refused where
+/// memory runs out, and for `TableFaultKind::OutOfMemory`, which has no line.
 pub(crate) fn refuse_table(alloc: Global, fault: &TableFault) -> Result<Answer, OutOfMemory>
     ensures { IfOk result (λ answer. RefusesCodes fault.now answer.line.items answer.status) }
 {

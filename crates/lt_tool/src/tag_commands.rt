@@ -16,7 +16,7 @@ use lt_tag::{OutOfMemory, read_tag, write_tag};
 use std::alloc::Global;
 use std::io::Read;
 
-/// The text of the extlang form of the tag that a text is read as, or why there is none.
+/// The text of the extlang form (RFC 5646, 4.5) of the tag that a text is read as, or why there is none.
 fn extlang_text<L: Lookup>(
     alloc: Global,
     checked: &Checked<L>,
@@ -30,7 +30,8 @@ fn extlang_text<L: Lookup>(
     Ok(write_tag(alloc, &form)?)
 }
 
-/// Whether the tags that two texts are read as are equivalent, or why a text is no tag or a tag is refused.
+/// Whether the tags that two texts are read as are equivalent, or why one of the texts is no tag, or one of the tags is
+/// refused.
 fn equality<L: Lookup>(
     alloc: Global,
     checked: &Checked<L>,

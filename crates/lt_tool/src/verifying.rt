@@ -33,7 +33,7 @@ fn valid_tag<L: Lookup>(
     ensures refusal { IfErr result (IsValidityRefusal (L.listed checked.now) text.now) }
 {
     let tag = read_tag(alloc, text)?;
-    // So that their shapes are known.
+    // The call is for its clause `tag` alone, which the proof of `valid` needs.
     let _ = tag.extensions();
     match validate(alloc, checked.table(), &tag) {
         Ok(()) => Ok(tag),

@@ -11,25 +11,27 @@ use Rattle.lt_words.specs.declared.commands.Command.{Command}
 use Rattle.lt_words.specs.declared.faults.WordsFault.{WordsFault}
 use Rattle.lt_words.specs.declared.faults.WordsFault.TheVariants as fault
 
--- the program's command is one that `clap` states the matches of
+-- the program's command line is simple, so `clap` states which matches words have by it
 pub langtag-simple : is_simple langtag ≡ true
 langtag-simple = refl
 
+-- it is free too, no argument having a rule on another, so `clap` states which faults words have by it
 pub langtag-free : is_simple_and_free langtag ≡ true
 langtag-free = refl
 
--- what a parse found, where the command is the program's
+-- what a parse `m` gives of the subcommand and its arguments is what `clap` states, where the command line `a` is the
+-- program's
 pub rows_found : (a : App) (words : List Text) (m : ArgMatches) → a ≡ langtag → HasMatchesOf a words m
     → subcommand_rows_of m ≡ subcommand_of langtag words
 rows_found a words m same has = (subst (λ (x : App). HasMatchesOf x words m) same has langtag-simple).1
 
--- what it says is wrong with the words
+-- what `clap` says, as `P`, of the faults of the words by the command line `a`, which is the program's
 pub said_of : (P : List ErrorKind → Type 0) (a : App) (words : List Text) → a ≡ langtag
     → (is_simple_and_free a ≡ true → P (fault_of a words)) → P (fault_of langtag words)
 said_of P a words same said =
     subst (λ (x : App). is_simple_and_free x ≡ true → P (fault_of x words)) same said langtag-free
 
--- a parse that found a command
+-- words without a fault whose parse found this command are read as it
 pub reads_named : (words : List Text) (found : Option (Text × List Row)) (command : Command) → found ≡ subcommand_of langtag words
     → fault_of langtag words ≡ [] → IsNamed found command → Reads words command
 reads_named words found command same right named = record {
@@ -37,7 +39,7 @@ reads_named words found command same right named = record {
   names = subst (λ (f : Option (Text × List Row)). IsNamed f command) same named;
 }
 
--- a parse that found none
+-- words without a fault are refused with `f` where what their parse found names no command
 pub refused_unnamed : (words : List Text) (found : Option (Text × List Row)) (f : WordsFault) → found ≡ subcommand_of langtag words
     → fault_of langtag words ≡ [] → NamesNone found f → IsRefused words f
 refused_unnamed words found (fault.Help text) same right unnamed = absurd unnamed
@@ -49,11 +51,13 @@ refused_unnamed words found (fault.Usage text) same right unnamed = (
 )
 refused_unnamed words found fault.OutOfMemory same right unnamed = tt
 
+-- a kind of error among one is that one
 among_one : (k other : ErrorKind) → IsAmong k (other ∷ []) → k ≡ other
 among_one k other (inl e) = e
 among_one k other (inr bad) = absurd bad
 
--- a parse that failed
+-- words whose parse failed with an error of the kind `k`, which prints as `printed` if that is known, are refused
+-- with the fault `f` of that error
 pub refused_failed : (words : List Text) (k : ErrorKind) (printed : Option (List ℕ)) (f : WordsFault)
     → (k ≡ kind.OutOfMemory) ⊎ IsAmong k (fault_of langtag words) → IsFaultOf k printed f → IsRefused words f
 refused_failed words k printed (fault.Help text) (inl memory) help = let shown : k ≡ kind.DisplayHelp = help.0 in cc

@@ -15,12 +15,12 @@ use Rattle.lt_words.specs.Reading.{subcommand_for}
 use Rattle.lt_words.specs.declared.subcommands.Subcommand.{Subcommand}
 use Rattle.lt_words.specs.declared.subcommands.Subcommand.TheVariants as sub
 
--- a positional that has no value
+-- where a positional has no value among the matches `rows`, no texts are the values given for it
 pub no_texts : (rows : List Row) (positional : Text) → first_of positional rows ≡ None → (texts : List Text) → AreGiven rows (positional ∷ []) texts → ⊥
 no_texts rows positional none [] given = let e = given.each in cc
 no_texts rows positional none (text ∷ texts) given = let e = given.each in cc
 
--- the first of positionals and the others
+-- the values given for a first positional and others are one value and those of the others
 pub given_first : (rows : List Row) (first : Text) (others : List Text) (texts : List Text) → AreGiven rows (first ∷ others) texts
     → (text : Text) × (more : List Text) × AreGiven rows (first ∷ []) (text ∷ []) × AreGiven rows others more × (texts ≡ text ∷ more)
 given_first rows first others [] given = let e = given.each in cc
@@ -30,7 +30,7 @@ given_first rows first others (text ∷ more) given =
     let rest : map (λ (p : Text). first_of p rows) others ≡ map (λ (t : Text). Some t) more = cc in
     (text, more, record { each = ap (λ (o : Option Text). o ∷ []) one }, record { each = rest }, refl)
 
--- values of one positional and of others
+-- the value of a first positional, and those of others, are the values given for all of them
 pub given_more : (rows : List Row) (first : Text) (others : List Text) (text : Text) (more : List Text) → AreGiven rows (first ∷ []) (text ∷ []) → AreGiven rows others more
     → AreGiven rows (first ∷ others) (text ∷ more)
 given_more rows first others text more one rest =
@@ -38,7 +38,7 @@ given_more rows first others text more one rest =
     let f = rest.each in
     record { each = cc }
 
--- the first positional lacks a value
+-- positionals lack a value where the first of them does; `f` is the fault
 pub lacks_first : (rows : List Row) (first : Text) (others : List Text) (f : WordsFault) → LacksValue rows (first ∷ []) f → LacksValue rows (first ∷ others) f
 lacks_first rows first others (fault.Help text) lacks = lacks
 lacks_first rows first others (fault.Version text) lacks = lacks
@@ -46,7 +46,7 @@ lacks_first rows first others (fault.Usage said) lacks = λ texts given.
     let parts = given_first rows first others texts given in lacks (parts.0 ∷ []) parts.2
 lacks_first rows first others fault.OutOfMemory lacks = tt
 
--- another one does
+-- the same where one of the others does
 pub lacks_other : (rows : List Row) (first : Text) (others : List Text) (f : WordsFault) → LacksValue rows others f → LacksValue rows (first ∷ others) f
 lacks_other rows first others (fault.Help text) lacks = lacks
 lacks_other rows first others (fault.Version text) lacks = lacks
@@ -56,20 +56,22 @@ lacks_other rows first others fault.OutOfMemory lacks = tt
 
 -- ---- columns
 
--- digits after a digit
+-- a step through the digits of `all`: where its bytes are digits exactly if those of `rest` are, and `rest` begins
+-- with a digit `d`, they are exactly if those of `more` are, which follow the digit
 pub digits_next : (all rest more : List ℕ) (d : ℕ) → rest ≡ d ∷ more → digit_value d < 10 → (AllDigits 10 all → AllDigits 10 rest) × (AllDigits 10 rest → AllDigits 10 all)
     → (AllDigits 10 all → AllDigits 10 more) × (AllDigits 10 more → AllDigits 10 all)
 digits_next all rest more d is digit same =
     (λ a. (subst (AllDigits 10) is (same.0 a)).1, λ m. same.1 (subst (AllDigits 10) (sym is) (digit, m)))
 
--- after another byte there are none
+-- where `rest`, what is left of `all` after some digits, begins with a byte `d` that is no digit, `all` has not
+-- digits alone
 pub no_digit : (all rest more : List ℕ) (d : ℕ) → rest ≡ d ∷ more → is_ascii_digit d ≡ false → (AllDigits 10 all → AllDigits 10 rest) → AllDigits 10 all → ⊥
 no_digit all rest more d is other same a =
     let inside = digit_from_value d (subst (AllDigits 10) is (same a)).0 in
     let digit : is_ascii_digit d ≡ true = rw (le-leb 48 d inside.0, le-leb d 57 inside.1) refl in
     let bad : true ≡ false = sym digit ∙ other in cc
 
--- a decimal number is no name
+-- a decimal number that is no number of a column names no column at all, since a name is no decimal number
 pub no_number : (text : Text) (heading : Bool) (f : WordsFault) → IsDecimal text → IsNoNumber text f → IsNoColumn text heading f
 no_number text heading (fault.Help said) decimal none = none
 no_number text heading (fault.Version said) decimal none = none
@@ -80,7 +82,7 @@ no_number text heading (fault.Usage said) decimal none = by_column
     by_column (columns.Name name) is fits = is.1 decimal
 no_number text heading fault.OutOfMemory decimal none = tt
 
--- and a name needs a heading
+-- a text that is no decimal number names no column without a heading
 pub no_name : (text : Text) (heading : Bool) → (IsDecimal text → ⊥) → heading ≡ false
     → (column : Column) → IsColumn text column → FitsHeading heading column → ⊥
 no_name text heading other without (columns.Number number) is fits = other is.digits
@@ -88,7 +90,7 @@ no_name text heading other without (columns.Name name) is fits = let bad : true 
 
 -- ---- subcommands
 
--- the subcommand by the third letter of its name, and the first
+-- the subcommand by the third letter `a` of its name and the `first`, as bytes of ASCII: these tell all names apart
 by_letters : ℕ → ℕ → Subcommand
 by_letters a first =
     if a == 97 then sub.Classify
@@ -103,6 +105,7 @@ by_letters a first =
     else if a == 111 then (if first == 115 then sub.Show else sub.Json)
     else sub.Upgrade
 
+-- the letters of a subcommand's name give it back
 named_back : (s : Subcommand) → by_letters (slice_index (name_of s) 2) (slice_index (name_of s) 0) ≡ s
 unfolding by_letters
 named_back sub.Classify = refl
@@ -120,26 +123,30 @@ named_back sub.Upgrade = refl
 named_back sub.Show = refl
 named_back sub.Json = refl
 
--- a name is that of one subcommand
+-- two subcommands of one name are the same
 pub one_named : (s other : Subcommand) → name_of s ≡ name_of other → s ≡ other
 one_named s other e = sym (named_back s) ∙ ap (λ (name : Text). by_letters (slice_index name 2) (slice_index name 0)) e ∙ named_back other
 
+-- the name of the subcommand that a parse found, or no text
 name_in : Option (Text × List Row) → Text
 name_in None = []
 name_in (Some found) = found.0
 
+-- the matches of the subcommand that a parse found, or none
 rows_in : Option (Text × List Row) → List Row
 rows_in None = []
 rows_in (Some found) = found.1
 
--- what a parse found is this subcommand, so a command that is named is its own
+-- where a parse found the subcommand `s` with the matches `rows`, and these name a command, it is one of `s`, and its
+-- matches are `rows`
 found_named : (s : Subcommand) (rows : List Row) (command : Command) → (n : IsNamed (Some (name_of s, rows)) command)
     → (subcommand_for command ≡ s) × (n.rows ≡ rows)
 unfolding name_in rows_in
 found_named s rows command n =
     (one_named (subcommand_for command) s (sym (ap name_in n.named)), sym (ap rows_in n.named))
 
--- the values that a command was named by are those of the subcommand
+-- where a parse found the subcommand `s`, the command that it names is one of `s`, and its values are those of the
+-- positionals of `s`
 pub named_values : (s : Subcommand) (rows : List Row) (command : Command) → (n : IsNamed (Some (name_of s, rows)) command)
     → (subcommand_for command ≡ s) × AreGiven rows (positionals_of s) n.texts
 named_values s rows command n =
@@ -149,7 +156,7 @@ named_values s rows command n =
           (subst (λ (t : Subcommand). AreGiven n.rows (positionals_of t) n.texts) found.0 n.given),
     )
 
--- a subcommand that lacks a value names no command
+-- a subcommand whose positionals lack a value names no command; `f` is the fault
 pub lacks_named : (s : Subcommand) (rows : List Row) (f : WordsFault) → LacksValue rows (positionals_of s) f → NamesNone (Some (name_of s, rows)) f
 lacks_named s rows (fault.Help text) lacks = lacks
 lacks_named s rows (fault.Version text) lacks = lacks

@@ -15,27 +15,27 @@ positional name = record (new_rule name) { action = Some Set; required = true }
 abbrev pub repeated : Text → Rule
 repeated name = record (new_rule name) { action = Some Append; required = true }
 
--- an option with this name, which takes a value
+-- an option, two hyphens and `name`, which takes a value; the matches have it under `id`
 abbrev pub option : (id name : Text) → Rule
 option id name = record (new_rule id) { long = Some name; action = Some Set }
 
--- a flag with this name
+-- a flag, two hyphens and `name`, which takes no value; the matches have it under the same name
 abbrev pub flag : (name : Text) → Rule
 flag name = record (new_rule name) { long = Some name; action = Some SetTrue }
 
--- the rule for an argument, by how it is given
+-- the rule for the argument `id`, by how it is given
 abbrev pub rule_for : Form → Text → Rule
 rule_for forms.Positional id = positional id
 rule_for forms.Repeated id = repeated id
 rule_for (forms.Option name) id = option id name.now
 rule_for forms.Flag id = flag id
 
--- the command with these arguments, in this order
+-- the command with these arguments added, in this order
 abbrev pub with_rules : App → List Rule → App
 with_rules app [] = app
 with_rules app (rule ∷ rules) = with_rules (with_rule app rule) rules
 
--- a subcommand with these arguments
+-- the subcommand of this name with these arguments
 abbrev pub subcommand : Text → List Rule → App
 subcommand name rules = with_rules (new_app name) rules
 

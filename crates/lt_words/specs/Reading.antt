@@ -92,11 +92,11 @@ delimiter_alone _ = None
 abbrev pub delimiter_named : Text → Option ℕ
 delimiter_named text = if bytes_eq text (codes "tab") then Some 9 else delimiter_alone text
 
--- the delimiter that the option names; without the option a comma (44)
+-- the delimiter that the option names, by the matches of a command line; without the option a comma (44)
 abbrev pub delimiter_given : List Row → Option ℕ
 delimiter_given rows = option_map_or delimiter_named (first_of (codes "C") rows) (Some 44)
 
--- whether a flag is given
+-- whether a flag is given, by the matches of a command line: they have its value as `true` or `false`
 abbrev pub is_flagged : (name : Text) → List Row → Bool
 is_flagged name rows = option_map_or (λ text. bytes_eq text (codes "true")) (first_of name rows) false
 
@@ -111,21 +111,21 @@ matching_by true true = None
 abbrev pub matching_given : List Row → Option Matching
 matching_given rows = matching_by (is_flagged (codes "extended") rows) (is_flagged (codes "lookup") rows)
 
--- the values of a repeated argument
+-- the values of a repeated argument, by the matches of a command line
 abbrev pub values_given : (name : Text) → List Row → List Text
 values_given name rows = option_map_or (λ texts. texts) (all_of name rows) []
 
--- the options of a run over lines are as the command line gives them
+-- the options of a run over lines are as the command line gives them; `rows` are its matches, one for an argument
 abbrev pub AreRunOptions : Run → List Row → Type 0
 AreRunOptions run rows = run.summary ≡ is_flagged (codes "summary") rows
 
--- the options of rows are as the command line gives them
+-- the options of `rows`, the rows that a command answers, are as the command line gives them; `found` are its matches
 abbrev pub AreRowOptions : Rows → List Row → Type 0
 AreRowOptions rows found =
     (rows.keep ≡ is_flagged (codes "keep") found)
     × (option_map string_bytes rows.codes ≡ first_of (codes "TABLE") found)
 
--- the options of a command are as the command line gives them; CSV always has a heading
+-- the options of a command are as the command line gives them, whose matches are `found`; CSV always has a heading
 abbrev pub AreOptions : Command → List Row → Type 0
 AreOptions (command.Canon run) found = AreRunOptions run found
 AreOptions (command.Codes run table) found = AreRunOptions run found
@@ -142,7 +142,7 @@ AreOptions (command.Show file tags) found =
     × (tags.json ≡ is_flagged (codes "json") found)
 AreOptions _ found = ⊤
 
--- the texts are the values of these required arguments
+-- the texts are the values of these required arguments, by the matches `rows` of a command line
 pub record AreGiven (rows : List Row) (positionals texts : List Text) : Type 0 where
   pub each : map (λ positional. first_of positional rows) positionals ≡ map (λ text. Some text) texts
 
@@ -208,8 +208,8 @@ pub record Reads (words : List Text) (command : Command) : Type 0 where
   pub right : fault_of langtag words ≡ []
   pub names : Names words command
 
--- Why the words name no command. Help and version are answered only if asked for, and nothing else if they alone are;
--- usage only to words that name no command. OutOfMemory may be answered to any words.
+-- Why the words name no command. Help and the version are answered only where they are asked for, and usage only to
+-- words that name no command and ask for neither of the two alone. OutOfMemory may be answered to any words.
 abbrev pub IsRefused : List Text → WordsFault → Type 0
 IsRefused words (fault.Help text) = IsAmong kind.DisplayHelp (fault_of langtag words)
 IsRefused words (fault.Version text) = IsAmong kind.DisplayVersion (fault_of langtag words)
@@ -220,7 +220,7 @@ IsRefused words fault.OutOfMemory = ⊤
 
 -- ---- the steps
 
--- a required argument has no value; OutOfMemory may be answered in any case
+-- one of these required arguments has no value among the matches; OutOfMemory may be answered in any case
 abbrev pub LacksValue : List Row → List Text → WordsFault → Type 0
 LacksValue rows positionals (fault.Help text) = ⊥
 LacksValue rows positionals (fault.Version text) = ⊥
@@ -267,7 +267,8 @@ abbrev pub IsPrinted : Option (List ℕ) → List ℕ → Type 0
 IsPrinted None text = ⊤
 IsPrinted (Some printed) text = text ≡ printed
 
--- the fault of a parse that failed with this kind of error, and prints this; OutOfMemory may be answered in any case
+-- the fault of a parse that failed with an error of the kind `k`, which prints as `printed`, if that is known;
+-- OutOfMemory may be answered in any case
 abbrev pub IsFaultOf : ErrorKind → Option (List ℕ) → WordsFault → Type 0
 IsFaultOf k printed (fault.Help text) = (k ≡ kind.DisplayHelp) × IsPrinted printed (string_bytes text)
 IsFaultOf k printed (fault.Version text) = (k ≡ kind.DisplayVersion) × IsPrinted printed (string_bytes text)

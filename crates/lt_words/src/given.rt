@@ -13,7 +13,7 @@ fn is_shown(byte: u8) -> bool
     byte >= b' ' && byte <= b'~' && byte != b'\\'
 }
 
-/// The last digit of a number to the base 16.
+/// The last digit of a number to the base 16, from `0` to `9` or from `a` to `f`.
 fn hex_digit(number: u8) -> char
     ensures { encode_utf8 result ≡ spec.hex_digit number ∷ [] }
 {
@@ -49,7 +49,8 @@ pub fn escaped(alloc: Global, bytes: &[u8]) -> Result<String, AllocError>
     Ok(said)
 }
 
-/// The message for the word of this number, which is not UTF-8. `shown` is the word with its bytes as they are shown.
+/// The message for the word of this number, counted from the program's name, which is 0, that is not UTF-8. `shown` is
+/// the word with its bytes as they are shown.
 fn word_line(alloc: Global, number: usize, shown: &str) -> Result<String, AllocError>
     ensures { IfOk result (λ text. string_bytes text ≡ spec.word_line number shown.now) }
 {

@@ -141,7 +141,8 @@ Status:
 /// The version, and the kits that prove and build the program, by their logic.
 const VERSION: &str = "1.1.0 (rattle-kit-13 logic dac8208d650f15bf)";
 
-/// The argument that is wanted: a positional, which is required and may be repeated, an option with a value, or a flag.
+/// The argument that is wanted, as the parser takes it: a positional, which is required and may be repeated, an option
+/// with a value, or a flag.
 fn new_argument<'a>(alloc: Global, wanted: &Argument) -> Arg<'a>
     ensures rule { rule_of result ≡ rule_for wanted.now.form wanted.now.name.now }
     ensures local { result.global ≡ false }
@@ -155,7 +156,7 @@ fn new_argument<'a>(alloc: Global, wanted: &Argument) -> Arg<'a>
     }
 }
 
-/// A subcommand with this name, help and arguments.
+/// A subcommand with this name, help (`about`) and arguments.
 fn new_subcommand<'a>(
     alloc: Global,
     name: &'a str,
@@ -183,7 +184,7 @@ fn new_program<'a>(alloc: Global) -> Command<'a>
         .subcommand_required(true)
 }
 
-/// The program with a further subcommand, which has this name, help and arguments.
+/// The program with a further subcommand, which has this name, help (`about`) and arguments.
 fn with_new<'a>(
     alloc: Global,
     program: Command<'a>,

@@ -19,7 +19,7 @@ use clap::error::ErrorKind;
 use std::alloc::Global;
 use std::fmt::Display;
 
-/// The command `canon`, by the values of its arguments.
+/// The command `canon`, by the values of its arguments. Refused with `Usage` if the positional has none.
 fn read_canon(alloc: Global, values: &ArgMatches<'_>) -> Result<Command, WordsFault>
     ensures named { IfOk result (IsNamed (Some (name_of Subcommand.Canon, rows_of (found_of values.now)))) }
     ensures unnamed { IfErr result (NamesNone (Some (name_of Subcommand.Canon, rows_of (found_of values.now)))) }
@@ -29,7 +29,7 @@ fn read_canon(alloc: Global, values: &ArgMatches<'_>) -> Result<Command, WordsFa
     Ok(Command::Canon(Run { registry, summary }))
 }
 
-/// The command `codes`, by the values of its arguments.
+/// The command `codes`, by the values of its arguments. Refused with `Usage` if a positional has none.
 fn read_codes(alloc: Global, values: &ArgMatches<'_>) -> Result<Command, WordsFault>
     ensures named { IfOk result (IsNamed (Some (name_of Subcommand.Codes, rows_of (found_of values.now)))) }
     ensures unnamed { IfErr result (NamesNone (Some (name_of Subcommand.Codes, rows_of (found_of values.now)))) }
@@ -39,7 +39,8 @@ fn read_codes(alloc: Global, values: &ArgMatches<'_>) -> Result<Command, WordsFa
     Ok(Command::Codes(Run { registry, summary }, table))
 }
 
-/// The command `tsv`, by the values of its arguments. Refused with `Usage` if they name no column.
+/// The command `tsv`, by the values of its arguments. Refused with `Usage` if a positional has none, or they name no
+/// column.
 fn read_tsv(alloc: Global, values: &ArgMatches<'_>) -> Result<Command, WordsFault>
     ensures named { IfOk result (IsNamed (Some (name_of Subcommand.Tsv, rows_of (found_of values.now)))) }
     ensures unnamed { IfErr result (NamesNone (Some (name_of Subcommand.Tsv, rows_of (found_of values.now)))) }
@@ -56,7 +57,8 @@ fn read_tsv(alloc: Global, values: &ArgMatches<'_>) -> Result<Command, WordsFaul
     Ok(Command::Tsv(Run { registry, summary }, rows))
 }
 
-/// The command `csv`, by the values of its arguments. Refused with `Usage` if they name no column, or no delimiter.
+/// The command `csv`, by the values of its arguments. Refused with `Usage` if a positional has none, or they name no
+/// column, or no delimiter.
 fn read_csv(alloc: Global, values: &ArgMatches<'_>) -> Result<Command, WordsFault>
     ensures named { IfOk result (IsNamed (Some (name_of Subcommand.Csv, rows_of (found_of values.now)))) }
     ensures unnamed { IfErr result (NamesNone (Some (name_of Subcommand.Csv, rows_of (found_of values.now)))) }
@@ -73,7 +75,8 @@ fn read_csv(alloc: Global, values: &ArgMatches<'_>) -> Result<Command, WordsFaul
     Ok(Command::Csv(Run { registry, summary }, rows, delimiter))
 }
 
-/// The command `match`, by the values of its arguments. Refused with `Usage` if they name two ways to match.
+/// The command `match`, by the values of its arguments. Refused with `Usage` if the positional has none, or they name
+/// two ways to match.
 fn read_match(alloc: Global, values: &ArgMatches<'_>) -> Result<Command, WordsFault>
     ensures named { IfOk result (IsNamed (Some (name_of Subcommand.Match, rows_of (found_of values.now)))) }
     ensures unnamed { IfErr result (NamesNone (Some (name_of Subcommand.Match, rows_of (found_of values.now)))) }
@@ -86,7 +89,7 @@ fn read_match(alloc: Global, values: &ArgMatches<'_>) -> Result<Command, WordsFa
     Ok(Command::Match(registry, ranges))
 }
 
-/// The command `show`, by the values of its arguments.
+/// The command `show`, by the values of its arguments. Refused with `Usage` if the positional has none.
 fn read_show(alloc: Global, values: &ArgMatches<'_>) -> Result<Command, WordsFault>
     ensures named { IfOk result (IsNamed (Some (name_of Subcommand.Show, rows_of (found_of values.now)))) }
     ensures unnamed { IfErr result (NamesNone (Some (name_of Subcommand.Show, rows_of (found_of values.now)))) }
@@ -99,7 +102,7 @@ fn read_show(alloc: Global, values: &ArgMatches<'_>) -> Result<Command, WordsFau
     Ok(Command::Show(registry, tags))
 }
 
-/// The command `equal`, by the values of its arguments.
+/// The command `equal`, by the values of its arguments. Refused with `Usage` if a positional has none.
 fn read_equal(alloc: Global, values: &ArgMatches<'_>) -> Result<Command, WordsFault>
     ensures named { IfOk result (IsNamed (Some (name_of Subcommand.Equal, rows_of (found_of values.now)))) }
     ensures unnamed { IfErr result (NamesNone (Some (name_of Subcommand.Equal, rows_of (found_of values.now)))) }
@@ -162,8 +165,8 @@ fn command_of(alloc: Global, matches: &ArgMatches<'_>) -> Result<Command, WordsF
     }
 }
 
-/// The fault of words that could not be parsed, by the kind of the parser's error and by its text: `Help` and `Version`
-/// where these are asked for, else `Usage`, or `OutOfMemory`.
+/// The fault of words that could not be parsed, by the kind of the parser's error and by its text, which `error`
+/// displays: `Help` and `Version` where these are asked for, else `Usage`, or `OutOfMemory`.
 fn fault_of<D: Display>(alloc: Global, kind: ErrorKind, error: &D) -> WordsFault
     ensures { IsFaultOf kind (D.output error.now) result }
 {

@@ -82,7 +82,7 @@ pub(crate) fn option_of(
     }
 }
 
-/// Whether a flag is given.
+/// Whether a flag is given: the parser gives it the value `true` then, and else `false`.
 pub(crate) fn is_flagged(matches: &ArgMatches<'_>, flag: &Argument) -> bool
     ensures { result ≡ spec.is_flagged flag.now.name.now (rows_of (found_of matches.now)) }
 {
@@ -92,7 +92,7 @@ pub(crate) fn is_flagged(matches: &ArgMatches<'_>, flag: &Argument) -> bool
     }
 }
 
-/// A text without the plus that may begin it.
+/// A text without the plus that may begin it, as a number may be written.
 fn without_plus(text: &[u8]) -> &[u8]
     ensures { result.now ≡ without_leading_plus text.now }
 {
@@ -125,7 +125,7 @@ fn is_decimal(text: &str) -> bool
     !digits.is_empty() && are_digits(digits)
 }
 
-/// The number of a column, counted from 1. Refused with `Usage` if the text is no such number.
+/// The number of a column, counted from 1. Refused with `Usage` if the text is no number from 1 to 2^64 - 1.
 fn number_of(alloc: Global, text: &str) -> Result<usize, WordsFault>
     ensures number { IfOk result (IsNumber text.now) }
     ensures none { IfErr result (IsNoNumber text.now) }
@@ -138,8 +138,8 @@ fn number_of(alloc: Global, text: &str) -> Result<usize, WordsFault>
     }
 }
 
-/// The column that a text names: by its number, or, if there is a heading, by its name. Refused with `Usage` if it names
-/// none.
+/// The column that a text names: by its number, or, if the rows have a heading, by its name. Refused with `Usage` if it
+/// names none.
 #[tactic(auto, using(crate::proofs::ValueLemmas::no_number, crate::proofs::ValueLemmas::no_name))]
 pub(crate) fn column_of(alloc: Global, text: &str, heading: bool) -> Result<Column, WordsFault>
     ensures column { IfOk result (IsColumn text.now) }
@@ -175,7 +175,7 @@ fn delimiter_named(text: &str) -> Option<u8>
     }
 }
 
-/// The delimiter between fields that an option names, or a comma without one. Refused with `Usage` if it names none.
+/// The delimiter between fields that the option names, or a comma without it. Refused with `Usage` if it names none.
 pub(crate) fn delimiter_of(alloc: Global, matches: &ArgMatches<'_>) -> Result<u8, WordsFault>
     ensures given { IfOk result (λ byte. delimiter_given (rows_of (found_of matches.now)) ≡ Some byte) }
     ensures none { IfErr result (LacksDelimiter (rows_of (found_of matches.now))) }
