@@ -25,20 +25,23 @@ pub record Promise (R : List EntryParts) : Type 0 where
   -- each record meets each of the twelve conditions
   pub checked : IsChecked R
   -- A valid tag reaches a canonical tag, from which no step leads, and steps can repeat no variant of it; or they can
-  -- repeat one, and then the tag is equivalent to no canonical tag.
+  -- repeat one.
   pub canonical : CanonicalOrRepeats R
+  -- a valid tag of which steps can repeat a variant is equivalent to no canonical tag
   pub formless : RepeatsHaveNoForm R
   -- where steps can repeat a variant, the refusal names one, and no other
   pub named : RepeatsAreNamed R
-  -- a canonical form is its own canonical form, and so is a canonical text of at most 1,024 bytes
+  -- a canonical form is its own canonical form
   pub twice : CanonicalTwiceIsOnce R
+  -- a canonical text of at most 1,024 bytes, which is not too long to be read, is its own canonical text
   pub text_twice : CanonicalTextTwiceIsOnce R
   -- Valid tags that are not refused are equivalent exactly if the texts of their canonical forms are equal.
   pub equivalence : EquivalenceIsEqualText R
 
 -- ---- how it is read (RFC 5646, 3.1)
 
--- what bytes are read as: the entries of their records, or the fault for which there are none
+-- what bytes are read as: the entries of their records, or the fault for which there are none: that of the file as
+-- record-jar (RFC 5646, 3.1.1), or else that of a record
 abbrev pub IsReadingOf : List ℕ → Reading → Type 0
 IsReadingOf bytes (Ok R) =
     (records : List (List Field)) × HasRecords bytes records × IsWithin bytes records × HasEntries records R
@@ -46,7 +49,7 @@ IsReadingOf bytes (Err (faults.Record fault)) =
     (records : List (List Field)) × HasRecords bytes records × IsWithin bytes records × IsRecordRefusal records fault
 IsReadingOf bytes (Err (faults.Jar fault)) = IsFaultOf bytes fault
 
--- why there is no registry that passes the check; OutOfMemory may be answered of any reading
+-- why a reading gives no registry that passes the check; OutOfMemory may be answered of any reading
 abbrev pub IsRefusal : Reading → RegistryError → Type 0
 IsRefusal reading (errors.Jar fault) = (reading ≡ Err (faults.Jar fault)) × (fault.kind ≢ jar_kinds.OutOfMemory)
 IsRefusal reading (errors.Record fault) =
@@ -55,7 +58,8 @@ IsRefusal reading (errors.Check finding) =
     (R : List EntryParts) × (reading ≡ Ok R) × IsFinding R finding.condition finding.number
 IsRefusal reading errors.OutOfMemory = Unit {0}
 
--- the answer is the entries that were read, which pass the check, or why there is no such registry
+-- the answer is the entries that were read, which pass the check, or why there is no such registry; in order: the
+-- reading, the answer
 abbrev pub IsJudged : Reading → Result (List EntryParts) RegistryError → Type 0
 IsJudged reading (Ok R) = (reading ≡ Ok R) × IsChecked R
 IsJudged reading (Err error) = IsRefusal reading error
@@ -64,7 +68,8 @@ IsJudged reading (Err error) = IsRefusal reading error
 abbrev pub ReadsBytes : List ℕ → Result (List EntryParts) RegistryError → Type 0
 ReadsBytes bytes result = (reading : Reading) × IsReadingOf bytes reading × IsJudged reading result
 
--- a registry was read from a device, with this answer; `ReadsRegistry` relates the reading to the bytes that were read
+-- A registry was read from a device, with this answer; `ReadsRegistry` relates the reading to the bytes that were read.
+-- `remaining` is what a reader has left, where that is known.
 abbrev pub ReadsDevice : {F : Type 0} → (F → Option (List ℕ)) → (before after : Device F)
     → Result (List EntryParts) RegistryError → Type 0
 ReadsDevice remaining before after result =

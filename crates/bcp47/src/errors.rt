@@ -44,6 +44,7 @@ impl RegistryError {
 impl From<RegistryFault> for RegistryError {
     ghost from_gives = { λ fault error. IsRefusal (Err fault) error };
 
+    /// Lack of memory, for the file or for a record, is one error.
     fn from(fault: RegistryFault) -> RegistryError {
         match fault {
             RegistryFault::Jar(fault) if fault.kind == JarFaultKind::OutOfMemory => {
@@ -61,6 +62,7 @@ impl From<RegistryFault> for RegistryError {
 impl fmt::Display for RegistryError {
     ghost output = { λ error. Some (error_text error) };
 
+    /// Where the fault was found, and its name, as `jar BadLine line 3`.
     fn fmt<W: fmt::Write>(&self, f: &mut fmt::Formatter<W>) -> fmt::Result {
         let name = self.name();
         match self {

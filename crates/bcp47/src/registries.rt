@@ -78,7 +78,8 @@ impl fmt::Debug for Registry {
     }
 }
 
-/// The table of these entries, or None where memory runs out. It is no part of its caller, as `check_entries` is none.
+/// The table of these entries, or None where memory runs out. It is not inlined, for the reason that `check_entries`
+/// has.
 #[inline(never)]
 fn sorted(alloc: Global, entries: Entries) -> Option<SortedTable>
     ensures { IfSome result (λ table. table ≡ entries) }
@@ -86,8 +87,8 @@ fn sorted(alloc: Global, entries: Entries) -> Option<SortedTable>
     SortedTable::new(alloc, entries).ok()
 }
 
-/// The registry of these entries, or why the check rejects them. It is no part of its callers, so that what reads a registry
-/// needs no stack for what checks it.
+/// The registry of these entries, or why the check rejects them. It is not inlined into its callers, so that what reads
+/// a registry needs no stack for what checks it.
 #[inline(never)]
 fn check_entries(alloc: Global, entries: Entries) -> Result<Registry, RegistryError>
     ensures { IsJudged (Ok entries) result }

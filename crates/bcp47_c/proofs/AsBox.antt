@@ -11,7 +11,7 @@ use Rattle.bcp47_c.specs.contracts.handle.Handle as handle
 use Rattle.bcp47_c.specs.contracts.opened.Opened as opened
 use Rattle.bcp47_c.proofs.opened.Opened.TheLaws as opened_laws
 
--- the box of what is held
+-- the box of what a handle holds: the type of its value and that of its allocator, each with its laws
 abbrev pub held_box : Bx
 held_box =
     record {
@@ -26,8 +26,10 @@ held_box =
       };
     }
 
+-- the type of the block that is made of the box of what a handle holds
 abbrev pub held_block : RattleType
 held_block = block.the_row opened.the_row allocator.the_row ghosts
 
+-- the type of a handle
 abbrev pub held_handle : RattleType
 held_handle = handle.the_row

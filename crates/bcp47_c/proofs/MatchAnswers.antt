@@ -15,7 +15,8 @@ use Rattle.bcp47_c.specs.declared.matching.Scheme.{Scheme}
 use Rattle.bcp47_c.specs.declared.outcomes.Outcome.{Outcome}
 use Rattle.bcp47_c.specs.declared.outcomes.Said.{Said}
 
--- a range and a tag have one canonical form each: if they match by any forms, they match by these
+-- A range and a tag have one canonical form each: if they match, they match by the range's `parts` and the tag's `list`
+-- of subtags, which are such forms.
 by_parts : (R : List EntryParts) → IsChecked R → (scheme : Scheme) (range : List ℕ) (parts : RangeParts) (tag : TagForm)
     (list : List (List ℕ)) → IsCanonicalRange R range parts → HasCanonicalList R tag list
     → MatchesTag R (matching scheme) range tag → MatchesBy (matching scheme) parts list
@@ -25,7 +26,8 @@ by_parts R C scheme range parts tag list p l m =
     (D.list tag m.list list m.canonical l) m.matches in
     subst (λ (x : RangeParts). MatchesBy (matching scheme) x list) (D.range range m.range parts m.is_range p) listed
 
--- if the answer tells whether the two forms match, it tells whether the range matches the tag
+-- if `answer` is whether the range's `parts` match the tag's `list` of subtags, which are their canonical forms, it is
+-- whether the range matches the tag
 pub told_by_parts : (R : List EntryParts) → IsChecked R → (scheme : Scheme) (range text : List ℕ) (parts : RangeParts)
     (list : List (List ℕ)) (answer : Bool) → IsCanonicalRange R range parts
     → ReadsAs text (λ tag. HasCanonicalList R tag list) → IsTrue answer ↔ MatchesBy (matching scheme) parts list
@@ -43,7 +45,7 @@ told_by_parts R C scheme range text parts list answer p q d = record {
   );
 }
 
--- what is said of an answer is delivered
+-- where `answer` is whether the range matches the tag, and its status, `said`, is delivered, the call tells the match
 pub told_match : (R : List EntryParts) (scheme : Scheme) (range text before after : List ℕ) (answer : Bool)
     (said : Said) (o : Outcome) → IsMatchOf R scheme range text answer → said ≡ ended (if answer then 0 else 6)
     → IsDelivered said [] before after o → TellsMatch R scheme range text before after o

@@ -4,10 +4,11 @@ use Rattle.lt_parts.specs.declared.kinds.PartKind.{PartKind}
 use Rattle.lt_parts.specs.declared.kinds.PartKind.TheVariants as kinds
 use Rattle.bcp47_c.specs.Parts.{part_kind}
 
--- the kinds in the order of their numbers, behind one for the number 0
+-- the kinds of part in the order of their numbers, behind one for the number 0
 in_order : List PartKind
 in_order = kinds.Language ∷ kinds.Language ∷ kinds.Extlang ∷ kinds.Script ∷ kinds.Region ∷ kinds.Variant ∷ kinds.Singleton ∷ kinds.ExtensionSubtag ∷ kinds.Attribute ∷ kinds.Key ∷ kinds.Type ∷ kinds.SourceLanguage ∷ kinds.SourceExtlang ∷ kinds.SourceScript ∷ kinds.SourceRegion ∷ kinds.SourceVariant ∷ kinds.Separator ∷ kinds.Value ∷ kinds.PrivateUseSingleton ∷ kinds.PrivateUse ∷ kinds.Grandfathered ∷ []
 
+-- a kind is in that list at the index that is its number
 found : (kind : PartKind) → get_or in_order (part_kind kind) kinds.Language ≡ kind
 unfolding in_order
 found kinds.Language = refl
@@ -31,5 +32,6 @@ found kinds.PrivateUseSingleton = refl
 found kinds.PrivateUse = refl
 found kinds.Grandfathered = refl
 
+-- a kind of part has a number of its own: kinds with equal numbers are equal
 pub same_part_kind : (a b : PartKind) → part_kind a ≡ part_kind b → a ≡ b
 same_part_kind a b e = sym (found a) ∙ ap (λ n. get_or in_order n kinds.Language) e ∙ found b

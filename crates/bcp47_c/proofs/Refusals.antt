@@ -1,4 +1,4 @@
--- What a refused registry owes.
+-- What is answered where bytes are no registry.
 use Rattle.std.proofs.Common.{List, ℕ, ◌≡◌, None, Err, inl, inr}
 use Rattle.bcp47.specs.Promise.{ReadsBytes}
 use Rattle.bcp47.specs.declared.errors.RegistryError.{RegistryError}
@@ -7,7 +7,8 @@ use Rattle.bcp47_c.specs.Ends.{IsRefusedRegistry, Opens}
 use Rattle.bcp47_c.specs.Handles.{Held}
 use Rattle.bcp47_c.specs.declared.outcomes.Outcome.{Outcome}
 
--- bytes that are no registry, or for whose error memory ran out
+-- The bytes are no registry, for this error, and the error was answered, or OutOfMemory where memory ran out for its
+-- line: either is an answer that `Opens` allows.
 pub not_opened : (held : Held) (bytes before after : List ℕ) (error : RegistryError) (o : Outcome) → held ≡ None
     → ReadsBytes bytes (Err error) → IsRefusedRegistry error before after o → Opens held bytes before after o
 not_opened held bytes before after error o none read (inl told) =

@@ -39,50 +39,55 @@ error_said (errors.Record fault) = record { status = 8; detail = record_fault fa
 error_said (errors.Check finding) = record { status = 9; detail = condition finding.condition; place = finding.number }
 error_said errors.OutOfMemory = ended 4
 
--- the registry that the bytes are is held, no record is kept with it, and the status is Done (0)
+-- the handle holds the registry whose text the bytes are, with no records, and the status is Done (0); the buffer was
+-- `before` and is `after`
 pub record IsOpened (held : Held) (bytes before after : List ℕ) (o : Outcome) : Type 0 where
   pub registry : List EntryParts
   pub holds : held ≡ Some (registry, [])
   pub read : ReadsBytes bytes (Ok registry)
   pub delivered : IsDelivered (ended 0) [] before after o
 
--- the error is answered, with the line that the program prints for it
+-- the error is answered, and the line that the program prints for it is written; the buffer was `before` and is `after`
 abbrev pub IsTold : RegistryError → List ℕ → List ℕ → Outcome → Type 0
 IsTold error before after o = IsDelivered (error_said error) (error_text error) before after o
 
--- the error is answered, with the line that the program prints for it, or else OutOfMemory
+-- the error is answered, with its line, or else OutOfMemory; the buffer was `before` and is `after`
 abbrev pub IsRefusedRegistry : RegistryError → List ℕ → List ℕ → Outcome → Type 0
 IsRefusedRegistry error before after o = IsTold error before after o ⊎ IsTold errors.OutOfMemory before after o
 
--- no registry is held, and the error of the bytes is answered
+-- the handle holds no registry, and the error for which the bytes are none is answered; the buffer was `before` and is
+-- `after`
 pub record IsNotOpened (held : Held) (bytes before after : List ℕ) (o : Outcome) : Type 0 where
   pub holds : held ≡ None
   pub error : RegistryError
   pub read : ReadsBytes bytes (Err error)
   pub told : IsTold error before after o
 
--- the registry that the bytes are is held, or their error is answered
+-- the handle holds the registry whose text the bytes are, or the error for which they are none is answered; in order:
+-- what is held, the bytes, the buffer before and after, the outcome
 abbrev pub Opens : Held → List ℕ → List ℕ → List ℕ → Outcome → Type 0
 Opens held bytes before after o = IsOpened held bytes before after o ⊎ IsNotOpened held bytes before after o
 
--- another handle holds the same registry (status Done, 0), or memory ran out for it (4)
+-- the other handle, too, holds the registry (status Done, 0), or memory ran out for that (4); in order: the registry,
+-- what the other handle holds, the status
 abbrev pub Shares : Kept → Held → ℕ → Type 0
 Shares registry held status = ((status ≡ 0) × (held ≡ Some registry)) ⊎ ((status ≡ 4) × (held ≡ None))
 
--- the records of the bytes are now held with the registry (RFC 5646, 3.1.1)
+-- the handle holds the same registry with the records of the bytes (RFC 5646, 3.1.1)
 pub record IsKept (registry : Kept) (held : Held) (bytes : List ℕ) : Type 0 where
   pub records : List (List Field)
   pub read : HasRecords bytes records
   pub holds : held ≡ Some (registry.0, records)
 
--- the bytes are not in the record-jar format
+-- the bytes are not in the record-jar format: they have a fault, which is not lack of memory
 pub record HasNoRecords (bytes : List ℕ) : Type 0 where
   pub fault : JarFault
   pub owed : IsFaultOf bytes fault
   pub named : fault.kind ≢ jar_kinds.OutOfMemory
 
--- The records of the bytes are kept with the registry (status Done, 0). Or all is held as before, since the bytes are
--- not in the format (BadFile, 7) or memory ran out (4).
+-- The handle holds the registry with the records of the bytes (status Done, 0). Or it holds what it held, since the
+-- bytes are not in the format (BadFile, 7) or memory ran out (4). In order: what was held, what is held, the bytes, the
+-- status.
 abbrev pub Keeps : Kept → Held → List ℕ → ℕ → Type 0
 Keeps registry held bytes status =
     ((status ≡ 0) × IsKept registry held bytes)
@@ -90,7 +95,8 @@ Keeps registry held bytes status =
 
 -- ---- tags
 
--- the text of the tag in conventional case is written, and its class is answered as the detail (RFC 5646, 2.1)
+-- the text of the tag in conventional case is written, and its class is answered as the detail (RFC 5646, 2.1); the
+-- buffer was `before` and is `after`
 pub record IsClassified (text before after : List ℕ) (o : Outcome) : Type 0 where
   pub tag : TagForm
   pub read : HasTag text tag
@@ -98,7 +104,8 @@ pub record IsClassified (text before after : List ℕ) (o : Outcome) : Type 0 wh
       IsDelivered (record { status = 0; detail = class (class_of tag); place = 0 }) (conventional (spell tag)) before
       after o
 
--- the tag is classified, or why the text is no tag is answered
+-- the tag is classified, or why the text is no tag is answered; in order: the text, the buffer before and after, the
+-- outcome
 abbrev pub Classifies : List ℕ → List ℕ → List ℕ → Outcome → Type 0
 Classifies text before after o =
     IsClassified text before after o ⊎ IsRefusedAsOwed (IsReadingRefusal text) before after o
@@ -108,24 +115,28 @@ abbrev pub Validates : List EntryParts → List ℕ → Outcome → Type 0
 Validates R text o =
     (IsValidText R text × (o ≡ outcome (ended 0) 0)) ⊎ IsRefusedAsOwed (IsValidityRefusal R text) [] [] o
 
--- the number of steps to the canonical form is answered as the place
+-- the number of steps to the canonical form is answered as the place, and nothing is written; the buffer was `before`
+-- and is `after`
 pub record IsCounted (R : List EntryParts) (text before after : List ℕ) (o : Outcome) : Type 0 where
   pub count : ℕ
   pub is_count : IsStepCount R text count
   pub delivered : IsDelivered (record { status = 0; detail = 0; place = count }) [] before after o
 
--- the number of steps to the canonical form is answered, or why the text is refused
+-- the number of steps to the canonical form is answered, or why the text is refused; in order: the entries, the text,
+-- the buffer before and after, the outcome
 abbrev pub CountsSteps : List EntryParts → List ℕ → List ℕ → List ℕ → Outcome → Type 0
 CountsSteps R text before after o =
     IsCounted R text before after o ⊎ IsRefusedAsOwed (IsTextRefusal R text) before after o
 
--- the status says whether the tags are equivalent: Done (0) if so, Different (6) if not
+-- the status says whether the tags are equivalent: Done (0) if so, Different (6) if not; the buffer was `before` and is
+-- `after`
 pub record IsCompared (R : List EntryParts) (first second before after : List ℕ) (o : Outcome) : Type 0 where
   pub answer : Bool
   pub is_answer : IsEqualityOf R first second answer
   pub delivered : IsDelivered (ended (if answer then 0 else 6)) [] before after o
 
--- whether the tags are equivalent is answered, or why one of the texts is refused
+-- whether the tags are equivalent is answered, or why one of the texts is refused; in order: the entries, the two
+-- texts, the buffer before and after, the outcome
 abbrev pub Compares : List EntryParts → List ℕ → List ℕ → List ℕ → List ℕ → Outcome → Type 0
 Compares R first second before after o =
     IsCompared R first second before after o ⊎ IsRefusedAsOwed (IsPairRefusal R first second) before after o
@@ -145,7 +156,7 @@ pub record IsUpgrade (older newer : List EntryParts) (o : Outcome) : Type 0 wher
   pub keeps : UpgradeKeepsTags older newer
   pub told : o ≡ outcome (ended 0) 0
 
--- a fault of the upgrade is answered
+-- the newer registry does not upgrade the older one, or memory ran out: the fault is answered
 pub record IsNoUpgrade (older newer : List EntryParts) (o : Outcome) : Type 0 where
   pub fault : UpgradeFault
   pub owed : IsUpgradeFault older newer fault

@@ -13,11 +13,11 @@ use Rattle.bcp47_c.specs.contracts.opened.Opened.{the_row}
 abbrev pub Held : Type 0
 Held = Option the_row.Denot
 
--- what memory is owned for what a handle holds
+-- the memory that a handle owns for what it holds: at `place` the box of a registry, or none
 abbrev pub held_owns : Global → Ptr → Held → Fml
 held_owns alloc place (Some registry) = box_owns (ghosts.dealloc_token alloc) the_row place registry
 held_owns alloc place None = ftrue
 
--- how what a handle holds is coded as a value of a proof
+-- the coding by which the ghost field `held` of a handle keeps what it holds
 abbrev pub held_coded : Coded Held
 held_coded = coded_option the_row.coded

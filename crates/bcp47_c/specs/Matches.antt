@@ -38,7 +38,8 @@ matching schemes.Lookup = Lookup
 
 -- ---- what is answered
 
--- A range and a tag both have a canonical form, and `answer` is whether they match (RFC 5646, 4.5; RFC 4647, 3).
+-- The range and the tag of `text` both have a canonical form, and `answer` is whether they match (RFC 5646, 4.5; RFC
+-- 4647, 3).
 pub record IsMatchOf (R : List EntryParts) (scheme : Scheme) (range text : List ℕ) (answer : Bool) : Type 0 where
   pub parts : RangeParts
   pub is_range : IsCanonicalRange R range parts
@@ -48,7 +49,8 @@ pub record IsMatchOf (R : List EntryParts) (scheme : Scheme) (range text : List 
   pub canonical : HasCanonicalList R tag list
   pub matches : IsTrue answer ↔ MatchesTag R (matching scheme) range tag
 
--- the status says whether the range matches the tag: Done (0) if so, Different (6) if not
+-- the status says whether the range matches the tag of `text`: Done (0) if so, Different (6) if not; the buffer was
+-- `before` and is `after`
 pub record IsMatchTold (R : List EntryParts) (scheme : Scheme) (range text before after : List ℕ) (o : Outcome)
     : Type 0 where
   pub answer : Bool
@@ -69,7 +71,7 @@ range_text (refusals.NotARange fault) = []
 range_text (refusals.ReplacementRepeats variant) = variant
 range_text refusals.OutOfMemory = []
 
--- the outcome, with the number of the text that it is on, 1 or 2
+-- the outcome, with the number of the text that it is about: 1 for the range, 2 for the tag
 abbrev pub told_of : ℕ → Outcome → Outcome
 told_of number o =
     record {
@@ -81,11 +83,12 @@ told_of number o =
       reserved = o.reserved;
     }
 
--- the outcome, with the number of the text that it is on, unless memory ran out (status 4)
+-- the outcome, with the number of the text that it is about, unless memory ran out (status 4), where it names none
 abbrev pub of_text : ℕ → Outcome → Outcome
 of_text number o = if o.status == 4 then o else told_of number o
 
--- why the range is refused is answered, with the number of its text, 1
+-- Why the range is refused is answered, with the number of its text, 1. `alone` is the outcome without that number; the
+-- buffer was `before` and is `after`.
 pub record IsRangeRefused (R : List EntryParts) (range before after : List ℕ) (o : Outcome) : Type 0 where
   pub refusal : RangeRefusal
   pub owed : IsRangeRefusal R range refusal
@@ -93,7 +96,8 @@ pub record IsRangeRefused (R : List EntryParts) (range before after : List ℕ) 
   pub delivered : IsDelivered (range_said refusal) (range_text refusal) before after alone
   pub told : o ≡ of_text 1 alone
 
--- the range has a canonical form, and why the tag is refused is answered, with the number of its text, 2
+-- The range has a canonical form, and why the tag of `text` is refused is answered, with the number of its text, 2.
+-- `alone` is the outcome without that number; the buffer was `before` and is `after`.
 pub record IsTagRefused (R : List EntryParts) (range text before after : List ℕ) (o : Outcome) : Type 0 where
   pub parts : RangeParts
   pub is_range : IsCanonicalRange R range parts
@@ -103,25 +107,28 @@ pub record IsTagRefused (R : List EntryParts) (range text before after : List �
 
 -- ---- the call
 
--- whether the range matches the tag is answered, or why one of them is refused
+-- whether the range matches the tag of `text` is answered, or why one of them is refused; the buffer was `before` and
+-- is `after`
 abbrev pub TellsMatch : List EntryParts → Scheme → List ℕ → List ℕ → List ℕ → List ℕ → Outcome → Type 0
 TellsMatch R scheme range text before after o =
     IsMatchTold R scheme range text before after o
     ⊎ (IsRangeRefused R range before after o ⊎ IsTagRefused R range text before after o)
 
--- the number is that of a scheme, by which is answered whether the range matches the tag
+-- the number is that of a scheme, by which is answered whether the range matches the tag of `text`
 pub record TellsByNumber (R : List EntryParts) (number : ℕ) (range text before after : List ℕ) (o : Outcome)
     : Type 0 where
   pub scheme : Scheme
   pub numbered : number ≡ scheme_number scheme
   pub told : TellsMatch R scheme range text before after o
 
--- the number is that of no scheme, and the status says that the call is wrong (14)
+-- the number is that of no scheme, and the status says that the call is wrong (14); the buffer was `before` and is
+-- `after`
 pub record IsWrongNumber (number : ℕ) (before after : List ℕ) (o : Outcome) : Type 0 where
   pub none : (scheme : Scheme) → number ≢ scheme_number scheme
   pub delivered : IsDelivered (ended 14) [] before after o
 
--- whether the range matches the tag by the scheme of a number is answered, or why not
+-- whether the range matches the tag of `text` by the scheme of a number is answered, or why not; the buffer was
+-- `before` and is `after`
 abbrev pub Matches : List EntryParts → ℕ → List ℕ → List ℕ → List ℕ → List ℕ → Outcome → Type 0
 Matches R number range text before after o =
     TellsByNumber R number range text before after o ⊎ IsWrongNumber number before after o

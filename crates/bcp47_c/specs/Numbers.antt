@@ -22,7 +22,7 @@ use Rattle.lt_upgrade.specs.declared.conditions.UpgradeCondition.TheVariants as 
 use Rattle.lt_tag.specs.declared.tags.Class.{Class}
 use Rattle.lt_tag.specs.declared.tags.Class.TheVariants as classes
 
--- the number of the fault of a text
+-- the number of the fault for which a text is no tag
 abbrev pub tag_fault : TagFaultKind → ℕ
 tag_fault tag_kinds.TooLong = 1
 tag_fault tag_kinds.EmptySubtag = 2
@@ -46,7 +46,8 @@ valid_fault valid_kinds.DuplicateVariant = 15
 valid_fault valid_kinds.DuplicateSingleton = 16
 valid_fault valid_kinds.BadTransform = 17
 
--- the number of the fault of the bytes of a registry
+-- the number of the fault for which the bytes of a registry are not in the record-jar format, or were not read to the
+-- end
 abbrev pub file_fault : JarFaultKind → ℕ
 file_fault file_kinds.LineTooLong = 18
 file_fault file_kinds.NotUtf8 = 19
@@ -58,7 +59,7 @@ file_fault file_kinds.TooManyTurns = 24
 file_fault file_kinds.Failed = 25
 file_fault file_kinds.OutOfMemory = 0
 
--- the number of the fault of a record
+-- the number of the fault for which a record gives no entry
 abbrev pub record_fault : RecordFaultKind → ℕ
 record_fault record_kinds.RepeatedField = 26
 record_fault record_kinds.MissingType = 27
@@ -95,7 +96,8 @@ upgrade_condition upgrades.SameVariantLanguage = 50
 upgrade_condition upgrades.NoNewVariantLanguage = 51
 upgrade_condition upgrades.SameWhole = 52
 
--- the number of the fault of a piece of a language range, as of a piece of a text
+-- the number of the fault of a piece of a language range, which is what is between hyphens; the faults of a piece of a
+-- tag's text have these numbers too
 abbrev pub subtag_fault : SubtagFault → ℕ
 subtag_fault subtag_kinds.Empty = 2
 subtag_fault subtag_kinds.BadByte = 3
@@ -130,7 +132,7 @@ step_kind steps.SwapKeywords = 12
 step_kind steps.DropTrue = 13
 step_kind steps.SwapFields = 14
 
--- the kind of step that has a number, None if none has it
+-- the kind of step that has a number, or None if no kind has it
 abbrev pub IsKindOf : ℕ → Option StepKind → Type 0
 IsKindOf n (Some kind) = n ≡ step_kind kind
 IsKindOf n None = (kind : StepKind) → n ≢ step_kind kind

@@ -10,7 +10,8 @@ use Rattle.bcp47_c.specs.declared.outcomes.Said.{Said}
 abbrev pub ended : ℕ → Said
 ended status = record { status = status; detail = 0; place = 0 }
 
--- the outcome of a status, detail and place, and of a text's length; on which text it is, and the reserved part, are 0
+-- the outcome that says this, with the length of a text; the number of the text that it is about and the reserved part
+-- are 0
 abbrev pub outcome : Said → ℕ → Outcome
 outcome said length =
     record {
@@ -22,13 +23,14 @@ outcome said length =
       reserved = 0;
     }
 
--- the text is at the front of the buffer, and the rest of the buffer is as before
+-- the text is at the front of the buffer, and the rest of the buffer is as before; the buffer was `before` and is
+-- `after`
 pub record StandsIn (text before after : List ℕ) : Type 0 where
   pub front : take (length text) after ≡ text
   pub rest : drop (length text) after ≡ drop (length text) before
 
 -- If the text fits the buffer, it is written there and what is said is answered. Else nothing is written, and the
--- status is BufferTooSmall (5). The text's length is answered in both cases.
+-- status is BufferTooSmall (5). The text's length is answered in both cases. The buffer was `before` and is `after`.
 pub record IsDelivered (said : Said) (text before after : List ℕ) (o : Outcome) : Type 0 where
   pub fits : length text ≤ length before → (o ≡ outcome said (length text)) × StandsIn text before after
   pub too_long : length before < length text → (o ≡ outcome (ended 5) (length text)) × (after ≡ before)
@@ -47,22 +49,23 @@ refusal_text (refusals.Invalid fault) = []
 refusal_text (refusals.ReplacementRepeats variant) = variant
 refusal_text refusals.OutOfMemory = []
 
--- the refusal is answered, with its text
+-- the refusal is answered, and its text is written; the buffer was `before` and is `after`
 abbrev pub IsRefused : TextRefusal → List ℕ → List ℕ → Outcome → Type 0
 IsRefused refusal before after o = IsDelivered (refusal_said refusal) (refusal_text refusal) before after o
 
--- a text of which `IsOwed` is true is written, and the status is Done (0)
+-- a text of which `IsOwed` is true is written, and the status is Done (0); the buffer was `before` and is `after`
 pub record IsWritten (IsOwed : List ℕ → Type 0) (before after : List ℕ) (o : Outcome) : Type 0 where
   pub text : List ℕ
   pub owed : IsOwed text
   pub delivered : IsDelivered (ended 0) text before after o
 
--- a refusal of which `IsOwed` is true is answered
+-- a refusal of which `IsOwed` is true is answered, and its text is written; the buffer was `before` and is `after`
 pub record IsRefusedAsOwed (IsOwed : TextRefusal → Type 0) (before after : List ℕ) (o : Outcome) : Type 0 where
   pub refusal : TextRefusal
   pub owed : IsOwed refusal
   pub refused : IsRefused refusal before after o
 
--- what a call answers that writes a text, or refuses to
+-- a text of which `IsText` is true is written, or a refusal of which `IsRefusal` is true is answered; the buffer was
+-- `before` and is `after`
 abbrev pub Answers : (List ℕ → Type 0) → (TextRefusal → Type 0) → List ℕ → List ℕ → Outcome → Type 0
 Answers IsText IsRefusal before after o = IsWritten IsText before after o ⊎ IsRefusedAsOwed IsRefusal before after o

@@ -36,26 +36,28 @@ part_kind kinds.PrivateUseSingleton = 18
 part_kind kinds.PrivateUse = 19
 part_kind kinds.Grandfathered = 20
 
--- the kind of part that has a number, None if none has it
+-- the kind of part that has a number, or None if no kind has it
 abbrev pub IsPartKindOf : ℕ → Option PartKind → Type 0
 IsPartKindOf n (Some kind) = n ≡ part_kind kind
 IsPartKindOf n None = (kind : PartKind) → n ≢ part_kind kind
 
--- a part in numbers: its kind, and where it starts and how long it is in the tag's text
+-- a part in numbers: that of its kind, and where it starts and how many bytes it has in the tag's text
 abbrev pub in_numbers : Part → PartNumbers
 in_numbers part = record { kind = part_kind part.kind; start = part.start; length = part.length }
 
--- the parts are at the front of a room for parts, and the rest of the room is as before
+-- the parts are at the front of a room for parts, and the rest of the room is as before; the room was `before` and is
+-- `after`
 pub record StandIn (parts before after : List PartNumbers) : Type 0 where
   pub front : take (length parts) after ≡ parts
   pub rest : drop (length parts) after ≡ drop (length parts) before
 
--- a status, with the number of parts as the place
+-- a status, with the number of these parts as the place
 abbrev pub counted : ℕ → List PartNumbers → Said
 counted status parts = record { status = status; detail = 0; place = length parts }
 
--- If a text and its parts fit, they are written. Else nothing is, and the status is BufferTooSmall (5). The number of
--- parts and the text's length are answered in both cases.
+-- If the parts fit the room and the text fits the buffer, both are written. Else nothing is, and the status is
+-- BufferTooSmall (5). The number of parts and the text's length are answered in both cases. The room for parts was
+-- `room` and is `filled`, and the buffer was `before` and is `after`.
 pub record AreDelivered (parts : List PartNumbers) (text : List ℕ) (room filled : List PartNumbers)
     (before after : List ℕ)
     (o : Outcome) : Type 0 where
@@ -73,7 +75,8 @@ pub record HasParts (text : List ℕ) (shown : List ℕ) (parts : List PartNumbe
   pub is_shown : shown ≡ text_of tag
   pub are_parts : parts ≡ map in_numbers (parts_of tag)
 
--- the parts of the tag and its text are answered
+-- the parts of the tag that `text` is read as, and its text, `shown`, are answered; the room for parts was `room` and
+-- is `filled`, and the buffer was `before` and is `after`
 pub record AreWritten (text : List ℕ) (room filled : List PartNumbers) (before after : List ℕ)
     (o : Outcome) : Type 0 where
   pub shown : List ℕ
@@ -81,13 +84,15 @@ pub record AreWritten (text : List ℕ) (room filled : List PartNumbers) (before
   pub owed : HasParts text shown parts
   pub delivered : AreDelivered parts shown room filled before after o
 
--- why the text is no tag is answered, and no part is written
+-- why the text is no tag is answered, and no part is written; the room for parts was `room` and is `filled`, and the
+-- buffer was `before` and is `after`
 pub record AreNotWritten (text : List ℕ) (room filled : List PartNumbers) (before after : List ℕ)
     (o : Outcome) : Type 0 where
   pub refused : IsRefusedAsOwed (IsReadingRefusal text) before after o
   pub kept : filled ≡ room
 
--- the parts of the tag are answered, or why the text is no tag
+-- the parts of the tag are answered, or why the text is no tag; in order: the text, the room for parts before and
+-- after, the buffer before and after, the outcome
 abbrev pub TellsParts : List ℕ → List PartNumbers → List PartNumbers → List ℕ → List ℕ → Outcome → Type 0
 TellsParts text room filled before after o =
     AreWritten text room filled before after o ⊎ AreNotWritten text room filled before after o

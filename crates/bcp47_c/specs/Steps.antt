@@ -8,7 +8,7 @@ use Rattle.bcp47_c.specs.declared.steps.StepNumbers.{StepNumbers}
 abbrev pub in_numbers : Step → StepNumbers
 in_numbers step = record { kind = step_kind step.kind; place = step.place; number = step.number }
 
--- the step that these numbers are, None if they are none
+-- these numbers are this step, or, for None, no step
 abbrev pub IsToldBy : StepNumbers → Option Step → Type 0
 IsToldBy told (Some step) = told ≡ in_numbers step
 IsToldBy told None = (step : Step) → told ≢ in_numbers step
@@ -18,7 +18,7 @@ abbrev pub TellsNoMore : List StepNumbers → Type 0
 TellsNoMore [] = Unit {0}
 TellsNoMore (told ∷ rest) = IsToldBy told None
 
--- the steps that the numbers are, up to the first that are none
+-- `steps` are the steps at the front of `told`, up to the first numbers that are no step
 pub record IsFront (told : List StepNumbers) (steps : List Step) : Type 0 where
   pub rest : List StepNumbers
   pub split : told ≡ map in_numbers steps ++ rest

@@ -21,7 +21,8 @@ IsReadingRefusal text refusals.OutOfMemory = Unit {0}
 abbrev pub IsValidText : List EntryParts → List ℕ → Type 0
 IsValidText R text = ReadsAs text (HasNoFault R)
 
--- the text is read as a tag, and `count` is the number of steps of its explanation (RFC 5646, 4.5)
+-- the text is read as a tag, and `count` is the number of steps of its explanation, which lead to its canonical form
+-- (RFC 5646, 4.5)
 pub record IsStepCount (R : List EntryParts) (text : List ℕ) (count : ℕ) : Type 0 where
   pub tag : TagForm
   pub read : HasTag text tag

@@ -23,20 +23,21 @@ use Rattle.bcp47_c.specs.declared.steps.StepNumbers.{StepNumbers}
 
 -- ---- steps in numbers (RFC 5646, 4.5)
 
--- the numbers are steps that lead from the valid tag to the end, which is then equivalent to the tag
+-- the numbers `told` are steps that lead from the valid tag `t` to `end`, which is then equivalent to `t`
 pub record TellsTrace (R : List EntryParts) (t : TagForm) (told : List StepNumbers) (end : TagForm) : Type 0 where
   pub steps : List Step
   pub are : told ≡ map in_numbers steps
   pub trace : IsValidTrace R t steps end
   pub equivalent : AreEquivalent R t end
 
--- the numbers are a step that leads nowhere from the tag
+-- the numbers `told` are a step that leads nowhere from the tag `t`
 pub record TellsMisstep (R : List EntryParts) (t : TagForm) (told : StepNumbers) : Type 0 where
   pub step : Step
   pub is : told ≡ in_numbers step
   pub stuck : (u : TagForm) → LeadsBy R t step u → ⊥
 
--- the numbers at index `n`, counted from 1, are the first that are no step, or one that leads nowhere
+-- the `n`th of `told`, counted from 1, is no step, or a step that leads nowhere; those before it are steps that lead
+-- from the tag `t` to `tag`
 pub record HasMisstep (R : List EntryParts) (t : TagForm) (told : List StepNumbers) (n : ℕ) : Type 0 where
   pub before : List Step
   pub nth : StepNumbers
@@ -47,20 +48,22 @@ pub record HasMisstep (R : List EntryParts) (t : TagForm) (told : List StepNumbe
   pub led : IsTrace R t before tag
   pub stops : IsToldBy nth None ⊎ TellsMisstep R tag nth
 
--- the numbers are steps that lead to another tag than `end`
+-- the numbers `told` are steps that lead from the tag `t` to another tag than `end`
 pub record TellsOtherEnd (R : List EntryParts) (t : TagForm) (told : List StepNumbers) (end : TagForm) : Type 0 where
   pub steps : List Step
   pub are : told ≡ map in_numbers steps
   pub elsewhere : EndsElsewhere R t steps end
 
--- what is wrong with a trace in numbers; OutOfMemory may be answered of any
+-- what is wrong with a trace whose steps are the numbers `told`, from the tag `t` to `end`; OutOfMemory may be answered
+-- of any
 abbrev pub IsToldFault : List EntryParts → TagForm → List StepNumbers → TagForm → TraceFault → Type 0
 IsToldFault R t told end (faults.Invalid fault) = IsFirstFault R t fault.kind fault.place
 IsToldFault R t told end (faults.NoSuchStep n) = IsValid R t × HasMisstep R t told n
 IsToldFault R t told end faults.WrongEnd = IsValid R t × TellsOtherEnd R t told end
 IsToldFault R t told end faults.OutOfMemory = Unit {0}
 
--- the fault of a trace by that of its first steps, where the next numbers, the nth, are no step
+-- the fault of a trace whose step number `n` is no step, from the fault of the steps before it: if these lead to
+-- another tag than the last, the fault is that there is no step `n`
 abbrev pub of_front : TraceFault → ℕ → TraceFault
 of_front (faults.Invalid fault) n = faults.Invalid fault
 of_front (faults.NoSuchStep m) n = faults.NoSuchStep m
@@ -84,13 +87,13 @@ trace_said (faults.NoSuchStep n) = record { status = 11; detail = 0; place = n }
 trace_said faults.WrongEnd = ended 12
 trace_said faults.OutOfMemory = ended 4
 
--- that the steps lead from one tag to the other is answered (status Done, 0), or what is wrong with them
+-- that the steps lead from the tag `t` to `end` is answered (status Done, 0), or what is wrong with them
 abbrev pub IsJudged : List EntryParts → TagForm → List StepNumbers → TagForm → Outcome → Type 0
 IsJudged R t told end o =
     (TellsTrace R t told end × (o ≡ outcome (ended 0) 0))
     ⊎ ((fault : TraceFault) × IsToldFault R t told end fault × (o ≡ outcome (trace_said fault) 0))
 
--- the two texts are read as tags, and the steps between them are judged
+-- `text` and `last` are read as tags, and the steps from the one to the other are judged
 pub record JudgesTexts (R : List EntryParts) (text : List ℕ)
     (told : List StepNumbers) (last : List ℕ) (o : Outcome) : Type 0 where
   pub tag : TagForm
@@ -99,7 +102,8 @@ pub record JudgesTexts (R : List EntryParts) (text : List ℕ)
   pub read_end : HasTag last end
   pub judged : IsJudged R tag told end o
 
--- the steps between the tags of two texts are judged, or why a text is no tag is answered; no text is written
+-- the steps from the tag of `text` to that of `last` are judged, or why a text is no tag is answered; no text is
+-- written
 abbrev pub Verifies : List EntryParts → List ℕ → List StepNumbers → List ℕ → Outcome → Type 0
 Verifies R text told last o =
     JudgesTexts R text told last o ⊎ IsRefusedAsOwed (IsPairReadingRefusal text last) [] [] o

@@ -28,7 +28,7 @@ impl<T, A: Allocator> Block<T, A> {
         Block { place, alloc }
     }
 
-    /// The box again of its place and its allocator.
+    /// Makes the box again from its place and its allocator.
     pub fn into_box(self) -> Box<T, A>
         ensures { result.value ≡ self.value }
     {

@@ -34,8 +34,8 @@ fn error_said(error: RegistryError) -> Said
     }
 }
 
-/// Writes the line that the program prints for an error of a registry, or `OutOfMemory` where there is no memory for the
-/// line.
+/// Answers an error of a registry, and writes the line that the program prints for it; where there is no memory for the
+/// line, answers and writes `OutOfMemory`.
 pub(crate) fn refuse_registry(alloc: Global, error: RegistryError, buffer: &mut [u8]) -> Outcome
     ensures { spec.IsRefusedRegistry error buffer.old buffer.new result }
 {

@@ -25,7 +25,7 @@ impl Model for Handle {
 }
 
 impl Handle {
-    /// A handle that holds nothing, whatever its place.
+    /// A handle that holds nothing, whatever its place, which is never read then.
     fn empty(place: *mut u8, alloc: Global) -> Handle
         ensures { result.held ≡ None }
     {
@@ -57,7 +57,8 @@ impl Handle {
     }
 }
 
-/// Takes the registry that a handle holds out of it. The handle holds nothing then.
+/// Takes the registry that a handle holds out of it. The handle holds nothing then; `alloc` is the allocator that it
+/// has meanwhile.
 pub(crate) fn take(alloc: Global, handle: &mut Handle) -> Box<Opened>
     ghost registry: { Kept }
     requires { handle.old.held ≡ Some registry }

@@ -72,7 +72,8 @@ pub extern "C" fn bcp47_handle_open(
     }
 }
 
-/// Lets another handle, which holds nothing, hold the same registry: 0, or 4 where memory runs out.
+/// Lets another handle, `other`, which holds nothing, hold the registry of `handle` too, with the records that are kept
+/// with it: status 0, or 4 where memory runs out.
 #[unsafe(no_mangle)]
 pub extern "C" fn bcp47_handle_share(alloc: Global, handle: &mut Handle, other: &mut Handle) -> u8
     ghost registry: { Kept }
@@ -93,8 +94,8 @@ pub extern "C" fn bcp47_handle_share(alloc: Global, handle: &mut Handle, other: 
     }
 }
 
-/// Keeps the records of bytes with a registry (RFC 5646, 3.1.1): 0. Its entries are of these records where it was opened from
-/// the same bytes.
+/// Keeps the records of bytes with a registry (RFC 5646, 3.1.1), in place of those that were kept: status 0. The
+/// registry's entries are made of these records where it was opened from the same bytes, which is not checked.
 ///
 /// Status 7 says that the bytes are not in the format, and 4 that memory ran out. What was held is held then.
 #[unsafe(no_mangle)]
@@ -133,7 +134,7 @@ pub extern "C" fn bcp47_handle_entries(alloc: Global, handle: &mut Handle) -> us
     count
 }
 
-/// Writes the SHA-256 of bytes (FIPS 180-4), of 32 bytes.
+/// Writes the SHA-256 digest of bytes (FIPS 180-4), which has 32 bytes.
 #[unsafe(no_mangle)]
 pub extern "C" fn bcp47_digest(bytes: &[u8], buffer: &mut [u8]) -> Outcome
     ensures { IsDelivered (ended 0) (sha256 bytes.now) buffer.old buffer.new result }
@@ -259,8 +260,8 @@ pub extern "C" fn bcp47_handle_show(
     outcome
 }
 
-/// How many steps the explanation has of the tag that a text is read as: status 0, and the number as the place.
-/// The other statuses are those of `bcp47_handle_canonical`.
+/// How many steps the explanation has of the tag that a text is read as: status 0, and the number as the place. The
+/// other statuses are those of `bcp47_handle_canonical`. The buffer is for the variant that is written with status 3.
 #[unsafe(no_mangle)]
 pub extern "C" fn bcp47_handle_count_steps(
     alloc: Global,
@@ -279,10 +280,10 @@ pub extern "C" fn bcp47_handle_count_steps(
     outcome
 }
 
-/// Whether steps lead from the tag that a text is read as, which is valid, one after another to the tag that
-/// another text is read as, which is then equivalent to it (RFC 5646, 4.5): status 0.
+/// Whether steps lead, one after another, from the tag that `text` is read as, which is valid, to the tag that `last`
+/// is read as, which is then equivalent to it (RFC 5646, 4.5): status 0.
 ///
-/// Status 1 says that one of the texts is no tag, 2 that the tag is not valid, 11 that a step, whose number
+/// Status 1 says that one of the texts is no tag, 2 that the tag of `text` is not valid, 11 that a step, whose number
 /// from 1 is the place, does not lead on, 12 that the steps lead to another tag, 4 that memory ran out.
 #[unsafe(no_mangle)]
 pub extern "C" fn bcp47_handle_verify(
@@ -318,11 +319,11 @@ pub extern "C" fn bcp47_handle_validate(alloc: Global, handle: &mut Handle, text
     outcome
 }
 
-/// Whether the tags that two texts are read as are equivalent (RFC 5646, 4.5): status 0, or 6 where they are
-/// not.
+/// Whether the tags that two texts are read as are equivalent (RFC 5646, 4.5): status 0, or 6 where they are not.
 ///
 /// Status 1 says that a text is no tag, the first or else the second; 2 and 3 that a tag is refused as by
-/// `bcp47_handle_canonical`, the first or else the second; 4 that memory ran out.
+/// `bcp47_handle_canonical`, the first or else the second; 4 that memory ran out. The buffer is for the variant that is
+/// written with status 3.
 #[unsafe(no_mangle)]
 pub extern "C" fn bcp47_handle_equal(
     alloc: Global,
@@ -373,7 +374,7 @@ pub extern "C" fn bcp47_handle_match(
     outcome
 }
 
-/// Tells whether the registry that a handle holds upgrades an older one. The handle holds it again then.
+/// Tells whether the registry that the handle `newer` holds upgrades an older one. The handle holds it afterwards too.
 fn check_newer(alloc: Global, older: &Opened, newer: &mut Handle) -> Outcome
     ghost registry: { Kept }
     requires { newer.old.held ≡ Some registry }

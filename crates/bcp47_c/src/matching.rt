@@ -31,7 +31,8 @@ pub(crate) fn scheme_of(number: u32) -> Option<Scheme>
     })
 }
 
-/// Whether a range matches a tag by a scheme.
+/// Whether a range matches a tag by a scheme, both by their subtags; by lookup, whether the range, cut from its end, is
+/// the tag (RFC 4647, 3.4).
 fn is_matched(scheme: Scheme, range: &LanguageRange, tag: &TagSubtags) -> bool
     ensures { IsTrue result ↔ MatchesBy (matching scheme) range.now tag.now }
 {
@@ -42,7 +43,7 @@ fn is_matched(scheme: Scheme, range: &LanguageRange, tag: &TagSubtags) -> bool
     }
 }
 
-/// The subtags of the canonical form of the tag that a text is read as.
+/// The subtags of the canonical form of the tag that a text is read as (RFC 5646, 4.5), or why there is none.
 #[tactic(auto, using(lt_canon::proofs::CanonicalForms::refused))]
 fn subtags_of_text(
     alloc: Global,
@@ -88,7 +89,8 @@ fn refuse_range(refusal: &RangeRefusal, buffer: &mut [u8]) -> Outcome
     deliver(range_said(refusal), range_text(refusal), buffer)
 }
 
-/// The outcome, with the number of the text that is refused: 1 or 2. Where memory ran out, no text is named.
+/// The outcome, with the number of the text that is refused: 1 for the range, 2 for the tag. Where memory ran out, no
+/// text is named.
 fn told_of(number: u32, outcome: Outcome) -> Outcome
     ensures { result ≡ of_text number outcome }
 {
@@ -105,7 +107,8 @@ fn told_of(number: u32, outcome: Outcome) -> Outcome
     }
 }
 
-/// Tells whether a language range matches a tag by a scheme, or why the range, or else the tag, is refused.
+/// Tells whether a language range matches the tag that `text` is read as, by a scheme, or why the range, or else the
+/// tag, is refused. The buffer is for the variant that steps can repeat, where one of them is refused for that.
 pub(crate) fn answer_match(
     alloc: Global,
     registry: &Registry,
@@ -116,7 +119,7 @@ pub(crate) fn answer_match(
 ) -> Outcome
     ensures { TellsMatch registry.now scheme range.now text.now buffer.old buffer.new result }
 {
-    // So that what holds of every registry is known.
+    // For the proof alone: what holds of every registry.
     registry.promise();
     let canonical = match registry.range(alloc, range) {
         Ok(canonical) => canonical,

@@ -13,7 +13,7 @@ pub(crate) const LAST_STATUS: u8 = 12;
 /// The greatest number of a fault.
 pub(crate) const LAST_FAULT: u8 = 53;
 
-/// The name of a status, as `NotATag` for 1.
+/// The name of a status, 0 to 12, as `NotATag` for 1.
 #[tactic(auto, unfolding(crate::specs::Names::status_names))]
 pub(crate) fn status_name(status: u8) -> &'static str
     requires { status ≤ 12 }
@@ -37,7 +37,7 @@ pub(crate) fn status_name(status: u8) -> &'static str
     }
 }
 
-/// The name of the fault of a number, as the program prints it.
+/// The name of the fault of a number, 0 to 53, as the program prints it.
 #[tactic(auto, unfolding(crate::specs::Names::fault_names))]
 pub(crate) fn fault_name(fault: u8) -> &'static str
     requires { fault ≤ 53 }
@@ -102,7 +102,7 @@ pub(crate) fn fault_name(fault: u8) -> &'static str
     }
 }
 
-/// The name of the kind of step that has a number, or an empty text if none has it.
+/// The name of the kind of step that has a number, or an empty text if no kind has it.
 #[tactic(auto, using(crate::proofs::KindNumbers::same_kind))]
 pub(crate) fn kind_name(number: u8) -> &'static str
     ensures named { (k : StepKind) → number ≡ number_of.step_kind k → result.now ≡ name_of k }

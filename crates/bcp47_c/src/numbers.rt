@@ -36,7 +36,7 @@ pub(crate) const WRONG_END: u8 = 12;
 /// The call is wrong: a number is that of no scheme.
 pub(crate) const BAD_CALL: u8 = 14;
 
-/// The number that tells a fault of a text, or 0 where memory ran out.
+/// The number that tells a fault for which a text is no tag, or 0 where memory ran out.
 pub(crate) fn tag_fault(kind: TagFaultKind) -> u8
     ensures { result ≡ numbers.tag_fault kind }
 {
@@ -87,7 +87,7 @@ pub(crate) fn file_fault(kind: JarFaultKind) -> u8
     }
 }
 
-/// The number that tells a fault of a record, or 0 where memory ran out.
+/// The number that tells a fault for which a record gives no entry, or 0 where memory ran out.
 pub(crate) fn record_fault(kind: RecordFaultKind) -> u8
     ensures { result ≡ numbers.record_fault kind }
 {
@@ -139,7 +139,8 @@ pub(crate) fn upgrade_condition(condition: UpgradeCondition) -> u8
     }
 }
 
-/// The number that tells a fault of a piece of a language range.
+/// The number that tells a fault of a piece of a language range, which is what is between hyphens. The faults of a
+/// piece of a tag's text have these numbers too.
 fn subtag_fault(fault: SubtagFault) -> u8
     ensures { result ≡ numbers.subtag_fault fault }
 {
@@ -172,7 +173,7 @@ pub(crate) fn class(class: Class) -> u8
     }
 }
 
-/// The kind of step that has a number, or None if none has it.
+/// The kind of step that has a number, or None if no kind has it.
 pub(crate) fn step_kind(number: u8) -> Option<StepKind>
     ensures { numbers.IsKindOf number result }
 {

@@ -23,7 +23,7 @@ use std::alloc::Global;
 use std::marker::Model;
 use std::sync::Arc;
 
-/// The bytes of texts for which a handle has room from the first.
+/// The bytes for which `texts` has room from the first: those of the longest text that is read as a tag.
 const TEXT_ROOM: usize = 1024;
 
 /// A registry and the records that are kept with it, both of which other handles may hold too, and room for the text of one
@@ -32,6 +32,7 @@ const TEXT_ROOM: usize = 1024;
 pub(crate) struct Opened {
     registry: Arc<Registry>,
     records: Arc<Jar>,
+    /// Room for the text of a call, so that a call need not take memory for it. No contract sees it.
     texts: Vec<u8>,
 }
 
@@ -44,7 +45,8 @@ impl Model for Opened {
 }
 
 impl Opened {
-    /// What a handle holds for a registry and the records that are kept with it, in a box.
+    /// What a handle holds for a registry and the records that are kept with it, in a box. Refused only where memory
+    /// runs out.
     fn hold(
         alloc: Global,
         registry: Arc<Registry>,
@@ -61,7 +63,7 @@ impl Opened {
         Ok(Box::new(alloc, opened)?)
     }
 
-    /// What a handle holds for a registry with which no records are kept, in a box.
+    /// What a handle holds for a registry with which no records are kept, in a box. Refused only where memory runs out.
     fn hold_alone(alloc: Global, registry: Registry) -> Result<Box<Opened>, OutOfMemory>
         ensures { IfOk result (λ opened. opened.value ≡ (registry, [])) }
     {
@@ -70,7 +72,8 @@ impl Opened {
         Opened::hold(alloc, Arc::new(alloc, registry)?, none)
     }
 
-    /// What a handle holds for the registry whose text the bytes are. No records are kept with it.
+    /// What a handle holds for the registry whose text the bytes are, or why they are none. No records are kept with
+    /// it.
     pub(crate) fn read(alloc: Global, bytes: &[u8]) -> Result<Box<Opened>, RegistryError>
         ensures read { IfOk result (λ opened. ReadsBytes bytes.now (Ok opened.value.0)) }
         ensures none { IfOk result (λ opened. opened.value.1 ≡ []) }
@@ -83,7 +86,8 @@ impl Opened {
         }
     }
 
-    /// Keeps the records that bytes have with the registry, in place of those that were kept, and gives the status.
+    /// Keeps the records that bytes have with the registry, in place of those that were kept, and gives the status 0;
+    /// or 7 where the bytes are not in the format and 4 where memory ran out, and nothing changes then.
     pub(crate) fn keep(&mut self, alloc: Global, bytes: &[u8]) -> u8
         ensures { Keeps self.old (Some self.new) bytes.now result }
     {
@@ -107,7 +111,8 @@ impl Opened {
         self.registry.entries().len()
     }
 
-    /// What another handle holds for the same registry and records. They are not copied.
+    /// What another handle holds for the same registry and records, which are not copied. Refused only where memory
+    /// runs out.
     pub(crate) fn share(&self, alloc: Global) -> Result<Box<Opened>, OutOfMemory>
         ensures { IfOk result (λ opened. opened.value ≡ self.now) }
     {
@@ -150,18 +155,19 @@ impl Opened {
         classify(alloc, text, &mut self.texts, buffer)
     }
 
-    /// Tells whether the tag that a text is read as is valid.
+    /// Tells whether the tag that a text is read as is valid, or why not.
     pub(crate) fn validate(&self, alloc: Global, text: &[u8]) -> Outcome
         ensures { Validates self.now.0 text.now result }
     {
         match validity(alloc, &self.registry, text) {
             Ok(()) => deliver(ended(DONE), &[], &mut []),
+            // A refusal has a text only where steps can repeat a variant, which is no fault of validity.
             Err(refusal) => refuse(&refusal, &mut []),
         }
     }
 
     /// Tells whether the tags that two texts are read as are equivalent, or answers why a text is no tag or a tag is
-    /// refused.
+    /// refused. The buffer is for the variant that steps can repeat, where a tag is refused for that.
     pub(crate) fn equal(
         &self,
         alloc: Global,
@@ -178,8 +184,9 @@ impl Opened {
         }
     }
 
-    /// Tells whether a language range matches a tag, by the scheme of a number; or why one of them is refused, or that the
-    /// number is that of no scheme.
+    /// Tells whether a language range matches a tag, by the scheme of a number; or why one of them is refused, or that
+    /// the number is that of no scheme. The buffer is for the variant that steps can repeat, where one is refused for
+    /// that.
     pub(crate) fn matches(
         &self,
         alloc: Global,
@@ -217,7 +224,8 @@ impl Opened {
         }
     }
 
-    /// Tells how many steps the explanation of the tag has that a text is read as, or answers why there is none.
+    /// Tells how many steps the explanation of the tag has that a text is read as, or answers why there is none. The
+    /// buffer is for the variant that steps can repeat, where the tag is refused for that.
     pub(crate) fn count_steps(&self, alloc: Global, text: &[u8], buffer: &mut [u8]) -> Outcome
         ensures { CountsSteps self.now.0 text.now buffer.old buffer.new result }
     {
@@ -234,7 +242,8 @@ impl Opened {
         }
     }
 
-    /// Tells whether steps in numbers lead from the tag of `text`, one after another, to the tag of `last`.
+    /// Tells whether steps in numbers lead from the tag of `text`, one after another, to the tag of `last`, or what is
+    /// wrong.
     pub(crate) fn verify(
         &self,
         alloc: Global,
@@ -254,7 +263,7 @@ impl Opened {
         }
     }
 
-    /// Tells whether a newer registry upgrades this one.
+    /// Tells whether a newer registry upgrades this one, or which condition fails and the record at fault.
     pub(crate) fn upgrade_check(&self, alloc: Global, newer: &Opened) -> Outcome
         ensures { ChecksUpgrade self.now.0 newer.now.0 result }
     {

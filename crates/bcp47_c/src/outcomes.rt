@@ -24,13 +24,14 @@ pub struct Outcome {
     pub place: u64,
     /// How many bytes the text has, also where it does not fit the buffer.
     pub length: usize,
-    /// Of `bcp47_handle_match` which of its two texts is refused, 1 or 2; else 0, in whose place the file in C tells it.
+    /// Where `bcp47_handle_match` refuses one of its two texts, which, 1 or 2; else 0. For the other calls of two texts
+    /// `bindings/c/bcp47.c` tells it.
     pub text: u32,
-    /// 0.
+    /// Always 0.
     pub reserved: u32,
 }
 
-/// What is said of a call's end.
+/// What a call answers without the length of a text: the status, the detail and the place of an [`Outcome`].
 #[derive(Clone, Copy, Drop)]
 pub(crate) struct Said {
     pub(crate) status: u8,
@@ -38,7 +39,7 @@ pub(crate) struct Said {
     pub(crate) place: u64,
 }
 
-/// What an outcome says that has a status alone.
+/// A status without detail and place.
 pub(crate) fn ended(status: u8) -> Said
     ensures { result ≡ spec.ended status }
 {
@@ -49,8 +50,8 @@ pub(crate) fn ended(status: u8) -> Said
     }
 }
 
-/// Writes a text to the front of a buffer, and answers what is said with the text's length. Where the text doesn't fit,
-/// nothing is written, and the status is `BUFFER_TOO_SMALL`.
+/// Writes a text to the front of a buffer, and answers what is `said`, with the text's length. Where the text doesn't
+/// fit, nothing is written, and the status is `BUFFER_TOO_SMALL`.
 pub(crate) fn deliver(said: Said, text: &[u8], buffer: &mut [u8]) -> Outcome
     ensures { IsDelivered said text.now buffer.old buffer.new result }
 {

@@ -52,7 +52,7 @@ fn part_kind(kind: PartKind) -> u8
     }
 }
 
-/// The kind of part that has a number, or None if none has it.
+/// The kind of part that has a number, or None if no kind has it.
 fn kind_of(number: u8) -> Option<PartKind>
     ensures { IsPartKindOf number result }
 {
@@ -81,7 +81,7 @@ fn kind_of(number: u8) -> Option<PartKind>
     })
 }
 
-/// The name of the kind of part that has a number, or an empty text if none has it.
+/// The name of the kind of part that has a number, or an empty text if no kind has it.
 #[tactic(auto, using(crate::proofs::PartKindNumbers::same_part_kind))]
 fn part_kind_name(number: u8) -> &'static str
     ensures named { (k : PartKind) → number ≡ spec.part_kind k → result.now ≡ name_of k }
@@ -108,7 +108,7 @@ fn numbers_of(alloc: Global, parts: &[Part]) -> Result<Vec<PartNumbers>, OutOfMe
     Ok(numbers)
 }
 
-/// The text, in conventional case, of the tag that a text is read as, and its parts in numbers. Refused if it is no tag.
+/// The text, in conventional case, of the tag that a text is read as, and its parts in numbers, or why it is no tag.
 fn read_parts(alloc: Global, text: &[u8]) -> Result<(Vec<u8>, Vec<PartNumbers>), TextRefusal>
     ensures parts { IfOk result (λ found. HasParts text.now found.0.items found.1.items) }
     ensures refusal { IfErr result (IsReadingRefusal text.now) }
@@ -119,7 +119,8 @@ fn read_parts(alloc: Global, text: &[u8]) -> Result<(Vec<u8>, Vec<PartNumbers>),
     Ok((shown, numbers_of(alloc, &found)?))
 }
 
-/// The outcome with a status, how many parts there are as the place, and how many bytes the text has.
+/// The outcome with this status, `count`, how many parts there are, as the place, and `length`, how many bytes the text
+/// has.
 fn counted(status: u8, count: usize, length: usize) -> Outcome
     ensures { result ≡ outcome (record { status = status; detail = 0; place = count }) length }
 {

@@ -18,7 +18,7 @@ pub struct StepNumbers {
     pub number: u32,
 }
 
-/// The step that numbers tell, or None if no kind of step has the number of its kind.
+/// The step that numbers tell, or None if the number of the kind is that of no kind of step.
 fn step_of(told: StepNumbers) -> Option<Step>
     ensures { IsToldBy told result }
 {
@@ -30,7 +30,7 @@ fn step_of(told: StepNumbers) -> Option<Step>
     })
 }
 
-/// The steps that the numbers tell, up to the first numbers that tell none.
+/// The steps that the numbers tell, up to the first numbers that tell none. Refused only where memory runs out.
 pub(crate) fn front_steps(alloc: Global, told: &[StepNumbers]) -> Result<Vec<Step>, OutOfMemory>
     ensures { IfOk result (λ steps. IsFront told.now steps.items) }
 {

@@ -13,7 +13,8 @@ use crate::outcomes::{Outcome, Said, deliver, refuse};
 use bcp47::{Record, Refusal, Registry, Tag, TextRefusal, append_tag};
 use std::alloc::Global;
 
-/// Puts into `extlang` the text of the extlang form of the tag that a text is read as, in place of what it held.
+/// Puts into `extlang` the text of the extlang form of the tag that a text is read as (RFC 5646, 4.5), in place of what
+/// it held; or answers why there is none.
 pub(crate) fn write_extlang(
     alloc: Global,
     registry: &Registry,
@@ -30,8 +31,8 @@ pub(crate) fn write_extlang(
     Ok(())
 }
 
-/// Writes the text, in conventional case, of the tag that a text is read as, and tells its class. The text is
-/// made in `shown` first.
+/// Writes the text, in conventional case, of the tag that a text is read as, and tells its class, or why it is no tag.
+/// `shown` is room in which the text is made before it goes to the buffer.
 pub(crate) fn classify(
     alloc: Global,
     text: &[u8],
@@ -70,8 +71,8 @@ pub(crate) fn step_count(
     Ok(trace.steps.len())
 }
 
-/// What a registry has for the parts of the tag that a text is read as, with the fields of records, as an array of JSON.
-/// Refused if it is no tag.
+/// What a registry has for the parts of the tag that a text is read as, with the fields of these records, as an array
+/// of JSON. Refused if the text is no tag.
 pub(crate) fn rows_text(
     alloc: Global,
     registry: &Registry,
@@ -87,7 +88,8 @@ pub(crate) fn rows_text(
     Ok(rows)
 }
 
-/// Checks that the tag that a text is read as is valid. Refused with what is wrong with the text or the tag.
+/// Checks that the tag that a text is read as is valid (RFC 5646, 2.2.9). Refused with what is wrong with the text or
+/// the tag.
 pub(crate) fn validity(alloc: Global, registry: &Registry, text: &[u8]) -> Result<(), TextRefusal>
     ensures valid { OnOk result (IsValidText registry.now text.now) }
     ensures refusal { IfErr result (λ refusal. IsValidityRefusal registry.now text.now refusal) }

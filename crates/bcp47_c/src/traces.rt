@@ -9,8 +9,8 @@ use crate::steps::{StepNumbers, front_steps};
 use bcp47::{Registry, Tag, Trace, TraceFault};
 use std::alloc::Global;
 
-/// The fault of steps of which number `next`, counted from 1, is told by no numbers, by the fault of the steps before it:
-/// where they lead to another tag, there is no such step.
+/// The fault of a trace whose step number `next`, counted from 1, is no step, from the fault of the steps before it: if
+/// these lead to another tag than the last, the fault is that there is no step `next`.
 fn of_front(fault: TraceFault, next: usize) -> TraceFault
     ensures { result ≡ spec.of_front fault next }
 {
@@ -22,7 +22,8 @@ fn of_front(fault: TraceFault, next: usize) -> TraceFault
     }
 }
 
-/// Checks that steps in numbers lead from a valid tag, one after another, to the tag `last`. Refused with the first fault.
+/// Checks that the steps that the numbers `told` stand for lead from a valid tag, one after another, to the tag `last`.
+/// Refused with the first fault.
 pub(crate) fn judge(
     alloc: Global,
     registry: &Registry,
@@ -33,6 +34,7 @@ pub(crate) fn judge(
     ensures trace { OnOk result (TellsTrace registry.now tag.now told.now last) }
     ensures fault { IfErr result (IsToldFault registry.now tag.now told.now last) }
 {
+    // The steps before the first numbers that are no step are judged first: a fault of theirs comes before it.
     let steps = front_steps(alloc, told)?;
     let count = steps.len();
     let judged = registry.verify(alloc, tag, &Trace { steps, last });

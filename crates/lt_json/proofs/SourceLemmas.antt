@@ -6,14 +6,17 @@ use Rattle.std.proofs.lemmas.List.Concat.{flat_map-append}
 use Rattle.lt_tag.specs.Parts.{CoreParts}
 use Rattle.lt_json.specs.Parts.{after_hyphens, source_text}
 
--- subtags with hyphens between them
+-- subtags with hyphens (45) between them are the first, and each other after a hyphen
 joined : (s : List ℕ) (ss : List (List ℕ)) → join_with_byte 45 (s ∷ ss) ≡ s ++ after_hyphens ss
 joined s [] = sym (append-nil s)
 joined s (t ∷ ss) = ap (λ (l : List ℕ). s ++ 45 ∷ l) (joined t ss)
 
+-- the subtags of two lists, each after a hyphen, are those of the first list and then those of the second
 after : (ss ts : List (List ℕ)) → after_hyphens (ss ++ ts) ≡ after_hyphens ss ++ after_hyphens ts
 after ss ts = flat_map-append (λ (s : List ℕ). 45 ∷ s) ss ts
 
+-- The text of a source is made step by step: `a` is its language, and `b`, `c`, `d` and `e` are the texts after its
+-- extlangs, its script, its region and its variants are appended, each after a hyphen.
 pub source_is : (core : CoreParts) (a b c d e : List ℕ) → a ≡ core.language → b ≡ a ++ after_hyphens core.extlangs → c ≡ b ++ after_hyphens (option_to_list core.script)
     → d ≡ c ++ after_hyphens (option_to_list core.region) → e ≡ d ++ after_hyphens core.variants → e ≡ source_text core
 unfolding source_text

@@ -28,7 +28,7 @@ input_members false text = member (codes "input") null ∷ member (codes "bytes"
 abbrev pub Answer : Type 0
 Answer = Result (List ℕ) TextRefusal
 
--- this is answered to the text; OutOfMemory is no answer
+-- the answer is right for the text: its canonical text, or why it has none; OutOfMemory is no answer
 abbrev pub IsAnswerTo : List EntryParts → List ℕ → Answer → Type 0
 IsAnswerTo R text (Ok canonical) = IsCanonicalTextOf R text canonical
 IsAnswerTo R text (Err (refusals.NotATag fault)) = IsTextRefusal R text (refusals.NotATag fault)
@@ -56,7 +56,8 @@ variant_of (refusals.Invalid fault) = None
 variant_of (refusals.ReplacementRepeats variant) = Some variant
 variant_of refusals.OutOfMemory = None
 
--- the members for the answer to a text
+-- the members for the answer to a text: its canonical text, the name of the fault, the place and the variant, each null
+-- where it is not there
 abbrev pub answer_members : Answer → List Member
 answer_members (Ok canonical) =
     member (codes "canonical") (string canonical)
@@ -69,12 +70,13 @@ answer_members (Err refusal) =
 
 -- ---- the object
 
--- the tag that the text is read as, if it is one
+-- the text is read as this tag, or, for None, as no tag
 abbrev pub IsReadAs : List ℕ → Option TagForm → Type 0
 IsReadAs text (Some tag) = HasTag text tag
 IsReadAs text None = (tag : TagForm) → HasTag text tag → ⊥
 
--- the object that is answered to a text by the entries of a registry, and whether the text is refused
+-- `line` is the object that is answered to the text by the entries of a registry, and `refused` is whether the text is
+-- refused
 pub record IsObjectFor (R : List EntryParts) (text line : List ℕ) (refused : Bool) : Type 0 where
   pub is_text : Bool
   pub is_utf8 : IsTrue is_text ↔ IsUtf8 text
@@ -85,7 +87,8 @@ pub record IsObjectFor (R : List EntryParts) (text line : List ℕ) (refused : B
   pub line_is : line ≡ object (input_members is_text text ++ (answer_members answer ++ tag_members tag))
   pub refused_is : refused ≡ is_refused answer
 
--- the object that is answered to the text was appended
+-- the object that is answered to the text was appended to `old`, which gave `new`; `refused` is whether the text is
+-- refused
 pub record AppendsObject (R : List EntryParts) (text old new : List ℕ) (refused : Bool) : Type 0 where
   pub line : List ℕ
   pub grown : new ≡ old ++ line
@@ -93,7 +96,8 @@ pub record AppendsObject (R : List EntryParts) (text old new : List ℕ) (refuse
 
 -- ---- its parts, as they are appended
 
--- the beginning of the object: a brace (123) and the members for the text, with a comma (44) between them
+-- the beginning of the object: a brace (123) and the members for the text, with a comma (44) between them; `is_text` is
+-- whether the text is UTF-8
 abbrev pub opening : (is_text : Bool) → List ℕ → List ℕ
 opening true text =
     (123 ∷ member_text (member (codes "input") (string text))) ++ (44 ∷ member_text (member (codes "bytes") null))
@@ -101,20 +105,21 @@ opening false text =
     (123 ∷ member_text (member (codes "input") null))
     ++ (44 ∷ member_text (member (codes "bytes") (string (encode_lower text))))
 
--- the beginning of the object was appended
+-- the beginning of the object for the text was appended to `old`, which gave `new`
 pub record AppendsOpening (text old new : List ℕ) : Type 0 where
   pub is_text : Bool
   pub is_utf8 : IsTrue is_text ↔ IsUtf8 text
   pub grown : new ≡ old ++ opening is_text text
 
--- the members for the answer to the text were appended
+-- the members for the answer to the text were appended to `old`, which gave `new`; `refused` is whether the text is
+-- refused
 pub record AppendsAnswer (R : List EntryParts) (text old new : List ℕ) (refused : Bool) : Type 0 where
   pub answer : Answer
   pub is_answer : IsAnswerTo R text answer
   pub grown : new ≡ old ++ more_members (answer_members answer)
   pub refused_is : refused ≡ is_refused answer
 
--- the members for the tag that the text is read as, or for none, were appended
+-- the members for the tag that the text is read as, or for none, were appended to `old`, which gave `new`
 pub record AppendsTag (text old new : List ℕ) : Type 0 where
   pub tag : Option TagForm
   pub is_tag : IsReadAs text tag

@@ -24,7 +24,7 @@ script_value script = string (title script)
 abbrev pub region_value : List ℕ → List ℕ
 region_value region = string (upper region)
 
--- the members for the core of a tag (RFC 5646, 2.1)
+-- the members for the core of a tag, from its language to its variants (RFC 5646, 2.1)
 abbrev pub core_members : CoreParts → List Member
 core_members core =
     member (codes "language") (string core.language)
@@ -33,7 +33,7 @@ core_members core =
     ∷ member (codes "region") (or_null region_value core.region)
     ∷ member (codes "variants") (subtags_value core.variants) ∷ []
 
--- the members for the core of a tag that has none
+-- the members for the core of a tag that has none: null and empty arrays
 abbrev pub no_core_members : List Member
 no_core_members =
     member (codes "language") null
@@ -93,12 +93,12 @@ unfoldable pub plain_value : ExtensionParts → List ℕ
 plain_value extension =
     object (singleton_member extension.singleton ∷ member (codes "subtags") (subtags_value extension.subtags) ∷ [])
 
--- an extension as an object of its parts, if it has them, else of its subtags
+-- an extension as an object of its parts, which `value` gives, if it has them, else of its subtags
 abbrev pub parts_or_plain : {A : Type 0} → (A → List ℕ) → ExtensionParts → Option A → List ℕ
 parts_or_plain value extension (Some parts) = value parts
 parts_or_plain value extension None = plain_value extension
 
--- an extension as an object
+-- an extension as an object: of its parts if it is a `u` or `t` extension that has them, else of its subtags
 unfoldable pub extension_value : ExtensionParts → List ℕ
 extension_value extension =
     if extension.singleton == unicode then parts_or_plain unicode_value extension (unicode_of extension.subtags)

@@ -7,15 +7,16 @@ use Rattle.lt_stream.specs.Lines.{RunsOverLines}
 use Rattle.lt_stream.specs.declared.faults.ToolFault.{ToolFault}
 use Rattle.lt_json.specs.Objects.{IsObjectFor}
 
--- the most bytes of a line that are looked at: 16 MiB
+-- the most bytes of a line that are looked at: 16 MiB, which bounds the memory for a line
 abbrev pub longest_line : ℕ
 longest_line = 16777216
 
--- the text of a line: its first bytes, up to the most, without a carriage return (13) that may end them
+-- the text of a line: its first bytes, at most `longest_line`, without a carriage return (13) that may end them
 abbrev pub text_of : List ℕ → List ℕ
 text_of line = content_of (take longest_line line)
 
--- these bytes are the object for a line, a line feed (10), and what `Others` says of the lines after it
+-- `bytes` are the object for `line`, a line feed (10), and then bytes for the lines after it, of which `Others` is
+-- true; `refused` is whether one of all these lines is refused
 pub record AreOwed (R : List EntryParts) (line : List ℕ) (Others : List ℕ → Bool → Type 0) (bytes : List ℕ)
     (refused : Bool)
     : Type 0 where
@@ -28,20 +29,22 @@ pub record AreOwed (R : List EntryParts) (line : List ℕ) (Others : List ℕ �
   pub bytes_are : bytes ≡ object ++ 10 ∷ more
   pub refused_is : refused ≡ (is_refused || others_refused)
 
--- these bytes are the objects for the lines, in order, each ended by a line feed; `refused` is whether a line is
+-- `bytes` are the objects for the lines, in order, each ended by a line feed; `refused` is whether one of the lines is
 -- refused
 abbrev pub AreObjects : List EntryParts → List (List ℕ) → (bytes : List ℕ) → (refused : Bool) → Type 0
 AreObjects R [] bytes refused = (bytes ≡ []) × (refused ≡ false)
 AreObjects R (line ∷ lines) bytes refused = AreOwed R line (AreObjects R lines) bytes refused
 
--- a run answered the lines of a reader by their objects
+-- A run answered the lines of a reader by their objects. `remaining` is what a reader has left and `contents` what a
+-- writer holds, where they are known; `refused` is whether a line was refused, and `result` how the run ended.
 abbrev pub AnswersByObjects : {I O : Type 0} → List EntryParts → (I → Option (List ℕ)) → (O → Option (List ℕ))
     → (input input' : Device I) → (output output' : Device O) → (refused : Bool) → Result (Unit {0}) ToolFault → Type 0
 AnswersByObjects R remaining contents input input' output output' refused result =
     RunsOverLines (λ (refused : Bool) lines bytes. AreObjects R lines bytes refused)
     remaining contents input input' output output' refused result
 
--- the object for the text of a line was appended, and a line feed (10)
+-- the object for the text of a line and a line feed (10) were appended to `old`, which gave `new`; `front` is the first
+-- bytes of the line, at most `longest_line`
 pub record AppendsLine (R : List EntryParts) (front old new : List ℕ) (refused : Bool) : Type 0 where
   pub object : List ℕ
   pub grown : new ≡ old ++ (object ++ 10 ∷ [])

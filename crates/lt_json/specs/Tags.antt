@@ -26,7 +26,7 @@ abbrev pub members_of_tag : TagForm → List Member
 members_of_tag tag =
     member (codes "class") (string (class_word (class_of tag))) ∷ (core_members_of (core_of tag) ++ ends_members tag)
 
--- the members for a text that is no tag
+-- the members for a text that is no tag: null and empty arrays
 abbrev pub members_of_none : List Member
 members_of_none =
     member (codes "class") null

@@ -23,7 +23,7 @@ fn append_canonical(objects: &mut Vec<u8>, canonical: &[u8]) -> Result<(), Alloc
     Ok(())
 }
 
-/// Appends the member `place`, with a number.
+/// Appends the member `place` with this place of a fault.
 fn append_next_place(objects: &mut Vec<u8>, place: u32) -> Result<(), AllocError>
     ensures { OnOk result (objects.new.items ≡ objects.old.items ++ 44 ∷ member_text (member (codes "place") (decimal place))) }
 {
@@ -32,7 +32,7 @@ fn append_next_place(objects: &mut Vec<u8>, place: u32) -> Result<(), AllocError
     Ok(())
 }
 
-/// Appends the member of the place of a refusal, which is null if the refusal has none.
+/// Appends the member `place`: the place of the fault that a refusal names, or null if it names none.
 fn append_place(objects: &mut Vec<u8>, refusal: &TextRefusal) -> Result<(), AllocError>
     ensures { OnOk result (objects.new.items ≡ objects.old.items ++ 44 ∷ member_text (member (codes "place") (or_null decimal (place_of refusal.now)))) }
 {
@@ -44,7 +44,7 @@ fn append_place(objects: &mut Vec<u8>, refusal: &TextRefusal) -> Result<(), Allo
     }
 }
 
-/// Appends the member of the variant that steps can repeat, which is null if the refusal names none.
+/// Appends the member `variant`: the variant that steps can repeat, or null if the refusal names none.
 fn append_variant(objects: &mut Vec<u8>, refusal: &TextRefusal) -> Result<(), AllocError>
     ensures { OnOk result (objects.new.items ≡ objects.old.items ++ 44 ∷ member_text (member (codes "variant") (or_null string (variant_of refusal.now)))) }
 {
@@ -70,7 +70,8 @@ fn append_refusal(objects: &mut Vec<u8>, refusal: &TextRefusal) -> Result<(), Al
     Ok(())
 }
 
-/// Appends the members of the answer to a text, and tells whether it is refused.
+/// Appends the members of the answer to a text, its canonical text or why it has none, and tells whether the text is
+/// refused. The call itself is refused only where memory runs out.
 #[tactic(auto, using(crate::proofs::ObjectLemmas::answer_canonical, crate::proofs::ObjectLemmas::answer_refused))]
 pub(crate) fn append_answer<L: Lookup>(
     objects: &mut Vec<u8>,

@@ -9,7 +9,7 @@ use lt_subtag::{Case, Subtag};
 use lt_tag::Core;
 use std::alloc::AllocError;
 
-/// Appends the member of a script, which is null if there is none.
+/// Appends the member `script`, in title case (RFC 5646, 2.1.1), or null if there is none.
 fn append_script(objects: &mut Vec<u8>, script: Option<&Subtag>) -> Result<(), AllocError>
     ensures { OnOk result (objects.new.items ≡ objects.old.items ++ 44 ∷ member_text (member (codes "script") (or_null script_value (option_copied script.entry)))) }
 {
@@ -19,7 +19,7 @@ fn append_script(objects: &mut Vec<u8>, script: Option<&Subtag>) -> Result<(), A
     }
 }
 
-/// Appends the member of a region, which is null if there is none.
+/// Appends the member `region`, in upper case (RFC 5646, 2.1.1), or null if there is none.
 fn append_region(objects: &mut Vec<u8>, region: Option<&Subtag>) -> Result<(), AllocError>
     ensures { OnOk result (objects.new.items ≡ objects.old.items ++ 44 ∷ member_text (member (codes "region") (or_null region_value (option_copied region.entry)))) }
 {

@@ -21,7 +21,7 @@ fn append_plain(objects: &mut Vec<u8>, extension: &Extension) -> Result<(), Allo
     Ok(())
 }
 
-/// Appends a `t` extension as an object of its parts, or of its subtags if it doesn't have the form of such.
+/// Appends a `t` extension as an object of its parts, or of its subtags if they do not have the form of RFC 6497, 2.2.
 #[tactic(auto, using(crate::proofs::ExtensionLemmas::of_transform, crate::proofs::ExtensionLemmas::of_no_transform))]
 fn append_t(objects: &mut Vec<u8>, alloc: Global, extension: &Extension) -> Result<(), OutOfMemory>
     requires { extension.now.singleton ≡ transform }
@@ -45,7 +45,7 @@ fn append_u(objects: &mut Vec<u8>, alloc: Global, extension: &Extension) -> Resu
     Ok(())
 }
 
-/// Appends an extension as an object.
+/// Appends an extension as an object: a `u` or `t` extension of its parts, any other of its singleton and its subtags.
 #[tactic(auto, using(crate::proofs::ExtensionLemmas::of_other))]
 fn append_extension(
     objects: &mut Vec<u8>,
@@ -82,7 +82,7 @@ fn append_extensions(
     Ok(())
 }
 
-/// Appends the member of extensions.
+/// Appends the member `extensions`, the array of these extensions.
 pub(crate) fn append_next_extensions(
     objects: &mut Vec<u8>,
     alloc: Global,

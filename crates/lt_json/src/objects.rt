@@ -13,7 +13,7 @@ use lt_tag::OutOfMemory;
 use simdutf8::basic::from_utf8;
 use std::alloc::{AllocError, Global};
 
-/// Appends the beginning of the object of a text that is UTF-8.
+/// Appends the beginning of the object of a text that is UTF-8: `input` is the text, and `bytes` is null.
 fn append_text(objects: &mut Vec<u8>, text: &[u8]) -> Result<(), AllocError>
     ensures { OnOk result (objects.new.items ≡ objects.old.items ++ opening true text.now) }
 {
@@ -22,7 +22,8 @@ fn append_text(objects: &mut Vec<u8>, text: &[u8]) -> Result<(), AllocError>
     Ok(())
 }
 
-/// Appends the beginning of the object of bytes that are no UTF-8, with their hexadecimal digits.
+/// Appends the beginning of the object of bytes that are no UTF-8: `input` is null, and `bytes` is their hexadecimal
+/// digits.
 fn append_bytes(objects: &mut Vec<u8>, alloc: Global, bytes: &[u8]) -> Result<(), AllocError>
     ensures { OnOk result (objects.new.items ≡ objects.old.items ++ opening false bytes.now) }
 {

@@ -12,7 +12,7 @@ use lt_tag::OutOfMemory;
 use std::alloc::Global;
 use std::io::{Read, Write};
 
-/// The most bytes of a line that are answered: 16 MiB.
+/// The most bytes of a line that are answered: 16 MiB, which bounds the memory for a line.
 const LONGEST_LINE: usize = 16_777_216;
 
 /// The line without the carriage return that may end it.
@@ -25,7 +25,7 @@ fn without_return(line: &[u8]) -> &[u8]
     }
 }
 
-/// Appends the object that answers a line, and a line feed, and tells whether the line is refused.
+/// Appends to `lines` the object that answers `line`, and a line feed, and tells whether the line is refused.
 #[tactic(auto, using(crate::proofs::RunLemmas::line_appended))]
 fn append_line<L: Lookup>(
     lines: &mut Vec<u8>,
@@ -40,18 +40,19 @@ fn append_line<L: Lookup>(
     Ok(refused)
 }
 
-/// Whether one of two is true.
+/// Whether one of two is true, or both. It is a function so that its caller has one path.
 fn either(first: bool, second: bool) -> bool
     ensures { result ≡ first || second }
 {
     first || second
 }
 
-/// What answers lines by objects.
+/// What answers the lines of a run by objects.
 #[derive(Drop)]
 struct Objects<'a, L: Lookup> {
+    /// The table of the registry, which passes the check.
     checked: &'a Checked<L>,
-    /// Whether a line was refused.
+    /// Whether a line was refused so far.
     refused: bool,
 }
 
@@ -61,12 +62,13 @@ impl<'a, L: Lookup> Lines for Objects<'a, L> {
     ghost answered = { λ first here lines bytes. (here.checked.now ≡ first.checked.now)
         × AreObjects (L.listed here.checked.now) lines bytes here.refused };
 
-    /// As many bytes as are answered of a line.
+    /// The most bytes of a line that are answered.
     fn longest(&self) -> usize {
         LONGEST_LINE
     }
 
-    /// Appends the object that answers the line, and notes whether it is refused.
+    /// Appends to `owed`, which the run writes later, the object that answers the line, and notes whether the line is
+    /// refused.
     fn take_line(
         &mut self,
         alloc: Global,
@@ -82,13 +84,13 @@ impl<'a, L: Lookup> Lines for Objects<'a, L> {
 /// Answers each line of a reader by an object of JSON (RFC 8259), each ended by a line feed, in their order, as
 /// [`append_object`] says it; and tells whether a line was refused, and how the run ended.
 ///
-/// A line feed ends a line, and what follows the last one is a line if it is anything. A carriage return that ends a line
-/// is no part of its text, and of a line of more than 16,777,216 bytes the first of them are the text. What is owed for
-/// the lines of the bytes that were read is written before the next read.
+/// A line feed ends a line, and what follows the last one is a line if it is anything. A carriage return that ends a
+/// line is no part of its text, and of a line of more than 16,777,216 bytes the first of them are the text. The objects
+/// for the lines whose line feed was read are written before the next read.
 ///
-/// - `Read`, if a read fails: what is owed for each line whose line feed was read has been written.
+/// - `Read`, if a read fails: the object for each line whose line feed was read has been written.
 /// - `TooManyTurns`, if all 10,000,000 reads were made and the last gave bytes: the same has been written.
-/// - `Write`, if a write fails or takes none of some bytes, and `OutOfMemory`: a front of what is owed was written.
+/// - `Write`, if a write fails or takes none of some bytes, and `OutOfMemory`: a front of the objects was written.
 #[tactic(auto, using(crate::proofs::RunLemmas::none_answered))]
 pub fn write_objects<L: Lookup, R: Read, W: Write>(
     alloc: Global,

@@ -9,7 +9,7 @@ use lt_subtag::Subtag;
 use lt_tag::{Core, OutOfMemory};
 use std::alloc::{AllocError, Global};
 
-/// Adds subtags, each after a hyphen.
+/// Appends subtags to a text, each after a hyphen.
 fn add_subtags(text: &mut Vec<u8>, subtags: &[Subtag]) -> Result<(), AllocError>
     ensures { OnOk result (text.new.items ≡ text.old.items ++ after_hyphens subtags.now) }
 {
@@ -20,7 +20,7 @@ fn add_subtags(text: &mut Vec<u8>, subtags: &[Subtag]) -> Result<(), AllocError>
     Ok(())
 }
 
-/// Adds a subtag after a hyphen, if there is one.
+/// Appends a subtag to a text, after a hyphen, if there is one.
 fn add_subtag(text: &mut Vec<u8>, subtag: Option<&Subtag>) -> Result<(), AllocError>
     ensures { OnOk result (text.new.items ≡ text.old.items ++ after_hyphens (option_to_list (option_copied subtag.entry))) }
 {
@@ -31,7 +31,7 @@ fn add_subtag(text: &mut Vec<u8>, subtag: Option<&Subtag>) -> Result<(), AllocEr
     Ok(())
 }
 
-/// The text of a source, in lower case.
+/// The text of a source: its subtags in lower case, with hyphens between them.
 #[tactic(auto, using(crate::proofs::SourceLemmas::source_is), unfolding(crate::specs::Parts::source_text))]
 fn text_of(alloc: Global, core: &Core) -> Result<Vec<u8>, OutOfMemory>
     ensures { IfOk result (λ text. text.items ≡ source_text core.now) }
@@ -44,7 +44,7 @@ fn text_of(alloc: Global, core: &Core) -> Result<Vec<u8>, OutOfMemory>
     Ok(text)
 }
 
-/// Appends the member of the source of a `t` extension, which is null if there is none.
+/// Appends the member `source`: the text of the source of a `t` extension, or null if there is none.
 pub(crate) fn append_source(
     objects: &mut Vec<u8>,
     alloc: Global,

@@ -21,7 +21,8 @@ pub(crate) fn append_subtags(objects: &mut Vec<u8>, subtags: &[Subtag]) -> Resul
     Ok(())
 }
 
-/// Appends a further member whose value is an array of subtags.
+/// Appends a member that is not the first of its object, with the comma before it. Its value is the array of these
+/// subtags.
 pub(crate) fn append_next_subtags(
     objects: &mut Vec<u8>,
     name: &[u8],

@@ -12,7 +12,7 @@ use lt_json_text::{append_next_null, append_next_string};
 use lt_tag::{OutOfMemory, Tag, TagFaultKind, read_tag};
 use std::alloc::{AllocError, Global};
 
-/// Appends the members of a tag: its class, those of its core, its extensions and private use.
+/// Appends the members of a tag: its class, those of its core, its extensions and its private use.
 #[tactic(auto, using(crate::proofs::ObjectLemmas::tag_is))]
 fn append_members(objects: &mut Vec<u8>, alloc: Global, tag: &Tag) -> Result<(), OutOfMemory>
     ensures { OnOk result (objects.new.items ≡ objects.old.items ++ more_members (members_of_tag tag.now)) }
@@ -31,6 +31,7 @@ fn append_none(objects: &mut Vec<u8>) -> Result<(), AllocError>
 {
     append_next_null(objects, b"class")?;
     append_no_core(objects)?;
+    // An empty array is the same whatever its elements would be.
     append_next_subtags(objects, b"extensions", &[])?;
     append_next_subtags(objects, b"private", &[])?;
     Ok(())

@@ -3,7 +3,8 @@ use Rattle.std.proofs.Common.{◌≡◌, ℕ, List, [], ◌∷◌, ◌++◌, len
 use Rattle.std.proofs.lemmas.List.{flat_map_more}
 use Rattle.lt_json_text.specs.Values.{after_commas, comma_at, commaed}
 
--- one value more
+-- the values of the elements `xs` and one more `x`: those of `xs`, a comma unless `x` is the first, and the value of
+-- `x`
 pub commaed_more : {A : Type 0} (value : A → List ℕ) (xs : List A) (x : A) → commaed value (xs ++ x ∷ []) ≡ (commaed value xs ++ comma_at (length xs)) ++ value x
 commaed_more value [] x = append-nil (value x)
 commaed_more value (y ∷ xs) x =

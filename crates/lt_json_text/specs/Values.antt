@@ -7,27 +7,28 @@ use Rattle.lt_json_text.specs.Strings.{string}
 abbrev pub null : List ℕ
 null = codes "null"
 
--- the value of something, or null where there is nothing
+-- the text that `value` gives for what an option holds, or null for None
 abbrev pub or_null : {A : Type 0} → (A → List ℕ) → Option A → List ℕ
 or_null value None = null
 or_null value (Some x) = value x
 
 -- ---- arrays
 
--- the values of the elements of a list, each after a comma (44)
+-- the values of the elements of a list, each after a comma (44); `value` gives the text of one element
 abbrev pub after_commas : {A : Type 0} → (A → List ℕ) → List A → List ℕ
 after_commas value xs = flat_map (λ x. 44 ∷ value x) xs
 
--- the values of the elements of a list, with commas (44) between them
+-- the values of the elements of a list, with commas (44) between them; `value` gives the text of one element
 abbrev pub commaed : {A : Type 0} → (A → List ℕ) → List A → List ℕ
 commaed value [] = []
 commaed value (x ∷ xs) = value x ++ after_commas value xs
 
--- the array of the values of the elements of a list, between brackets (91 and 93) (RFC 8259, 5)
+-- the array of the values of the elements of a list, between brackets (91 and 93) (RFC 8259, 5); `value` gives the text
+-- of one element
 abbrev pub array : {A : Type 0} → (A → List ℕ) → List A → List ℕ
 array value xs = 91 ∷ commaed value xs ++ 93 ∷ []
 
--- what is before the value of an array at an index, counted from 0: a comma (44), but nothing before the first
+-- what is before the value of an array at this index, counted from 0: a comma (44), but nothing before the first
 abbrev pub comma_at : ℕ → List ℕ
 comma_at zero = []
 comma_at (suc index) = 44 ∷ []

@@ -7,7 +7,7 @@ use crate::strings::append_string;
 use crate::values::append_null;
 use std::alloc::AllocError;
 
-/// Appends a name and the colon after it.
+/// Appends the name of a member as a string, and the colon after it.
 #[tactic(auto, unfolding(crate::specs::Values::named))]
 fn append_named(texts: &mut Vec<u8>, name: &[u8]) -> Result<(), AllocError>
     ensures { OnOk result (texts.new.items ≡ texts.old.items ++ spec.named name.now) }
@@ -36,7 +36,7 @@ pub fn append_name(texts: &mut Vec<u8>, name: &[u8]) -> Result<(), AllocError>
     Ok(())
 }
 
-/// Appends a first member whose value is a string.
+/// Appends the beginning of an object, up to the end of its first member, whose value is the string of `text`.
 pub fn append_first_string(texts: &mut Vec<u8>, name: &[u8], text: &[u8]) -> Result<(), AllocError>
     ensures { OnOk result (texts.new.items ≡ texts.old.items ++ 123 ∷ spec.member_text (spec.member name.now (string text.now))) }
 {
@@ -45,7 +45,7 @@ pub fn append_first_string(texts: &mut Vec<u8>, name: &[u8], text: &[u8]) -> Res
     Ok(())
 }
 
-/// Appends a further member whose value is a string.
+/// Appends a member that is not the first of its object, with the comma before it. Its value is the string of `text`.
 pub fn append_next_string(texts: &mut Vec<u8>, name: &[u8], text: &[u8]) -> Result<(), AllocError>
     ensures { OnOk result (texts.new.items ≡ texts.old.items ++ 44 ∷ spec.member_text (spec.member name.now (string text.now))) }
 {
@@ -54,7 +54,7 @@ pub fn append_next_string(texts: &mut Vec<u8>, name: &[u8], text: &[u8]) -> Resu
     Ok(())
 }
 
-/// Appends a further member whose value is null.
+/// Appends a member that is not the first of its object, with the comma before it. Its value is null.
 pub fn append_next_null(texts: &mut Vec<u8>, name: &[u8]) -> Result<(), AllocError>
     ensures { OnOk result (texts.new.items ≡ texts.old.items ++ 44 ∷ spec.member_text (spec.member name.now spec.null)) }
 {

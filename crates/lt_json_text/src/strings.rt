@@ -5,21 +5,21 @@ ghost use Rattle.lt_json_text.specs.Strings as spec;
 
 use std::alloc::AllocError;
 
-/// Whether a byte stands for itself in a string: it is no control character, no quote and no backslash.
+/// Whether a byte stands for itself in a string (RFC 8259, 7): it is no control character, no quote and no backslash.
 fn is_plain(byte: u8) -> bool
     ensures { result ≡ spec.is_plain byte }
 {
     byte >= b' ' && byte != b'"' && byte != b'\\'
 }
 
-/// Whether each byte stands for itself.
+/// Whether each byte of a text stands for itself in a string.
 fn are_plain(text: &[u8]) -> bool
     ensures { result ≡ list_all spec.is_plain text.now }
 {
     text.iter().all(|byte| is_plain(*byte))
 }
 
-/// The last digit of a number to the base 16.
+/// The last digit of a number to the base 16, in lower case.
 fn hex_digit(number: u8) -> u8
     ensures { result ≡ spec.hex_digit number }
 {
@@ -31,7 +31,7 @@ fn hex_digit(number: u8) -> u8
     }
 }
 
-/// Appends a byte as it is, or its escape.
+/// Appends a byte as it is in a string: itself, or its escape.
 fn append_escaped(texts: &mut Vec<u8>, byte: u8) -> Result<(), AllocError>
     ensures { OnOk result (texts.new.items ≡ texts.old.items ++ spec.escaped byte) }
 {
@@ -52,7 +52,7 @@ fn append_escaped(texts: &mut Vec<u8>, byte: u8) -> Result<(), AllocError>
     }
 }
 
-/// Appends each byte as it is, or its escape.
+/// Appends each byte of a text as it is in a string: itself, or its escape.
 fn append_each(texts: &mut Vec<u8>, text: &[u8]) -> Result<(), AllocError>
     ensures { OnOk result (texts.new.items ≡ texts.old.items ++ spec.escaped_text text.now) }
 {
@@ -62,11 +62,12 @@ fn append_each(texts: &mut Vec<u8>, text: &[u8]) -> Result<(), AllocError>
     Ok(())
 }
 
-/// Appends what is between the quotes of a string.
+/// Appends what is between the quotes of the string of a text.
 #[tactic(auto, using(crate::proofs::StringLemmas::plain_text))]
 fn append_content(texts: &mut Vec<u8>, text: &[u8]) -> Result<(), AllocError>
     ensures { OnOk result (texts.new.items ≡ texts.old.items ++ spec.escaped_text text.now) }
 {
+    // For speed: a text without escapes is appended at once.
     if are_plain(text) {
         texts.extend_from_slice(text)
     } else {

@@ -13,14 +13,15 @@ pub fn append_null(texts: &mut Vec<u8>) -> Result<(), AllocError>
     texts.extend_from_slice(b"null")
 }
 
-/// Appends a number (RFC 8259, 6).
+/// Appends a number in decimal digits (RFC 8259, 6).
 pub fn append_number(texts: &mut Vec<u8>, number: u32) -> Result<(), AllocError>
     ensures { OnOk result (texts.new.items ≡ texts.old.items ++ decimal number) }
 {
     texts.extend_from_slice(Buffer::new().format(number).as_bytes())
 }
 
-/// Appends the comma before a value of an array, at this index from 0: the first has none (RFC 8259, 5).
+/// Appends what is before the value of an array at `index`, counted from 0: a comma, but nothing before the first (RFC
+/// 8259, 5).
 pub fn append_comma(texts: &mut Vec<u8>, index: usize) -> Result<(), AllocError>
     ensures { OnOk result (texts.new.items ≡ texts.old.items ++ spec.comma_at index) }
 {

@@ -9,15 +9,18 @@ use Rattle.lt_show.proofs.TableLemmas.{after_that}
 use Rattle.lt_show.specs.declared.listings.Listing.{Listing}
 use Rattle.lt_show.specs.declared.rows.Row.{Row}
 
+-- the beginning and the end of a row's object, one after the other, are the object; `text` is the tag's text
 pub row_joined : (text : List ℕ) (records : List (List Field)) (row : Row) → row_front text row ++ row_end records row.listing ≡ row_value text records row
 unfolding row_front row_end row_value
 row_joined text records row = simp (append_assoc, append-nil)
 
--- a member after others, by its name and its value
+-- a comma (44), a name `a`, a value `x` and the `rest`, text after text, are the member of that name and value, and
+-- then the `rest`
 one_joined : (a x rest : List ℕ) → 44 ∷ a ++ (x ++ rest) ≡ (44 ∷ (a ++ x)) ++ rest
 one_joined a x rest = ap (λ (l : List ℕ). 44 ∷ l) (sym (append_assoc a x rest))
 
--- three members after others, each by its name and its value, and what follows them
+-- three members, by their names (`a`, `b`, `c`) and values (`x`, `y`, `z`), each after a comma (44), and a `tail`: text
+-- after text, they are the list of the members, and then the `tail`
 pub members_joined : (a b c x y z tail : List ℕ)
     → 44 ∷ a ++ (x ++ (44 ∷ b ++ (y ++ (44 ∷ c ++ (z ++ tail))))) ≡ ((44 ∷ (a ++ x)) ++ ((44 ∷ (b ++ y)) ++ ((44 ∷ (c ++ z)) ++ []))) ++ tail
 members_joined a b c x y z tail =
@@ -28,7 +31,8 @@ members_joined a b c x y z tail =
     ∙ sym (append_assoc first (second ++ (third ++ [])) tail ∙ ap (λ (l : List ℕ). first ++ l) (append_assoc second (third ++ []) tail
     ∙ ap (λ (l : List ℕ). second ++ (l ++ tail)) (append-nil third)))
 
--- such members were appended, name by name and value by value
+-- Three members, by their names (`a`, `b`, `c`) and values (`x`, `y`, `z`), and a `tail` are appended to `old`, each
+-- member after a comma (44): `one` to `six` are the texts after each name or value, and `new` is that after the tail.
 pub members_told : (a b c x y z tail old one two three four five six new : List ℕ) → one ≡ old ++ 44 ∷ a → two ≡ one ++ x → three ≡ two ++ 44 ∷ b → four ≡ three ++ y
     → five ≡ four ++ 44 ∷ c → six ≡ five ++ z → new ≡ six ++ tail
     → new ≡ old ++ (((44 ∷ (a ++ x)) ++ ((44 ∷ (b ++ y)) ++ ((44 ∷ (c ++ z)) ++ []))) ++ tail)
@@ -41,7 +45,8 @@ members_told a b c x y z tail old one two three four five six new e1 e2 e3 e4 e5
     let f1 = after_that old one new (44 ∷ a) _ e1 f2 in
     f1 ∙ ap (λ (l : List ℕ). old ++ l) (members_joined a b c x y z tail)
 
--- the end of a row
+-- The end of a row's object is appended to `old`: `one` to `six` are the texts after each name or value of its three
+-- members, and `new` is that after the brace (125). `name` is the name of the listing, as a call gives it.
 pub end_told : (records : List (List Field)) (listing : Listing) (name old one two three four five six new : List ℕ) → name ≡ listing_name listing → one ≡ old ++ 44 ∷ named (codes "listing") → two ≡ one ++ string name
     → three ≡ two ++ 44 ∷ named (codes "record") → four ≡ three ++ record_value listing → five ≡ four ++ 44 ∷ named (codes "fields") → six ≡ five ++ array field_value (fields_listed records listing) → new ≡ six ++ 125 ∷ []
     → new ≡ old ++ row_end records listing

@@ -23,7 +23,8 @@ is_shown name =
 abbrev pub shown_fields : List Field → List Field
 shown_fields fields = filter (λ (f : Field). is_shown f.0) fields
 
--- the fields that are shown for a part of a tag: those of its record, if it has one
+-- the fields that are shown for a part of a tag: those of its record, if it has one; `records` are those of the
+-- registry's file
 abbrev pub fields_listed : List (List Field) → Listing → List Field
 fields_listed records (listings.Record number) = shown_fields (fields_of records number)
 fields_listed records listing = []

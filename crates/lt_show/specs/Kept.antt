@@ -10,16 +10,18 @@ use Rattle.lt_jar.specs.declared.sources.JarSource.{JarSource}
 use Rattle.lt_registry.specs.ReadRegistry.{IsJarRefusal, IsReadWhole, Reads}
 use Rattle.lt_show.specs.declared.reading.Draft.{Draft}
 
--- a further record is kept, and memory has not run out for one before
+-- memory has not run out before, and the record `r` is put behind those of the draft `old`, which gives `new`
 pub record KeepsMore (r : List Field) (old new : Draft) : Type 0 where
   pub before : old.lacks ≡ false
   pub more : new.records.items ≡ old.records.items ++ r ∷ []
 
--- a further record is kept, unless memory ran out for it or for one before
+-- the record `r` is put behind those of the draft `old`, which gives `new`, unless memory ran out for it or for one
+-- before
 abbrev pub Keeps : List Field → (old new : Draft) → Type 0
 Keeps r old new = new.lacks ≡ false → KeepsMore r old new
 
--- A call for the next record: the draft took the record that the reader lent, or is as it was where there was none.
+-- A call for the next record, from the reader `old` to `new`: the draft `draft` took the record that the reader lent,
+-- and became `drafted`, or is as it was where there was none.
 pub record KeepsNext {R : Type 0} (remaining : R → Option (List ℕ)) (old new : JarReader R JarSource)
     (draft drafted : Draft) (result : Result Bool JarFault) : Type 0 where
   pub same_reference : new.device.ghost_name ≡ old.device.ghost_name
@@ -31,7 +33,9 @@ pub record KeepsNext {R : Type 0} (remaining : R → Option (List ℕ)) (old new
 abbrev pub HasKept : Draft → List (List Field) → Type 0
 HasKept draft records = draft.lacks ≡ false → draft.records.items ≡ records
 
--- the records of the bytes were kept, or the bytes are refused
+-- What is true of an answer after `reads` reads of a device that gave `bytes`: the draft has kept the records of the
+-- bytes, or the fault is why they have none or were not read to their end. `remaining` is what a reader has left, where
+-- that is known.
 abbrev pub AnswersDraft : {R : Type 0} → (R → Option (List ℕ)) → Result Draft JarFault → (before after : Device R)
     → List ℕ → ℕ → Type 0
 AnswersDraft remaining (Ok draft) before after bytes reads =
@@ -43,7 +47,8 @@ abbrev pub IsJarFailure : Result Draft JarFault → Type 0
 IsJarFailure (Ok draft) = ⊥
 IsJarFailure (Err fault) = fault.kind ≡ jars.Read
 
--- the records of a registry were read from a device, with this answer
+-- the records of a registry were read from a device, with this answer; `remaining` is what a reader has left, where
+-- that is known
 unfoldable pub ReadsDraft : {R : Type 0} → (R → Option (List ℕ)) → (before after : Device R)
     → Result Draft JarFault → Type 0
 ReadsDraft remaining before after result =

@@ -16,8 +16,8 @@ use Rattle.lt_show.specs.declared.listings.Listing.TheVariants as listings
 use Rattle.lt_show.specs.declared.listings.Subject.{Subject}
 use Rattle.lt_show.specs.declared.listings.Subject.TheVariants as subjects
 
--- the kind of the records that list subtags of this kind, if any do; a source has the parts of a language tag (RFC
--- 6497, 2.2)
+-- the kind of the records that register subtags of this kind, None if no records do; a source has the parts of a
+-- language tag (RFC 6497, 2.2), and a grandfathered tag is no subtag
 abbrev pub kind_of : PartKind → Option Kind
 kind_of parts.Language = Some kinds.Language
 kind_of parts.Extlang = Some kinds.Extlang
@@ -31,17 +31,18 @@ kind_of parts.SourceRegion = Some kinds.Region
 kind_of parts.SourceVariant = Some kinds.Variant
 kind_of kind = None
 
--- what a registry has for a part with this entry: its record, or nothing
+-- what a registry has for a part by its entry: the entry's record, or Unregistered without an entry
 abbrev pub listing_by : Option EntryParts → Listing
 listing_by (Some e) = listings.Record e.number
 listing_by None = listings.Unregistered
 
--- the entry of the subtag that a text spells under a kind, in either case of its letters (RFC 5646, 2.1.1 and 3.1.4)
+-- the entry under a kind of the subtag that a text spells, in either case of its letters (RFC 5646, 2.1.1 and 3.1.4);
+-- None if the text is no subtag or has no entry
 abbrev pub entry_of : List EntryParts → Kind → List ℕ → Option EntryParts
 entry_of R kind text = option_and_then (λ s. entry R kind s) (result_ok (subtag_of text))
 
--- what a registry has for a part of a tag: for a grandfathered tag its record (RFC 5646, 2.2.8), for a subtag the
--- record of its kind
+-- what a registry has for a part of a tag, by the part's kind and text: for a grandfathered tag its record (RFC 5646,
+-- 2.2.8), for a subtag the record of its kind, and Unlisted where no record registers such parts
 abbrev pub listing : List EntryParts → TagForm → PartKind → List ℕ → Listing
 listing R tag parts.Grandfathered text = listing_by (whole R tag)
 listing R tag kind text = option_map_or (λ k. listing_by (entry_of R k text)) (kind_of kind) listings.Unlisted

@@ -12,8 +12,9 @@ use Rattle.lt_show.specs.declared.reading.RecordsFault.TheVariants as faults
 abbrev pub RecordsReading : Type 0
 RecordsReading = Result (List EntryParts × List (List Field)) RecordsFault
 
--- The bytes have these records, of which these are the entries; or they are refused as where the entries are read
--- alone; or memory ran out.
+-- What is true of an answer after `reads` reads of a device that gave `bytes`: the bytes have these records, of which
+-- these are the entries; or they are refused as where the entries are read alone; or memory ran out. `remaining` is
+-- what a reader has left, where that is known.
 abbrev pub AnswersWith : {R : Type 0} → (R → Option (List ℕ)) → RecordsReading → (before after : Device R)
     → List ℕ → ℕ → Type 0
 AnswersWith remaining (Ok both) before after bytes reads =
@@ -28,7 +29,8 @@ IsFailure (Ok both) = ⊥
 IsFailure (Err (faults.Registry fault)) = IsReadFailure (Err fault)
 IsFailure (Err faults.OutOfMemory) = ⊥
 
--- a registry was read with its records from a device, with this answer
+-- a registry was read with its records from a device, with this answer; `remaining` is what a reader has left, where
+-- that is known
 unfoldable pub ReadsRecords : {R : Type 0} → (R → Option (List ℕ)) → (before after : Device R) → RecordsReading → Type 0
 ReadsRecords remaining before after result =
     Reads remaining before after (AnswersWith remaining result) (IsFailure result)

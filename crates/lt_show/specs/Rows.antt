@@ -11,7 +11,7 @@ use Rattle.lt_show.specs.declared.listings.Listing.TheVariants as listings
 use Rattle.lt_show.specs.declared.listings.Subject.TheVariants as subjects
 use Rattle.lt_show.specs.declared.rows.Row.{Row}
 
--- the row of a part of a tag with this text, at a place
+-- the row of a part of a tag: `text` is the tag's text, and `place` that of the part among its parts, counted from 1
 abbrev pub row_of : List EntryParts → TagForm → (text : List ℕ) → (place : ℕ) → Part → Row
 row_of R tag text place part = record {
   place = place;
@@ -21,27 +21,28 @@ row_of R tag text place part = record {
   listing = listing R tag part.kind (cut_of text part);
 }
 
--- the rows of these parts of a tag, from a place on
+-- the rows of these parts of a tag, of which the first has the place `place`; `text` is the tag's text
 abbrev pub part_rows : List EntryParts → TagForm → (text : List ℕ) → (place : ℕ) → List Part → List Row
 part_rows R tag text place [] = []
 part_rows R tag text place (part ∷ parts) = row_of R tag text place part ∷ part_rows R tag text (place + 1) parts
 
--- the row of a whole tag by its entry, if it has one
+-- the row of a whole tag by its entry, or none without an entry; `text` is the tag's text
 abbrev pub whole_by : (text : List ℕ) → Option EntryParts → List Row
 whole_by text None = []
 whole_by text (Some e) =
     record { place = 1; subject = subjects.Whole; start = 0; length = length text; listing = listings.Record e.number }
     ∷ []
 
--- the row of a tag that is registered as a whole; a grandfathered tag has that of its one part (RFC 5646, 2.2.8)
+-- the row of a whole tag, if a record registers it; a grandfathered tag has that of its one part alone (RFC 5646,
+-- 2.2.8)
 abbrev pub whole_rows : List EntryParts → TagForm → List Row
 whole_rows R (Grandfathered number) = []
 whole_rows R tag = whole_by (text_of tag) (whole R tag)
 
--- the rows for a tag: of the whole, if that is registered, and of its parts
+-- the rows for a tag by the entries of a registry: of the whole tag, if that is registered, and of its parts
 abbrev pub rows_of : List EntryParts → TagForm → List Row
 rows_of R tag = whole_rows R tag ++ part_rows R tag (text_of tag) 1 (parts_of tag)
 
--- the text that a row is about, out of the tag's text
+-- the text that a row is about, cut out of `text`, the tag's text
 abbrev pub text_in : (text : List ℕ) → Row → List ℕ
 text_in text row = take row.length (drop row.start text)

@@ -15,7 +15,7 @@ use Rattle.lt_show.specs.declared.listings.Listing.TheVariants as listings
 use Rattle.lt_show.specs.declared.rows.Row.{Row}
 use Rattle.lt_show.specs.declared.tables.Widths.{Widths}
 
--- a cell of a column of this width, and the two spaces after it
+-- a cell, filled with spaces (32) up to the width of its column, and two spaces more
 abbrev pub padded : ℕ → List ℕ → List ℕ
 padded width cell = cell ++ (replicate (width - length cell) 32 ++ 32 ∷ 32 ∷ [])
 
@@ -23,19 +23,20 @@ padded width cell = cell ++ (replicate (width - length cell) 32 ++ 32 ∷ 32 ∷
 abbrev pub shown_byte : ℕ → ℕ
 shown_byte byte = if nat_lt byte 32 || (byte == 127) then 32 else byte
 
--- the line of a field: below the second column its name, in a column of 15, then its body
+-- the line of a field: five spaces, which are the first column, then its name, in a column as wide as the longest name
+-- that is shown (15), its body, and a line feed (10)
 abbrev pub field_line : Field → List ℕ
 field_line field = codes "     " ++ (padded 15 field.0 ++ (map shown_byte field.1 ++ 10 ∷ []))
 
--- the lines of fields
+-- the lines of fields, one after another
 abbrev pub fields_text : List Field → List ℕ
 fields_text fields = flat_map field_line fields
 
--- the widest of the texts of rows
+-- the length of the longest text that `cell` gives for a row, 0 without rows
 abbrev pub widest : (Row → List ℕ) → List Row → ℕ
 widest cell rows = fold max 0 (map (λ (row : Row). length (cell row)) rows)
 
--- how wide the columns are: that of the names, and that of the texts
+-- how wide the columns of rows are: that of what they are about, and that of their texts; `text` is the tag's text
 abbrev pub widths_of : (text : List ℕ) → List Row → Widths
 widths_of text rows = record {
   subject = widest (λ (row : Row). subject_name row.subject) rows;
@@ -48,25 +49,29 @@ listing_text listings.Unlisted = []
 listing_text listings.Unregistered = codes "not registered"
 listing_text (listings.Record number) = codes "record " ++ decimal number
 
--- the end of a row's line: its text, and what the registry has for it, if it lists parts of the kind
+-- the end of a row's line: its text, `cell`, in a column of this width, and what the registry has for it; or the text
+-- alone where no record registers such parts
 abbrev pub last_cells : ℕ → (cell : List ℕ) → Listing → List ℕ
 last_cells width cell listings.Unlisted = cell
 last_cells width cell listing = padded width cell ++ listing_text listing
 
--- the line of a row: its place, in a column of 3, what it is about, its text, and what the registry has for it
+-- the line of a row: its place, in a column of 3 digits, what it is about, its text, what the registry has for it, and
+-- a line feed (10); `text` is the tag's text
 abbrev pub row_line : Widths → (text : List ℕ) → Row → List ℕ
 row_line widths text row =
     padded 3 (decimal row.place) ++ (padded widths.subject (subject_name row.subject)
     ++ (last_cells widths.text (text_in text row) row.listing ++ 10 ∷ []))
 
--- the line of a row, and those of its fields
+-- the line of a row, and those of its fields; `text` is the tag's text, and `records` are those of the registry's file
 abbrev pub row_text : Widths → (text : List ℕ) → List (List Field) → Row → List ℕ
 row_text widths text records row = row_line widths text row ++ fields_text (fields_listed records row.listing)
 
--- the lines of rows, each followed by those of its fields
+-- the lines of rows, each followed by those of its fields; `text` is the tag's text, and `records` are those of the
+-- registry's file
 abbrev pub rows_text : (text : List ℕ) → List (List Field) → List Row → List ℕ
 rows_text text records rows = flat_map (row_text (widths_of text rows) text records) rows
 
--- what `show` prints of a tag: its text, and the table of its rows
+-- what `show` prints of a tag, by the entries of a registry and the records of its file: its text, and the table of its
+-- rows
 abbrev pub table_of : List EntryParts → List (List Field) → TagForm → List ℕ
 table_of R records tag = text_of tag ++ 10 ∷ rows_text (text_of tag) records (rows_of R tag)

@@ -47,7 +47,8 @@ fn append_fields(objects: &mut Vec<u8>, fields: &[JarField]) -> Result<(), Alloc
     Ok(())
 }
 
-/// Appends the array of the shown fields of the record that is listed, which is empty if there is none.
+/// Appends the array of the shown fields of the record that is listed, which is empty if there is none. The records are
+/// those of the registry's file.
 fn append_listed(
     objects: &mut Vec<u8>,
     records: &[Record],
@@ -89,7 +90,8 @@ fn append_decimal(objects: &mut Vec<u8>, alloc: Global, number: usize) -> Result
     objects.extend_from_slice(format!(in alloc; "{number}")?.as_bytes())
 }
 
-/// Appends the beginning of a row's object: its place, the name of its kind and its text, which is a part of `text`.
+/// Appends the beginning of a row's object: its place, the name of its kind and its text, which is cut out of `text`,
+/// the text of the tag.
 #[tactic(auto, unfolding(crate::specs::Json::row_front))]
 fn append_front(
     objects: &mut Vec<u8>,
@@ -107,7 +109,8 @@ fn append_front(
     append_string(objects, cut(text, row.start, row.length))
 }
 
-/// Appends the end of a row's object: what the registry has for it, and the fields of its record.
+/// Appends the end of a row's object: what the registry has for it, the number of its record, and the fields of that.
+/// The records are those of the registry's file.
 fn append_end(objects: &mut Vec<u8>, records: &[Record], listing: Listing) -> Result<(), AllocError>
     ensures { OnOk result (objects.new.items ≡ objects.old.items ++ row_end records.now listing) }
 {
@@ -121,7 +124,8 @@ fn append_end(objects: &mut Vec<u8>, records: &[Record], listing: Listing) -> Re
     Ok(())
 }
 
-/// Appends the object of a row, of which the text is a part of `text`.
+/// Appends the object of a row, whose text is cut out of `text`, the text of the tag. The records are those of the
+/// registry's file.
 fn append_row(
     objects: &mut Vec<u8>,
     alloc: Global,
@@ -136,7 +140,8 @@ fn append_row(
     Ok(())
 }
 
-/// Appends the array of rows, of which each text is a part of `text`.
+/// Appends the array of rows, whose texts are cut out of `text`, the text of the tag. The records are those of the
+/// registry's file.
 #[tactic(auto, using(lt_json_text::proofs::ValueLemmas::commaed_more))]
 fn append_each(
     objects: &mut Vec<u8>,

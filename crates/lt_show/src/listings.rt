@@ -41,7 +41,8 @@ impl Subject {
     }
 }
 
-/// The kind of the records that register parts of this kind. None if no record does.
+/// The kind of the records that register subtags of this kind, or None if no records do. The source of a `t` extension
+/// has the parts of a language tag (RFC 6497, 2.2); a grandfathered tag is no subtag.
 fn kind_of(kind: PartKind) -> Option<Kind>
     ensures { result ≡ spec.kind_of kind }
 {
@@ -65,7 +66,8 @@ pub(crate) fn listed(entry: Option<&Entry>) -> Listing
     }
 }
 
-/// The listing of a subtag under a kind, by its text.
+/// What a table has for the subtag that a text spells, under a kind of record: `Unregistered` where the text is no
+/// subtag, too.
 fn listing_under<L: Lookup>(table: &L, kind: Kind, text: &[u8]) -> Listing
     ensures { result ≡ listing_by (entry_of (L.listed table.now) kind text.now) }
 {
@@ -75,7 +77,8 @@ fn listing_under<L: Lookup>(table: &L, kind: Kind, text: &[u8]) -> Listing
     }
 }
 
-/// What a table has for a part of a tag, by its kind and its text; for a grandfathered tag, by the whole of it.
+/// What a table has for a part of a tag, by its kind and its text: for a grandfathered tag by the whole of it, and
+/// `Unlisted` where no record registers parts of the kind.
 pub(crate) fn look_up<L: Lookup>(table: &L, tag: &Tag, kind: PartKind, text: &[u8]) -> Listing
     ensures { result ≡ spec.listing (L.listed table.now) tag.now kind text.now }
 {

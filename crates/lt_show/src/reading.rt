@@ -19,7 +19,7 @@ pub enum RecordsFault {
     OutOfMemory,
 }
 
-/// An equal field. It is refused only where memory runs out.
+/// A copy of a field. It is refused only where memory runs out.
 fn copy_field(alloc: Global, field: &JarField) -> Result<JarField, OutOfMemory>
     ensures { IfOk result (λ copy. copy ≡ field.now) }
 {
@@ -29,7 +29,7 @@ fn copy_field(alloc: Global, field: &JarField) -> Result<JarField, OutOfMemory>
     })
 }
 
-/// Equal fields in a new vector.
+/// Copies of fields, in a new vector. They are refused only where memory runs out.
 fn copy_fields(alloc: Global, fields: &[JarField]) -> Result<Vec<JarField>, OutOfMemory>
     ensures { IfOk result (λ copies. copies.items ≡ fields.now) }
 {
@@ -40,7 +40,7 @@ fn copy_fields(alloc: Global, fields: &[JarField]) -> Result<Vec<JarField>, OutO
     Ok(copies)
 }
 
-/// Puts the record of these fields after the others.
+/// Puts a record of copies of these fields after the other records. It is refused only where memory runs out.
 fn push_record(
     alloc: Global,
     records: &mut Vec<Record>,
@@ -57,11 +57,12 @@ fn push_record(
 #[derive(Drop)]
 struct Draft {
     records: Vec<Record>,
+    /// Whether memory ran out for a record. No more are kept then.
     lacks: bool,
 }
 
 impl Draft {
-    /// No record so far.
+    /// A draft without records.
     fn new(alloc: Global) -> Draft
         ensures records { result.records.items ≡ [] }
         ensures lacks { result.lacks ≡ false }
@@ -72,7 +73,8 @@ impl Draft {
         }
     }
 
-    /// Keeps the next record. Once memory runs out for one, no more are kept.
+    /// Keeps a record of copies of these fields, after the others. Once memory runs out for one, no more are kept; the
+    /// file is read on, since a fault of it is answered before the lack of memory.
     fn take(&mut self, alloc: Global, fields: &[JarField])
         ensures { Keeps fields.now self.old self.new }
     {
@@ -81,7 +83,7 @@ impl Draft {
         }
     }
 
-    /// Keeps the next record of a reader, and tells whether there is one.
+    /// Keeps the next record of a reader, and tells whether there is one. It is refused with the reader's fault.
     fn take_next<R: Read>(
         &mut self,
         alloc: Global,
@@ -100,7 +102,7 @@ impl Draft {
     }
 }
 
-/// The records that a device gives, read to its end.
+/// The records that a device gives, read to its end, or the fault of the file.
 #[tactic(auto, using(crate::proofs::KeptLemmas::kept_none))]
 fn read_draft<R: Read>(alloc: Global, device: &mut Device<R>) -> Result<Draft, JarFault>
     ensures { ReadsDraft R.remaining device.old device.new result }
@@ -111,9 +113,9 @@ fn read_draft<R: Read>(alloc: Global, device: &mut Device<R>) -> Result<Draft, J
     Ok(draft)
 }
 
-/// The registry that a device gives, and the records of its file, of which the entries are made: the record of an entry's
-/// number is the one of its number in the file, counted from 1. The device is read to its end, record by record, once. It
-/// is refused as `Registry::read` refuses it; and by `OutOfMemory` where memory runs out for the records.
+/// The registry that a device gives, and the records of its file, of which the entries are made: an entry's number is
+/// that of its record among them, counted from 1. The device is read to its end, record by record, once. It is refused
+/// as `Registry::read` refuses it; and by `OutOfMemory` where memory runs out for the records.
 #[tactic(auto, unfolding(crate::specs::Kept::ReadsDraft, crate::specs::Reading::ReadsRecords))]
 pub fn read_records<R: Read>(
     alloc: Global,

@@ -33,7 +33,8 @@ pub(crate) fn cut(text: &[u8], start: usize, length: usize) -> &[u8]
     &rest[..length.min(rest.len())]
 }
 
-/// The row of a part of a tag, which has this place among its parts. `text` is the text of the tag.
+/// The row of a part of a tag: `text` is the text of the tag, and `place` that of the part among its parts, counted
+/// from 1.
 fn row_of<L: Lookup>(table: &L, tag: &Tag, text: &[u8], place: usize, part: &Part) -> Row
     ensures { result ≡ spec.row_of (L.listed table.now) tag.now text.now place part.now }
 {
@@ -47,7 +48,7 @@ fn row_of<L: Lookup>(table: &L, tag: &Tag, text: &[u8], place: usize, part: &Par
     }
 }
 
-/// The row of a whole tag that is registered as redundant, or no row. `text` is the text of the tag.
+/// The row of a whole tag that is registered as redundant (RFC 5646, 2.2.8), or no row. `text` is the text of the tag.
 fn whole_rows<L: Lookup>(
     alloc: Global,
     table: &L,
@@ -58,6 +59,7 @@ fn whole_rows<L: Lookup>(
     ensures { IfOk result (λ rows. rows.items ≡ spec.whole_rows (L.listed table.now) tag.now) }
 {
     let mut rows = Vec::new(alloc);
+    // A grandfathered tag is one part, whose row has its record.
     if tag.grandfathered().is_some() {
         return Ok(rows);
     }

@@ -12,13 +12,13 @@ use lt_registry::Lookup;
 use lt_tag::{OutOfMemory, Tag, write_tag};
 use std::alloc::Global;
 
-/// The width of the first column.
+/// The width of the first column, of places: three digits, since a text of at most 1,024 bytes has at most 512 parts.
 const PLACE: usize = 3;
 
-/// The width of the names of fields.
+/// The width of the column of names of fields: the longest that are shown have 15 characters, as `Preferred-Value`.
 const NAME: usize = 15;
 
-/// Appends spaces.
+/// Appends `count` spaces.
 fn append_spaces(told: &mut Vec<u8>, count: usize) -> Result<(), OutOfMemory>
     ensures { OnOk result (told.new.items ≡ told.old.items ++ replicate count 32) }
 {
@@ -28,7 +28,7 @@ fn append_spaces(told: &mut Vec<u8>, count: usize) -> Result<(), OutOfMemory>
     Ok(())
 }
 
-/// Appends a cell with spaces up to the width of its column, and two more.
+/// Appends a cell, with spaces up to the width of its column, and two more.
 fn append_padded(told: &mut Vec<u8>, width: usize, cell: &[u8]) -> Result<(), OutOfMemory>
     ensures { OnOk result (told.new.items ≡ told.old.items ++ padded width cell.now) }
 {
@@ -38,7 +38,7 @@ fn append_padded(told: &mut Vec<u8>, width: usize, cell: &[u8]) -> Result<(), Ou
     Ok(())
 }
 
-/// The byte that stands for one of a text that is shown: a space for a control character of ASCII.
+/// The byte that is shown for a byte of a text: a space for a control character of ASCII, else the byte itself.
 fn shown_byte(byte: u8) -> u8
     ensures { result ≡ spec.shown_byte byte }
 {
@@ -60,10 +60,11 @@ pub fn append_printable(told: &mut Vec<u8>, text: &[u8]) -> Result<(), OutOfMemo
     Ok(())
 }
 
-/// Appends the line of a field of a record: its name and its body.
+/// Appends the line of a field of a record: its name and its body, to the right of the column of places.
 fn append_field(told: &mut Vec<u8>, field: &JarField) -> Result<(), OutOfMemory>
     ensures { OnOk result (told.new.items ≡ told.old.items ++ field_line field.now) }
 {
+    // The column of places, and the two spaces after it.
     told.extend_from_slice(b"     ")?;
     append_padded(told, NAME, field.name().as_bytes())?;
     append_printable(told, field.body().as_bytes())?;
@@ -71,7 +72,7 @@ fn append_field(told: &mut Vec<u8>, field: &JarField) -> Result<(), OutOfMemory>
     Ok(())
 }
 
-/// Appends a line for each field of a record that is shown.
+/// Appends a line for each of a record's fields whose name is shown.
 fn append_fields(told: &mut Vec<u8>, fields: &[JarField]) -> Result<(), OutOfMemory>
     ensures { OnOk result (told.new.items ≡ told.old.items ++ fields_text (shown_fields fields.now)) }
 {
@@ -86,11 +87,14 @@ fn append_fields(told: &mut Vec<u8>, fields: &[JarField]) -> Result<(), OutOfMem
 /// How wide the columns of rows are.
 #[derive(Clone, Copy)]
 struct Widths {
+    /// The column of what the rows are about.
     subject: usize,
+    /// The column of their texts.
     text: usize,
 }
 
-/// How wide the columns are for rows, whose texts are parts of `text`: as wide as their longest cells.
+/// How wide the columns of rows are: as wide as their longest cells. The texts of rows are cut out of `text`, the text
+/// of the tag.
 fn widths_of(text: &[u8], rows: &[Row]) -> Widths
     ensures { result ≡ spec.widths_of text.now rows.now }
 {
@@ -106,7 +110,8 @@ fn widths_of(text: &[u8], rows: &[Row]) -> Widths
     }
 }
 
-/// Appends what the registry has: the number of a record, that there is none, or nothing of what can't be registered.
+/// Appends what the registry has: the number of a record, that there is none, or nothing where no record registers such
+/// parts.
 fn append_listing(told: &mut Vec<u8>, alloc: Global, listing: Listing) -> Result<(), OutOfMemory>
     ensures { OnOk result (told.new.items ≡ told.old.items ++ spec.listing_text listing) }
 {
@@ -120,7 +125,7 @@ fn append_listing(told: &mut Vec<u8>, alloc: Global, listing: Listing) -> Result
     Ok(())
 }
 
-/// Appends the line of a row, of which the text is a part of `text`.
+/// Appends the line of a row, whose text is cut out of `text`, the text of the tag.
 fn append_row_line(
     told: &mut Vec<u8>,
     alloc: Global,
@@ -145,7 +150,8 @@ fn append_row_line(
     Ok(())
 }
 
-/// Appends the line of a row, and one for each shown field of its record.
+/// Appends the line of a row, and one for each shown field of its record. `text` is the text of the tag, and the
+/// records are those of the registry's file.
 fn append_row(
     told: &mut Vec<u8>,
     alloc: Global,
@@ -193,7 +199,8 @@ pub fn append_table<L: Lookup>(
     Ok(())
 }
 
-/// Appends the lines of rows, of which each text is a part of `text`, and of the fields of their records.
+/// Appends the lines of rows and of the fields of their records. `text` is the text of the tag, and the records are
+/// those of the registry's file.
 fn append_rows(
     told: &mut Vec<u8>,
     alloc: Global,
