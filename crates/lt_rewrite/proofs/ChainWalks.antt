@@ -28,32 +28,36 @@ use Rattle.lt_rewrite.specs.declared.cycles.Order.TheVariants as orders
 pub entry_there : (R : List EntryParts) (k : Kind) (s : List ℕ) (e : EntryParts) → entry R k s ≡ Some e → Contains R e
 entry_there R k s e h = (entry_has R k s (Contains R) (All-contains_itself R) e h).0
 
+-- `Some` on entries, as a function
 abbrev pub some : EntryParts → Option EntryParts
 some e = Some e
 
--- a record that gives a value, by its place
+-- a record of `R`, at the place `at`, whose preferred value is the subtag `v`
 record Rule (R : List EntryParts) (v : List ℕ) : Type 0 where
   at : ℕ
   entry : EntryParts
   there : slice_get R at ≡ Some entry
   gives : one_of entry.value ≡ Some v
 
+-- a value that follows in a chain is given by a record
 rule : (R : List EntryParts) (k : Kind) (s v : List ℕ) → next_value R k s ≡ Some v → Rule R v
 rule R k s v e =
     let en : ValuedEntry R k s v = valued R k s v (next_is_value R k s v e) in
     let c = entry_there R k s en.at en.found in
     record { at = c.0; entry = en.at; there = slice_get-get_or R c.0 en.at c.1 ∙ ap some c.2; gives = en.gives }
 
+-- two values that the record at one place gives are equal
 one_value : (R : List EntryParts) (v w : List ℕ) (a : Rule R v) (b : Rule R w) → a.at ≡ b.at → v ≡ w
 one_value R v w a b e =
     let same : a.entry ≡ b.entry = same_Some a.entry b.entry (sym a.there ∙ ap (slice_get R) e ∙ b.there) in
     same_Some v w (sym a.gives ∙ ap (λ (x : EntryParts). one_of x.value) same ∙ b.gives)
 
--- the chain from s takes n values
+-- exactly `n` values follow `s` on its chain, where `f` gives the next value of each
 abbrev pub Takes : (List ℕ → Option (List ℕ)) → ℕ → List ℕ → Type 0
 Takes f zero s = f s ≡ None
 Takes f (suc n) s = (t : List ℕ) × (f s ≡ Some t) × Takes f n t
 
+-- the number of values that follow is unique
 pub takes_unique : (f : List ℕ → Option (List ℕ)) (n m : ℕ) (s : List ℕ) → Takes f n s → Takes f m s → n ≡ m
 takes_unique f zero zero s a b = refl
 takes_unique f zero (suc m) s a b = let c = b.1 in cc
@@ -62,30 +66,37 @@ takes_unique f (suc n) (suc m) s a b =
     let same : a.0 ≡ b.0 = let x = a.1 in let y = b.1 in cc in
     ap suc (takes_unique f n m b.0 (subst (Takes f n) same a.2) b.2)
 
+-- a chain with an end takes some number of values
 takes : (f : List ℕ → Option (List ℕ)) (n : ℕ) (s : List ℕ) → f (chase f n s) ≡ None → (m : ℕ) × Takes f m s
 takes f zero s h = (0, h)
 takes f (suc n) s h =
     by_next (f s) (λ e. (0, e)) (λ t e. let r = takes f n t (ap f (sym (chase_next f n s t e)) ∙ h) in (suc r.0, (t, e, r.1)))
 
+-- after all its values a chain has ended
 takes_ends : (f : List ℕ → Option (List ℕ)) (n : ℕ) (s : List ℕ) → Takes f n s → f (chase f n s) ≡ None
 takes_ends f zero s a = a
 takes_ends f (suc n) s a = ap f (chase_next f n s a.0 a.1) ∙ takes_ends f n a.0 a.2
 
 module _ (R : List EntryParts) (k : Kind) where
+  -- the value that follows a subtag on the chain of its kind
   abbrev pub next : List ℕ → Option (List ℕ)
   next = next_value R k
 
+  -- the place of the record that gives the value after `s`
   abbrev key : (s t : List ℕ) → next s ≡ Some t → ℕ
   key s t e = (rule R k s t e).at
 
+  -- the places of the records that give the `n` values after `s`
   abbrev keys : (n : ℕ) (s : List ℕ) → Takes next n s → List ℕ
   keys zero s a = []
   keys (suc n) s a = key s a.0 a.1 ∷ keys n a.0 a.2
 
+  -- `keys` has one place for each value of a chain
   keys_length : (n : ℕ) (s : List ℕ) (a : Takes next n s) → length (keys n s a) ≡ n
   keys_length zero s a = refl
   keys_length (suc n) s a = ap suc (keys_length n a.0 a.2)
 
+  -- each place in `keys` is one in the registry
   keys_below : (n : ℕ) (s : List ℕ) (a : Takes next n s) (q : ℕ) → list_any (eqb q) (keys n s a) ≡ true → q < length R
   keys_below zero s a q h = cc
   keys_below (suc n) s a q h =
@@ -95,6 +106,7 @@ module _ (R : List EntryParts) (k : Kind) where
         | inr e ↦ keys_below n a.0 a.2 q e
       ]
 
+  -- the record that gives the first of `n` + 1 values gives none of a chain that takes at most `n`
   keys_differ : (n : ℕ) (s : List ℕ) (a : Takes next (suc n) s) (m : ℕ) (t : List ℕ) (b : Takes next m t) → m ≤ n → AllByRecursion (λ y. eqb (key s a.0 a.1) y ≡ false) (keys m t b)
   keys_differ n s a zero t b h = tt
   keys_differ n s a (suc m) t b h =
@@ -104,6 +116,7 @@ module _ (R : List EntryParts) (k : Kind) where
       omega arith in
       (ne_eqb (key s a.0 a.1) (key t b.0 b.1) ne, keys_differ n s a m b.0 b.2 (omega arith))
 
+  -- no record gives two values of a chain that ends
   keys_distinct : (n : ℕ) (s : List ℕ) (a : Takes next n s) → IsDistinct eqb (keys n s a)
   unfolding IsDistinct
   keys_distinct zero s a = tt
@@ -115,7 +128,7 @@ module _ (R : List EntryParts) (k : Kind) where
       let r = takes next h.0 s h.1 in
       (r.0, omega (arith, keys_length r.0 s r.1, length-le_from_distinct_below (keys r.0 s r.1) (length R) (keys_distinct r.0 s r.1) (keys_below r.0 s r.1)), r.1)
 
--- so it has ended after as many
+-- a chain that ends has ended after as many values as there are records
 pub chain_ends_within : (R : List EntryParts) (k : Kind) (s : List ℕ) → Ends (next_value R k) s → next_value R k (chase (next_value R k) (length R) s) ≡ None
 chain_ends_within R k s h =
     let f : List ℕ → Option (List ℕ) = next_value R k in
@@ -123,20 +136,21 @@ chain_ends_within R k s h =
     let end : f (chase f t.0 s) ≡ None = takes_ends f t.0 s t.2 in
     ap f (chase_past f t.0 (length R) s t.1 end) ∙ end
 
--- what a walk of this many values gives
+-- one value more: where `u` is `n` values on from `s`, and `t` follows `u`, `t` is `n` + 1 values on from `s`
 pub chase_more : (f : List ℕ → Option (List ℕ)) (n : ℕ) (s u t : List ℕ) → u ≡ chase f n s → f u ≡ Some t → t ≡ chase f (n + 1) s
 chase_more f n s u t e h =
     sym (ap (λ k. chase f k s) (omega arith) ∙ chase_plus f 1 n s ∙ ap (chase f 1) (sym e) ∙ chase_next f 0 u t h)
 
--- a walk that comes to an end
+-- where `d` is `n` values on from `s`, and no value follows it, the chain from `s` ends in `d`
 pub walk_ends : (f : List ℕ → Option (List ℕ)) (n : ℕ) (s d : List ℕ) → d ≡ chase f n s → f d ≡ None → EndsIn f s d
 walk_ends f n s d e h = (n, sym e, h)
 
--- a walk of as many values as there are records that has not come to an end never does
+-- if a value follows even after as many values as there are records, the chain has no end
 pub walk_cycles : (R : List EntryParts) (k : Kind) (s d t : List ℕ) → d ≡ chase (next_value R k) (length R) s → next_value R k d ≡ Some t → Ends (next_value R k) s → ⊥
 walk_cycles R k s d t e h ends =
     let a : next_value R k d ≡ None = ap (next_value R k) e ∙ chain_ends_within R k s ends in cc
 
+-- a value that follows in a chain has the form of its kind
 pub next_form : (R : List EntryParts) → IsRegistry R → (k : Kind) (s t : List ℕ) → next_value R k s ≡ Some t → has_form k t ≡ true
 next_form R G kinds.Language s t e = value_form R G kinds.Language s t e
 next_form R G kinds.Script s t e = value_form R G kinds.Script s t e
@@ -144,19 +158,22 @@ next_form R G kinds.Region s t e = value_form R G kinds.Region s t e
 next_form R G kinds.Variant s t e = variant_value_form R G s t e
 next_form u v w s t e = cc
 
--- the values of a chain have the form of their kind
+-- each value of a chain has the form of its kind, if the start has it
 pub walk_form : (R : List EntryParts) → IsRegistry R → (k : Kind) (n : ℕ) (s t : List ℕ) → chase (next_value R k) n s ≡ t → has_form k s ≡ true → has_form k t ≡ true
 walk_form R G k n s t e h =
     subst (λ x. has_form k x ≡ true) e (chase_keeps (next_value R k) (λ x. has_form k x ≡ true) (λ a b f p. next_form R G k a b f) n s h)
 
+-- the end of a chain has the form of its kind, if the start has it
 pub end_form : (R : List EntryParts) → IsRegistry R → (k : Kind) (s d : List ℕ) → EndsIn (next_value R k) s d → has_form k s ≡ true → has_form k d ≡ true
 end_form R G k s d e h = walk_form R G k e.0 s d e.1 h
 
--- but for extlangs a chain is one of values of its kind
+-- except for an extlang, whose chain begins at its replacement, an end of the kind's own chain is the one that
+-- `ChainEndsIn` asks for
 pub own_end : (R : List EntryParts) (k : Kind) (s : List ℕ) → (k ≡ kinds.Extlang → ⊥) → (r : Result (List ℕ) Cycle) → IfOk r (EndsIn (next_value R k) s) → IfOk r (ChainEndsIn R k s)
 own_end R kinds.Extlang s n r h = absurd (n refl)
 own_end t u s n r h = h
 
+-- except for an extlang, where the kind's own chain has no end, it has none as `ChainEnds` asks for it
 pub own_cycle : (R : List EntryParts) (k : Kind) (s : List ℕ) → (k ≡ kinds.Extlang → ⊥) → (r : Result (List ℕ) Cycle) → OnErr r (Ends (next_value R k) s → ⊥) → OnErr r (ChainEnds R k s → ⊥)
 own_cycle R kinds.Extlang s n r h = absurd (n refl)
 own_cycle t u s n r h = h
@@ -165,14 +182,17 @@ own_cycle t u s n r h = h
 
 -- what follows a subtag in a chain is what follows by its entry
 
+-- of a kind without chains no value follows, whether there is an entry `o` or not
 nothing_follows : (o : Option EntryParts) → None ≡ option_and_then {U = List ℕ} (λ (e : EntryParts). None) o
 nothing_follows None = refl
 nothing_follows (Some e) = refl
 
+-- what follows by the entry `o` of a variant is its value, if that is not short
 variant_follows : (o : Option EntryParts) → option_and_then (λ w. cond (is_short w) None (Some w)) (option_and_then (λ (e : EntryParts). one_of e.value) o) ≡ option_and_then (following kinds.Variant) o
 variant_follows None = refl
 variant_follows (Some e) = refl
 
+-- the value after `s` on its chain is the one that follows by the entry of `s`
 pub next_follows : (R : List EntryParts) (k : Kind) (s : List ℕ) → next_value R k s ≡ option_and_then (following k) (entry R k s)
 next_follows R kinds.Extlang s = nothing_follows (entry R kinds.Extlang s)
 next_follows R kinds.Variant s = variant_follows (entry R kinds.Variant s)
@@ -180,15 +200,17 @@ next_follows R kinds.Grandfathered s = nothing_follows (entry R kinds.Grandfathe
 next_follows R kinds.Redundant s = nothing_follows (entry R kinds.Redundant s)
 next_follows t u s = refl
 
+-- the value after `s` on its chain is the one that follows by its entry `o`
 pub next_by : (R : List EntryParts) (k : Kind) (s : List ℕ) (o : Option EntryParts) → o ≡ entry R k s → next_value R k s ≡ option_and_then (following k) o
 next_by R k s o e = next_follows R k s ∙ ap (option_and_then (following k)) (sym e)
 
--- a walk of n values along the chain from a record's value
+-- `e` is a record of the kind `k` with the value `v`, and `s` is `n` values on from `v`
 pub record IsWalk (R : List EntryParts) (e : EntryParts) (k : Kind) (v s : List ℕ) (n : ℕ) : Type 0 where
   pub of_kind : k ≡ e.kind
   pub from : one_of e.value ≡ Some v
   pub walked : s ≡ chase (next_value R k) n v
 
+-- if the chain ends from where the walk has come to, the record's chain ends
 chain_from : (R : List EntryParts) (e : EntryParts) (k : Kind) (v s : List ℕ) (n : ℕ) → IsWalk R e k v s n → Ends (next_value R k) s → HasEndingChain R e
 chain_from R e k v s n W ends w h =
     let f : List ℕ → Option (List ℕ) = next_value R k in
@@ -196,11 +218,12 @@ chain_from R e k v s n W ends w h =
     let rest : Ends f (chase f n v) = subst (Ends f) W.walked ends in
     subst (λ (d : Kind). Ends (next_value R d) w) W.of_kind (subst (Ends f) same (rest.0 + n, ap f (chase_plus f rest.0 n v) ∙ rest.1))
 
--- a walk that has come to the end
+-- a walk comes to a subtag without a next value: the record's chain ends
 pub ends_there : (R : List EntryParts) (e : EntryParts) (k : Kind) (v s : List ℕ) (n : ℕ) → IsWalk R e k v s n → next_value R k s ≡ None → HasEndingChain R e
 ends_there R e k v s n W end = chain_from R e k v s n W (0, end)
 
--- a walk that has come to a record before it in an order
+-- a walk comes to a subtag whose record `met` is before `e` in an order: the chain of `e` ends if the chains of the
+-- records before it do
 pub ends_after : (R : List EntryParts) (order : Order) (e met : EntryParts) (k : Kind) (v s : List ℕ) (n : ℕ) → IsWalk R e k v s n → entry R k s ≡ Some met → place order met.number < place order e.number → EndsAfterEarlier R order e
 ends_after R order e met k v s n W found below earlier =
     let each = entry_has R k s (λ (f : EntryParts). place order f.number < place order e.number → HasEndingChain R f) earlier met found in
@@ -210,7 +233,7 @@ ends_after R order e met k v s n W found below earlier =
     let gives : one_of met.value ≡ Some t = sym (ap (option_and_then (λ (x : EntryParts). one_of x.value)) found) ∙ next_is_value R k s t g in
     subst (λ (d : Kind). Ends (next_value R d) t) each.1.of_kind (each.0 below t gives)))
 
--- a walk of as many values as there are records
+-- after as many values as there are records the record's chain ends if no value follows (`none`), and else has no end
 pub at_limit : (R : List EntryParts) (order : Order) (e : EntryParts) (k : Kind) (v s : List ℕ) (n : ℕ) → IsWalk R e k v s n → n ≡ length R → (next : Option (Bor (List ℕ))) → option_copied next ≡ next_value R k s → (none : Bool) → is_some next ≡ not none → MatchBool none (EndsAfterEarlier R order e) (HasEndingChain R e → ⊥)
 at_limit R order e k v s n W all None h true i = λ earlier. ends_there R e k v s n W (sym h)
 at_limit R order e k v s n W all (Some t) h false i =
@@ -219,14 +242,16 @@ at_limit t order e k v s n u all w h x i = cc
 
 -- all records
 
+-- where each record's chain ends if those of the records before it do, the chains of all records before a place `n` end
 earlier_end : (R : List EntryParts) (order : Order) → All (EndsAfterEarlier R order) R → (n : ℕ) → EarlierEnd R order n
 earlier_end R order h zero = λ k d i below. absurd (omega (arith, below))
 earlier_end R order h (suc n) = λ k d i below. h k d i (λ j c l less. earlier_end R order h n j c l (omega (arith, below, less)))
 
--- where each chain ends if those before it in an order do, all do
+-- where each record's chain ends if those of the records before it in an order do, every record's chain ends
 pub all_end_in_order : (R : List EntryParts) (order : Order) → All (EndsAfterEarlier R order) R → All (HasEndingChain R) R
 all_end_in_order R order h = λ k d i. h k d i (earlier_end R order h (place order (get_or R k d).number))
 
+-- in the order of the file the records before `e` are those of lower numbers
 pub file_order : (R : List EntryParts) (e : EntryParts) → All (λ (f : EntryParts). f.number < e.number → HasEndingChain R f) R → EarlierEnd R orders.File (place orders.File e.number)
 unfolding place
 file_order R e h = h

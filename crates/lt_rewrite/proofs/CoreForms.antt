@@ -29,6 +29,7 @@ use Rattle.lt_rewrite.proofs.CoreSteps.{AtRest, Pick, Picked, along, by_extlang,
 pub has_variant_language : List EntryParts → List ℕ → Bool
 has_variant_language R v = is_some (language_value R v)
 
+-- the variant has no language value, and so no VariantLanguage step drops it
 abbrev staying : List EntryParts → List ℕ → Bool
 staying R v = not (has_variant_language R v)
 
@@ -36,6 +37,7 @@ staying R v = not (has_variant_language R v)
 abbrev pub VariantLanguagesOnce : List EntryParts → CoreParts → Type 0
 VariantLanguagesOnce R c = Distinct (filter (has_variant_language R) c.variants)
 
+-- the core of a language, extlangs, a script, a region and variants, in this order
 abbrev core : List ℕ → List (List ℕ) → Option (List ℕ) → Option (List ℕ) → List (List ℕ) → CoreParts
 core l xs sc re vs = record { language = l; extlangs = xs; script = sc; region = re; variants = vs }
 
@@ -50,48 +52,59 @@ record Led (R : List EntryParts) (c d : CoreParts) : Type 0 where
   rest : AtRest R d
   kept : filter (staying R) d.variants ≡ filter (staying R) c.variants
 
+-- where `g` gives the ends of chains, no value follows what it makes of an optional subtag
 end_of_some : (f : List ℕ → Option (List ℕ)) (g : List ℕ → List ℕ) → IsEnd f g → (o : Option (List ℕ)) (s : List ℕ) → option_map g o ≡ Some s → f s ≡ None
 end_of_some f g E None s e = cc
 end_of_some f g E (Some t) s e = subst (λ u. f u ≡ None) (same_Some (g t) s e) (E.ends t).2
 
 module _ (R : List EntryParts) (C : MeetsCoreConditions R) where
-  -- the end of the chain of a kind
+  -- the end of the chain of values of a kind that begins with a subtag
   pub last : Kind → List ℕ → List ℕ
   last k s = chase (next_value R k) (chains_end R C.chains k s).0 s
 
+  -- `last` gives the end of the chain of each subtag of the kind
   at_last : (k : Kind) → IsEnd (next_value R k) (last k)
   unfolding last
   at_last k = record { ends = λ s. let e = chains_end R C.chains k s in (e.0, refl, e.1) }
 
+  -- the variant has no variant as its value
   abbrev Final : List ℕ → Type 0
   Final v = variant_value R v ≡ None
 
+  -- the language and the variants after the leftmost VariantLanguage step beside `x`, as `go` takes them further; `x`
+  -- and `vs` themselves if no variant has such a step
   abbrev taken : (List ℕ → List (List ℕ) → List ℕ × List (List ℕ)) → (x : List ℕ) (vs : List (List ℕ)) → Pick (language_beside R x) vs → List ℕ × List (List ℕ)
   taken go x vs (inl p) = go (last kinds.Language p.value) (p.before ++ p.after)
   taken go x vs (inr none) = (x, vs)
 
-  -- VariantLanguage steps taken, at most n, from a language that has no value
+  -- the language and the variants after at most `n` VariantLanguage steps from a language `x` without a value and
+  -- variants `vs`, where each new language is led to the end of its chain
   abbrev settled : ℕ → List ℕ → List (List ℕ) → List ℕ × List (List ℕ)
   settled zero x vs = (x, vs)
   settled (suc n) x vs = taken (settled n) x vs (pick (language_beside R x) vs)
 
+  -- the normal form of a core of these extlangs, language, script, region and variants, the last three of which are at
+  -- the ends of their chains
   abbrev form_on : List (List ℕ) → List ℕ → Option (List ℕ) → Option (List ℕ) → List (List ℕ) → CoreParts
   form_on [] l sc re vs = let p = settled (length vs) (last kinds.Language l) vs in core p.0 [] sc re p.1
   form_on (x ∷ []) l sc re vs = form_on [] (replacement R x) sc re vs
   form_on (x ∷ y ∷ r) l sc re vs = core l (x ∷ y ∷ r) sc re vs
 
-  -- the core normal form under the conditions
+  -- the normal form of a core, under the conditions C1 to C6
   pub normal_core : CoreParts → CoreParts
   normal_core c = form_on c.extlangs c.language (option_map (last kinds.Script) c.script) (option_map (last kinds.Region) c.region) (map (last kinds.Variant) c.variants)
 
+  -- a variant without a language value has no VariantLanguage step
   none_beside : (l v : List ℕ) → language_value R v ≡ None → language_beside R l v ≡ None
   none_beside l v e = cond_both (has_prefix (prefixes R kinds.Variant v) l) (language_value R v) None (λ x. x ≡ None) (λ _. e) (λ _. refl)
 
+  -- a variant and the end of its chain have the same VariantLanguage step beside a language `l`
   variant_language_last : (l v : List ℕ) → language_beside R l (last kinds.Variant v) ≡ language_beside R l v
   variant_language_last l v =
       end_keeps (at_last kinds.Variant) (λ s. language_beside R l s ≡ language_beside R l v)
       (λ s t h p. let n = no_language R C s t h in none_beside l t n.1 ∙ sym (none_beside l s n.0) ∙ p) v refl
 
+  -- where some variant has a VariantLanguage step, the leftmost one, `q`, is taken first
   settled_some : (n : ℕ) (x : List ℕ) (vs : List (List ℕ)) (q : Picked (language_beside R x) vs) → settled (suc n) x vs ≡ settled n (last kinds.Language q.value) (q.before ++ q.after)
   settled_some n x vs q =
       elim (pick (language_beside R x) vs) as (λ o. taken (settled n) x vs o ≡ settled n (last kinds.Language q.value) (q.before ++ q.after)) [
@@ -138,14 +151,18 @@ module _ (R : List EntryParts) (C : MeetsCoreConditions R) where
             ∙ ap (λ xs. form_on xs m sc re (map g (before ++ after))) (sym none);
       })
 
+  -- a variant with a VariantLanguage step has a language value
   some_variant_language : (l v m : List ℕ) → language_beside R l v ≡ Some m → has_variant_language R v ≡ true
   unfolding has_variant_language
   some_variant_language l v m e = ap is_some (variant_language_is R l v m e).1
 
+  -- the test `has_variant_language` fails of a variant without a language value
   stays : (v : List ℕ) → language_value R v ≡ None → has_variant_language R v ≡ false
   unfolding has_variant_language
   stays v e = ap is_some e
 
+  -- steps lead from a core without extlangs, all of whose subtags are at the ends of their chains, to what `settled`
+  -- gives, from which none leads
   settled_led : (sc re : Option (List ℕ)) → AtEnds R sc re → (n : ℕ) (x : List ℕ) (vs : List (List ℕ)) → length vs ≡ n → preferred_value R kinds.Language x ≡ None → AllByRecursion Final vs → (let p = settled n x vs in Led R (core x [] sc re vs) (core p.0 [] sc re p.1))
   settled_led sc re E zero x [] l h k =
       record { reached = done; rest = record { extlang = λ y e. cc; language = λ _. h; script = E.script; region = E.region; variant = tt; variant_language = λ _. tt }; kept = refl }
@@ -168,6 +185,8 @@ module _ (R : List EntryParts) (C : MeetsCoreConditions R) where
             record { reached = done; rest = record { extlang = λ y e. cc; language = λ _. h; script = E.script; region = E.region; variant = k; variant_language = λ _. none }; kept = refl }
       ]
 
+  -- steps lead from a core whose script, region and variants are at the ends of their chains to its `form_on`, from
+  -- which none leads
   form_led : (xs : List (List ℕ)) (l : List ℕ) (sc re : Option (List ℕ)) (vs : List (List ℕ)) → AtEnds R sc re → AllByRecursion Final vs → Led R (core l xs sc re vs) (form_on xs l sc re vs)
   form_led [] l sc re vs E k =
       let end = (at_last kinds.Language).ends l in
@@ -180,7 +199,7 @@ module _ (R : List EntryParts) (C : MeetsCoreConditions R) where
   form_led (x ∷ y ∷ r) l sc re vs E k =
       record { reached = done; rest = record { extlang = λ z e. cc; language = λ e. absurd (cc); script = E.script; region = E.region; variant = k; variant_language = λ e. absurd (cc) }; kept = refl }
 
-  -- the form of a core whose subtags are at the ends of their chains
+  -- steps lead from a core, once its script, region and variants are at the ends of their chains, to its normal form
   led : (c : CoreParts) → Led R (core c.language c.extlangs (option_map (last kinds.Script) c.script) (option_map (last kinds.Region) c.region) (map (last kinds.Variant) c.variants)) (normal_core c)
   unfolding normal_core
   led c =
@@ -188,17 +207,19 @@ module _ (R : List EntryParts) (C : MeetsCoreConditions R) where
       (record { script = end_of_some (preferred_value R kinds.Script) (last kinds.Script) (at_last kinds.Script) c.script; region = end_of_some (preferred_value R kinds.Region) (last kinds.Region) (at_last kinds.Region) c.region })
       (recursion_from_All Final (map (last kinds.Variant) c.variants) (All-map Final (last kinds.Variant) c.variants (λ k d h. ((at_last kinds.Variant).ends (get_or c.variants k d)).2)))
 
+  -- steps lead an optional subtag to the end of its chain, in the core that `at` makes of it
   part_to_end : (k : Kind) (at : Option (List ℕ) → CoreParts) → ((s t : List ℕ) → next_value R k s ≡ Some t → CoreStep R (at (Some s)) (at (Some t))) → (o : Option (List ℕ)) → Star (CoreStep R) (at o) (at (option_map (last k) o))
   part_to_end k at step None = done
   part_to_end k at step (Some s) = along R (next_value R k) (λ u. at (Some u)) step s (last k s) ((at_last k).ends s)
 
+  -- steps lead each variant to the end of its chain, in the core that `at` makes of the variants
   variants_to_end : (at : List (List ℕ) → CoreParts) → ((before : List (List ℕ)) (v w : List ℕ) (after : List (List ℕ)) → variant_value R v ≡ Some w → CoreStep R (at (before ++ v ∷ after)) (at (before ++ w ∷ after))) → (vs : List (List ℕ)) → Star (CoreStep R) (at vs) (at (map (last kinds.Variant) vs))
   variants_to_end at step [] = done
   variants_to_end at step (v ∷ vs) =
       star_trans (along R (variant_value R) (λ u. at (u ∷ vs)) (λ s t e. step [] s t vs e) v (last kinds.Variant v) ((at_last kinds.Variant).ends v))
       (variants_to_end (λ us. at (last kinds.Variant v ∷ us)) (λ before s t after e. step (last kinds.Variant v ∷ before) s t after e) vs)
 
-  -- each step keeps it, steps reach it, none leads from it
+  -- `normal_core` gives the normal form: each core step keeps it, steps reach it, and none leads from it
   pub cores_formed : IsFormOf (CoreStep R) normal_core
   cores_formed = record {
     kept = step_keeps;
@@ -211,15 +232,17 @@ module _ (R : List EntryParts) (C : MeetsCoreConditions R) where
     rests = λ c e. rests R (normal_core c) e (led c).rest;
   }
 
+  -- under the conditions C1 to C6 each core has one core normal form
   pub one_normal_form : HasOneNormalForm R
   one_normal_form c =
       (normal_core c, record { normal = form_is_normal cores_formed c; alone = λ d n. sym (normal_is_form cores_formed c d n) })
 
+  -- under the conditions C1 to C6 a core step keeps the core normal form
   pub steps_keep_normal_form : StepsKeepNormalForm R
   steps_keep_normal_form c d e s n =
       subst (λ x. IsCoreNormalForm R d x) (sym (cores_formed.kept c d s) ∙ normal_is_form cores_formed c e n) (form_is_normal cores_formed d)
 
-  -- cores that differ in subtags whose chains end alike have one normal form
+  -- cores that `at` makes of subtags `s` and `t`, whose chains both end in `e`, have one normal form
   pub one_end_one_form : (f : List ℕ → Option (List ℕ)) (at : List ℕ → CoreParts) → ((s t : List ℕ) → f s ≡ Some t → CoreStep R (at s) (at t)) → (s t e : List ℕ) → EndsIn f s e → EndsIn f t e → normal_core (at s) ≡ normal_core (at t)
   one_end_one_form f at step s t e h k =
       star_form cores_formed (along R f at step s e h) ∙ sym (star_form cores_formed (along R f at step t e k))
@@ -247,11 +270,14 @@ module _ (R : List EntryParts) (C : MeetsCoreConditions R) where
             subst Distinct (sym (filter-append T before after)) (distinct_without (filter T before) v (filter T after) (subst Distinct e h));
       })
 
+  -- a variant has a language value exactly if the end of its chain has one
   has_variant_language_last : (v : List ℕ) → has_variant_language R (last kinds.Variant v) ≡ has_variant_language R v
   has_variant_language_last v =
       end_keeps (at_last kinds.Variant) (λ s. has_variant_language R s ≡ has_variant_language R v)
       (λ s t h p. let n = no_language R C s t h in stays t n.1 ∙ sym (stays s n.0) ∙ p) v refl
 
+  -- to choose the variants without a language value and to lead each to the end of its chain may be done in either
+  -- order
   filter_last : (xs : List (List ℕ)) → filter (staying R) (map (last kinds.Variant) xs) ≡ map (last kinds.Variant) (filter (staying R) xs)
   filter_last [] = refl
   filter_last (x ∷ xs) =
@@ -260,7 +286,7 @@ module _ (R : List EntryParts) (C : MeetsCoreConditions R) where
       ∙ ap (λ l. cond (staying R x) (g x ∷ l) l) (filter_last xs)
       ∙ elim (staying R x) as (λ b. cond b (g x ∷ map g (filter (staying R) xs)) (map g (filter (staying R) xs)) ≡ map g (cond b (x ∷ filter (staying R) xs) (filter (staying R) xs))) [ true ↦ refl | false ↦ refl ]
 
-  -- where the normal form repeats no variant, such a core repeats none
+  -- a core that repeats no variant with a language value repeats no variant, if its normal form repeats none
   pub form_distinct : (c : CoreParts) → VariantLanguagesOnce R c → Distinct (normal_core c).variants → Distinct c.variants
   form_distinct c h k =
       merge (has_variant_language R) c.variants h

@@ -19,17 +19,19 @@ use Rattle.lt_rewrite.proofs.CoreForms.{last}
 
 -- What the parts of the code that settle a core reach, and where they rest. Only the chains' ends are used.
 
--- steps lead from the one core to the other, and the variants before an index of it are at the ends of their chains
+-- core steps lead from `c` to `d`, which differs in its variants alone: they are `end` in number, and those before
+-- `index` are at the ends of their chains
 pub record VariantsSettled (R : List EntryParts) (c d : CoreParts) (index end : ℕ) : Type 0 where
   pub reached : Star (CoreStep R) c d
   pub others : d ≡ record c { variants = d.variants }
   pub count : length d.variants ≡ end
   pub final : All (λ (v : List ℕ). variant_value R v ≡ None) (take index d.variants)
 
+-- before the first variant a core is as `VariantsSettled` tells
 pub none_settled : (R : List EntryParts) (c : CoreParts) (n : ℕ) → n ≡ length c.variants → VariantsSettled R c c 0 n
 none_settled R c n e = record { reached = done; others = refl; count = sym e; final = λ k d h. absurd (omega (arith, h)) }
 
--- one variant more is led to the end of its chain
+-- the variant `s` at the index `i` is replaced by the end `t` of its chain, and so one variant more is settled
 pub one_settled : (R : List EntryParts) (c d e : CoreParts) (i n : ℕ) (s t : List ℕ) (us : List (List ℕ)) → VariantsSettled R c d i n → i < n → us ≡ d.variants → s ≡ get_or us i s → EndsIn (next_value R kinds.Variant) s t → e ≡ record d { variants = set d.variants i t } → VariantsSettled R c e (i + 1) n
 one_settled R c d e i n s t us S below own at ends new =
     let vs = d.variants in
@@ -46,12 +48,15 @@ one_settled R c d e i n s t us S below own at ends new =
       final = All-same P (take (i + 1) (set vs i t)) (take i vs ++ t ∷ []) (take_more_set vs i t within) (All-push P (take i vs) t S.final ends.2);
     })
 
+-- once the index is past the last variant, the variants before it are all variants
 pub all_settled : (R : List EntryParts) (c d : CoreParts) (i n : ℕ) → VariantsSettled R c d i n → n ≤ i → take i d.variants ≡ d.variants
 all_settled R c d i n S past = take_all i d.variants (omega (arith, past, S.count))
 
+-- once the index is past the last variant, all variants are at the ends of their chains
 pub all_final : (R : List EntryParts) (c d : CoreParts) (i n : ℕ) → VariantsSettled R c d i n → n ≤ i → All (λ (v : List ℕ). variant_value R v ≡ None) d.variants
 all_final R c d i n S past = subst (All (λ v. variant_value R v ≡ None)) (all_settled R c d i n S past) S.final
 
+-- the Extlang step of the only extlang `x` leads from `c` to `e`, whose language `l` is the replacement of `x`
 pub extlang_reached : (R : List EntryParts) (c d e : CoreParts) (x l : List ℕ) (xs : List (List ℕ)) → xs ≡ c.extlangs → x ≡ get_or xs 0 x → length xs ≡ 1 → l ≡ replacement R x → d ≡ record c { extlangs = [] } → e ≡ record d { language = l } → Star (CoreStep R) c e
 extlang_reached R c d e x l xs own at one value dropped new =
     subst (λ e. Star (CoreStep R) c e) (sym (new ∙ (λ i. record (dropped i) { language = value i })))
@@ -64,11 +69,14 @@ pub record LanguageSettled (R : List EntryParts) (c d : CoreParts) : Type 0 wher
   pub variants : HasFinalVariants R d
   pub others : d ≡ record c { language = d.language; variants = d.variants }
 
--- what a VariantLanguage step leaves, and then the chain of the new language
+-- after the VariantLanguage step of the variant at `i`, and the steps to the end of the new language's chain, `g` is
+-- `d` but for its language and that variant
 pub others_left : (d e f g : CoreParts) (i : ℕ) (m : List ℕ) → e ≡ record d { variants = remove d.variants i } → f ≡ record e { language = m } → g ≡ record f { language = g.language } → g ≡ record d { language = g.language; variants = remove d.variants i }
 others_left d e f g i m dropped new other =
     other ∙ ap (λ (k : CoreParts). record k { language = g.language }) (new ∙ ap (λ (k : CoreParts). record k { language = m }) dropped)
 
+-- after a VariantLanguage step from `d`, and steps to the end of the new language's chain, the language and the
+-- variants of `g` are at the ends of their chains again
 pub language_settled : (R : List EntryParts) (c d e f g : CoreParts) (i : ℕ) (m : List ℕ) → c.extlangs ≡ [] → LanguageSettled R c d → IsFirstVariantLanguage R d i m → e ≡ record d { variants = remove d.variants i } → f ≡ record e { language = m } → Star (CoreStep R) f g → HasFinalLanguage R g → g ≡ record f { language = g.language } → LanguageSettled R c g
 language_settled R c d e f g i m none S t dropped new after final other =
     let P : List ℕ → Type 0 = λ v. variant_value R v ≡ None in
@@ -93,12 +101,13 @@ first_variant_language_at R c i l v m vs o b same h e its value found copy none 
       leftmost = subst (λ us. AllByRecursion P (take i us)) same (recursion_from_All P (take i vs) none);
     }
 
+-- where neither the variant `v` at `i` nor one before it has a VariantLanguage step, none before `i` + 1 has one
 pub none_more : (R : List EntryParts) (c : CoreParts) (i : ℕ) (l v : List ℕ) (vs : List (List ℕ)) (o : Option (Bor (List ℕ))) → i < length vs → v ≡ get_or vs i v → l ≡ c.language → option_copied o ≡ language_beside R l v → o ≡ None → All (λ (u : List ℕ). language_beside R c.language u ≡ None) (take i vs) → All (λ (u : List ℕ). language_beside R c.language u ≡ None) (take (i + 1) vs)
 none_more R c i l v vs o h e its value found none =
     let P : List ℕ → Type 0 = λ u. language_beside R c.language u ≡ None in
     All-more P vs i v h none (subst P e (ap (λ l. language_beside R l v) (sym its) ∙ sym value ∙ ap option_copied found))
 
--- the core as the calls leave it one after another
+-- what the core `c` is after the calls that settle its script (`c1`), its region (`c2`) and its extlang (`c3`)
 pub record Settlings (R : List EntryParts) (c c1 c2 c3 : CoreParts) : Type 0 where
   pub script : Star (CoreStep R) c c1
   pub region : Star (CoreStep R) c1 c2
@@ -109,7 +118,8 @@ pub record Settlings (R : List EntryParts) (c c1 c2 c3 : CoreParts) : Type 0 whe
   pub other_than_region : c2 ≡ record c1 { region = c2.region }
   pub other_than_extlang : c3 ≡ record c2 { language = c3.language; extlangs = c3.extlangs }
 
--- and the language and the variants at last, where no VariantLanguage step is left or extlangs stay
+-- after the calls of `Settlings` steps on the language and the variants lead to `d`, whose variants are at the ends of
+-- their chains, as its language is if there are no extlangs: `d` is the core normal form of `c`
 pub rests_settled : (R : List EntryParts) (c c1 c2 c3 d : CoreParts) → Settlings R c c1 c2 c3 → Star (CoreStep R) c3 d → HasFinalVariants R d → (c3.extlangs ≡ [] → HasFinalLanguage R d × HasNoVariantLanguage R d) → d ≡ record c3 { language = d.language; variants = d.variants } → IsCoreNormalForm R c d
 rests_settled R c c1 c2 c3 d S last variants language other =
     let none : c3.extlangs ≡ d.extlangs = sym (ap (λ (k : CoreParts). k.extlangs) other) in

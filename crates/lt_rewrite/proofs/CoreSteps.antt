@@ -25,51 +25,59 @@ use Rattle.lt_rewrite.proofs.Entries.{some_if}
 -- A core step by the part that it replaces, the lists of variants cut at the variant: what each leads to, and each from
 -- what it needs.
 
+-- a list of length 0 is empty
 pub none_of : (xs : List (List ℕ)) → eqb (length xs) 0 ≡ true → xs ≡ []
 none_of xs h = nil_from_length xs (eqb-true (length xs) 0 h)
 
--- a list of one
+-- a list of length 1 is its first element `x` alone
 pub sole : (xs : List (List ℕ)) (x : List ℕ) → x ≡ get_or xs 0 x → length xs ≡ 1 → xs ≡ x ∷ []
 sole (y ∷ []) x e h = ap (λ z. z ∷ []) (sym e)
 sole s x e h = absurd (omega arith)
 
--- the one extlang
+-- an extlang at which a step may be taken is the only one
 pub one_extlang : (c : CoreParts) (x : List ℕ) → subtag_at c at_extlang ≡ Some x → c.extlangs ≡ x ∷ []
 one_extlang c x t =
     let a = some_if (eqb (length c.extlangs) 1) (slice_get c.extlangs 0) x t in
     sole c.extlangs x (sym (get_or_from_slice_get c.extlangs 0 x x a.1)) (eqb-true (length c.extlangs) 1 a.0)
 
--- what is looked at only where there are no extlangs
+-- what is given only where there are no extlangs: if it is `x`, there are none, and `o` is `x`
 pub alone : (c : CoreParts) (o : Option (List ℕ)) (x : List ℕ) → (if eqb (length c.extlangs) 0 then o else None) ≡ Some x → (c.extlangs ≡ []) × (o ≡ Some x)
 alone c o x t = let a = some_if (eqb (length c.extlangs) 0) o x t in (none_of c.extlangs a.0, a.1)
 
+-- a list, cut at its element `v` at the index `i`
 pub got_at : (vs : List (List ℕ)) (i : ℕ) (v : List ℕ) → slice_get vs i ≡ Some v → vs ≡ take i vs ++ v ∷ drop (suc i) vs
 got_at vs i v t = round vs i v (slice_get_within vs i v t) (sym (get_or_from_slice_get vs i v v t))
 
+-- in a list that is cut at `v`, the index of `v` is the length of what is before it
 pub get_at : (before : List (List ℕ)) (v : List ℕ) (after vs : List (List ℕ)) → vs ≡ before ++ v ∷ after → slice_get vs (length before) ≡ Some v
 get_at before v after vs e =
     slice_get-get_or vs (length before) v (cut_within before v after vs e) ∙ ap Some (cut_at before v after vs v e)
 
+-- a test that no element has a value by `f`, as a fact of each
 pub none_before : (f : List ℕ → Option (List ℕ)) (xs : List (List ℕ)) → list_all (λ u. is_none (f u)) xs ≡ true → AllByRecursion (λ u. f u ≡ None) xs
 none_before f xs h =
     AllByRecursion-weaker (λ u. is_none (f u) ≡ true) (λ u. f u ≡ None) (λ u e. by_next (f u) (λ n. n) (λ a s. absurd (true≢false (sym e ∙ ap is_none s)))) xs (facts_of_tests (λ u. is_none (f u)) xs h)
 
+-- the fact that no element has a value by `f`, as a test
 none_test : (f : List ℕ → Option (List ℕ)) (xs : List (List ℕ)) → AllByRecursion (λ u. f u ≡ None) xs → list_all (λ u. is_none (f u)) xs ≡ true
 none_test f xs h =
     tests_of_facts (λ u. is_none (f u)) xs (AllByRecursion-weaker (λ u. f u ≡ None) (λ u. is_none (f u) ≡ true) (λ u e. ap is_none e) xs h)
 
+-- at the only extlang a step may be taken
 pub extlang_there : (c : CoreParts) (x : List ℕ) → c.extlangs ≡ x ∷ [] → subtag_at c at_extlang ≡ Some x
 extlang_there c x one = ap (λ xs. if eqb (length xs) 1 then slice_get xs 0 else None) one
 
+-- what is given only where there are no extlangs is given where there are none
 pub there_alone : (c : CoreParts) (o : Option (List ℕ)) (x : List ℕ) → c.extlangs ≡ [] → o ≡ Some x → (if eqb (length c.extlangs) 0 then o else None) ≡ Some x
 there_alone c o x none e = ap (λ xs. if eqb (length xs) 0 then o else None) none ∙ e
 
+-- the value of a variant `v` at `i` for its VariantLanguage step, where no variant before it has a VariantLanguage step
 pub has_leftmost : (R : List EntryParts) (c : CoreParts) (i : ℕ) (v m : List ℕ) → language_beside R c.language v ≡ Some m → AllByRecursion (λ u. language_beside R c.language u ≡ None) (take i c.variants) → value_at R c (at_variant_language i) v ≡ Some m
 has_leftmost R c i v m has leftmost =
     let f : List ℕ → Option (List ℕ) = language_beside R c.language in
     ap (λ b. if b then f v else None) (none_test f (take i c.variants) leftmost) ∙ has
 
--- what holds of each core to which a core step leads
+-- `P` holds of each core to which a core step from `c` leads, for each kind of step by itself
 pub record EachStep (R : List EntryParts) (c : CoreParts) (P : CoreParts → Type 0) : Type 0 where
   pub extlang : (x : List ℕ) → c.extlangs ≡ x ∷ [] → P (record c { language = replacement R x; extlangs = [] })
   pub language : (v : List ℕ) → c.extlangs ≡ [] → preferred_value R kinds.Language c.language ≡ Some v → P (record c { language = v })
@@ -79,6 +87,8 @@ pub record EachStep (R : List EntryParts) (c : CoreParts) (P : CoreParts → Typ
   pub variant_language : (before : List (List ℕ)) (v m : List ℕ) (after : List (List ℕ)) → c.extlangs ≡ [] → c.variants ≡ before ++ v ∷ after → language_beside R c.language v ≡ Some m → AllByRecursion (λ u. language_beside R c.language u ≡ None) before → P (record c { language = m; variants = before ++ after })
 
 module _ (R : List EntryParts) (c : CoreParts) where
+  -- what holds of the core to which each kind of step leads, as `EachStep` tells, holds of the core `d` to which any
+  -- core step leads
   pub each_step : (P : CoreParts → Type 0) → EachStep R c P → (d : CoreParts) → CoreStep R c d → P d
   each_step P E d s = subst P (sym s.result) (at s.spot s.subtag s.there s.value s.has)
     where
@@ -99,26 +109,33 @@ module _ (R : List EntryParts) (c : CoreParts) where
           let l = some_if (list_all (λ u. is_none (f u)) (take i c.variants)) (f x) v h in
           E.variant_language (take i c.variants) x v (drop (suc i) c.variants) a.0 (got_at c.variants i x a.1) l.1 (none_before f (take i c.variants) l.0)
 
+  -- a core step from its spot, the subtag `s` there and the value `v` of `s`
   pub step : (spot : Spot) (s v : List ℕ) → subtag_at c spot ≡ Some s → value_at R c spot s ≡ Some v → CoreStep R c (replaced c spot v)
   step spot s v there has = record { spot = spot; subtag = s; there = there; value = v; has = has; result = refl }
 
+  -- the Extlang step of the only extlang `x`
   pub by_extlang : (x : List ℕ) → c.extlangs ≡ x ∷ [] → CoreStep R c (record c { language = replacement R x; extlangs = [] })
   by_extlang x one = step at_extlang x (replacement R x) (extlang_there c x one) refl
 
+  -- the Language step to the value `v`
   pub by_language : (v : List ℕ) → c.extlangs ≡ [] → preferred_value R kinds.Language c.language ≡ Some v → CoreStep R c (record c { language = v })
   by_language v none has = step at_language c.language v (there_alone c (Some c.language) c.language none refl) has
 
+  -- the Script step from `s` to its value `v`
   pub by_script : (s v : List ℕ) → c.script ≡ Some s → preferred_value R kinds.Script s ≡ Some v → CoreStep R c (record c { script = Some v })
   by_script s v there has = step at_script s v there has
 
+  -- the Region step from `s` to its value `v`
   pub by_region : (s v : List ℕ) → c.region ≡ Some s → preferred_value R kinds.Region s ≡ Some v → CoreStep R c (record c { region = Some v })
   by_region s v there has = step at_region s v there has
 
+  -- the Variant step from `v` to its value `w`
   pub by_variant : (before : List (List ℕ)) (v w : List ℕ) (after : List (List ℕ)) → c.variants ≡ before ++ v ∷ after → variant_value R v ≡ Some w → CoreStep R c (record c { variants = before ++ w ∷ after })
   by_variant before v w after there has =
       subst (λ vs. CoreStep R c (record c { variants = vs })) (ap (λ vs. set vs (length before) w) there ∙ set_at before v after w (length before) refl)
       (step (at_variant (length before)) v w (get_at before v after c.variants there) has)
 
+  -- the VariantLanguage step of `v`, the leftmost variant that has one, to the language `m`
   pub by_variant_language : (before : List (List ℕ)) (v m : List ℕ) (after : List (List ℕ)) → c.extlangs ≡ [] → c.variants ≡ before ++ v ∷ after → language_beside R c.language v ≡ Some m → AllByRecursion (λ u. language_beside R c.language u ≡ None) before → CoreStep R c (record c { language = m; variants = before ++ after })
   by_variant_language before v m after none there has leftmost =
       let n : ℕ = length before in
@@ -129,13 +146,14 @@ module _ (R : List EntryParts) (c : CoreParts) where
 
 -- A core step makes the subtags of a core no more.
 
--- no part has more subtags
+-- each part of `d` has at most as many subtags as that part of `c`
 pub record IsNoLonger (d c : CoreParts) : Type 0 where
   pub extlangs : length d.extlangs ≤ length c.extlangs
   pub script : length (option_to_list d.script) ≤ length (option_to_list c.script)
   pub region : length (option_to_list d.region) ≤ length (option_to_list c.region)
   pub variants : length d.variants ≤ length c.variants
 
+-- a core step gives no part more subtags
 pub core_step_no_longer : (R : List EntryParts) (c d : CoreParts) → CoreStep R c d → IsNoLonger d c
 core_step_no_longer R c = each_step R c (λ d. IsNoLonger d c) (record {
   extlang = λ x one. search (rules, arith);
@@ -150,34 +168,38 @@ core_step_no_longer R c = each_step R c (λ d. IsNoLonger d c) (record {
       search (rules, arith);
 })
 
+-- a core `d`, no part of which has more subtags than that of `c`, has no more subtags in all
 pub spelled_no_longer : (c d : CoreParts) → IsNoLonger d c → length (spell_core d) ≤ length (spell_core c)
 spelled_no_longer c d h = simp length-append (omega arith)
 
 -- What single steps reach, one after another.
 
--- one subtag is led to the end of its chain
+-- steps lead a subtag `s` to the end `e` of its chain, in the core that `at` makes of it
 pub along : (R : List EntryParts) (f : List ℕ → Option (List ℕ)) (at : List ℕ → CoreParts) → ((s t : List ℕ) → f s ≡ Some t → CoreStep R (at s) (at t)) → (s e : List ℕ) → EndsIn f s e → Star (CoreStep R) (at s) (at e)
 along R f at step s e h =
     subst (λ u. Star (CoreStep R) (at s) (at u)) h.1 (chase_keeps f (λ u. Star (CoreStep R) (at s) (at u)) (λ u t g r. star_trans r (onward (step u t g) done)) h.0 s done)
 
--- a part that may be missing
+-- steps lead a core with an optional subtag, which is `s`, to the core `d` with the end `e` of the chain of `s`
 part_reached : (R : List EntryParts) (f : List ℕ → Option (List ℕ)) (at : Option (List ℕ) → CoreParts) → ((s t : List ℕ) → f s ≡ Some t → CoreStep R (at (Some s)) (at (Some t))) → (part : Option (List ℕ)) (d : CoreParts) (o : Option (Bor (List ℕ))) (s : Bor (List ℕ)) (e : List ℕ) → option_copied o ≡ part → o ≡ Some s → EndsIn f s.now e → d ≡ at (Some e) → Star (CoreStep R) (at part) d
 part_reached R f at step part d o s e own some ends new =
     subst (λ d. Star (CoreStep R) (at part) d) (sym new)
     (subst (λ p. Star (CoreStep R) (at p) (at (Some e))) (ap option_copied (sym some) ∙ own) (along R f (λ u. at (Some u)) step s.now e ends))
 
+-- steps lead a core to the one with the end `e` of the chain of its script
 pub script_reached : (R : List EntryParts) (c d : CoreParts) (o : Option (Bor (List ℕ))) (s : Bor (List ℕ)) (e : List ℕ) → option_copied o ≡ c.script → o ≡ Some s → EndsIn (next_value R kinds.Script) s.now e → d ≡ record c { script = Some e } → Star (CoreStep R) c d
 script_reached R c d = part_reached R (next_value R kinds.Script) (λ o. record c { script = o }) (λ u t f. by_script R (record c { script = Some u }) u t refl f) c.script d
 
+-- steps lead a core to the one with the end `e` of the chain of its region
 pub region_reached : (R : List EntryParts) (c d : CoreParts) (o : Option (Bor (List ℕ))) (s : Bor (List ℕ)) (e : List ℕ) → option_copied o ≡ c.region → o ≡ Some s → EndsIn (next_value R kinds.Region) s.now e → d ≡ record c { region = Some e } → Star (CoreStep R) c d
 region_reached R c d = part_reached R (next_value R kinds.Region) (λ o. record c { region = o }) (λ u t f. by_region R (record c { region = Some u }) u t refl f) c.region d
 
+-- steps lead a core without extlangs to the one with the end `e` of the chain of its language
 pub language_reached : (R : List EntryParts) (c d : CoreParts) (l e : List ℕ) → c.extlangs ≡ [] → l ≡ c.language → EndsIn (next_value R kinds.Language) l e → d ≡ record c { language = e } → Star (CoreStep R) c d
 language_reached R c d l e none own ends new =
     subst (λ d. Star (CoreStep R) c d) (sym new)
     (along R (next_value R kinds.Language) (λ u. record c { language = u }) (λ u t f. by_language R (record c { language = u }) t none f) c.language e (subst (λ s. EndsIn (next_value R kinds.Language) s e) own ends))
 
--- nothing is left to replace
+-- no subtag of `d` is left to replace, part by part
 pub record AtRest (R : List EntryParts) (d : CoreParts) : Type 0 where
   pub extlang : (x : List ℕ) → d.extlangs ≡ x ∷ [] → ⊥
   pub language : d.extlangs ≡ [] → preferred_value R kinds.Language d.language ≡ None
@@ -186,7 +208,7 @@ pub record AtRest (R : List EntryParts) (d : CoreParts) : Type 0 where
   pub variant : AllByRecursion (λ v. variant_value R v ≡ None) d.variants
   pub variant_language : d.extlangs ≡ [] → AllByRecursion (λ v. language_beside R d.language v ≡ None) d.variants
 
--- from such a core no step leads
+-- no core step leads from `d`, if no subtag of it is left to replace
 pub rests : (R : List EntryParts) (d e : CoreParts) → AtRest R d → CoreStep R d e → ⊥
 rests R d e A = each_step R d (λ _. ⊥) (record {
   extlang = A.extlang;
@@ -203,21 +225,24 @@ rests R d e A = each_step R d (λ _. ⊥) (record {
 
 -- Lists that a test divides.
 
+-- a list without repeats stays so without one of its elements
 pub distinct_without : {A : Type 0} (before : List A) (v : A) (after : List A) → Distinct (before ++ v ∷ after) → Distinct (before ++ after)
 distinct_without [] v after h = h.1
 distinct_without (u ∷ us) v after h = (all_without (λ y. y ≢ u) us v after h.0, distinct_without us v after h.1)
 
+-- an element that fails the test `T` makes no difference to those that pass
 pub filter_without : (T : List ℕ → Bool) (before : List (List ℕ)) (v : List ℕ) (after : List (List ℕ)) → T v ≡ false → filter T (before ++ v ∷ after) ≡ filter T (before ++ after)
 filter_without T before v after e =
     filter-append T before (v ∷ after) ∙ ap (λ l. filter T before ++ l) (cond-false (T v) (v ∷ filter T after) (filter T after) e) ∙ sym (filter-append T before after)
 
+-- those of a list without repeats that pass a test do not repeat
 pub distinct_filter : {A : Type 0} (T : A → Bool) (xs : List A) → Distinct xs → Distinct (filter T xs)
 distinct_filter T [] h = tt
 distinct_filter T (x ∷ xs) h =
     let apart = recursion_from_All (λ y. y ≢ x) (filter T xs) (All-filter T (λ y. y ≢ x) xs (All-from_recursion (λ y. y ≢ x) xs h.0)) in
     elim (T x) as (λ b. Distinct (cond b (x ∷ filter T xs) (filter T xs))) [ true ↦ (apart, distinct_filter T xs h.1) | false ↦ distinct_filter T xs h.1 ]
 
--- what holds of those that pass, and of each that does not, holds of all
+-- what holds of the elements that pass the test `T`, and of each element that fails it, holds of all
 all_unfilter : {A : Type 0} (P : A → Type 0) (T : A → Bool) (xs : List A) → ((x : A) → T x ≡ false → P x) → AllByRecursion P (filter T xs) → AllByRecursion P xs
 all_unfilter P T [] f h = tt
 all_unfilter P T (x ∷ xs) f h = elim (cases_Bool (T x)) [
@@ -225,7 +250,7 @@ all_unfilter P T (x ∷ xs) f h = elim (cases_Bool (T x)) [
   | inr e ↦ (f x e, all_unfilter P T xs f (rw e at h))
 ]
 
--- where those that pass differ, and those that do not, all differ
+-- where neither those that pass a test repeat, nor those that fail it, no element repeats
 pub merge : {A : Type 0} (T : A → Bool) (xs : List A) → Distinct (filter T xs) → Distinct (filter (λ y. not (T y)) xs) → Distinct xs
 merge T [] h k = tt
 merge T (x ∷ xs) h k = elim (cases_Bool (T x)) [
@@ -237,12 +262,13 @@ merge T (x ∷ xs) h k = elim (cases_Bool (T x)) [
       (all_unfilter (λ y. y ≢ x) (λ y. not (T y)) xs (λ y f g. let a : not (T y) ≡ true = ap not (ap T g ∙ e) in cc) p.0, merge T xs (rw e at h) p.1)
 ]
 
+-- where what `g` makes of the elements does not repeat, the elements do not
 pub distinct_unmap : {A B : Type 0} (g : A → B) (xs : List A) → Distinct (map g xs) → Distinct xs
 distinct_unmap g [] h = tt
 distinct_unmap g (x ∷ xs) h =
     (AllByRecursion-weaker (λ y. g y ≢ g x) (λ y. y ≢ x) (λ y f e. f (ap g e)) xs (all_unmapped (λ z. z ≢ g x) g xs h.0), distinct_unmap g xs h.1)
 
--- The leftmost of a list that has a value, and what is round it.
+-- the leftmost element of `vs` that has a value by `f`, its value, and what is before and after it
 pub record Picked (f : List ℕ → Option (List ℕ)) (vs : List (List ℕ)) : Type 0 where
   pub before : List (List ℕ)
   pub variant : List ℕ
@@ -252,10 +278,11 @@ pub record Picked (f : List ℕ → Option (List ℕ)) (vs : List (List ℕ)) : 
   pub has : f variant ≡ Some value
   pub leftmost : AllByRecursion (λ u. f u ≡ None) before
 
--- there is one, or none has a value
+-- the leftmost element of a list that has a value by a function, or the fact that none has one
 abbrev pub Pick : (List ℕ → Option (List ℕ)) → List (List ℕ) → Type 0
 Pick f vs = Picked f vs ⊎ AllByRecursion (λ u. f u ≡ None) vs
 
+-- the leftmost element with a value is found, or none has a value
 pub pick : (f : List ℕ → Option (List ℕ)) (vs : List (List ℕ)) → Pick f vs
 pick f [] = inr tt
 pick f (v ∷ vs) =
@@ -266,6 +293,7 @@ pick f (v ∷ vs) =
     later e (inl p) = inl (record { before = v ∷ p.before; variant = p.variant; after = p.after; value = p.value; there = ap (λ us. v ∷ us) p.there; has = p.has; leftmost = (e, p.leftmost) })
     later e (inr none) = inr (e, none)
 
+-- the leftmost element with a value is unique: so are its value, and the list without it
 pub one_leftmost : (f : List ℕ → Option (List ℕ)) (b c : List (List ℕ)) (v w m n : List ℕ) (x y : List (List ℕ)) → b ++ v ∷ x ≡ c ++ w ∷ y → f v ≡ Some m → f w ≡ Some n → AllByRecursion (λ u. f u ≡ None) b → AllByRecursion (λ u. f u ≡ None) c → (m ≡ n) × (b ++ x ≡ c ++ y)
 one_leftmost f [] [] v w m n x y e g h p q = let k : v ≡ w = cc in let l = ap f k in (cc, cc)
 one_leftmost f [] (d ∷ c) v w m n x y e g h p q = let k : v ≡ d = cc in let l = ap f k in let z = q.0 in cc

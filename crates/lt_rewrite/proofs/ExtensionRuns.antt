@@ -34,15 +34,21 @@ use Rattle.lt_rewrite.proofs.PartRuns.{run_star}
 
 -- Runs on the parts of an extension are runs on it.
 
+-- where the ranks of two steps are in one order in an extension and among extensions, no later in the one is no later
+-- in the other
 later : (step other : Step) → (kind_rank step < kind_rank other → extension_rank step < extension_rank other) × (kind_rank step ≡ kind_rank other → extension_rank step ≡ extension_rank other) → IsNoLater kind_rank step other → IsNoLater extension_rank step other
 later step other f (inl h) = inl (f.0 h)
 later step other f (inr h) = inr (f.1 h.0, h.1)
 
+-- Runs on parts of the type `F` as runs in the extension that `of` makes of them: `Is` holds of the parts, steps keep
+-- it (`keeps`), each step on the parts is one in the extension and the other way round (`into`, `out`), and the order
+-- of steps is the same (`ordered`).
 module _ {F : Type 0} (R : List EntryParts) (k : ℕ) (Leads : F → Step → F → Type 0) (of : F → ExtensionParts) (Is : F → Type 0)
     (keeps : (p q : F) (step : Step) → Is p → Leads p step q → Is q)
     (into : (p q : F) (step : Step) → Is p → Leads p step q → ExtensionLeads R k (of p) step (of q))
     (out : (p : F) (step : Step) (f : ExtensionParts) → Is p → ExtensionLeads R k (of p) step f → (q : F) × Leads p step q × (f ≡ of q))
     (ordered : (p q r : F) (step other : Step) → Leads p step q → Leads p other r → IsNoLater kind_rank step other → IsNoLater extension_rank step other) where
+  -- a run from the parts `p` of `e` to parts `q` from which no step leads is one in the extension, to its normal form
   lifted_in : (p q : F) (e : ExtensionParts) (old new : List Step) → of p ≡ e → Is p → Adds Leads (λ _ step. kind_rank step) p q old new → NoneLeads (Leads q) → IsNormalForm (ExtensionStep R) e (of q) × Adds (ExtensionLeads R k) (λ _ step. extension_rank step) e (of q) old new
   lifted_in p q e old new same i a none =
       let l =
@@ -56,6 +62,8 @@ module _ {F : Type 0} (R : List EntryParts) (k : ℕ) (Leads : F → Step → F 
         l.1,
       )
 
+-- a run on the parts of the `u` extension at the index `i`, to parts from which no step leads, settles it, and its
+-- steps are added
 pub u_explained : (R : List EntryParts) (start : ℕ) {es : List ExtensionParts} {i : ℕ} {e : ExtensionParts} {p q : UForm} {old new : List Step} → FoundAt unicode es i e → e ≡ get_or es i e → IsUnicode e.subtags p → AddsOnUnicode (start + length (spell_extensions (take i es)) + 1) p q old new → NoneLeads (UnicodeLeads (start + length (spell_extensions (take i es)) + 1) q) → ExplainsAt R unicode start es i (of_u q) old new
 u_explained R start {es = es} {i = i} {e = e} {p = p} {q = q} {old = old} {new = new} found is from a none =
     let k : ℕ = start + length (spell_extensions (take i es)) + 1 in
@@ -67,6 +75,8 @@ u_explained R start {es = es} {i = i} {e = e} {p = p} {q = q} {old = old} {new =
     p q e old new (λ j. record { singleton = sym found.of_singleton j; subtags = from.spelled j }) from.shaped a none in
     record { settles = record { within = found.within; from = e; there = is; of_singleton = found.of_singleton; normal = l.0 }; adds = l.1 }
 
+-- a run on the parts of the `t` extension at the index `i`, to parts from which no step leads, settles it, and its
+-- steps are added
 pub t_explained : (R : List EntryParts) → IsRegistry R → (start : ℕ) {es : List ExtensionParts} {i : ℕ} {e : ExtensionParts} {p q : TForm} {old new : List Step} → FoundAt transform es i e → e ≡ get_or es i e → IsTransform e.subtags p → AddsOnTransform R (start + length (spell_extensions (take i es)) + 1) p q old new → NoneLeads (TransformLeads R (start + length (spell_extensions (take i es)) + 1) q) → ExplainsAt R transform start es i (of_t q) old new
 t_explained R G start {es = es} {i = i} {e = e} {p = p} {q = q} {old = old} {new = new} found is from a none =
     let k : ℕ = start + length (spell_extensions (take i es)) + 1 in
@@ -80,9 +90,11 @@ t_explained R G start {es = es} {i = i} {e = e} {p = p} {q = q} {old = old} {new
 
 -- extensions in order by their singletons
 
+-- the singleton of an extension
 abbrev pub singleton_of : ExtensionParts → ℕ
 singleton_of e = e.singleton
 
+-- whether extensions are in order depends on their singletons alone
 rising_same : (es fs : List ExtensionParts) → map singleton_of es ≡ map singleton_of fs → IsRising singleton_cmp es → IsRising singleton_cmp fs
 rising_same [] [] e h = tt
 rising_same (a ∷ []) (b ∷ []) e h = (tt, tt)
@@ -92,26 +104,31 @@ rising_same (a ∷ b ∷ es) (c ∷ d ∷ fs) e h =
     ((λ l. h.0 ((λ i. nat_cmp (y i) (x i)) ∙ l)), rising_same (b ∷ es) (d ∷ fs) (others_same _ _ _ _ e) h.1)
 rising_same s t e h = absurd cc
 
+-- extensions in order have no step on their order
 ordered_rests : (es fs : List ExtensionParts) → IsRising singleton_cmp es → ListStep false singleton_cmp es fs → ⊥
 ordered_rests es fs h (by_drop before a between b after o s) = absurd cc
 ordered_rests es fs h (by_swap before a b after s) = rising_swaps singleton_cmp h s
 
--- steps in an extension come after those of a rank
+-- each step in the extension has a rank above `most` among the steps on extensions
 abbrev pub IsBehind : List EntryParts → ℕ → ExtensionParts → Type 0
 IsBehind R most e = (k : ℕ) (step : Step) (f : ExtensionParts) → ExtensionLeads R k e step f → most < extension_rank step
 
--- a first step in the one extension of a singleton is one among all, where those are in order, and steps in others
--- come after
+-- The first step in the one extension of the singleton `n`, whose steps have ranks up to `most` (`own`), is the first
+-- on all extensions, if these are in order and steps in the others have higher ranks.
 module _ (R : List EntryParts) (start n most : ℕ) (own : (k : ℕ) (e : ExtensionParts) (step : Step) (f : ExtensionParts) → ExtensionLeads R k e step f → e.singleton ≡ n → extension_rank step ≤ most) (before after : List ExtensionParts) where
+  -- `e`, between `before` and `after`, is the one extension with the singleton `n`; the extensions are in order, and
+  -- steps in the others come after rank `most`
   pub record Leading (e : ExtensionParts) : Type 0 where
     pub singleton : e.singleton ≡ n
     pub distinct : Distinct (map singleton_of (before ++ e ∷ after))
     pub ordered : IsRising singleton_cmp (before ++ e ∷ after)
     pub behind : AllByRecursion (λ x. x.singleton ≢ n → IsBehind R most x) (before ++ e ∷ after)
 
+  -- the place of the singleton of the extension between `before` and `after`
   abbrev here : ℕ
   here = start + length (spell_extensions before) + 1
 
+  -- a step in the extension keeps what `Leading` tells
   leading_step : (e f : ExtensionParts) → ExtensionStep R e f → Leading e → Leading f
   leading_step e f s h =
       let same : f.singleton ≡ e.singleton = extension_step_singleton R e f s in
@@ -124,6 +141,7 @@ module _ (R : List EntryParts) (start n most : ℕ) (own : (k : ℕ) (e : Extens
         behind = all_replaced (λ x. x.singleton ≢ n → IsBehind R most x) before e f after h.behind (λ ne. absurd (ne (same ∙ h.singleton)));
       }
 
+  -- the first step in the extension comes no later than any step on the extensions
   none_before : (e f : ExtensionParts) (step : Step) → Leading e → IsFirst (ExtensionLeads R here e) extension_rank step f → (other : Step) (gs : List ExtensionParts) → ExtensionsLeads R start (before ++ e ∷ after) other gs → IsNoLater extension_rank step other
   none_before e f step h i other gs (among s, x) = absurd (ordered_rests (before ++ e ∷ after) gs h.ordered s)
   none_before e f step h i other gs (inside before' e' f' after' there result s, x) =
@@ -134,6 +152,7 @@ module _ (R : List EntryParts) (start n most : ℕ) (own : (k : ℕ) (e : Extens
             inl (omega (arith, own here e step f i.leads h.singleton, all_middle (λ x. x.singleton ≢ n → IsBehind R most x) before' e' after' all ne (start + length (spell_extensions before') + 1) other f' (s, x)))
       ]
 
+  -- a run in the one extension of the singleton `n` is a run on the extensions
   pub adds_among : (e f : ExtensionParts) (old new : List Step) → Leading e → Adds (ExtensionLeads R (start + length (spell_extensions before) + 1)) (λ _ step. extension_rank step) e f old new → AddsOnExtensions R start (before ++ e ∷ after) (before ++ f ∷ after) old new
   adds_among e f old new h a =
       (adds_lift (ExtensionLeads R here) (λ _ step. extension_rank step) (ExtensionsLeads R start) (λ _ step. extension_rank step) Leading (λ x. before ++ x ∷ after)
@@ -144,24 +163,29 @@ module _ (R : List EntryParts) (start n most : ℕ) (own : (k : ℕ) (e : Extens
 
 -- The steps on extensions, phase by phase: exchanges, those in u, those in t.
 
--- the subtags of the first extensions
+-- the first extensions have no more subtags than all
 pub few_before : (i : ℕ) (es : List ExtensionParts) → length (spell_extensions (take i es)) ≤ length (spell_extensions es)
 few_before i es = front_few spell_extension es i
 
 -- what the phases keep
 
+-- if it is a `t` extension, it has the form of one (RFC 6497, 2.2)
 abbrev pub HasForm : ExtensionParts → Type 0
 HasForm e = e.singleton ≡ transform → (p : TForm) × IsTransform e.subtags p
 
+-- what each phase keeps of the extensions: the singletons differ, `t` extensions have their form, and the places are
+-- below the bound that the functions require
 pub record IsKept (start : ℕ) (es : List ExtensionParts) : Type 0 where
   pub singletons : Distinct (map singleton_of es)
   pub transforms : AllByRecursion HasForm es
   pub few : start + length (spell_extensions es) ≤ 1100000
 
+-- a list without repeats stays so where two neighbours change places
 distinct_swapped : (xs : List ℕ) (m n : ℕ) (ys : List ℕ) → Distinct (xs ++ m ∷ n ∷ ys) → Distinct (xs ++ n ∷ m ∷ ys)
 distinct_swapped [] m n ys d = ((λ e. d.0.0 (sym e), d.1.0), (d.0.1, d.1.1))
 distinct_swapped (x ∷ xs) m n ys d = (all_swapped (λ y. y ≢ x) xs m n ys d.0, distinct_swapped xs m n ys d.1)
 
+-- singletons that differ still do after a step on the order of the extensions
 distinct_step : (es fs : List ExtensionParts) → ListStep false singleton_cmp es fs → Distinct (map singleton_of es) → Distinct (map singleton_of fs)
 distinct_step es fs (by_swap before a b after s) d =
     subst Distinct (sym (ap (map singleton_of) s.result ∙ map-append singleton_of before (b ∷ a ∷ after)))
@@ -170,16 +194,18 @@ distinct_step es fs (by_drop before a between b after o s) d = absurd cc
 
 -- exchanges
 
+-- a SwapExtensions step leads from one list of extensions, which begins after the given number of subtags, to another
 abbrev pub Swapping : ℕ → List ExtensionParts → Step → List ExtensionParts → Type 0
 Swapping = SwapsBy singleton_cmp spell_extension steps.SwapExtensions
 
--- what exchanges lead to, and that they are steps on extensions
+-- after the phase of exchanges: the extensions `fs` are in order, and the steps that lead there are added
 pub record Swapped (R : List EntryParts) (start : ℕ) (es fs : List ExtensionParts) (old new : List Step) : Type 0 where
   pub kept : IsKept start fs
   pub ordered : IsRising singleton_cmp fs
   pub adds : AddsOnExtensions R start es fs old new
 
 module _ (R : List EntryParts) (start : ℕ) where
+  -- the first exchange comes no later than any step on the extensions
   none_earlier : (es fs : List ExtensionParts) (step : Step) → IsFirst (Swapping start es) (λ _. 0) step fs → (other : Step) (gs : List ExtensionParts) → ExtensionsLeads R start es other gs → IsNoLater extension_rank step other
   none_earlier es fs step h other gs (inside before e f after there result s, x) =
       inl (omega (arith, ap order h.leads.of_kind, told R (start + length (spell_extensions before) + 1) e other f (s, x)))
@@ -187,6 +213,7 @@ module _ (R : List EntryParts) (start : ℕ) where
       let l = as_swap singleton_cmp steps.SwapExtensions spell_extension start es gs other s x in
       inr (ap order h.leads.of_kind ∙ sym (ap order l.of_kind), omega (arith, h.first other gs l))
 
+  -- a run of exchanges, until none leads on, gives what `Swapped` tells
   pub swapped : {es fs : List ExtensionParts} {old new : List Step} → IsKept start es → Adds (Swapping start) (λ _ _. 0) es fs old new → NoneLeads (Swapping start fs) → Swapped R start es fs old new
   swapped {es = es} {fs = fs} {old = old} {new = new} k a none =
       let lift =
@@ -204,15 +231,19 @@ module _ (R : List EntryParts) (start : ℕ) where
 
 -- an extension in its place
 
+-- what `Explains` tells of an extension with the singleton `n`, `Settles` tells of it without the steps
 pub settles_of : (R : List EntryParts) (n start : ℕ) (es : List ExtensionParts) (o : Option (ℕ × ExtensionParts)) (old new : List Step) → Explains R n start es o old new → Settles R n es o
 settles_of R n start es None old new h = none_rest R es n h.0
 settles_of R n start es (Some p) old new h = h.settles
 
+-- with the normal form in its place the extensions have the same singletons
 placed_singletons : (R : List EntryParts) (n : ℕ) (es : List ExtensionParts) (o : Option (ℕ × ExtensionParts)) → Settles R n es o → map singleton_of es ≡ map singleton_of (placed o es)
 placed_singletons R n es None s = refl
 placed_singletons R n es (Some p) s =
     sym (map-set_same singleton_of es p.0 p.1 s.from (keeps_singleton R n s.from p.1 s.of_singleton s.normal.reached ∙ sym s.of_singleton ∙ ap singleton_of s.there))
 
+-- the steps in the extension of the singleton `n`, added to others, are a run on the extensions, if steps in others
+-- come after rank `most`
 adds_placed : (R : List EntryParts) (start n most : ℕ) → ((k : ℕ) (e : ExtensionParts) (step : Step) (f : ExtensionParts) → ExtensionLeads R k e step f → e.singleton ≡ n → extension_rank step ≤ most) → (es : List ExtensionParts) (o : Option (ℕ × ExtensionParts)) (old new : List Step) → Explains R n start es o old new → Distinct (map singleton_of es) → IsRising singleton_cmp es → AllByRecursion (λ x. x.singleton ≢ n → IsBehind R most x) es → AddsOnExtensions R start es (placed o es) old new
 adds_placed R start n most own es None old new h d r b = subst (λ l. AddsOnExtensions R start es es old l) (sym h.1) (adds_none (ExtensionsLeads R start) (λ _ step. extension_rank step) es old)
 adds_placed R start n most own es (Some p) old new h d r b =
@@ -229,13 +260,15 @@ adds_placed R start n most own es (Some p) old new h d r b =
     (subst (λ l. AddsOnExtensions R start (take i es ++ e ∷ drop (suc i) es) l old new) (sym (set_split es i p.1 h.settles.within))
     (adds_among R start n most own (take i es) (drop (suc i) es) e p.1 old new leading h.adds))
 
+-- a step on extensions makes their subtags no more
 few_step : (R : List EntryParts) (es fs : List ExtensionParts) → ExtensionsStep R es fs → length (spell_extensions fs) ≤ length (spell_extensions es)
 few_step R es fs (inside before e f after there result s) =
     let l = spelled_replaced spell_extension before e f after (omega (arith, extension_step_length R e f s)) in
     omega (arith, l, ap (λ x. length (spell_extensions x)) there, ap (λ x. length (spell_extensions x)) result)
 few_step R es fs (among s) = spelled_step spell_extension es fs s
 
--- the steps in u, where the extensions are in order
+-- after the phase of the `u` extension: the extensions `fs` are in order, no step leads from the `u` extension, and the
+-- steps that lead there are added
 pub record UPlaced (R : List EntryParts) (start : ℕ) (es fs : List ExtensionParts) (old new : List Step) : Type 0 where
   pub kept : IsKept start fs
   pub ordered : IsRising singleton_cmp fs
@@ -245,6 +278,7 @@ pub record UPlaced (R : List EntryParts) (start : ℕ) (es fs : List ExtensionPa
 -- one phase after another
 
 module _ (R : List EntryParts) (start : ℕ) {es fs gs hs : List ExtensionParts} (o : Option (ℕ × ExtensionParts)) {old new : List Step} (newer : List Step) where
+  -- the phase of the `u` extension, after that of exchanges
   pub after_u : Swapped R start es fs old new → gs ≡ fs → Explains R unicode start gs o new newer → hs ≡ placed o fs → UPlaced R start es hs old newer
   after_u m same h is =
       let x = subst (λ l. Explains R unicode start l o new newer) same h in
@@ -265,6 +299,7 @@ module _ (R : List EntryParts) (start : ℕ) {es fs gs hs : List ExtensionParts}
             (all_both HasForm HasForm (λ x. x.singleton ≢ unicode → IsBehind R 13 x) (λ e _ _ ne k step f l. omega (arith, told R k e step f l, ne)) fs k.transforms k.transforms));
       })
 
+  -- the phase of the `t` extension, after that of the `u` extension: no step leads on
   pub after_t : UPlaced R start es fs old new → gs ≡ fs → Explains R transform start gs o new newer → hs ≡ placed o fs → AddsOnExtensions R start es hs old newer × NoneLeads (ExtensionsLeads R start hs)
   after_t m same h is =
       let x = subst (λ l. Explains R transform start l o new newer) same h in

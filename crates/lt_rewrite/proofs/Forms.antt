@@ -17,11 +17,12 @@ use Rattle.lt_registry.specs.declared.entries.Kind.TheVariants as kinds
 use Rattle.lt_registry.specs.declared.entries.EntryName.TheVariants as names
 use Rattle.lt_registry.specs.declared.entries.EntryValue.TheVariants as values
 
--- the entry of a registered subtag
+-- a registered subtag has an entry
 pub registered_entry : (R : List EntryParts) (k : Kind) (s : List ℕ) → is_registered R k s ≡ true → (e : EntryParts) × (entry R k s ≡ Some e)
 registered_entry R k s h =
     (elim (entry R k s) as (λ o. is_some o ≡ true → (e : EntryParts) × (o ≡ Some e)) [ None ↦ λ e. cc | Some a ↦ λ e. (a, refl) ]) h
 
+-- one subtag as a value that fits a kind has the form of the values of the kind
 pub value_form_at : (k : Kind) (o : Option EntryValue) (v : List ℕ) → IfSome o (FitsValue k) → one_of o ≡ Some v → has_value_form k v ≡ true
 value_form_at k (Some (values.One s)) v h e = let same : s ≡ v = cc in subst (λ x. has_value_form k x ≡ true) same h
 value_form_at k s v h e = cc
@@ -38,19 +39,21 @@ value_registered R C k s v keeps e =
     let en : ValuedEntry R k s v = valued R k s v e in
     subst (λ k. is_registered R k v ≡ true) en.of_kind ((valued_has R k s v (HasRegisteredValue R) C.values en) (ap has_value_of_own_kind en.of_kind ∙ keeps) v en.gives)
 
+-- a record that names the one subtag `t` is the entry of no other
 pub single_name : (s t : List ℕ) (n : EntryName) → n ≡ names.Single t → (is_named s n ≡ true) ⊎ (holds s n ≡ true) → t ≡ s
 single_name s t n e (inl h) =
     (bytes_eq-Decides t s).0 (ap (is_named s) (sym e) ∙ h)
 single_name s t n e (inr h) =
     let k : false ≡ true = ap (holds s) (sym e) ∙ h in cc
 
--- the entry of an extlang
+-- the entry of the extlang `x`: it meets the condition C4, and names `x`
 pub record ExtlangEntry (R : List EntryParts) (x : List ℕ) : Type 0 where
   pub at : EntryParts
   pub found : entry R kinds.Extlang x ≡ Some at
   pub fits : IsFittingExtlang R at
   pub same : fits.subtag ≡ x
 
+-- a registered extlang has an entry that meets the condition C4 and names it
 pub extlang_entry : (R : List EntryParts) → MeetsCoreConditions R → (x : List ℕ) → is_registered R kinds.Extlang x ≡ true → ExtlangEntry R x
 extlang_entry R C x h =
     let en = registered_entry R kinds.Extlang x h in
@@ -59,21 +62,24 @@ extlang_entry R C x h =
     let fits : IsFittingExtlang R en.0 = has.0 of.of_kind in
     record { at = en.0; found = en.1; fits = fits; same = single_name x fits.subtag en.0.name fits.single of.names }
 
+-- the replacement of an extlang is the value of its entry, or the extlang itself where there is none
 pub replacement_at : (R : List EntryParts) (x : List ℕ) (e : EntryParts) → entry R kinds.Extlang x ≡ Some e → replacement R x ≡ unwrap_or (one_of e.value) x
 replacement_at R x e h = ap (λ (o : Option EntryParts). unwrap_or (option_and_then (λ (f : EntryParts). one_of f.value) o) x) h
 
--- the replacement of an extlang is a registered language
+-- under the conditions C1 to C6 the replacement of a registered extlang is a registered language
 pub replacement_registered : (R : List EntryParts) → MeetsCoreConditions R → (x : List ℕ) → is_registered R kinds.Extlang x ≡ true → is_registered R kinds.Language (replacement R x) ≡ true
 replacement_registered R C x h =
     let en : ExtlangEntry R x = extlang_entry R C x h in
     ap (λ s. is_registered R kinds.Language s) (replacement_at R x en.at en.found ∙ ap (unwrap_or (one_of en.at.value)) (sym en.same)) ∙ en.fits.replacement_registered
 
+-- an extlang, of 3 letters, has the form of a language (RFC 5646, 2.1)
 pub extlang_is_language : (x : List ℕ) → is_extlang x ≡ true → is_language x ≡ true
 unfolding is_language
 extlang_is_language x h =
     let p = extlang_is x h in
     and_from (is_alphabetic x) (nat_le 2 (length x) && nat_le (length x) 8) p.0 (ap (λ m. nat_le 2 m && nat_le m 8) p.1)
 
+-- `x`, or the value `o` in its stead, has the form of a language, if both have it
 replacement_form_at : (x : List ℕ) (o : Option (List ℕ)) → is_language x ≡ true → ((v : List ℕ) → o ≡ Some v → is_language v ≡ true) → is_language (unwrap_or o x) ≡ true
 replacement_form_at x None h f = h
 replacement_form_at x (Some v) h f = f v refl
@@ -95,11 +101,13 @@ short_value_form v h s =
       | inr a ↦ (and_parts (is_language v) (is_short v) a).0
     ]
 
+-- the language value of a variant has the form of a language
 pub language_value_form : (R : List EntryParts) → IsRegistry R → (v m : List ℕ) → language_value R v ≡ Some m → is_language m ≡ true
 language_value_form R G v m e =
     let p = language_value_is R v m e in
     short_value_form m (value_form R G kinds.Variant v m p.0) p.1
 
+-- the variant value of a variant has the form of a variant
 pub variant_value_form : (R : List EntryParts) → IsRegistry R → (v w : List ℕ) → variant_value R v ≡ Some w → is_variant w ≡ true
 variant_value_form R G v w e =
     let p = variant_value_is R v w e in
@@ -110,10 +118,11 @@ variant_value_form R G v w e =
 
 -- What the forms of an entry say of its value.
 
--- and the kind is the one that it was looked up under
+-- a value that has the form for the kind of an entry has it for the kind under which the entry is found
 pub form_under : (R : List EntryParts) (k : Kind) (s : List ℕ) (e : EntryParts) (v : List ℕ) → entry R k s ≡ Some e → has_value_form e.kind v ≡ true → has_value_form k v ≡ true
 form_under R k s e v h f = subst (λ x. has_value_form x v ≡ true) (entry_of R k s e h).of_kind f
 
+-- an optional value that has the form for the kind of an entry has it for the kind under which the entry is found
 pub each_form_under : (R : List EntryParts) (k : Kind) (s : List ℕ) (e : EntryParts) (o : Option (Bor (List ℕ))) → entry R k s ≡ Some e → IfSome o (λ v. has_value_form e.kind v.now ≡ true) → IfSome o (λ v. has_value_form k v.now ≡ true)
 each_form_under R k s e None h f = f
 each_form_under R k s e (Some v) h f = form_under R k s e v.now h f

@@ -27,10 +27,11 @@ use Rattle.lt_rewrite.specs.RisingKeys.{is_above, comes_after, is_type, next_key
 abbrev pub none_true : List (List ℕ) → Bool
 none_true ss = list_all (λ (s : List ℕ). not (bytes_eq s (codes "true"))) ss
 
--- a key comes after another
+-- the key of a keyword comes after the given key, if there is one
 abbrev Above : Option (List ℕ) → KeywordParts → Type 0
 Above last k = comes_after last k.key ≡ true
 
+-- no type of the keyword is `true`
 abbrev HasNoTrue : KeywordParts → Type 0
 HasNoTrue k = none_true k.types ≡ true
 
@@ -39,7 +40,8 @@ abbrev AreRising : List KeywordParts → Type 0
 AreRising [] = Unit {0}
 AreRising (k ∷ ks) = AllByRecursion (Above (Some k.key)) ks × AreRising ks
 
--- what subtags are that come so after the last key
+-- what the subtags `ss` are that follow the key `last`: its types, and then keywords in the order of their keys, which
+-- come after `last`; no type is `true`
 pub record Rise (last : Option (List ℕ)) (ss : List (List ℕ)) : Type 0 where
   pub subtags : list_all is_extension_subtag ss ≡ true
   pub above : AllByRecursion (Above last) (keywords_of ss)
@@ -48,20 +50,23 @@ pub record Rise (last : Option (List ℕ)) (ss : List (List ℕ)) : Type 0 where
   pub types : none_true (before is_key ss) ≡ true
   pub first : last ≡ None → before is_key ss ≡ []
 
+-- a key has the form of an extension's subtag (RFC 5646, 2.1)
 key_long : (s : List ℕ) → is_key s ≡ true → is_extension_subtag s ≡ true
 unfolding is_key is_extension_subtag
 key_long s h = grind (arith, nat_tests)
 
+-- a subtag that is long enough for a type has the form of an extension's subtag (RFC 5646, 2.1)
 long_long : (s : List ℕ) → is_long s ≡ true → is_extension_subtag s ≡ true
 unfolding is_long is_extension_subtag
 long_long s h = grind (arith, nat_tests)
 
+-- an order that is above is Greater
 is_greater : (o : Ordering) → is_above o ≡ true → o ≡ Greater
 is_greater Less h = cc
 is_greater Equal h = cc
 is_greater Greater h = refl
 
--- keys above a key that comes after the last come after the last
+-- a key that comes after `s` comes after `last`, if `s` does
 above_more : (last : Option (List ℕ)) (s : List ℕ) → comes_after last s ≡ true → (k : KeywordParts) → Above (Some s) k → Above last k
 above_more None s h k a = refl
 above_more (Some l) s h k a =
@@ -72,10 +77,11 @@ above_more (Some l) s h k a =
     let both : text_cmp l k.key ≡ Less = text_total.trans l s k.key lower higher in
     ap is_above (text_total.antisymm k.key l ∙ ap ordering_reverse both)
 
+-- the keyword of a key and its types
 abbrev keyword : List ℕ → List (List ℕ) → KeywordParts
 keyword key types = record { key = key; types = types }
 
--- a keyword more
+-- one subtag more in front: a key that comes after `last`
 rise_key : (last : Option (List ℕ)) (s : List ℕ) (ss : List (List ℕ)) → is_key s ≡ true → comes_after last s ≡ true → Rise (Some s) ss → Rise last (s ∷ ss)
 rise_key last s ss key after r =
     let found : keywords_of (s ∷ ss) ≡ keyword s (before is_key ss) ∷ keywords_of ss = rw key refl in
@@ -89,7 +95,7 @@ rise_key last s ss key after r =
       first = λ e. none;
     }
 
--- a type more of the last key
+-- one subtag more in front: a type of the key `last`, other than `true`
 rise_type : (last : List ℕ) (s : List ℕ) (ss : List (List ℕ)) → is_key s ≡ false → is_long s ≡ true → not (bytes_eq s (codes "true")) ≡ true → Rise (Some last) ss → Rise (Some last) (s ∷ ss)
 rise_type last s ss key long other r =
     let found : keywords_of (s ∷ ss) ≡ keywords_of ss = rw key refl in
@@ -103,7 +109,7 @@ rise_type last s ss key long other r =
       first = λ e. cc;
     }
 
--- the key that the last is then, where there is one
+-- where keys rise, there is a last key `k` after the subtag `s`, and from it on the keys of the others rise
 next_some : (last : Option (List ℕ)) (s : List ℕ) (ss : List (List ℕ)) → keys_rise last (s ∷ ss) ≡ true → (k : List ℕ) × (next_key last s ≡ Some k) × (keys_rise (Some k) ss ≡ true)
 next_some last s ss h = go (next_key last s) refl
   where
@@ -111,6 +117,7 @@ next_some last s ss h = go (next_key last s) refl
     go None e = let bad : false ≡ true = rw e at h in cc
     go (Some k) e = (k, e, rw e at h)
 
+-- subtags that pass the test `keys_rise` are as `Rise` says
 pub rise : (last : Option (List ℕ)) (ss : List (List ℕ)) → keys_rise last ss ≡ true → Rise last ss
 rise last [] h = record { subtags = refl; above = tt; rising = tt; none = tt; types = refl; first = λ e. refl }
 rise last (s ∷ ss) h =
@@ -139,17 +146,20 @@ rise last (s ∷ ss) h =
 
 -- ---- the parts of a `u` extension of them
 
+-- the parts of a `u` extension's subtags: the attributes before the first key, and the keywords
 abbrev pub parts : List (List ℕ) → UForm
 parts ss = record { attributes = before is_key ss; keywords = keywords_of ss }
 
+-- subtags whose keys rise from the start, at least one, have these parts
 pub parts_found : (ss : List (List ℕ)) → Rise None ss → 0 < length ss → IsUnicode ss (parts ss)
 parts_found ss r some = u_found ss (parts ss) r.subtags some refl refl
 
+-- the last of keywords whose keys rise have keys that rise
 rising_rest : (before ks : List KeywordParts) → AreRising (before ++ ks) → AreRising ks
 rising_rest [] ks h = h
 rising_rest (b ∷ bs) ks h = rising_rest bs ks h.1
 
--- two keywords whose keys rise stand in no other order
+-- no step leads from keywords whose keys rise
 keys_rest : (ks : List KeywordParts) → AreRising ks → Rests (ListStep true key_cmp) ks
 keys_rest ks h ls (by_swap before a b after s) =
     let above = (rising_rest before (a ∷ b ∷ after) (subst AreRising s.there h)).0.0 in
@@ -161,11 +171,12 @@ keys_rest ks h ls (by_drop before a between b after o s) =
     let bad : false ≡ true = ap is_above (sym s.alike) ∙ above in
     cc
 
+-- no step leads from attributes if there are none
 none_moves : (as' : List (List ℕ)) → as' ≡ [] → Rests (ListStep true text_cmp) as'
 none_moves as' e bs (by_swap before a b after s) = omega (arith, ap length (sym e ∙ s.there), length-append before (a ∷ b ∷ after))
 none_moves as' e bs (by_drop before a between b after o s) = omega (arith, ap length (sym e ∙ s.there), length-append before (a ∷ (between ++ b ∷ after)))
 
--- the parts rest
+-- the parts of subtags whose keys rise are their own normal form
 pub parts_rest : (ss : List (List ℕ)) → Rise None ss → IsNormalForm UnicodeStep (parts ss) (parts ss)
 parts_rest ss r = record { reached = done; at_rest = rests }
   where
@@ -177,7 +188,7 @@ parts_rest ss r = record { reached = done; at_rest = rests }
         let bad : false ≡ true = ap none_true (sym s.sole) ∙ none in
         cc
 
--- a `u` extension of such keywords rests
+-- no step leads from a `u` extension whose keys rise
 pub unicode_rests : (R : List EntryParts) (e : ExtensionParts) → IsExtensionValue e → keys_rise None e.subtags ≡ true → e.singleton ≡ unicode → Rests (ExtensionStep R) e
 unicode_rests R e v h u =
     let r = rise None e.subtags h in

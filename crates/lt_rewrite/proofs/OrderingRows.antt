@@ -7,18 +7,20 @@ use Rattle.lt_rewrite.proofs.Sorting.{sorted}
 use Rattle.lt_rewrite.proofs.PartForms.{u_form, with_types as keyword, with_parts as parts}
 use Rattle.lt_rewrite.proofs.ExtensionForms.{extension}
 
+-- the field of a separator and its values
 abbrev field : List ℕ → List (List ℕ) → FieldParts
 field separator values = record { separator = separator; values = values }
 
--- foo-bar-foo-nu-latn-ca-buddhist-nu-arab
+-- foo-bar-foo-nu-latn-ca-buddhist-nu-arab: attributes and keywords come in order, and of equal ones the first stays
 repeated : u_form (parts (codes "foo" ∷ codes "bar" ∷ codes "foo" ∷ []) (keyword (codes "nu") (codes "latn" ∷ []) ∷ keyword (codes "ca") (codes "buddhist" ∷ []) ∷ keyword (codes "nu") (codes "arab" ∷ []) ∷ []))
     ≡ parts (codes "bar" ∷ codes "foo" ∷ []) (keyword (codes "ca") (codes "buddhist" ∷ []) ∷ keyword (codes "nu") (codes "latn" ∷ []) ∷ [])
 repeated = refl
 
--- kn-true, and kn-true-true, which keeps its types
+-- kn-true loses its type
 sole_true : u_form (parts [] (keyword (codes "kn") (codes "true" ∷ []) ∷ [])) ≡ parts [] (keyword (codes "kn") [] ∷ [])
 sole_true = refl
 
+-- kn-true-true keeps its types
 two_types : u_form (parts [] (keyword (codes "kn") (codes "true" ∷ codes "true" ∷ []) ∷ [])) ≡ parts [] (keyword (codes "kn") (codes "true" ∷ codes "true" ∷ []) ∷ [])
 two_types = refl
 
@@ -31,7 +33,7 @@ fields : sorted false separator_cmp (field (codes "m0") (codes "names" ∷ codes
     ≡ field (codes "a0") (codes "xyz" ∷ []) ∷ field (codes "m0") (codes "names" ∷ codes "bgn" ∷ []) ∷ field (codes "m0") (codes "aaa" ∷ []) ∷ []
 fields = refl
 
--- b-ccc-bbb-a-aaa
+-- b-ccc-bbb-a-aaa: the extensions come in the order of their singletons, and keep that of their subtags
 extensions : sorted false singleton_cmp (extension 98 (codes "ccc" ∷ codes "bbb" ∷ []) ∷ extension 97 (codes "aaa" ∷ []) ∷ [])
     ≡ extension 97 (codes "aaa" ∷ []) ∷ extension 98 (codes "ccc" ∷ codes "bbb" ∷ []) ∷ []
 extensions = refl

@@ -26,13 +26,16 @@ use Rattle.lt_rewrite.specs.declared.steps.StepKind.TheVariants as steps
 
 -- Sole types true go from keywords, one after another.
 
+-- the only type of the keyword is `true`
 abbrev pub IsSoleTrue : KeywordParts → Type 0
 IsSoleTrue k = k.types ≡ codes "true" ∷ []
 
+-- the keyword without its types
 abbrev pub bare : KeywordParts → KeywordParts
 bare k = record k { types = [] }
 
--- the keywords before an index have lost their sole types true
+-- `ks` are the keywords `from` where those before `index` have lost a sole type `true`, and the steps are added; the
+-- key of the one at `index` has the place `here`
 pub record IsBareSoFar (start : ℕ) (from ks : List KeywordParts) (old new : List Step) (index here : ℕ) : Type 0 where
   pub count : length ks ≡ length from
   pub few : length (flat_map spell_keyword ks) ≤ length (flat_map spell_keyword from)
@@ -42,7 +45,7 @@ pub record IsBareSoFar (start : ℕ) (from ks : List KeywordParts) (old new : Li
 
 module _ (start : ℕ) where
   module _ {from ks : List KeywordParts} {old new : List Step} {i here : ℕ} (h : IsBareSoFar start from ks old new i here) (k : KeywordParts) (within : i < length ks) (is : k ≡ get_or ks i k) where
-    -- it stays as it is
+    -- the keyword at the index, which has no sole type `true`, stays as it is
     pub bare_kept : (IsSoleTrue k → ⊥) → IsBareSoFar start from ks old new (i + 1) (here + length (spell_keyword k))
     bare_kept n = record {
       count = h.count;
@@ -52,7 +55,7 @@ module _ (start : ℕ) where
       adds = h.adds;
     }
 
-    -- it loses its type
+    -- the keyword at the index loses its sole type `true` by a DropTrue step, which is added
     pub bare_more : (step : Step) {newer : List Step} → IsSoleTrue k → step.kind ≡ steps.DropTrue → step.place ≡ here + 1 → step.number ≡ 0 → newer ≡ new ++ step ∷ [] → IsBareSoFar start from (set ks i (bare k)) old newer (i + 1) (here + length (spell_keyword (bare k)))
     bare_more step {newer = newer} sole kind place number e =
         let less : i < length (set ks i (bare k)) = omega (arith, within, length-set ks i (bare k)) in
@@ -73,17 +76,17 @@ module _ (start : ℕ) where
               }) e;
         }
 
-  -- none is left
+  -- past the last keyword no DropTrue step leads on
   pub bare_all : {from ks : List KeywordParts} {old new : List Step} {i here : ℕ} → IsBareSoFar start from ks old new i here → length ks ≤ i → NoneLeads (DropsTrueBy start ks)
   bare_all {ks = ks} h all step ls s =
       let t = true_step start step.place ks ls s.leads in
       h.none t.index (omega (arith, t.within, all)) t.holds
 
-  -- no more subtags are passed than there are
+  -- the place that is reached is at most one past the last subtag
   pub bare_few : {from ks : List KeywordParts} {old new : List Step} {i here : ℕ} → IsBareSoFar start from ks old new i here → here ≤ start + length (flat_map spell_keyword from) + 1
   bare_few {ks = ks} {i = i} h = omega (arith, h.here_is, h.few, front_few spell_keyword ks i)
 
--- no step of a rank below this one leads on
+-- no step of a rank below `n` leads on from the parts `p` of a `u` extension
 record IsSettledBelow (start n : ℕ) (p : UForm) : Type 0 where
   attributes_unlike : 9 < n → IsUnlike text_cmp p.attributes
   attributes_rising : 10 < n → IsRising text_cmp p.attributes
@@ -91,6 +94,7 @@ record IsSettledBelow (start n : ℕ) (p : UForm) : Type 0 where
   keywords_rising : 12 < n → IsRising key_cmp p.keywords
   true_nowhere : 13 < n → NoneLeads (DropsTrueBy (start + length p.attributes) p.keywords)
 
+-- where no step of a rank below `n` leads on, no step of a kind `k` with a lower rank than `n` does
 refuted : (start n : ℕ) (p : UForm) → IsSettledBelow start n p → (step : Step) (q : UForm) (k : UnicodeKind) → u_rank k < n → Says k start p step q → ⊥
 refuted start n p h step q drop_attribute l (s, e) = unlike_drops text_cmp (h.attributes_unlike l) s.leads.drops
 refuted start n p h step q swap_attributes l (s, e) = rising_swaps text_cmp (h.attributes_rising l) s.leads.swaps
@@ -98,8 +102,11 @@ refuted start n p h step q drop_keyword l (s, e) = unlike_drops key_cmp (h.keywo
 refuted start n p h step q swap_keywords l (s, e) = rising_swaps key_cmp (h.keywords_rising l) s.leads.swaps
 refuted start n p h step q drop_true l (s, e) = h.true_nowhere l step q.keywords s
 
--- steps of a kind on one of the lists that are added are added on the parts, where no step of a kind before it leads on
+-- A run of steps of the kind `k` on one list is a run on the parts that `g` makes of the list, where no step of a lower
+-- rank leads on from these.
 module _ {A : Type 0} (start : ℕ) (k : UnicodeKind) (Leads : A → Step → A → Type 0) (P : A → Type 0) (g : A → UForm) where
+  -- a run on a list is one on the parts: each step on the list is one of the kind on the parts and the other way round,
+  -- and `P`, which steps keep, tells that no step of a lower rank leads on
   lifted : ((a b : A) (step : Step) → Leads a step b → Says k start (g a) step (g b)) → ((a : A) (step : Step) (q : UForm) → Says k start (g a) step q → (b : A) × Leads a step b) → ((a b : A) (step : Step) → Leads a step b → P a → P b) → ((a : A) → P a → IsSettledBelow start (u_rank k) (g a)) → {a b : A} {old new : List Step} → P a → Adds Leads (λ _ _. 0) a b old new → P b × AddsOnUnicode start (g a) (g b) old new
   lifted on off keeps rest {a = from} {b = to} {old = old} {new = new} first h =
       adds_lift Leads (λ _ _. 0) (UnicodeLeads start) (λ _ step. kind_rank step) P g (λ a c step p f.
@@ -114,12 +121,13 @@ module _ {A : Type 0} (start : ℕ) (k : UnicodeKind) (Leads : A → Step → A 
             }),
       )) from to old new first h
 
--- a keyword without its types is as it did
+-- keywords of different keys stay so where one of them loses its types
 unlike_bare : (before : List KeywordParts) (k : KeywordParts) (after : List KeywordParts) → IsUnlike key_cmp (before ++ k ∷ after) → IsUnlike key_cmp (before ++ record k { types = [] } ∷ after)
 unlike_bare [] k after h = h
 unlike_bare (u ∷ us) k after h =
     (all_replaced (λ y. key_cmp y u ≡ Equal → ⊥) us k (record k { types = [] }) after h.0 (all_middle (λ y. key_cmp y u ≡ Equal → ⊥) us k after h.0), unlike_bare us k after h.1)
 
+-- keywords in the order of their keys stay so where one of them loses its types
 rising_bare : (before : List KeywordParts) (k : KeywordParts) (after : List KeywordParts) → IsRising key_cmp (before ++ k ∷ after) → IsRising key_cmp (before ++ record k { types = [] } ∷ after)
 rising_bare (u ∷ []) k after h = (h.0, rising_bare [] k after h.1)
 rising_bare (u ∷ v ∷ vs) k after h = (h.0, rising_bare (v ∷ vs) k after h.1)
@@ -127,13 +135,15 @@ rising_bare s k after h = h
 
 -- The runs on the lists of a u extension, one after another, are one run on its parts.
 
--- steps of one kind are added, until none leads on
+-- a run of steps of one kind from `a` to `b` is added, and no such step leads on from `b`
 pub record AddsToRest {A : Type 0} (Leads : A → Step → A → Type 0) (a b : A) (old new : List Step) : Type 0 where
   pub adds : Adds Leads (λ _ _. 0) a b old new
   pub at_rest : NoneLeads (Leads b)
 
--- the attributes, and then the keywords
+-- The attributes (`xs`), the keywords (`ks`) and the steps so far (`s`), at the start and after the steps of each kind.
 module _ (start : ℕ) {xs0 xs1 xs2 : List (List ℕ)} {ks0 ks1 ks2 ks3 : List KeywordParts} {s0 s1 s2 s3 s4 s5 : List Step} where
+  -- the runs of the five kinds, one after another, are one run on the parts, after which no step leads on; `key` is the
+  -- place before the first key
   pub unicode_explained : (key : ℕ) → key ≡ start + length xs2 → AddsToRest (DropsBy text_cmp one_subtag steps.DropAttribute start) xs0 xs1 s0 s1 → AddsToRest (SwapsBy text_cmp one_subtag steps.SwapAttributes start) xs1 xs2 s1 s2 → AddsToRest (DropsBy key_cmp spell_keyword steps.DropKeyword key) ks0 ks1 s2 s3 → AddsToRest (SwapsBy key_cmp spell_keyword steps.SwapKeywords key) ks1 ks2 s3 s4 → AddsToRest (DropsTrueBy key) ks2 ks3 s4 s5 → AddsOnUnicode start (u_parts xs0 ks0) (u_parts xs2 ks3) s0 s5 × NoneLeads (UnicodeLeads start (u_parts xs2 ks3))
   unicode_explained key k a b c' d' e' =
       let c = rw k at c' in
@@ -172,6 +182,7 @@ module _ (start : ℕ) {xs0 xs1 xs2 : List (List ℕ)} {ks0 ks1 ks2 ks3 : List K
 -- A step that is the first on the source of a t extension is the first on its parts, and so is one that is the first on
 -- its fields, where the source is at rest.
 
+-- the parts of a `t` extension: its source and its fields
 abbrev pub t_parts : Option CoreParts → List FieldParts → TForm
 t_parts source fields = record { source = source; fields = fields }
 
@@ -180,15 +191,16 @@ abbrev pub IsSourceAtRest : List EntryParts → ℕ → Option CoreParts → Typ
 IsSourceAtRest R start source = (c : CoreParts) → source ≡ Some c → NoneLeads (CoreLeads R start c)
 
 module _ (R : List EntryParts) (start : ℕ) (source : Option CoreParts) where
+  -- a SwapFields step on the fields, which begin after the source
   abbrev FieldSwaps : List FieldParts → Step → List FieldParts → Type 0
   FieldSwaps = SwapsBy separator_cmp spell_field steps.SwapFields (start + length (spell_source source))
 
-  -- what a step is, where no step leads on from the source
+  -- where no step leads on from the source, a step on the parts is a swap of fields
   as_fields : IsSourceAtRest R start source → (fs : List FieldParts) (step : Step) (q : TForm) → TransformLeads R start (t_parts source fs) step q → FieldSwaps fs step q.fields
   as_fields rest fs step q (on_source c d from _ s _, h) = absurd (rest c from step d (s, h))
   as_fields rest fs step q (on_fields e s, h) = as_swap separator_cmp steps.SwapFields spell_field (start + length (spell_source source)) fs q.fields step s h
 
-  -- none leads on at all
+  -- where no step leads on from the source or from the fields, none leads on from the parts
   pub transform_rests : (fs : List FieldParts) → IsSourceAtRest R start source → NoneLeads (SwapsBy separator_cmp spell_field steps.SwapFields (start + length (spell_source source)) fs) → NoneLeads (TransformLeads R start (t_parts source fs))
   transform_rests fs rest none step q l = none step q.fields (as_fields rest fs step q l)
 
@@ -208,19 +220,20 @@ module _ (R : List EntryParts) (start : ℕ) (source : Option CoreParts) where
       )) fs gs old new tt h).1
 
 module _ (R : List EntryParts) (start : ℕ) where
+  -- the first step on the source comes no later than any step on the parts
   source_no_later : (c d : CoreParts) (fs : List FieldParts) (step : Step) → IsFirst (CoreLeads R start c) kind_rank step d → (other : Step) (q : TForm) → TransformLeads R start (t_parts (Some c) fs) other q → IsNoLater kind_rank step other
   source_no_later c d fs step h other q (on_source b a from _ s _, k) =
       h.first other a (subst (λ x. CoreLeads R start x other a) (sym (same_Some c b from)) (s, k))
   source_no_later c d fs step h other q (on_fields f s, k) =
       inl (omega (arith, core_rank R start c d h.leads.0, ap kind_rank h.leads.1, ap rank_of (as_swap separator_cmp steps.SwapFields spell_field _ fs q.fields other s k).of_kind))
 
-  -- so are those on the source
+  -- a run on the source that is added is one on the parts
   pub source_explained : (c d : CoreParts) (fs : List FieldParts) (old new : List Step) → AddsOnCore R start c d old new → AddsOnTransform R start (t_parts (Some c) fs) (t_parts (Some d) fs) old new
   source_explained c d fs old new h =
       (adds_lift (CoreLeads R start) (λ _ step. kind_rank step) (TransformLeads R start) (λ _ step. kind_rank step) (λ _. Unit {0}) (λ x. t_parts (Some x) fs)
       (λ a b step p f. (tt, record { leads = (on_source a b refl refl f.leads.0 refl, f.leads.1); first = source_no_later a b fs step f })) c d old new tt h).1
 
--- a run is any number of steps
+-- a run is a number of steps of `S`, if each of its steps is one
 pub run_star : {A : Type 0} (Leads : A → Step → A → Type 0) (rank : A → Step → ℕ) (S : A → A → Type 0) → ((a b : A) (step : Step) → Leads a step b → S a b) → (steps : List Step) (a b : A) → IsRun Leads rank a steps b → Star S a b
 run_star Leads rank S f [] a b h = star_path a b h
 run_star Leads rank S f (step ∷ steps) a b h = then (f a h.0 step h.1.leads) (run_star Leads rank S f steps h.0 b h.2)

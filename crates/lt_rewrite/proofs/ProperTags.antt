@@ -23,7 +23,7 @@ use Rattle.lt_tag.proofs.PartsLaws.{t_unique as one_transform}
 use Rattle.lt_tag.specs.Lists.{longest_text}
 pub use Rattle.lt_rewrite.proofs.CoreLaws.{step_proper, proper_not_grandfathered, proper_spells_none}
 
--- the parts of a proper langtag
+-- what is known of the core `c`, the extensions `es` and the private use subtags `ps` of a proper langtag
 pub record ProperParts (R : List EntryParts) (c : CoreParts) (es : List ExtensionParts) (ps : List (List ℕ)) : Type 0 where
   pub core : IsProperValue R c
   pub values : AllByRecursion IsExtensionValue es
@@ -33,6 +33,7 @@ pub record ProperParts (R : List EntryParts) (c : CoreParts) (es : List Extensio
   pub extensions : AllByRecursion (IsProperExtension R) es
   pub singletons : Distinct (map (λ (e : ExtensionParts). e.singleton) es)
 
+-- the parts of a proper langtag have what `ProperParts` tells
 pub proper_parts : (R : List EntryParts) (c : CoreParts) (es : List ExtensionParts) (ps : List (List ℕ)) → IsProper R (LangTag c es ps) → ProperParts R c es ps
 proper_parts R c es ps P =
     let shaped : IsLangTag c es ps = P.tag.tag.0 in
@@ -47,7 +48,7 @@ proper_parts R c es ps P =
       singletons = P.parts.singletons;
     }
 
--- of these parts is a proper langtag, where its core alone spells no grandfathered tag
+-- a langtag of parts that have this is proper, if its core spells no grandfathered tag
 pub proper_langtag : (R : List EntryParts) (c : CoreParts) (es : List ExtensionParts) (ps : List (List ℕ)) → IsNotGrandfathered (spell_core c) → ProperParts R c es ps → IsProper R (LangTag c es ps)
 proper_langtag R c es ps n P = record {
   tag = record {
@@ -64,57 +65,68 @@ proper_langtag R c es ps n P = record {
   parts = record { core = P.core.proper; extensions = P.extensions; singletons = P.singletons };
 }
 
+-- a list without repeats stays so where two neighbours change places
 distinct_swapped : (before : List ℕ) (a b : ℕ) (after : List ℕ) → Distinct (before ++ a ∷ b ∷ after) → Distinct (before ++ b ∷ a ∷ after)
 distinct_swapped [] a b after h = (((λ e. h.0.0 (sym e)), h.1.0), (h.0.1, h.1.1))
 distinct_swapped (u ∷ us) a b after h = (all_swapped (λ y. y ≢ u) us a b after h.0, distinct_swapped us a b after h.1)
 
+-- the singletons of extensions
 abbrev singletons_of : List ExtensionParts → List ℕ
 singletons_of es = map (λ (e : ExtensionParts). e.singleton) es
 
+-- singletons that differ still do after a step on the order of the extensions
 distinct_order : (es fs : List ExtensionParts) → ListStep false singleton_cmp es fs → Distinct (singletons_of es) → Distinct (singletons_of fs)
 distinct_order es fs (by_swap before a b after s) h =
     rw s.result (simp map-append (distinct_swapped (singletons_of before) a.singleton b.singleton (singletons_of after) (simp map-append at (subst (λ l. Distinct (singletons_of l)) s.there h))))
 distinct_order es fs (by_drop before a between b after o s) h = cc
 
+-- an extension in the place of one with its singleton leaves the singletons as they are
 same_singletons : (before : List ExtensionParts) (e f : ExtensionParts) (after : List ExtensionParts) → f.singleton ≡ e.singleton → singletons_of (before ++ e ∷ after) ≡ singletons_of (before ++ f ∷ after)
 same_singletons before e f after h = simp (map-append, h)
 
+-- singletons that differ still do after a step on the extensions
 distinct_step : (R : List EntryParts) (es fs : List ExtensionParts) → ExtensionsStep R es fs → Distinct (singletons_of es) → Distinct (singletons_of fs)
 distinct_step R es fs (inside before e f after there result s) h =
     subst Distinct (ap singletons_of there ∙ same_singletons before e f after (extension_step_singleton R e f s) ∙ sym (ap singletons_of result)) h
 distinct_step R es fs (among s) h = distinct_order es fs s h
 
+-- the source of the parts `p` of a proper `t` extension, if there is one, is proper
 proper_source : (R : List EntryParts) (e : ExtensionParts) (p : TForm) → IsProperExtension R e → e.singleton ≡ transform → IsTransform e.subtags p → IfSome p.source (IsProperCore R)
 proper_source R e p P h k =
     let m = P h in
     subst (λ (z : TForm). IfSome z.source (IsProperCore R)) (one_transform e.subtags m.0 p m.1 k) m.2
 
--- the source of the parts of a proper t extension is proper
+-- the source `c` of the parts of a proper `t` extension is proper
 pub source_proper : (R : List EntryParts) (e : ExtensionParts) (p : TForm) (c : CoreParts) → IsProperExtension R e → e.singleton ≡ transform → IsTransform e.subtags p → p.source ≡ Some c → IsProperCore R c
 source_proper R e p c P h k there = if_some_is (IsProperCore R) p.source c there (proper_source R e p P h k)
 
 module _ (R : List EntryParts) (G : IsRegistry R) (C : MeetsCoreConditions R) (H : All (HasFittingGrandfathered R) R) where
+  -- a step on the parts of a `t` extension leads from a proper source to a proper one
   transform_step_proper : (p q : TForm) → TransformStep R p q → IfSome p.source (IsProperCore R) → IfSome q.source (IsProperCore R)
   transform_step_proper p q (on_source c d from to s _) P =
       is_if_some (IsProperCore R) q.source d to (step_proper R C c d (if_some_is (IsProperCore R) p.source c from P) s)
   transform_step_proper p q (on_fields h s) P = let Q : Option CoreParts → Type 0 = λ o. IfSome o (IsProperCore R) in subst Q (sym h) P
 
+  -- a step inside an extension leads from a proper one to a proper one
   extension_step_proper : (e f : ExtensionParts) → ExtensionStep R e f → IsProperExtension R e → IsProperExtension R f
   extension_step_proper e f (in_unicode p q is_u kept _ _ _) P h = absurd (omega (arith, h, kept, is_u))
   extension_step_proper e f (in_transform p q is_t _ from to s) P h = (q, to, transform_step_proper p q s (proper_source R e p P is_t from))
 
+  -- a step on extensions leads from proper ones to proper ones
   extensions_step_proper : (es fs : List ExtensionParts) → ExtensionsStep R es fs → AllByRecursion (IsProperExtension R) es → AllByRecursion (IsProperExtension R) fs
   extensions_step_proper es fs (inside before e f after there result s) P =
       let all = subst (AllByRecursion (IsProperExtension R)) there P in
       subst (AllByRecursion (IsProperExtension R)) (sym result) (all_replaced (IsProperExtension R) before e f after all (extension_step_proper e f s (all_middle (IsProperExtension R) before e after all)))
   extensions_step_proper es fs (among s) P = all_step (IsProperExtension R) es fs s P
 
+  -- a step on the core of a proper langtag leads to a proper langtag
   core_step_tag : (c d : CoreParts) (es : List ExtensionParts) (ps : List (List ℕ)) → CoreStep R c d → IsProper R (LangTag c es ps) → IsProper R (LangTag d es ps)
   core_step_tag c d es ps s P =
       let parts = proper_parts R c es ps P in
       let core = steps_keep_proper R G C c d parts.core s in
       proper_langtag R d es ps (proper_spells_none R H d core) (record { core = core; values = parts.values; count = parts.count; private = parts.private; private_count = parts.private_count; extensions = parts.extensions; singletons = parts.singletons })
 
+  -- a step on the extensions of a proper langtag leads to a proper langtag
   extensions_step_tag : (c : CoreParts) (es fs : List ExtensionParts) (ps : List (List ℕ)) → ExtensionsStep R es fs → IsProper R (LangTag c es ps) → IsProper R (LangTag c fs ps)
   extensions_step_tag c es fs ps s P =
       let parts = proper_parts R c es ps P in
@@ -128,5 +140,6 @@ module _ (R : List EntryParts) (G : IsRegistry R) (C : MeetsCoreConditions R) (H
         singletons = distinct_step R es fs s parts.singletons;
       })
 
+  -- under the conditions C1 to C6 and C8 the law `StepsKeepTagsProper` holds
   pub steps_keep_tags_proper : StepsKeepTagsProper R
   steps_keep_tags_proper = record { core = core_step_tag; extensions = extensions_step_tag }

@@ -34,12 +34,14 @@ record SameSpot (step other : Step) : Type 0 where
   pub kind : step.kind ≡ other.kind
   pub place : step.place ≡ other.place
 
--- they use one record and lead to one result
+-- two steps use one record, and lead to one result: `a` and `b` are equal
 record SameEnd {A : Type 0} (step other : Step) (a b : A) : Type 0 where
   pub number : step.number ≡ other.number
   pub result : a ≡ b
 
+-- Two steps of one kind at one place use one record and lead to one result.
 module _ (R : List EntryParts) (step other : Step) (w : SameSpot step other) where
+  -- two steps of one kind at one place on a core use one record and lead to one core
   core_end : (start : ℕ) (c d e : CoreParts) → CoreLeads R start c step d → CoreLeads R start c other e → SameEnd step other d e
   core_end start c d e (s, h) (u, k) =
       let m : s.spot ≡ u.spot = one_spot c s.spot u.spot (ap (λ (x : Step). x.kind) h ∙ w.kind ∙ sym (ap (λ (x : Step). x.kind) k)) (omega (arith, w.place, ap (λ (x : Step). x.place) h, ap (λ (x : Step). x.place) k)) in
@@ -50,6 +52,7 @@ module _ (R : List EntryParts) (step other : Step) (w : SameSpot step other) whe
         result = s.result ∙ (λ i. replaced c (m i) (b i)) ∙ sym u.result;
       }
 
+  -- two steps of one kind at one place by which neighbours of a list change places lead to one list
   swap_end : {A : Type 0} {cmp : A → A → Ordering} {spell : A → List (List ℕ)} {kind : StepKind} {start : ℕ} {xs ys zs : List A} → ((a : A) → spell a ≢ []) → SwapsBy cmp spell kind start xs step ys → SwapsBy cmp spell kind start xs other zs → SameEnd step other ys zs
   swap_end some s t =
       let a = s.leads in
@@ -57,6 +60,7 @@ module _ (R : List EntryParts) (step other : Step) (w : SameSpot step other) whe
       let k = same_flat _ some a.before b.before a.first b.first (a.second ∷ a.after) (b.second ∷ b.after) (sym a.swaps.there ∙ b.swaps.there) (omega (arith, w.place, a.at, b.at)) in
       record { number = s.unnumbered ∙ sym t.unnumbered; result = cc }
 
+  -- two steps of one kind at one place by which a part of a list is dropped lead to one list
   drop_end : {A : Type 0} {cmp : A → A → Ordering} {spell : A → List (List ℕ)} {kind : StepKind} {start : ℕ} {xs ys zs : List A} → ((a : A) → spell a ≢ []) → DropsBy cmp spell kind start xs step ys → DropsBy cmp spell kind start xs other zs → SameEnd step other ys zs
   drop_end {spell = spell} some s t =
       let a = s.leads in
@@ -70,6 +74,7 @@ module _ (R : List EntryParts) (step other : Step) (w : SameSpot step other) whe
             a.drops.result ∙ sym (append_assoc a.before (a.first ∷ a.between) a.after) ∙ (λ i. k.front i ++ k.rest i) ∙ append_assoc b.before (b.first ∷ b.between) b.after ∙ sym b.drops.result;
       }
 
+  -- two steps at one place by which a keyword loses its only type, `true`, lead to the same keywords
   true_end : {start : ℕ} {ks ls ms : List KeywordParts} → DropsTrueBy start ks step ls → DropsTrueBy start ks other ms → SameEnd step other ls ms
   true_end s t =
       let a = s.leads in
@@ -77,6 +82,7 @@ module _ (R : List EntryParts) (step other : Step) (w : SameSpot step other) whe
       let k = same_flat spell_keyword (λ k e. cc) a.before b.before a.keyword b.keyword a.after b.after (sym a.drops.there ∙ b.drops.there) (omega (arith, w.place, a.at, b.at)) in
       record { number = s.unnumbered ∙ sym t.unnumbered; result = a.drops.result ∙ (λ i. k.front i ++ record (k.at i) { types = [] } ∷ k.rest i) ∙ sym b.drops.result }
 
+  -- two steps of one kind at one place on the parts of a `u` extension lead to the same parts
   unicode_end : (start : ℕ) (p q r : UForm) → UnicodeLeads start p step q → UnicodeLeads start p other r → SameEnd step other q r
   unicode_end start p q r l m =
       let s = said start p step q l in
@@ -95,6 +101,7 @@ module _ (R : List EntryParts) (step other : Step) (w : SameSpot step other) whe
       by swap_keywords (s, a) (t, b) = keywords_end (swap_end (λ a e. cc) s t) (a ∙ sym b)
       by drop_true (s, a) (t, b) = keywords_end (true_end s t) (a ∙ sym b)
 
+  -- two steps of one kind at one place on the parts of a `t` extension use one record and lead to the same parts
   transform_end : (start : ℕ) (p q r : TForm) → TransformLeads R start p step q → TransformLeads R start p other r → SameEnd step other q r
   transform_end start p q r (on_source c d from to s kept, h) (on_source c' d' begins ends u same, k) =
       let n = core_end start c d d' (s, h) (subst (λ x. CoreLeads R start x other d') (same_Some c' c (sym begins ∙ from)) (u, k)) in
@@ -107,7 +114,7 @@ module _ (R : List EntryParts) (step other : Step) (w : SameSpot step other) whe
       let n = swap_end (λ f e. cc) a b.0 in
       record { number = n.number; result = λ i. record { source = (x ∙ sym b.1) i; fields = n.result i } }
 
-  -- on one extension
+  -- two steps of one kind at one place inside an extension use one record and lead to one extension
   extension_end : (start : ℕ) (e f g : ExtensionParts) → ExtensionLeads R start e step f → ExtensionLeads R start e other g → SameEnd step other f g
   extension_end start e f g (in_unicode p q is_u kept from to s, h) l =
       let a = inside_u R start e step f p is_u from (in_unicode p q is_u kept from to s, h) in
@@ -120,7 +127,8 @@ module _ (R : List EntryParts) (step other : Step) (w : SameSpot step other) whe
       let n = transform_end start p a.0 b.0 a.1 b.1 in
       record { number = n.number; result = a.2 ∙ ap of_t n.result ∙ sym b.2 }
 
-  -- on a list of extensions whose singletons differ
+  -- two steps of one kind at one place on extensions whose singletons differ use one record and lead to the same
+  -- extensions
   extensions_end : (start : ℕ) (es fs gs : List ExtensionParts) → Distinct (map (λ (e : ExtensionParts). e.singleton) es) → ExtensionsLeads R start es step fs → ExtensionsLeads R start es other gs → SameEnd step other fs gs
   extensions_end start es fs gs D (inside before e f after there result s, h) (inside before' e' f' after' there' result' s', h') =
       let k : ℕ = start + length (spell_extensions before) + 1 in
@@ -135,7 +143,7 @@ module _ (R : List EntryParts) (step other : Step) (w : SameSpot step other) whe
       let a = as_swap singleton_cmp steps.SwapExtensions spell_extension start es fs step s h in
       swap_end (λ e k. cc) a (to_swaps R start es other (sym w.kind ∙ a.of_kind) gs l)
 
-  -- the kind and the place determine the record of a step on a tag, and what it leads to
+  -- two steps of one kind at one place on a tag use one record and lead to one tag
   tag_end : (t u v : TagForm) → HasProperParts R t → TagLeads R t step u → TagLeads R t other v → SameEnd step other u v
   tag_end t u v P (on_core c d es ps from to s, h) (on_core c' d' es' ps' begins ends r, k) =
       let same : c' ≡ c = cc in
@@ -161,34 +169,38 @@ module _ (R : List EntryParts) (step other : Step) (w : SameSpot step other) whe
       let same : length (spell_core c) ≡ length (spell_core c') = cc in
       absurd (omega (arith, same, core_high R 0 c d s, ap (λ (x : Step). x.place) h, behind R (length (spell_core c')) es' step fs (r, k), w.place))
 
+-- the kind and the place of a step between proper tags determine its record and its result
 pub steps_determined : (R : List EntryParts) → StepsAreDetermined R
 steps_determined R t u v step other a b k p =
     let e = tag_end R step other (record { kind = k; place = p }) t u v a.0.from.parts (a.0.change, a.1) (b.0.change, b.1) in
     record { same = λ i. record { kind = k i; place = p i; number = e.number i }; result = e.result }
 
--- a langtag of its parts
+-- a tag with the core `c` is the langtag of this core, its extensions and its private use subtags
 pub langtag_is : (t : TagForm) (c : CoreParts) → core_of t ≡ Some c → t ≡ LangTag c (extensions_of t) (private_of t)
 langtag_is (LangTag b es ps) c h = let e : b ≡ c = cc in ap (λ x. LangTag x es ps) e
 langtag_is s c h = cc
 
--- extensions have few subtags
+-- extensions have at most 1025 subtags each: the singleton, and at most 1024 after it
 pub few_subtags : (es : List ExtensionParts) → AllByRecursion (λ (e : ExtensionParts). length e.subtags ≤ longest_text) es → length (spell_extensions es) ≤ 1025 * length es
 few_subtags [] h = omega arith
 few_subtags (e ∷ es) h =
     omega (arith, few_subtags es h.1, h.0, length-append (spell_extension e) (spell_extensions es))
 
--- the counts of a tag's extensions
+-- a tag has at most 1024 extensions, none of which is longer than a text may be
 pub fits : (t : TagForm) → FitsCounts t → (length (extensions_of t) ≤ 1024) × AllByRecursion (λ (e : ExtensionParts). length e.subtags ≤ longest_text) (extensions_of t)
 fits (LangTag c es ps) h = (h.1, h.2)
 fits s h = (omega arith, tt)
 
 module _ (R : List EntryParts) (t : TagForm) (step : Step) where
+  -- a step on the core of a langtag is one on the tag
   pub core_changed : (c d : CoreParts) → core_of t ≡ Some c → CoreLeads R 0 c step d → TagLeads R t step (LangTag d (extensions_of t) (private_of t))
   core_changed c d h l = (on_core c d (extensions_of t) (private_of t) (langtag_is t c h) refl l.0, l.1)
 
+  -- a step on the extensions of a langtag is one on the tag
   pub extensions_changed : (c : CoreParts) (fs : List ExtensionParts) → core_of t ≡ Some c → ExtensionsLeads R (length (spell_core c)) (extensions_of t) step fs → TagLeads R t step (LangTag c fs (private_of t))
   extensions_changed c fs h l = (on_extensions c (extensions_of t) fs (private_of t) (langtag_is t c h) refl l.0, l.1)
 
+  -- a step of another kind than Whole that leads on neither from the core nor from the extensions leads on nowhere
   pub kept : (c : CoreParts) → core_of t ≡ Some c → step.kind ≢ steps.Whole → ((d : CoreParts) → CoreLeads R 0 c step d → ⊥) → ((fs : List ExtensionParts) → ExtensionsLeads R (length (spell_core c)) (extensions_of t) step fs → ⊥) → (u : TagForm) → TagLeads R t step u → ⊥
   kept c e k none nowhere u (on_core b d es ps from _ s, h) =
       none d (subst (λ x. CoreLeads R 0 x step d) (same_Some b c (sym (ap core_of from) ∙ e)) (s, h))
@@ -196,30 +208,36 @@ module _ (R : List EntryParts) (t : TagForm) (step : Step) where
       nowhere fs (subst (λ x. ExtensionsLeads R (length (spell_core x)) (extensions_of t) step fs) (same_Some b c (sym (ap core_of from) ∙ e)) (subst (λ x. ExtensionsLeads R (length (spell_core b)) x step fs) (sym (ap extensions_of from)) (s, h)))
   kept c e k none nowhere u (on_whole _ _, h) = k (sym (ap (λ (x : Step). x.kind) h))
 
+  -- what a Whole step to `u` needs: the place 1, a tag that can be replaced, and its value by the record with the
+  -- step's number
   pub record WholeLeads (u : TagForm) : Type 0 where
     pub place : step.place ≡ 1
     pub plain : CanBeReplacedWhole t
     pub value : IsWholeValueBy R t step.number u
 
+  -- a Whole step with what `WholeLeads` tells leads to `u`
   pub from_whole : step.kind ≡ steps.Whole → (u : TagForm) → WholeLeads u → TagLeads R t step u
   from_whole k u w = (on_whole w.plain w.value.has, same_step _ _ _ step k w.place (sym w.value.by))
 
   module _ (P : IsProper R t) where
+    -- a step leads from a proper tag to one result
     same_end : (u v : TagForm) → TagLeads R t step u → TagLeads R t step v → u ≡ v
     same_end u v l m = (tag_end R step step (record { kind = refl; place = refl }) t u v P.parts l m).result
 
-    -- what it leads to is no tag, so it leads to none
+    -- if a step leads to `v`, which is no value of the type Tag, it leads to no value of that type
     valueless : (v : TagForm) → TagLeads R t step v → (IsTagValue v → ⊥) → (u : TagForm) → IsTagValue u → TagLeads R t step u → ⊥
     valueless v l n u V m = n (subst IsTagValue (same_end u v m l) V)
 
+    -- if a step leads to `v`, which is not proper, it leads to no proper tag
     pub not_proper : (v : TagForm) → TagLeads R t step v → (IsProper R v → ⊥) → (u : TagForm) → LeadsBy R t step u → ⊥
     not_proper v l n u m = n (subst (IsProper R) (same_end u v (m.0.change, m.1) l) m.0.to)
 
-    -- the langtag of the parts, unless it is none
+    -- `o` is what the step leads to, as a tag, or None where that is no value of the type Tag
     pub made : (v : TagForm) (o : Option TagForm) → TagLeads R t step v → MatchOption o (IsTagValue v → ⊥) (λ u. u ≡ v) → MatchOption o ((u : TagForm) → IsTagValue u → TagLeads R t step u → ⊥) (TagLeads R t step)
     made v None l h = λ u V m. valueless v l h u V m
     made v (Some u) l h = subst (TagLeads R t step) (sym h) l
 
+-- an answer about all results is one about those of which `V` holds
 pub values_alone : {A E : Type 0} (L V : A → Type 0) (r : Result (Option A) E) → IfOk r (λ o. Changes L o) → IfOk r (λ o. MatchOption o ((u : A) → V u → L u → ⊥) L)
 values_alone L V (Ok None) h = λ u v l. h u l
 values_alone s t u h = h

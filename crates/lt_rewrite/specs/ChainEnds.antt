@@ -28,7 +28,8 @@ ChainEnds R kinds.Variant s = Ends (next_value R kinds.Variant) s
 ChainEnds R kinds.Grandfathered s = Ends (next_value R kinds.Grandfathered) s
 ChainEnds R kinds.Redundant s = Ends (next_value R kinds.Redundant) s
 
--- the value of an entry that comes next in a chain of values of its kind
+-- the value of an entry that comes next in a chain of values of the kind: of a variant only a variant; none of an
+-- extlang and of a whole tag
 abbrev pub following : Kind → EntryParts → Option (List ℕ)
 following kinds.Language e = one_of e.value
 following kinds.Extlang e = None

@@ -90,7 +90,8 @@ abbrev pub HasLangtagPrefixes : List EntryParts → EntryParts → Type 0
 HasLangtagPrefixes R e = e.kind ≡ kinds.Variant → AllByRecursion
     (λ (p : List (List ℕ)). (c : CoreParts) × IsCore c × (spell_core c ≡ p) × IsNotGrandfathered p) e.prefixes
 
--- the entry of the second subtag of a core of two, an extlang or a variant (RFC 5646, 2.2.8)
+-- the entry of the second subtag of a core without script and region, by its extlangs and its variants: that of the
+-- first extlang, or else of the first variant (RFC 5646, 2.2.8)
 abbrev pub second_entry : List EntryParts → List (List ℕ) → List (List ℕ) → Option EntryParts
 second_entry R (x ∷ xs) vs = entry R kinds.Extlang x
 second_entry R [] (v ∷ vs) = entry R kinds.Variant v

@@ -14,15 +14,16 @@ pub record IsFirstCycle (R : List EntryParts) (number : ℕ) : Type 0 where
   pub endless : HasEndingChain R entry → ⊥
   pub lower : All (λ f. f.number < number → HasEndingChain R f) R
 
--- the place that an order gives to the record with a number
+-- the place that an order gives to the record with a number; Mixed has nothing to do with the order of the file, since
+-- it takes multiples of 2^32 over the golden ratio (2654435769)
 unfoldable pub place : Order → ℕ → ℕ
 place orders.File number = number
 place orders.Mixed number = number * 2654435769 % 2 ^ 32
 
--- the chains of all records before a place in an order come to an end
+-- the chains of all records whose place in an order is below `before` come to an end
 abbrev pub EarlierEnd : List EntryParts → Order → ℕ → Type 0
 EarlierEnd R order before = All (λ f. place order f.number < before → HasEndingChain R f) R
 
--- if the chains of all records before this one in an order end, this one's does
+-- if the chains of all records before the record `e` in an order end, the chain of `e` does
 abbrev pub EndsAfterEarlier : List EntryParts → Order → EntryParts → Type 0
 EndsAfterEarlier R order e = EarlierEnd R order (place order e.number) → HasEndingChain R e

@@ -6,7 +6,7 @@ use Rattle.lt_registry.specs.Parts.{EntryParts}
 use Rattle.lt_rewrite.specs.Rewriting.{IsNormalForm, Rests}
 use Rattle.lt_rewrite.specs.Extensions.{ExtensionStep}
 
--- the extension at an index has this singleton, and `f` is its normal form
+-- the extension at the index `place` has this singleton, and `f` is its normal form
 pub record SettlesAt (R : List EntryParts) (singleton : ℕ)
     (es : List ExtensionParts) (place : ℕ) (f : ExtensionParts) : Type 0 where
   pub within : place < length es
@@ -20,7 +20,7 @@ abbrev pub Settles : List EntryParts → ℕ → List ExtensionParts → Option 
 Settles R singleton es None = AllByRecursion (λ e. e.singleton ≡ singleton → Rests (ExtensionStep R) e) es
 Settles R singleton es (Some settled) = SettlesAt R singleton es settled.0 settled.1
 
--- the extensions, with a normal form in the place of its extension
+-- the extensions, where the one at the given index is replaced by the normal form given with it, if there is one
 abbrev pub placed : Option (ℕ × ExtensionParts) → List ExtensionParts → List ExtensionParts
 placed None es = es
 placed (Some settled) es = slice_set es settled.0 settled.1

@@ -53,13 +53,13 @@ place_at c at_region = before_region c + 1
 place_at c (at_variant i) = before_variants c + i + 1
 place_at c (at_variant_language i) = before_variants c + i + 1
 
--- what a step on a core is called that begins after `start` subtags
+-- the name of a step on a core; the core begins after `start` subtags
 abbrev pub core_label : (R : List EntryParts) (start : ℕ) {c d : CoreParts} → CoreStep R c d → Step
 core_label R start {c} s =
     step_at (kind_at s.spot) (start + place_at c s.spot) (number_of (entry R (subtag_kind_at s.spot) s.subtag))
 
--- what a step on a list of parts is called that begins after `start` subtags, by the kinds of a swap and a drop and the
--- subtags of a part
+-- the name of a step on a list of parts: `swap` and `drop` are the kinds of its steps, `spell` gives the subtags of a
+-- part, and the list begins after `start` subtags
 abbrev pub list_label : {A : Type 0} {once : Bool} {cmp : A → A → Ordering} {xs ys : List A}
     → StepKind → StepKind → (A → List (List ℕ)) → ℕ → ListStep once cmp xs ys → Step
 list_label swap drop spell start (by_swap before a b after s) =
@@ -67,7 +67,7 @@ list_label swap drop spell start (by_swap before a b after s) =
 list_label swap drop spell start (by_drop before a between b after o s) =
     step_at drop (start + length (flat_map spell before) + length (spell a) + length (flat_map spell between) + 1) 0
 
--- what a step on the parts of a `u` extension is called whose singleton is at the place `start`
+-- the name of a step on the parts of a `u` extension, whose singleton is at the given place
 abbrev pub unicode_label : ℕ → {p q : UForm} → UnicodeStep p q → Step
 unicode_label start (on_attributes s k) = list_label steps.SwapAttributes steps.DropAttribute (λ a. a ∷ []) start s
 unicode_label start {p} (on_keywords a s) =
@@ -75,24 +75,24 @@ unicode_label start {p} (on_keywords a s) =
 unicode_label start {p} (on_types a before k after s) =
     step_at steps.DropTrue (start + length p.attributes + length (flat_map spell_keyword before) + 2) 0
 
--- what a step on the parts of a `t` extension is called whose singleton is at the place `start`
+-- the name of a step on the parts of a `t` extension, whose singleton is at the given place
 abbrev pub transform_label : (R : List EntryParts) → ℕ → {p q : TForm} → TransformStep R p q → Step
 transform_label R start (on_source c d _ _ s _) = core_label R start s
 transform_label R start {p} (on_fields a s) =
     list_label steps.SwapFields steps.SwapFields spell_field (start + length (spell_source p.source)) s
 
--- what a step on an extension is called whose singleton is at the place `start`
+-- the name of a step inside an extension, whose singleton is at the given place
 abbrev pub extension_label : (R : List EntryParts) → ℕ → {e f : ExtensionParts} → ExtensionStep R e f → Step
 extension_label R start (in_unicode p q _ _ _ _ s) = unicode_label start s
 extension_label R start (in_transform p q _ _ _ _ s) = transform_label R start s
 
--- what a step on extensions is called that begin after `start` subtags
+-- the name of a step on extensions, which begin after the given number of subtags
 abbrev pub extensions_label : (R : List EntryParts) → ℕ → {es fs : List ExtensionParts} → ExtensionsStep R es fs → Step
 extensions_label R start (inside before e f after there result s) =
     extension_label R (start + length (spell_extensions before) + 1) s
 extensions_label R start (among s) = list_label steps.SwapExtensions steps.SwapExtensions spell_extension start s
 
--- what a step on a tag is called
+-- the name of a step on a tag
 abbrev pub tag_label : (R : List EntryParts) {t u : TagForm} → TagChange R t u → Step
 tag_label R (on_core c d es ps _ _ s) = core_label R 0 s
 tag_label R (on_extensions c es fs ps _ _ s) = extensions_label R (length (spell_core c)) s

@@ -37,16 +37,18 @@ kind_rank step = rank_of step.kind
 abbrev pub extension_rank : Step → ℕ
 extension_rank step = if nat_le (kind_rank step) 6 then kind_rank step + 13 else kind_rank step
 
--- the step `a` comes no later than `b`: its rank is less, or the ranks are equal and its place is no further right
+-- the step `a` comes no later than `b`, where `rank` gives the ranks: its rank is less, or the ranks are equal and its
+-- place is no further right
 abbrev pub IsNoLater : (Step → ℕ) → Step → Step → Type 0
 IsNoLater rank a b = (rank a < rank b) ⊎ ((rank a ≡ rank b) × (a.place ≤ b.place))
 
--- the step leads on to `to`, and no step that leads on comes before it
+-- the step leads on to `to`, and no step that leads on comes before it; `Leads` tells to what each step leads
 pub record IsFirst {A : Type 0} (Leads : Step → A → Type 0) (rank : Step → ℕ) (step : Step) (to : A) : Type 0 where
   pub leads : Leads step to
   pub first : (other : Step) (b : A) → Leads other b → IsNoLater rank step other
 
--- the steps lead one after another from `a` to `b`, each the first that leads on
+-- the steps lead one after another from `a` to `b`, each the first that leads on; `Leads` tells to what a step leads
+-- from a value, and `rank` its rank there
 abbrev pub IsRun : {A : Type 0} → (A → Step → A → Type 0) → (A → Step → ℕ) → A → List Step → A → Type 0
 IsRun Leads rank a [] b = a ≡ b
 IsRun {A} Leads rank a (step ∷ steps) b = (c : A) × IsFirst (Leads a) (rank a) step c × IsRun Leads rank c steps b
@@ -66,18 +68,18 @@ pub record IsLeftmost {A : Type 0} (Leads : Step → A → Type 0) (rank : Step 
   pub leads : Leads step to
   pub leftmost : (other : Step) (b : A) → Leads other b → rank other ≡ n → step.place ≤ other.place
 
--- a run of steps from `a` to `b` is added to other steps
+-- `new` is `old`, and then a run of steps from `a` to `b`, as `IsRun` says
 pub record Adds {A : Type 0} (Leads : A → Step → A → Type 0)
     (rank : A → Step → ℕ) (a b : A) (old new : List Step) : Type 0 where
   pub run : List Step
   pub added : new ≡ old ++ run
   pub is_run : IsRun Leads rank a run b
 
--- of the steps of a rank that lead on from a core which begins after `start` subtags, this is the leftmost
+-- of the steps of rank `n` that lead on from the core `c`, which begins after `start` subtags, this is the leftmost
 abbrev pub IsLeftmostOnCore : List EntryParts → ℕ → CoreParts → ℕ → Step → Type 0
 IsLeftmostOnCore R start c n step = IsLeftmost (CoreLeads R start c) kind_rank n step
 
--- there is no step of a rank that leads on from a core which begins after `start` subtags
+-- there is no step of rank `n` that leads on from the core `c`, which begins after `start` subtags
 abbrev pub NoneOnCore : List EntryParts → ℕ → CoreParts → ℕ → Type 0
 NoneOnCore R start c n = NoneOfRank (CoreLeads R start c) kind_rank n
 
@@ -86,25 +88,27 @@ pub record IsFirstOnCore (R : List EntryParts) (start : ℕ) (c : CoreParts) (st
   pub to : CoreParts
   pub is_first : IsFirst (CoreLeads R start c) kind_rank step to
 
--- a run of steps from the core `c`, which begins after `start` subtags, to `d` is added to other steps
+-- `new` is `old`, and then a run of steps from the core `c`, which begins after `start` subtags, to `d`
 abbrev pub AddsOnCore : List EntryParts → ℕ → CoreParts → CoreParts → List Step → List Step → Type 0
 AddsOnCore R start c d old new = Adds (CoreLeads R start) (λ _ step. kind_rank step) c d old new
 
--- a step of this kind has two neighbours of a list, which begins after `start` subtags, change places
+-- by a step of this kind, which uses no record, two neighbours in falling order change places, by which the list `xs`
+-- becomes `ys`; it begins after `start` subtags, and `spell` gives those of a part
 pub record SwapsBy {A : Type 0} (cmp : A → A → Ordering) (spell : A → List (List ℕ))
     (kind : StepKind) (start : ℕ) (xs : List A) (step : Step) (ys : List A) : Type 0 where
   pub of_kind : step.kind ≡ kind
   pub unnumbered : step.number ≡ 0
   pub leads : SwapLeads cmp spell start step.place xs ys
 
--- a step of this kind drops a part of a list, which begins after `start` subtags
+-- by a step of this kind, which uses no record, a part is dropped to which an earlier one is equal in the order, by
+-- which the list `xs` becomes `ys`; it begins after `start` subtags, and `spell` gives those of a part
 pub record DropsBy {A : Type 0} (cmp : A → A → Ordering) (spell : A → List (List ℕ))
     (kind : StepKind) (start : ℕ) (xs : List A) (step : Step) (ys : List A) : Type 0 where
   pub of_kind : step.kind ≡ kind
   pub unnumbered : step.number ≡ 0
   pub leads : DropLeads cmp spell start step.place xs ys
 
--- the part at an index and the next one are in falling order
+-- the part at an index and the next one are in falling order; `default` stands for a part beyond the end
 abbrev pub FallsAt : {A : Type 0} → (A → A → Ordering) → List A → ℕ → Type 0
 FallsAt {A} cmp xs index =
     (default : A) → cmp (slice_index_or xs (index + 1) default) (slice_index_or xs index default) ≡ Less
@@ -121,23 +125,24 @@ pub record IsFirstRepeat {A : Type 0} (cmp : A → A → Ordering) (xs : List A)
   pub repeats : HasLike cmp xs index
   pub leftmost : (other : ℕ) → other < index → HasLike cmp xs other → ⊥
 
--- by a step DropTrue a keyword loses its only type, `true`
+-- by a step DropTrue one of the keywords `ks` loses its only type, `true`, by which they become `ls`; they begin after
+-- `start` subtags
 pub record DropsTrueBy (start : ℕ) (ks : List KeywordParts) (step : Step) (ls : List KeywordParts) : Type 0 where
   pub of_kind : step.kind ≡ steps.DropTrue
   pub unnumbered : step.number ≡ 0
   pub leads : TrueLeads start step.place ks ls
 
--- a run of steps from the parts `p` of a `u` extension, whose singleton is at the place `start`, to `q` is added to
--- other steps
+-- `new` is `old`, and then a run of steps from the parts `p` of a `u` extension, whose singleton is at the place
+-- `start`, to `q`
 abbrev pub AddsOnUnicode : ℕ → UForm → UForm → List Step → List Step → Type 0
 AddsOnUnicode start p q old new = Adds (UnicodeLeads start) (λ _ step. kind_rank step) p q old new
 
--- a run of steps from the parts `p` of a `t` extension, whose singleton is at the place `start`, to `q` is added to
--- other steps
+-- `new` is `old`, and then a run of steps from the parts `p` of a `t` extension, whose singleton is at the place
+-- `start`, to `q`
 abbrev pub AddsOnTransform : List EntryParts → ℕ → TForm → TForm → List Step → List Step → Type 0
 AddsOnTransform R start p q old new = Adds (TransformLeads R start) (λ _ step. kind_rank step) p q old new
 
--- a run of steps from the extensions `es`, which begin after `start` subtags, to `fs` is added to other steps
+-- `new` is `old`, and then a run of steps from the extensions `es`, which begin after `start` subtags, to `fs`
 abbrev pub AddsOnExtensions : List EntryParts → ℕ → List ExtensionParts
     → List ExtensionParts → List Step → List Step → Type 0
 AddsOnExtensions R start es fs old new = Adds (ExtensionsLeads R start) (λ _ step. extension_rank step) es fs old new

@@ -8,11 +8,11 @@ use Rattle.lt_rewrite.specs.CoreSteps.{chase}
 use Rattle.lt_rewrite.specs.Conditions.{next_value}
 use Rattle.lt_rewrite.specs.ChainEnds.{following}
 
--- `t` is `n` values or more on from `s`, or the end of a chain that is shorter
+-- `t` is `n` values or more on from `s`, or the end of a chain that is shorter; `f` gives the next value
 abbrev pub IsOnward : (List ℕ → Option (List ℕ)) → ℕ → List ℕ → List ℕ → Type 0
 IsOnward f n s t = (m : ℕ) × (n ≤ m) × (chase f m s ≡ t)
 
--- a record of the kind is at the place in the list, and its value is onward from `v` by `n` values, as `IsOnward` says
+-- a record of the kind is at the place in the list `R`, and its value is onward by `n` values from the subtag `v`
 pub record LeadsTo (R : List EntryParts) (kind : Kind) (n : ℕ) (v : List ℕ) (place : ℕ) : Type 0 where
   pub entry : EntryParts
   pub there : slice_get R place ≡ Some entry
@@ -26,13 +26,14 @@ abbrev pub IsShortcut : List EntryParts → ℕ → ℕ → ℕ → Type 0
 IsShortcut R n i j =
     (e : EntryParts) (v : List ℕ) → slice_get R i ≡ Some e → following e.kind e ≡ Some v → LeadsTo R e.kind n v j
 
--- each record has a shortcut to a record, which may be itself, onward by `n` values
+-- the shortcuts lead onward by `n` values: `places` has for each record that of a record, which may be itself
 pub record LeadOn (R : List EntryParts) (n : ℕ) (places : List ℕ) : Type 0 where
   pub one_each : length places ≡ length R
   pub within : (i j : ℕ) → slice_get places i ≡ Some j → j < length R
   pub shortcut : (i j : ℕ) → slice_get places i ≡ Some j → IsShortcut R n i j
 
--- shortcuts that are twice as long already
+-- these shortcuts are as long as they can be: by however many values they lead onward, they lead onward by twice as
+-- many too
 abbrev pub GrowNoMore : List ℕ → Type 0
 GrowNoMore places = (R : List EntryParts) (n : ℕ) → LeadOn R n places → LeadOn R (n + n) places
 

@@ -34,7 +34,8 @@ fn whole_value_by<'a, L: Lookup>(table: &'a L, tag: &Tag, number: u32) -> Option
     tag_value(entry)
 }
 
-/// The tag by which a step replaces a whole tag, as its record says. None if the step doesn't lead anywhere.
+/// The preferred value of a whole tag, to which a Whole step leads. None if the step leads nowhere. Refused only where
+/// memory runs out.
 fn change_whole<L: Lookup>(
     alloc: Global,
     table: &L,
@@ -56,7 +57,7 @@ fn change_whole<L: Lookup>(
     }
 }
 
-/// The core that a step makes of the core of a tag. None if it leads nowhere.
+/// The core that a step makes of the core of a tag. None if it leads nowhere. Refused only where memory runs out.
 fn change_core<L: Lookup>(
     alloc: Global,
     table: &L,
@@ -73,7 +74,8 @@ fn change_core<L: Lookup>(
     }
 }
 
-/// The extensions that a step makes of those of a tag. They begin after `start` subtags. None if it leads nowhere.
+/// The extensions that a step makes of those of a tag, which begin after `start` subtags. None if it leads nowhere.
+/// Refused only where memory runs out.
 fn change_extensions<L: Lookup>(
     alloc: Global,
     table: &L,
@@ -94,7 +96,8 @@ fn change_extensions<L: Lookup>(
     }
 }
 
-/// The core and the extensions that a step makes of those of a langtag. None if it leads nowhere.
+/// The core and the extensions that a step makes of those of the langtag `tag`, whose core is `core`. None if it leads
+/// nowhere. Refused only where memory runs out.
 fn change_parts<L: Lookup>(
     alloc: Global,
     table: &L,
@@ -118,7 +121,7 @@ fn change_parts<L: Lookup>(
     }
 }
 
-/// The langtag of these parts. None if it spells a grandfathered tag.
+/// The langtag of these parts. None if it spells a grandfathered tag, which is no langtag (RFC 5646, 2.2.8).
 fn langtag(core: Core, extensions: Vec<Extension>, private: Vec<Subtag>) -> Option<Tag>
     requires few_extensions { length extensions.items ≤ longest_text }
     requires few_private { length private.items ≤ longest_text }
@@ -132,7 +135,8 @@ fn langtag(core: Core, extensions: Vec<Extension>, private: Vec<Subtag>) -> Opti
     Some(Tag::from_parts(core, extensions, private))
 }
 
-/// The tag to which a step leads, whether or not it is proper. None if it leads nowhere.
+/// The tag to which a step leads from a proper tag, whether or not it is proper itself. None if the step leads nowhere,
+/// or to what spells a grandfathered tag. Refused only where memory runs out.
 fn change<L: Lookup>(
     alloc: Global,
     table: &L,
@@ -170,7 +174,7 @@ pub fn apply<L: Lookup>(alloc: Global, table: &L, tag: &Tag, step: &Step) -> Res
     let Some(changed) = change(alloc, table, tag, *step)? else {
         return Err(ApplyFault::NoSuchStep);
     };
-    // So that their shapes are known.
+    // Tells the proof the shapes of the extensions.
     let _ = changed.extensions();
     if proper(alloc, table, &changed)? {
         Ok(changed)

@@ -65,8 +65,8 @@ pub(crate) fn next_value<'a, L: Lookup>(
     }
 }
 
-/// Where the chain of values ends that begins with a subtag. If it ends, it does so within as many values as there are
-/// entries; else it is refused with `Cycle`.
+/// The end of the chain of values of a kind that begins with a subtag. If it ends, it does so within as many values as
+/// there are entries; else it is refused with `Cycle`.
 #[tactic(auto, using(crate::proofs::ChainWalks::walk_ends, crate::proofs::ChainWalks::end_form))]
 pub(crate) fn end_of_chain<L: Lookup>(
     table: &L,

@@ -71,7 +71,8 @@ pub(crate) fn before_variants(core: &Core) -> usize
     }
 }
 
-/// The index of the variant at a place, in a core that begins after `start` subtags. None if there is none.
+/// The index of the variant at a place, counted from 1, in a core that begins after `start` subtags. None if there is
+/// no variant.
 fn variant_at(core: &Core, start: usize, place: u32) -> Option<usize>
     requires { start ≤ 1200000 }
     ensures { MatchOption result

@@ -108,7 +108,7 @@ fn variant_step<L: Lookup>(table: &L, core: &Core, start: usize) -> Option<Step>
     None
 }
 
-/// The VariantLanguage step: that of the leftmost variant that has a language as its value, and the core's language as a
+/// The VariantLanguage step: that of the leftmost variant that has a language as its value and the core's language as a
 /// Prefix. The core begins after `start` subtags. None if there is no such variant, or if there are extlangs.
 fn variant_language_step<L: Lookup>(table: &L, core: &Core, start: usize) -> Option<Step>
     requires { start ≤ 1200000 }
@@ -154,8 +154,8 @@ fn first_core_step<L: Lookup>(table: &L, core: &Core, start: usize) -> Option<St
     variant_language_step(table, core, start)
 }
 
-/// Takes the first step on a core, and goes on so until there is none. It adds the steps to `steps`. The core begins after
-/// `start` subtags. Where memory runs out, some of the steps may have been taken.
+/// Takes the first step on a core, and goes on so until there is none. It adds the steps to `steps`. The core begins
+/// after `start` subtags. Refused only where memory runs out; some of the steps may have been taken then.
 pub(crate) fn take_core_steps<L: Lookup>(
     table: &L,
     core: &mut Core,
@@ -174,9 +174,10 @@ pub(crate) fn take_core_steps<L: Lookup>(
     Ok(())
 }
 
-/// Takes the first step on a core, and goes on so until there is none. It gives back the core to which the steps lead, and
-/// `steps` with them at the end. The core begins after `start` subtags. The chains of the registry end, as they do where
-/// `first_cycle` is None. The only refusal is running out of memory.
+/// Takes the first step on a core, and goes on so until there is none. It gives back the core to which the steps lead,
+/// and `steps` with them at the end. The core begins after `start` subtags. The chains of the registry end, as they do
+/// where `first_cycle` is None. The only refusal is running out of memory. The bound 1,200,000 is above the subtags of
+/// every tag before its private use, at most 1,050,630, so that each place is a `u32`.
 pub fn explain_core<L: Lookup>(
     table: &L,
     mut core: Core,

@@ -20,8 +20,8 @@ use lt_registry::{Kind, Lookup};
 use lt_subtag::Subtag;
 use lt_tag::Core;
 
-/// Where the chain of values ends that begins with a subtag, in a registry whose chains end. It is found by shortcuts if
-/// there are some.
+/// The end of the chain of values that begins with a subtag, in a registry whose chains end. It is found by shortcuts
+/// if there are some.
 fn certain_end<L: Lookup>(
     table: &L,
     shortcuts: Option<&Shortcuts>,
@@ -88,7 +88,7 @@ fn settle_variants<L: Lookup>(table: &L, shortcuts: Option<&Shortcuts>, core: &m
     }
 }
 
-/// Makes the replacement of a sole extlang the language, in place of both.
+/// Makes the replacement of a sole extlang the language, and drops the extlang. Other numbers of extlangs stay.
 #[tactic(auto, using(crate::specs::Rewriting::done))]
 fn settle_extlang<L: Lookup>(table: &L, core: &mut Core)
     ensures reached { Star (CoreStep (L.listed table.now)) core.old core.new }
@@ -115,8 +115,8 @@ fn settle_language<L: Lookup>(table: &L, shortcuts: Option<&Shortcuts>, core: &m
     core.set_language(end);
 }
 
-/// The language to which a variant leads beside a language by a VariantLanguage step: its value, if that is a language and
-/// the language beside it one of its Prefixes. Else None.
+/// The language to which a variant leads beside a language by a VariantLanguage step: its value, if that is a language
+/// and `language` is one of its Prefixes. Else None.
 fn variant_language<'a, L: Lookup>(
     table: &'a L,
     language: &Subtag,
@@ -171,8 +171,9 @@ fn settle_variant_languages<L: Lookup>(table: &L, shortcuts: Option<&Shortcuts>,
     }
 }
 
-/// Replaces each of at most 256 variants by the end of its chain of variants, by shortcuts. To `places`, which is empty, it
-/// adds the places of the entries of these ends.
+/// Replaces each of at most 256 variants by the end of its chain of variants, by shortcuts. To `places`, which is
+/// empty, it adds for each the index of the entry of this end in the table. An array of 256 takes no memory from the
+/// allocator.
 #[tactic(auto, using(crate::proofs::CoreSettling::none_settled, crate::proofs::CoreSettling::all_final))]
 fn settle_few_variants<L: Lookup>(
     table: &L,
@@ -221,9 +222,9 @@ fn settle_few_variant_languages<L: Lookup>(table: &L, shortcuts: &Shortcuts, cor
     }
 }
 
-/// Replaces the variants by the ends of their chains of variants, and the language by the end of its chain, also after each
-/// VariantLanguage step, which it takes as long as there is one. Without shortcuts, or with fewer than 16 or more than 256
-/// variants, each is looked up again for each language.
+/// Replaces the variants by the ends of their chains of variants, and the language by the end of its chain, also after
+/// each VariantLanguage step, which it takes as long as there is one. Without shortcuts, or with fewer than 16 or more
+/// than 256 variants, each is looked up again for each language; the array has room for the indices of 256 entries.
 #[tactic(auto, using(crate::proofs::Stars::star_trans))]
 fn settle_all_variant_languages<L: Lookup>(
     table: &L,

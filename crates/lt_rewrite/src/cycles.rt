@@ -30,8 +30,9 @@ impl Order {
     }
 }
 
-/// Whether the chain of values from a record's value ends, or comes to a record that is before this one in an order. False
-/// only if it has no end.
+/// Whether the chain of values from a record's value ends, or comes to a record that is before this one in an order. If
+/// so for every record, all chains end, since the chain of the earlier record is followed too. False only if the chain
+/// has no end.
 fn ends_or_falls<L: Lookup>(table: &L, order: Order, entry: &Entry) -> bool
     ensures { MatchBool result (EndsAfterEarlier (L.listed table.now) order entry.now) (HasEndingChain (L.listed table.now) entry.now → ⊥) }
 {
@@ -61,6 +62,7 @@ fn all_end<L: Lookup>(table: &L) -> bool
     ensures { MatchBool result (All (HasEndingChain (L.listed table.now)) (L.listed table.now)) (All (HasEndingChain (L.listed table.now)) (L.listed table.now) → ⊥) }
 {
     for entry in table.entries() {
+        // In this order a chain comes to an earlier record soon, unless the file is made against it.
         if !ends_or_falls(table, Order::Mixed, entry) {
             return false;
         }
@@ -73,6 +75,7 @@ fn first_endless<L: Lookup>(table: &L) -> Option<u32>
     ensures { MatchOption result (All (HasEndingChain (L.listed table.now)) (L.listed table.now)) (IsFirstCycle (L.listed table.now)) }
 {
     for entry in table.entries() {
+        // In this order the first record that fails is that of the least number.
         if !ends_or_falls(table, Order::File, entry) {
             return Some(entry.number());
         }

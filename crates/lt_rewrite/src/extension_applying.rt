@@ -16,6 +16,7 @@ use lt_tag::{Extension, OutOfMemory, TransformFault, join_t, join_u, split_t, sp
 use std::alloc::Global;
 
 /// The `u` extension that a step makes of one whose singleton has the place `start`. None if the step leads nowhere.
+/// Refused only where memory runs out.
 fn apply_in_unicode(
     alloc: Global,
     extension: &Extension,
@@ -33,7 +34,8 @@ fn apply_in_unicode(
     Ok(Some(join_u(alloc, &parts)?))
 }
 
-/// The `t` extension that a step makes of one whose singleton has the place `start`. None if the step leads nowhere.
+/// The `t` extension that a step makes of one whose singleton has the place `start`. None if the step leads nowhere, as
+/// where the subtags are not those of a `t` extension. Refused only where memory runs out.
 fn apply_in_transform<L: Lookup>(
     alloc: Global,
     table: &L,
@@ -45,7 +47,7 @@ fn apply_in_transform<L: Lookup>(
     requires few { start ≤ 1150000 }
     ensures { IfOk result (λ changed. Changes (ExtensionLeads (L.listed table.now) start extension.now step) changed) }
 {
-    // So that the forms of the entries are known.
+    // Tells the proof the forms of the entries.
     let _ = table.entries();
     let mut parts = match split_t(alloc, extension) {
         Ok(parts) => parts,
@@ -58,8 +60,8 @@ fn apply_in_transform<L: Lookup>(
     Ok(Some(join_t(alloc, &parts)?))
 }
 
-/// The extension that a step makes of one whose singleton has the place `start`. None if the step leads nowhere, as on all
-/// extensions but `u` and `t`.
+/// The extension that a step makes of one whose singleton has the place `start`. None if the step leads nowhere, as on
+/// all extensions but `u` and `t`. Refused only where memory runs out.
 fn apply_to_extension<L: Lookup>(
     alloc: Global,
     table: &L,
@@ -81,7 +83,7 @@ fn apply_to_extension<L: Lookup>(
 }
 
 /// The index of the extension inside which a step acts, and what it makes of that. None if it acts inside none. The
-/// extensions begin after `start` subtags.
+/// extensions begin after `start` subtags. Refused only where memory runs out.
 fn find_change<L: Lookup>(
     alloc: Global,
     table: &L,
@@ -94,6 +96,7 @@ fn find_change<L: Lookup>(
         ((index : ℕ) (other : ExtensionParts) → index < length extensions.now → LeadsAt (L.listed table.now) start extensions.now step index other → ⊥)
         (λ found. (found.0 < length extensions.now) × LeadsAt (L.listed table.now) start extensions.now step found.0 found.1)) }
 {
+    // The place of the singleton of the extension at the index.
     let mut place = start + 1;
     for (index, extension) in extensions.iter().enumerate() {
         if let Some(changed) = apply_to_extension(alloc, table, extension, place, step)? {
@@ -112,6 +115,7 @@ fn swap_extensions(extensions: &mut Vec<Extension>, start: usize, step: Step) ->
     requires few { start + length (spell_extensions extensions.old.items) ≤ 1100000 }
     ensures { (R : List EntryParts) → Answers (ExtensionsLeads R start extensions.old.items step) extensions.new.items result }
 {
+    // A SwapExtensions step uses no record.
     if step.number != 0 {
         return false;
     }
@@ -119,6 +123,7 @@ fn swap_extensions(extensions: &mut Vec<Extension>, start: usize, step: Step) ->
 }
 
 /// Takes a step on extensions that begin after `start` subtags. False, and nothing changes, if there is no such step.
+/// Refused only where memory runs out.
 pub(crate) fn apply_to_extensions<L: Lookup>(
     alloc: Global,
     table: &L,

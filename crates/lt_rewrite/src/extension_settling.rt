@@ -26,17 +26,18 @@ fn drop_true(keyword: &mut Keyword)
     }
 }
 
-/// Does nothing when it runs: by its clause the forms of the entries and the order of their numbers are known.
+/// Does nothing when it runs. Its clause tells the proof of the caller that the entries of the table have their forms,
+/// and numbers that rise.
 pub(crate) fn recall_forms<L: Lookup>(table: &L)
     ensures { IsRegistry (L.listed table.now) }
 {
     let _entries = table.entries();
 }
 
-/// Puts the parts of a `u` extension into their normal form (RFC 6067, 2.1.1): sole types `true` are dropped,
-/// of equal attributes and of keywords of one key the first stays, and both are in their order. The types of a
-/// keyword keep theirs. What could be joined before can be joined again. It takes no memory, and so is never
-/// refused.
+/// Puts the parts of a `u` extension into their normal form (RFC 6067, 2.1.1): sole types `true` are dropped, of equal
+/// attributes and of keywords of one key the first stays, and both are in their order. The types of a keyword keep
+/// theirs. Parts that may be given to `join_u` still may be. It takes no memory, and so is never refused; `_alloc` is
+/// not used.
 pub fn settle_u(_alloc: Global, parts: &mut UParts) -> Result<(), OutOfMemory>
     ensures settled { IsNormalForm UnicodeStep parts.old parts.new }
     ensures shaped { IsU parts.old → IsU parts.new }
@@ -51,7 +52,8 @@ pub fn settle_u(_alloc: Global, parts: &mut UParts) -> Result<(), OutOfMemory>
     Ok(())
 }
 
-/// Puts the parts of a `t` extension into their normal form, by shortcuts along the chains if there are some.
+/// Puts the parts of a `t` extension into their normal form, by shortcuts along the chains if there are some. The
+/// chains of the registry end.
 pub(crate) fn settle_transform<L: Lookup>(
     table: &L,
     shortcuts: Option<&Shortcuts>,
@@ -63,7 +65,7 @@ pub(crate) fn settle_transform<L: Lookup>(
     ensures shaped { IsT parts.old → IsT parts.new }
     ensures few { length (spell_t parts.new) ≤ length (spell_t parts.old) }
 {
-    // So that the forms of the entries are known.
+    // Tells the proof the forms of the entries.
     recall_forms(table);
     put_in_order(&mut parts.fields, false);
     if let Some(source) = &mut parts.source {
@@ -71,10 +73,10 @@ pub(crate) fn settle_transform<L: Lookup>(
     }
 }
 
-/// Puts the parts of a `t` extension into their normal form (RFC 6497, 2.2 and 2.3): the source is put into its
-/// core normal form, and the fields into the order of their separators, where those of one separator keep their
-/// order. The values of a field keep theirs. What could be joined before can be joined again. The chains of the
-/// registry end, as they do where `first_cycle` is None. It takes no memory, and so is never refused.
+/// Puts the parts of a `t` extension into their normal form (RFC 6497, 2.2 and 2.3): the source is put into its core
+/// normal form, and the fields into the order of their separators, where those of one separator keep their order. The
+/// values of a field keep theirs. Parts that may be given to `join_t` still may be. The chains of the registry end, as
+/// they do where `first_cycle` is None. It takes no memory, and so is never refused; `_alloc` is not used.
 pub fn settle_t<L: Lookup>(_alloc: Global, table: &L, parts: &mut TParts) -> Result<(), OutOfMemory>
     requires { All (HasEndingChain (L.listed table.now)) (L.listed table.now) }
     ensures settled { IsNormalForm (TransformStep (L.listed table.now)) parts.old parts.new }

@@ -23,7 +23,7 @@ use lt_registry::Lookup;
 use lt_tag::{Extension, OutOfMemory, TransformFault, join_t, join_u, split_t, split_u};
 use std::alloc::Global;
 
-/// How many subtags the extensions before an index have.
+/// How many subtags the extensions before an index have, their singletons among them.
 fn subtags_before(extensions: &[Extension], index: usize) -> usize
     requires within { index ≤ length extensions.now }
     requires few { length (spell_extensions extensions.now) ≤ 1100000 }
@@ -36,8 +36,8 @@ fn subtags_before(extensions: &[Extension], index: usize) -> usize
     count
 }
 
-/// The index of the `u` extension and what it comes to by its steps, which are added to `steps`. None if there is no such
-/// extension. The extensions begin after `start` subtags.
+/// The index of the `u` extension and its normal form, to which its steps lead; they are added to `steps`. None if
+/// there is no such extension. The extensions begin after `start` subtags. Refused only where memory runs out.
 #[tactic(auto, using(crate::proofs::ExtensionRuns::few_before))]
 fn explained_unicode(
     alloc: Global,
@@ -57,8 +57,9 @@ fn explained_unicode(
     Ok(Some((index, join_u(alloc, &parts)?)))
 }
 
-/// The index of the `t` extension and what it comes to by its steps, which are added to `steps`. None if there is no such
-/// extension. The extensions begin after `start` subtags.
+/// The index of the `t` extension and its normal form, to which its steps lead; they are added to `steps`. None if
+/// there is no such extension. The extensions begin after `start` subtags. A `t` extension has the form of one, and the
+/// chains of the registry end. Refused only where memory runs out.
 #[tactic(auto, using(crate::proofs::ExtensionRuns::few_before))]
 fn explained_transform<L: Lookup>(
     alloc: Global,
@@ -81,16 +82,17 @@ fn explained_transform<L: Lookup>(
         Err(TransformFault::OutOfMemory) => return Err(OutOfMemory),
         Err(TransformFault::BadTransform) => unreachable!(),
     };
-    // So that the forms of the entries are known.
+    // Tells the proof the forms of the entries.
     recall_forms(table);
     explain_t(table, &mut parts, place, steps)?;
     Ok(Some((index, join_t(alloc, &parts)?)))
 }
 
-/// Takes the first step on a list of extensions, and goes on so until there is none. It gives back the extensions to which
-/// the steps lead, and `steps` with them at the end. The extensions begin after `start` subtags. Each singleton occurs once,
-/// a `t` extension has the form of one, and the chains of the registry end, as they do where `first_cycle` is None. It is
-/// refused only where memory runs out.
+/// Takes the first step on a list of extensions, and goes on so until there is none. It gives back the extensions to
+/// which the steps lead, and `steps` with them at the end. The extensions begin after `start` subtags. Each singleton
+/// occurs once, a `t` extension has the form of one, and the chains of the registry end, as they do where `first_cycle`
+/// is None. The bound 1,100,000 is above the subtags of every tag before its private use, at most 1,050,630, so that
+/// each place is a `u32`. Refused only where memory runs out.
 pub fn explain_extensions<L: Lookup>(
     alloc: Global,
     table: &L,

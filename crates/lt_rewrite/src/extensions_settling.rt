@@ -28,8 +28,8 @@ pub(crate) fn place_of(extensions: &[Extension], singleton: u8) -> Option<usize>
         .position(|extension| extension.singleton() == singleton)
 }
 
-/// The index of the `u` extension, and its normal form. None if there is no such extension, or if it is in its normal form
-/// as its keys show: then it takes no memory.
+/// The index of the `u` extension, and its normal form. None if there is no such extension, or if its keys rise, which
+/// shows that it is in its normal form; neither takes memory. Refused only where memory runs out.
 #[tactic(auto, using(crate::proofs::ExtensionLaws::none_settles))]
 fn settled_unicode(
     alloc: Global,
@@ -50,7 +50,9 @@ fn settled_unicode(
     Ok(Some((place, join_u(alloc, &parts)?)))
 }
 
-/// The index of the `t` extension, and its normal form. None if there is no such extension.
+/// The index of the `t` extension, and its normal form, by shortcuts along the chains if there are some. None if there
+/// is no such extension. A `t` extension has the form of one, and the chains of the registry end. Refused only where
+/// memory runs out.
 #[tactic(auto, using(crate::proofs::ExtensionLaws::none_settles))]
 fn settled_transform<L: Lookup>(
     alloc: Global,
@@ -71,13 +73,13 @@ fn settled_transform<L: Lookup>(
         Err(TransformFault::OutOfMemory) => return Err(OutOfMemory),
         Err(TransformFault::BadTransform) => unreachable!(),
     };
-    // So that the forms of the entries are known.
+    // Tells the proof the forms of the entries.
     recall_forms(table);
     settle_transform(table, shortcuts, &mut parts);
     Ok(Some((place, join_t(alloc, &parts)?)))
 }
 
-/// Puts an extension in place of the one at its index, if one is given.
+/// Puts an extension in the place of the one at the index given with it. Does nothing if `settled` is None.
 pub(crate) fn put_back(extensions: &mut Vec<Extension>, settled: Option<(usize, Extension)>)
     requires { IfSome settled (λ settled. settled.0 < length extensions.old.items) }
     ensures { extensions.new.items ≡ placed settled extensions.old.items }
@@ -87,7 +89,8 @@ pub(crate) fn put_back(extensions: &mut Vec<Extension>, settled: Option<(usize, 
     }
 }
 
-/// Puts a list of extensions into its normal form, by shortcuts along the chains if there are some.
+/// Puts a list of extensions into its normal form, by shortcuts along the chains if there are some, under the
+/// conditions of `settle_extensions`. Refused only where memory runs out; the list is then what it was.
 pub(crate) fn settle_all<L: Lookup>(
     alloc: Global,
     table: &L,
@@ -101,6 +104,7 @@ pub(crate) fn settle_all<L: Lookup>(
     ensures ok { IfOk result (λ _. IsNormalForm (ExtensionsStep (L.listed table.now)) extensions.old.items extensions.new.items) }
     ensures err { OnErr result (extensions.new ≡ extensions.old) }
 {
+    // Both are made before the list changes, so that a refusal leaves it as it was.
     let unicode = settled_unicode(alloc, extensions)?;
     let transform = settled_transform(alloc, table, shortcuts, extensions)?;
     put_back(extensions, unicode);

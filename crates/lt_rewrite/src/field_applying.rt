@@ -39,6 +39,7 @@ fn swap_fields(parts: &mut TParts, start: usize, step: Step) -> bool
     requires few { start + length (spell_t parts.old) ≤ 1200000 }
     ensures { (R : List EntryParts) → Answers (TransformLeads R start parts.old step) parts.new result }
 {
+    // A SwapFields step uses no record.
     if step.number != 0 {
         return false;
     }

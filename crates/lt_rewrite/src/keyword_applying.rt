@@ -24,12 +24,13 @@ pub(crate) fn drop_types(keyword: &mut Keyword)
     keyword.types.clear();
 }
 
-/// Takes the types from the keyword whose first type has this place, if they are exactly `true`. False, and nothing changes,
-/// if there is no such keyword. The keywords begin after `start` subtags.
+/// Takes the types from the keyword whose first type has this place, if they are exactly `true`. False, and nothing
+/// changes, if there is no such keyword. The keywords begin after `start` subtags.
 fn drop_true_at(keywords: &mut Vec<Keyword>, start: usize, place: u32) -> bool
     requires { start + 1 + length (flat_map spell_keyword keywords.old.items) < 2 ^ 32 }
     ensures { Answers (TrueLeads start place keywords.old.items) keywords.new.items result }
 {
+    // The key is one place before its first type.
     let Some(index) = index_at(keywords, start + 1, place) else {
         return false;
     };
@@ -46,6 +47,7 @@ pub(crate) fn apply_to_unicode(parts: &mut UParts, start: usize, step: Step) -> 
     requires { start + 1 + length (spell_u parts.old) < 2 ^ 32 }
     ensures { Answers (UnicodeLeads start parts.old step) parts.new result }
 {
+    // No step on these parts uses a record.
     if step.number != 0 {
         return false;
     }

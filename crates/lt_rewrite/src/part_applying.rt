@@ -18,7 +18,7 @@ pub(crate) trait Spelled: Part {
     fn subtag_count(&self) -> usize
         ensures { result ≡ length (spell self.now) };
 
-    /// There is at least one.
+    /// A part spells at least one subtag.
     ghost some: { (part : Self) → 0 < length (spell part) };
 }
 
@@ -58,14 +58,15 @@ impl Spelled for Field {
     ghost some = { λ f. zero-lt-suc (length f.values) };
 }
 
-/// The index of the part whose first subtag has this place, in a list that begins after `start` subtags. None if there is
-/// none.
+/// The index of the part whose first subtag has this place, counted from 1, in a list that begins after `start`
+/// subtags. None if there is none.
 pub(crate) fn index_at<P: Spelled>(parts: &[P], start: usize, place: u32) -> Option<usize>
     requires { start + length (flat_map P.spell parts.now) < 2 ^ 32 }
     ensures { MatchOption result
         ((index : ℕ) → index < length parts.now → IsPlaceOf P.spell start parts.now index place → ⊥)
         (λ index. (index < length parts.now) × IsPlaceOf P.spell start parts.now index place) }
 {
+    // The place of the first subtag of the part at the index.
     let mut here = start + 1;
     for (index, part) in parts.iter().enumerate() {
         if here == place as usize {
@@ -110,8 +111,8 @@ pub(crate) fn swap_at<P: Spelled>(parts: &mut Vec<P>, start: usize, place: u32) 
     }
 }
 
-/// Drops the part whose first subtag has this place, if an equal one in the order is before it. False, and nothing changes,
-/// if there is no such part. The list begins after `start` subtags.
+/// Drops the part whose first subtag has this place, if one before it is equal in the order. False, and nothing
+/// changes, if there is no such part. The list begins after `start` subtags.
 pub(crate) fn drop_at<P: Spelled>(parts: &mut Vec<P>, start: usize, place: u32) -> bool
     requires { start + length (flat_map P.spell parts.old.items) < 2 ^ 32 }
     ensures { Answers (DropLeads P.order P.spell start place parts.old.items) parts.new.items result }

@@ -16,7 +16,7 @@ fn comes_after(last: &Option<Subtag>, key: &Subtag) -> bool
     }
 }
 
-/// Whether a subtag has the form of a type, and is not `true`.
+/// Whether a subtag of a `u` extension is long enough for a type (RFC 6067, 2.1), and is not `true`.
 #[tactic(auto, unfolding(lt_tag::specs::Extensions::is_long))]
 fn is_type(subtag: &Subtag) -> bool
     ensures { result ≡ rising.is_type subtag.now }
@@ -24,9 +24,9 @@ fn is_type(subtag: &Subtag) -> bool
     3 <= subtag.bytes().len() && subtag.bytes() != b"true".as_slice()
 }
 
-/// The last key of a `u` extension once a subtag follows it: the subtag if it is a key after the last one in the order of
-/// keys (RFC 6067, 2.1.1), or the last key if the subtag is a type of it other than `true`. None if it is neither: then the
-/// extension may not be in its normal form.
+/// The last key of a `u` extension once a subtag follows it: the subtag if it is a key after the last one in the order
+/// of keys (RFC 6067, 2.1.1), or the last key if the subtag is a type of it other than `true`. None if it is neither:
+/// then the extension may not be in its normal form. `last` is None before the first key.
 pub fn next_key(last: Option<Subtag>, subtag: Subtag) -> Option<Subtag>
     ensures { result ≡ rising.next_key last subtag }
 {
@@ -43,7 +43,7 @@ pub fn next_key(last: Option<Subtag>, subtag: Subtag) -> Option<Subtag>
     }
 }
 
-/// Whether subtags are keywords whose keys rise, none of which has the type `true`.
+/// Whether the subtags of a `u` extension are keywords in the order of their keys, none of which has the type `true`.
 pub(crate) fn keys_rise(subtags: &[Subtag]) -> bool
     ensures { result ≡ rising.keys_rise None subtags.now }
 {

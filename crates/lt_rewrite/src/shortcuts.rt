@@ -31,7 +31,7 @@ use std::marker::Model;
 /// a few look-ups, however long it is.
 #[derive(Debug, Drop)]
 pub struct Shortcuts {
-    /// For each record the place of a record on its chain.
+    /// For each record the index of a record on its chain.
     places: Vec<usize>,
 }
 
@@ -55,8 +55,8 @@ impl Shortcuts {
         })
     }
 
-    /// The subtag that is as many values on from a subtag as there are records: the end of its chain of values, if that has
-    /// one.
+    /// The subtag that is at least as many values on from a subtag as there are records: the end of its chain of
+    /// values, if that has one.
     #[tactic(auto, using(std::proofs::lemmas::Option::slice_get_within, crate::proofs::ChainWalks::entry_there, crate::proofs::ShortcutWalks::onward_rest, crate::proofs::ShortcutWalks::entry_next, crate::proofs::ShortcutWalks::none_follows, crate::proofs::ChainWalks::next_by, crate::proofs::ShortcutWalks::led_to, crate::proofs::ShortcutWalks::led_far, crate::proofs::ShortcutWalks::some_follows))]
     fn further<'a, L: Lookup>(&self, table: &'a L, kind: Kind, subtag: &'a Subtag) -> &'a Subtag
         requires { AreShortcuts (L.listed table.now) self.now }
@@ -77,7 +77,7 @@ impl Shortcuts {
         }
     }
 
-    /// Where the chain of values ends that begins with a subtag, or `Cycle` if it has no end.
+    /// The end of the chain of values of a kind that begins with a subtag, or `Cycle` if it has none.
     pub(crate) fn end_of_chain<L: Lookup>(
         &self,
         table: &L,
@@ -96,7 +96,7 @@ impl Shortcuts {
         }
     }
 
-    /// Where the chain of values ends that begins with a subtag, in a registry whose chains end.
+    /// The end of the chain of values of a kind that begins with a subtag, in a registry whose chains end.
     pub(crate) fn certain_end<L: Lookup>(&self, table: &L, kind: Kind, subtag: &Subtag) -> Subtag
         requires chains { All (HasEndingChain (L.listed table.now)) (L.listed table.now) }
         requires shortcuts { AreShortcuts (L.listed table.now) self.now }
@@ -165,7 +165,8 @@ impl Shortcuts {
     }
 }
 
-/// The place of an entry among the entries of a table. It is told at once where their numbers follow on one another.
+/// The index of an entry among the entries of a table, whose numbers rise. Where the numbers follow on one another, it
+/// is found without a search.
 pub(crate) fn place_of(entries: &[Entry], entry: &Entry) -> usize
     requires rising { NumbersRise entries.now }
     requires there { Contains entries.now entry.now }
@@ -179,8 +180,8 @@ pub(crate) fn place_of(entries: &[Entry], entry: &Entry) -> usize
     }
 }
 
-/// The place of the entry of the value that follows an entry, if a further value follows that one; else the entry's own
-/// place.
+/// The index of the entry of the value that follows an entry, if a further value follows that one; else `place`, the
+/// index of the entry itself.
 #[tactic(auto, using(std::proofs::lemmas::Option::slice_get_within, crate::proofs::ChainWalks::entry_there, crate::proofs::ShortcutWalks::to_itself, crate::proofs::ShortcutWalks::to_next, crate::proofs::ChainWalks::next_by))]
 fn next_place<L: Lookup>(table: &L, entry: &Entry, place: usize) -> usize
     requires { slice_get (L.listed table.now) place ≡ Some entry.now }
@@ -199,7 +200,7 @@ fn next_place<L: Lookup>(table: &L, entry: &Entry, place: usize) -> usize
     }
 }
 
-/// For each entry, the place to which its shortcut of one value leads.
+/// For each entry, the index of the entry to which its shortcut of one value leads. Refused only where memory runs out.
 fn first_places<L: Lookup>(alloc: Global, table: &L) -> Result<Vec<usize>, AllocError>
     ensures { IfOk result (λ places. LeadOn (L.listed table.now) 1 places.items) }
 {
@@ -210,11 +211,13 @@ fn first_places<L: Lookup>(alloc: Global, table: &L) -> Result<Vec<usize>, Alloc
     Ok(places)
 }
 
-/// For each entry, the place to which its shortcut leads over as many values as there are entries.
+/// For each entry, the index of the entry to which its shortcut leads over as many values as there are entries. Refused
+/// only where memory runs out.
 fn last_places<L: Lookup>(alloc: Global, table: &L) -> Result<Vec<usize>, AllocError>
     ensures { IfOk result (λ places. LeadOn (L.listed table.now) (length (L.listed table.now)) places.items) }
 {
     let mut places = first_places(alloc, table)?;
+    // The shortcuts lead over at least so many values.
     let mut steps = 1;
     let mut grows = true;
     while steps < places.len() {
@@ -224,7 +227,8 @@ fn last_places<L: Lookup>(alloc: Global, table: &L) -> Result<Vec<usize>, AllocE
     Ok(places)
 }
 
-/// Makes each shortcut twice as long, but if none of them grows any more, and tells whether one grew.
+/// Makes each shortcut twice as long, unless `grows` is false, where none would change. Tells whether one leads
+/// elsewhere than before.
 fn lengthen_while(grows: bool, places: &mut [usize]) -> bool
     requires within { (i j : ℕ) → slice_get places.old i ≡ Some j → j < length places.old }
     requires rest { grows ≡ false → GrowNoMore places.old }
@@ -234,14 +238,15 @@ fn lengthen_while(grows: bool, places: &mut [usize]) -> bool
     grows && lengthen(places)
 }
 
-/// Whether one of two is true.
+/// Whether one of two is true. Both are evaluated before the call, unlike the sides of `||`.
 fn either(one: bool, other: bool) -> bool
     ensures { result ≡ (one || other) }
 {
     one || other
 }
 
-/// Makes each shortcut twice as long: it leads on from where it led. Tells whether one leads elsewhere than before.
+/// Makes each shortcut at least twice as long: it leads on by the shortcut of the entry to which it led, which may have
+/// been made longer already. Tells whether one leads elsewhere than before.
 fn lengthen(places: &mut [usize]) -> bool
     requires { (i j : ℕ) → slice_get places.old i ≡ Some j → j < length places.old }
     ensures doubled { (R : List EntryParts) (n : ℕ) → LeadOn R n places.old → LeadOn R (n + n) places.new }

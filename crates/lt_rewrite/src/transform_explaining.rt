@@ -15,8 +15,9 @@ use crate::steps::{Step, StepKind};
 use lt_registry::Lookup;
 use lt_tag::{OutOfMemory, TParts};
 
-/// Takes the first step on the source of a `t` extension, and goes on so until there is none. It adds the steps to `steps`;
-/// without a source there are none. The extension's singleton has the place `start`.
+/// Takes the first step on the source of a `t` extension, and goes on so until there is none. It adds the steps to
+/// `steps`; without a source there are none. The extension's singleton has the place `start`. Refused only where memory
+/// runs out; some of the steps may have been taken then.
 fn explain_source<L: Lookup>(
     table: &L,
     parts: &mut TParts,
@@ -35,8 +36,9 @@ fn explain_source<L: Lookup>(
     take_core_steps(table, source, start, steps)
 }
 
-/// Takes the first step on the parts of a `t` extension, and goes on so until there is none. It adds the steps to `steps`.
-/// The extension's singleton has the place `start`. The chains of the registry end.
+/// Takes the first step on the parts of a `t` extension, and goes on so until there is none. It adds the steps to
+/// `steps`. The extension's singleton has the place `start`. The chains of the registry end. Refused only where memory
+/// runs out; some of the steps may have been taken then.
 pub(crate) fn explain_t<L: Lookup>(
     table: &L,
     parts: &mut TParts,
@@ -49,7 +51,7 @@ pub(crate) fn explain_t<L: Lookup>(
     ensures at_rest { IfOk result (λ _. NoneLeads (TransformLeads (L.listed table.now) start parts.new)) }
     ensures shaped { IfOk result (λ _. IsT parts.old → IsT parts.new) }
 {
-    // So that the forms of the entries are known.
+    // Tells the proof the forms of the entries.
     recall_forms(table);
     explain_source(table, parts, start, steps)?;
     let first_field = start + source_length(&parts.source);

@@ -12,7 +12,8 @@ use crate::steps::{Step, StepKind};
 use lt_tag::{Keyword, OutOfMemory, UParts};
 
 /// Takes the types from the leftmost keyword whose types are exactly `true`, until there is none. It adds the steps to
-/// `steps`. The keywords begin after `start` subtags.
+/// `steps`. The keywords begin after `start` subtags. Refused only where memory runs out; some of the steps may have
+/// been taken then.
 fn drop_trues(
     keywords: &mut Vec<Keyword>,
     start: usize,
@@ -22,6 +23,7 @@ fn drop_trues(
     ensures adds { IfOk result (λ _. Adds (DropsTrueBy start) (λ _ _. 0) keywords.old.items keywords.new.items steps.old.items steps.new.items) }
     ensures at_rest { IfOk result (λ _. NoneLeads (DropsTrueBy start keywords.new.items)) }
 {
+    // The place of the key of the keyword at the index.
     let mut here = start + 1;
     for index in 0..keywords.len() {
         if has_sole_true(&keywords[index]) {
@@ -37,8 +39,9 @@ fn drop_trues(
     Ok(())
 }
 
-/// Takes the first step on the parts of a `u` extension, and goes on so until there is none. It adds the steps to `steps`.
-/// The extension's singleton has the place `start`.
+/// Takes the first step on the parts of a `u` extension, and goes on so until there is none. It adds the steps to
+/// `steps`. The extension's singleton has the place `start`. Refused only where memory runs out; some of the steps may
+/// have been taken then.
 pub(crate) fn explain_u(
     parts: &mut UParts,
     start: usize,

@@ -44,7 +44,8 @@ pub fn tag_and_value(entry: &Entry) -> Option<(&Tag, &Tag)>
     }
 }
 
-/// Whether the preferred value of a variant is a language: it has at most 3 letters.
+/// Whether the preferred value `subtag` of a variant is a language: that has at most 3 letters, and a variant has at
+/// least 4 (RFC 5646, 2.1).
 pub fn is_short(subtag: &Subtag) -> bool
     ensures { result ≡ entries.is_short subtag.now }
 {

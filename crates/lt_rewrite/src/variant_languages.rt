@@ -19,7 +19,7 @@ use lt_registry::{Entry, Kind, Lookup};
 use lt_subtag::Subtag;
 use lt_tag::Core;
 
-/// The index of a variant's entry, or one after the last if it has none.
+/// The index of a variant's entry in the table, or the index after the last entry if it has none.
 #[tactic(auto, using(crate::proofs::ChainWalks::entry_there))]
 fn variant_place<L: Lookup>(table: &L, variant: &Subtag) -> usize
     ensures { slice_get (L.listed table.now) result ≡ entry (L.listed table.now) kinds.Variant variant.now }
@@ -31,8 +31,8 @@ fn variant_place<L: Lookup>(table: &L, variant: &Subtag) -> usize
     }
 }
 
-/// The end of a variant's chain of variants, and the index of the end's entry, or one after the last if it has none. The
-/// chains of the registry end.
+/// The end of a variant's chain of variants, and the index of the end's entry in the table, or the index after the last
+/// entry if the end has none. The chains of the registry end.
 #[tactic(auto, using(crate::proofs::ChainWalks::entry_there))]
 pub(crate) fn settled_variant<L: Lookup>(
     table: &L,
@@ -66,7 +66,7 @@ fn entry_at<'a, L: Lookup>(table: &'a L, place: usize) -> Option<&'a Entry>
 }
 
 /// The language to which a variant leads beside a language by a VariantLanguage step, or None if it has no such step.
-/// `place` is that of the variant's entry.
+/// `place` is the index of the variant's entry. `_variant` is for the clauses alone: it is not looked up.
 fn variant_language_at<'a, L: Lookup>(
     table: &'a L,
     place: usize,
@@ -86,8 +86,9 @@ fn variant_language_at<'a, L: Lookup>(
     }
 }
 
-/// The leftmost variant with a VariantLanguage step: its index, counted from 0, and the language to which it leads. None if
-/// no variant has one. `places` are those of the entries of the core's variants.
+/// The leftmost variant with a VariantLanguage step: its index, counted from 0, and the language to which it leads.
+/// None if no variant has one. `places` are the indices of the entries of the core's variants, so that none is looked
+/// up.
 pub(crate) fn first_variant_language_at<L: Lookup>(
     table: &L,
     places: &[usize],
