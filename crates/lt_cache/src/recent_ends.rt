@@ -20,8 +20,8 @@ use std::marker::Model;
 const LONGEST: usize = LONGEST_FRONT + 32;
 
 /// The ends of tags that were made canonical lately, each with the end of the canonical text. An end begins with the
-/// hyphen before the first one-character subtag; where that is a `t` after which a source stays as it is, with the hyphen
-/// before the first field.
+/// hyphen before the first one-character subtag; where that is a `t` after which a source stays as it is, with the
+/// hyphen before the first field.
 #[derive(Drop)]
 pub struct RecentEnds {
     texts: Recent,
@@ -36,8 +36,8 @@ impl Model for RecentEnds {
     ghost view = { λ ends. ends.texts };
 }
 
-/// Whether a text is a core whose subtags stay as they are. `texts` is used as room for it, and left as it was. False where
-/// memory runs out.
+/// Whether a text is a core whose subtags stay as they are. `texts` is used as room for it, and left as it was. False
+/// where memory runs out.
 #[inline(always)]
 fn is_staying<L: Lookup>(checked: &Checked<L>, text: &[u8], texts: &mut Vec<u8>) -> bool
     ensures core { IsTrue result → IsCanonicalCore (L.listed checked.now) text.now }
@@ -53,8 +53,8 @@ fn is_staying<L: Lookup>(checked: &Checked<L>, text: &[u8], texts: &mut Vec<u8>)
     }
 }
 
-/// The source of a `t` extension and its fields, if `end` is one whose source stays as it is; else None. `texts` is used as
-/// room for it, and left as it was.
+/// The source of a `t` extension and its fields, if `end` is one whose source stays as it is; else None. `texts` is
+/// used as room for it, and left as it was.
 #[inline(always)]
 fn staying_source<'e, L: Lookup>(
     checked: &Checked<L>,
@@ -110,8 +110,9 @@ impl RecentEnds {
         }
     }
 
-    /// Appends a `t` extension of a source and fields, if what follows a source is kept for the fields. Tells whether it
-    /// did, and else appends nothing.
+    /// Appends the canonical `t` extension of a source that stays as it is, and of fields, if the table has the answer
+    /// for these fields: for `IT` and `-m0-names` it appends `-t-it` and what is kept for `-m0-names`. Tells whether it
+    /// did; else it appends nothing.
     #[inline(always)]
     fn append_transformed(
         &self,
@@ -131,8 +132,8 @@ impl RecentEnds {
         }
     }
 
-    /// Appends the canonical form of an end that is a `t` extension, if its source stays as it is and what follows one is kept for
-    /// its fields. Tells whether it did, and else appends nothing.
+    /// Appends the canonical form of an end that is a `t` extension, if its source stays as it is and what follows one
+    /// is kept for its fields. Tells whether it did, and else appends nothing.
     #[inline(always)]
     #[tactic(auto, using(crate::proofs::KeptEnds::transformed_appended))]
     fn append_by_fields<L: Lookup>(

@@ -42,8 +42,8 @@ fn is_separator(letter: u8, digit: u8) -> bool
 }
 
 /// What is before the first separator of a field that has a hyphen after it, and the rest from the hyphen before the
-/// separator on: `it` and `-m0-names` of `it-m0-names`. None where more than `LONGEST_FRONT` bytes are before any such
-/// separator.
+/// separator on: `it` and `-m0-names` of `it-m0-names`. None where there is no such separator with 2 to `LONGEST_FRONT`
+/// bytes before its hyphen.
 #[inline(always)]
 fn split_fields(text: &[u8]) -> Option<(&[u8], &[u8])>
     ensures whole { IfSome result (λ parts. parts.0.now ++ parts.1.now ≡ text.now) }
@@ -78,9 +78,10 @@ fn after_singleton(end: &[u8]) -> Option<&[u8]>
     None
 }
 
-/// What is between `-t-` and the first separator of a field, and the fields, which end the text: `it` and `-m0-names`
-/// of `-t-it-m0-names`. Of the source nothing else is asked. None if the text does not begin so, if more than
-/// `LONGEST_FRONT` bytes are before any separator with a hyphen after it, or if a one-character subtag follows.
+/// The source and the fields of a `t` extension that ends a text: `it` and `-m0-names` of `-t-it-m0-names`. Whether the
+/// source is one is not asked. None if the text is no such extension, if [`split_fields`] finds no fields after 2 to
+/// `LONGEST_FRONT` bytes, or if a one-character subtag follows. None is always safe: the end is then worked out as any
+/// other.
 #[inline(always)]
 #[tactic(auto, using(crate::proofs::SourceLemmas::transformed))]
 pub(crate) fn split_source(end: &[u8]) -> Option<(&[u8], &[u8])>

@@ -9,6 +9,7 @@ pub mod ExtlangForm
 pub mod Laws
 pub mod Corollaries
 pub mod TraceLaws
+-- that a refusal for a variant that steps repeat names one variant, and one alone
 pub mod RepeatLaws
 pub mod ExtlangLaws
 pub mod Traces

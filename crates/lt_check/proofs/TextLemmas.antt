@@ -1,4 +1,5 @@
--- A text that is cut into subtags that stay: its parts, and what is shown of it.
+-- A text that is a language, and a script and a region where there is one, each with a flag in the table F: so it stays
+-- as it is. What is shown of it is its text in conventional case: a count of bytes, and these with zeros after them.
 use Rattle.std.proofs.Common.{◌≡◌, ◌≤◌, ℕ, ◌+◌, ◌==◌, ◌++◌, ◌&&◌, Bool, true, false, cond, List, [], ◌∷◌, length, map, take, Option, Some, None, option_map, is_some, inl, inr, refl, sym, ap, ◌∙◌, arith}
 use Rattle.std.specs.Option.{option_map_or}
 use Rattle.std.proofs.Math.Seq.{take-append-add}
@@ -71,7 +72,8 @@ after_cut F rest p s r more hyphens true few t h cut is =
     let j = and_parts (part_flagged F kinds.Script s) (part_flagged F kinds.Region r) k.1 in
     record { script = s; region = r; rest_is = cut k.0; few = few; script_set = j.0; region_set = j.1; shown_is = rw (← same) is }
 
--- where something is shown after a language, `rest` is cut into a script and a region that have flags
+-- if `p` is shown of what follows a language, then `rest` is a hyphen and a script, a hyphen and a region, both or
+-- neither, with flags in F, and `p` is that in conventional case; a clause for each length of `rest`
 shown_after : (F rest : List ℕ) (p : AfterLanguage) → after_language F rest ≡ Some p → IsShownAfter F rest p
 shown_after F [] p h =
     after_cut F [] p None None (0 ∷ 0 ∷ 0 ∷ 0 ∷ 0 ∷ 0 ∷ 0 ∷ 0 ∷ 0 ∷ []) true _ (omega arith) refl h (λ t. refl) (λ xs. refl)
@@ -125,7 +127,8 @@ language_shown F l rest more p true (Some after) e q h =
     }
 language_shown F l rest more p _ _ e q h = cc
 
--- where something is shown of a text, the text is cut into a language, a script and a region that have flags
+-- if `p` is shown of a text, the text is a language, and a script and a region where there is one, with flags in F, and
+-- `p` is it in conventional case; a hyphen (45) as the third byte tells a language of 2 letters from one of 3
 pub shown_cut : (F text : List ℕ) (p : Shown) → taken.shown_text F text ≡ Some p → IsShown F text p
 shown_cut F (a ∷ b ∷ []) p h = language_shown F (a ∷ b ∷ []) [] (0 ∷ []) p _ _ refl refl h
 shown_cut F (a ∷ b ∷ c ∷ rest) p h = elim (cases_Bool (c == 45)) [

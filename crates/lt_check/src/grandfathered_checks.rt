@@ -61,8 +61,8 @@ fn by_variant<L: Lookup>(table: &L, language: &[u8], variant: &[u8]) -> Option<u
     }
 }
 
-/// For each regular grandfathered tag of two subtags, such as `zh-min`: the number of the record of its second subtag if the
-/// tag is valid as a langtag, and else None.
+/// For each regular grandfathered tag of two subtags, such as `zh-min`: the number of the record of its second subtag
+/// if the tag is valid as a langtag, and else None.
 pub(crate) fn validating_records<L: Lookup>(table: &L) -> [Option<u32>; REGULAR]
     ensures { AreValidatedBy (L.listed table.now) regular_cores result }
 {
@@ -96,8 +96,9 @@ fn has_fitting_tag(entry: &Entry) -> bool
     }
 }
 
-/// Whether a record meets the condition on grandfathered tags: if it is of that type, its tag is one of the 26, and it is
-/// none of the records that make a regular one of these valid as a langtag ([`validating_records`]).
+/// Whether a record meets the condition on grandfathered tags. A record of that type has one of the 26 tags; and a
+/// record of any type is none of those whose subtag makes a regular one of the 26, as zh-min, valid as a langtag.
+/// `validating` has the numbers of these, as [`validating_records`] gives them.
 pub(crate) fn fits_grandfathered<L: Lookup>(
     table: &L,
     validating: &[Option<u32>],
@@ -107,7 +108,7 @@ pub(crate) fn fits_grandfathered<L: Lookup>(
     requires listed { Contains (L.listed table.now) entry.now }
     ensures { IsTrue result ↔ Meets conditions.FittingGrandfathered (L.listed table.now) entry.now }
 {
-    // So that the forms of the entries are known.
+    // Does nothing when it runs: its clauses tell the proof what each entry of a registry is.
     know_entries(table);
     has_fitting_tag(entry) && !has_number(validating, entry.number())
 }

@@ -10,8 +10,8 @@ use crate::faults::{JarFault, JarFaultKind};
 use crate::jars::{Jar, Record};
 use std::alloc::Global;
 
-/// Puts the record that ended after the others. Refused where memory runs out, with the number of the line that ended the
-/// record.
+/// Puts the record that has ended at the end of `records`. Refused where memory runs out, with the number of the line
+/// that ended it: the engine counts on to the next line before.
 fn push_record(
     alloc: Global,
     engine: &mut Engine,

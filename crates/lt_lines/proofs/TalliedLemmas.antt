@@ -6,7 +6,7 @@ use Rattle.lt_lines.specs.Owed.{AreRepliesFrom, Reply, Terms}
 use Rattle.lt_lines.specs.Tallied.{AreRefused, AreTalliesOf, CountsIf, IsRefusedAs}
 use Rattle.lt_lines.specs.declared.forms.LineForm.{LineForm}
 
--- no more lines are refused than are answered
+-- no more lines are refused than are answered, so that a count of them fits where one of answers does
 refused_fewer : (form : LineForm) (number : ℕ) (lines : List (List ℕ)) (replies : List Reply) (refusals : List Refused) → AreRefused form number lines replies refusals → length refusals ≤ length replies
 refused_fewer form number (line ∷ lines) (r ∷ replies) refusals (inl kept) = let fewer = refused_fewer form (number + 1) lines replies refusals kept.1 in omega (arith, fewer)
 refused_fewer form number (line ∷ lines) (r ∷ replies) refusals (inr h) =

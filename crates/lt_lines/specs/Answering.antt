@@ -93,8 +93,9 @@ pub record AppendsTextReply (R : List EntryParts) (text old new : List ℕ) (ref
   pub grown : new ≡ old ++ bytes
   pub owed : IsTextReply R text (reply bytes refused)
 
--- the row was appended unchanged, with two further fields, one of them empty: the canonical text of `text`, the text of
--- its field, and why that is refused
+-- the row `line` was appended to the answers `old`, which gives `new`, unchanged but for two further fields: the
+-- canonical text of `text`, which is that of the row's field, and an empty one; or, if it is refused, an empty one and
+-- why
 pub record AppendsKept (S : Separator) (G : Ground) (text line old new : List ℕ) (refused : Bool) : Type 0 where
   pub canonical : List ℕ
   pub told : List ℕ

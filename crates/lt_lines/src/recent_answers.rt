@@ -98,9 +98,9 @@ fn append_replaced<L: Lookup>(
     }
 }
 
-/// Appends the answer to a tag, the first `count` bytes of `text`, and tells whether it was refused. A text whose subtags
-/// stay as they are is answered at once. Another answer that was given lately is not worked out again: if `text` has at
-/// least 32 bytes, it is looked for without a copy.
+/// Appends the answer to a tag, the first `count` bytes of `text`, and tells whether it was refused. A text whose
+/// subtags stay as they are is answered at once. Another answer that was given lately is not worked out again: if
+/// `text` has at least 32 bytes, it is looked for without a copy.
 #[inline(always)]
 fn append_read<L: Lookup>(
     lines: &mut Vec<u8>,
@@ -122,8 +122,8 @@ fn append_read<L: Lookup>(
     append_found(lines, alloc, checked, recent, text, count)
 }
 
-/// Appends the answer to a text whose subtags stay as they are, and gives true. For any other text it does nothing and gives
-/// false.
+/// Appends the answer to a text whose subtags stay as they are, and gives true. For any other text it does nothing and
+/// gives false.
 #[tactic(auto, using(crate::proofs::TextLemmas::canonical_reply))]
 #[inline(always)]
 fn append_usual_answer<L: Lookup>(
@@ -225,9 +225,9 @@ fn append_replaced_field<L: Lookup>(
     }
 }
 
-/// Appends the canonical text of a field, the first `count` bytes of `rest`, and gives None, or gives why it is refused. A
-/// field whose subtags stay as they are is answered at once, and another canonical text that was found lately is not worked
-/// out again: if `rest` has at least 32 bytes, it is looked for without a copy.
+/// Appends the canonical text of a field, the first `count` bytes of `rest`, and gives None, or gives why it is
+/// refused. A field whose subtags stay as they are is answered at once, and another canonical text that was found
+/// lately is not worked out again: if `rest` has at least 32 bytes, it is looked for without a copy.
 #[inline(always)]
 fn append_read_field<L: Lookup>(
     lines: &mut Vec<u8>,
@@ -252,7 +252,8 @@ fn append_read_field<L: Lookup>(
 
 /// Appends the canonical text of a field, the first `count` bytes of `rest`, and gives None, or gives why it is
 /// refused. A canonical text that was found lately is taken; any other is worked out and put with those. What follows
-/// in `rest` is for speed alone, as 32 bytes are taken at once.
+/// in `rest` is for speed alone, as 32 bytes are taken at once. Not inlined, so that the way of a field that stays is
+/// short.
 #[inline(never)]
 fn append_found_field<L: Lookup>(
     lines: &mut Vec<u8>,
@@ -269,6 +270,7 @@ fn append_found_field<L: Lookup>(
     ensures recent { OnOk result (AreRecent (L.listed checked.now) (LineForm.Row row) recent.old
         → AreRecent (L.listed checked.now) (LineForm.Row row) recent.new) }
 {
+    // Of fields canonical texts alone are put there: what is found is no refusal, and `false` is put.
     if let Some(found) = recent.whole.find(rest, count) {
         found.answer.append_to(lines)?;
         recent.whole.note_again();

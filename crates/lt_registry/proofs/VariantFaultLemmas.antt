@@ -272,7 +272,8 @@ pub repeated : (r b : Bool) → r ≡ false → b ≡ true → (r || not b) ≡ 
 repeated false true h e = refl
 repeated _ _ h e = cc
 
--- The check of variants, step by step.
+-- The check of variants, step by step: `r` is whether they may repeat, `vs` are all variants, and `v` is the one at the
+-- index `i`, whose place in the tag is `p`.
 
 -- the check of the variants from the index `i` on is `a`, that of the variant there, and then that of those after it
 variants_turn : (R : List EntryParts) (r : Bool) (p : ℕ) (vs : List (List ℕ)) (i : ℕ) (v : List ℕ) (a : Check) → i < length vs → v ≡ get_or vs i v → variant_check R r p (take i vs) v ≡ a → variants_check R r p (take i vs) (drop i vs) ≡ and_then a (variants_check R r (p + 1) (take (i + 1) vs) (drop (i + 1) vs))

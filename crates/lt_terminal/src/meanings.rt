@@ -2,8 +2,8 @@
 ghost use Rattle.std.specs.Prelude.{◌≡◌, find, map, option_map};
 ghost use Rattle.lt_terminal.specs.Meanings as spec;
 
-/// The messages that a person may be told: a name that is printed, a colon, a space, what it means, and what to do. A range that
-/// is refused is wrong usage and needs none, so Empty and BadFirst have none.
+/// The messages that a person may be told: a name that is printed, a colon, a space, what it means, and what to do. A
+/// range that is refused is wrong usage and needs none, so Empty and BadFirst have none.
 const MESSAGES: [&str; 68] = [
     "BadByte: A byte that is no ASCII letter, digit or hyphen: write zh-Hant for zh_Hant; remove quotes, spaces, a byte order mark.",
     "EmptySubtag: Nothing between two hyphens, or an empty text: remove a hyphen too many, or the empty line.",
@@ -75,7 +75,8 @@ const MESSAGES: [&str; 68] = [
     "Utf16: The input is in UTF-16: write it in UTF-8, as by iconv -f UTF-16 -t UTF-8.",
 ];
 
-/// All messages, each of which begins with the name of its fault.
+/// All messages. Each begins with what the program prints, the name of a fault or `ok 0`, and a colon. A function, so
+/// that a clause says what they are.
 fn messages() -> &'static [&'static str]
     ensures { map (λ message. message.now) result.now ≡ spec.messages }
 {
@@ -101,8 +102,8 @@ pub(crate) fn first_of(messages: &[&'static str], word: &[u8]) -> Option<&'stati
     None
 }
 
-/// What a person is told of the fault that a word names, as `BadByte` or `C2`: the word, what it means, and what to do. None
-/// if the word names no fault.
+/// What a person is told of the fault that a word names, as `BadByte` or `C2`: the word, what it means, and what to do.
+/// None if the word names no fault.
 #[tactic(auto, unfolding(crate::specs::Meanings::message_of))]
 pub fn message_of(word: &[u8]) -> Option<&'static str>
     ensures { option_map (λ message. message.now) result ≡ spec.message_of word.now }

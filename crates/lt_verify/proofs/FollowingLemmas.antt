@@ -151,7 +151,9 @@ takes_rest : {R : List EntryParts} {piece rest : List ℕ} {old now new : Follow
 takes_rest {R = R} {rest = rest} {old = old} {now = now} {new = new} t one keeps =
     subst (λ (l : List ℕ). Takes R l old new) (sym t.cut) (takes_trans R t.front rest old now new t.takes (takes_part t.takes.proper one keeps))
 
--- the rest of a piece was kept: as the front of a line it settles a verdict, or the piece was taken
+-- The end of the loop over the lines of a piece: `rest`, which has no line feed, was kept, which led from `now` to
+-- `new`. What the kept front of a line settles, `judged`, the whole piece settles from `old` on: a verdict, or that it
+-- was taken.
 pub last_turn : {R : List EntryParts} {piece rest : List ℕ} {old now new : Following} → PieceTurn R piece rest old now → IsOneLine rest → KeepsMore rest now new
     → (judged : Option Verdict) → SettlesKept R new judged → TakesPiece R piece old new judged
 last_turn t one keeps None settles = (takes_rest t one keeps, settles)
