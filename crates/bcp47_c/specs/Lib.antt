@@ -1,3 +1,4 @@
+-- What the functions of C answer: outcomes in numbers, and what is written to buffers.
 pub mod Records
 pub mod Handles
 pub mod Numbers

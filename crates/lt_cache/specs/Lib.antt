@@ -1,3 +1,4 @@
+-- What was made canonical lately, and texts that are canonical already.
 pub mod Padded
 pub mod Places
 pub mod Recent

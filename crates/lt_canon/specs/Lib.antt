@@ -1,3 +1,4 @@
+-- Canonical tags and their texts, equivalence, the extlang form and explanations (RFC 5646, 4.5), with their laws.
 pub mod Answers
 pub mod Refusals
 pub mod Names

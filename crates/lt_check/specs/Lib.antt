@@ -1,3 +1,4 @@
+-- The check of a registry by twelve conditions, and the subtags that stay as they are.
 pub mod Codes
 pub mod Conditions
 pub mod WholeChecks

@@ -1,3 +1,4 @@
+-- Language ranges (RFC 4647, 2): reading them, and which tags they match.
 pub mod Ranges
 pub mod Reading
 pub mod Matching

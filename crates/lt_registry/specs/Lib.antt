@@ -1,3 +1,4 @@
+-- Entries of a registry, what is found in them, and which tags are valid by them (RFC 5646, 2.2.9).
 pub mod Parts
 pub mod Same
 pub mod Entries

@@ -1,3 +1,4 @@
+-- The steps that lead from a tag to its canonical form (RFC 5646, 4.5).
 pub mod Names
 pub mod Rewriting
 pub mod CoreSteps

@@ -76,7 +76,8 @@ shown_more {X} f json R records texts i text old new any refused within is are a
     subst (λ (l : List ℕ). AreShown (ShowsAs json R records) (map f (take (i + 1) texts)) l (any || refused)) (sym appends.grown)
     (subst (λ (l : List (List ℕ)). AreShown (ShowsAs json R records) l (old ++ appends.block) (any || refused)) (sym front) pushed)
 
--- the answer of `show` where the file gave entries and records (`both`), and the entries are refused
+-- where a file gave entries and records, `both`, and the entries are refused: an answer that has the line and the
+-- status of that refusal is what `show` is to print for the file
 pub kept_refused : (tags : Tags) (both : List EntryParts × List (List Field)) (refusal : RegistryRefusal) (answer : Result Answer OutOfMemory) → IsJudged (Ok both.0) (Err refusal) → IfOk answer (λ a. IsRegistryLine refusal a.line.items)
     → IfOk answer (λ a. a.status ≡ refused_end refusal) → IfOk answer (λ a. ShowsBy tags (Ok both) a.line.items a.status)
 kept_refused tags both refusal (Ok answer) is line end = inr (refused_answer (Ok both.0) refusal (Ok answer) is line end)

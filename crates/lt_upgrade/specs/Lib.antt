@@ -1,3 +1,4 @@
+-- The check of a newer registry beside an older one by six conditions.
 pub mod Codes
 pub mod Upgrade
 pub mod UpgradeChecking
