@@ -13,8 +13,8 @@ pub struct AcceptLanguage<'a> {
     /// The ranges whose weight is not 0, from the highest weight to the lowest, and those of one weight in the order of
     /// the header: a language priority list (RFC 4647, 2.3).
     pub acceptable: Vec<WeightedRange<'a>>,
-    /// The ranges whose weight is 0, in the order of the header: what they match is "not acceptable" (RFC 9110,
-    /// 12.4.2).
+    /// The ranges whose weight is 0, in the order of the header. A tag is "not acceptable" (RFC 9110, 12.4.2) where the
+    /// longest range that matches it is one of these; `*` is the shortest.
     pub not_acceptable: Vec<WeightedRange<'a>>,
 }
 

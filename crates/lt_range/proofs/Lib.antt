@@ -3,3 +3,5 @@ pub mod TurnLemmas
 pub mod PieceLemmas
 pub mod FilterLemmas
 pub mod GrammarLaws
+pub mod PreferenceLemmas
+pub mod PreferenceLaws

@@ -4,5 +4,6 @@ pub mod Reading
 pub mod Matching
 pub mod Filtering
 pub mod Lookup
+pub mod Preferences
 pub mod Names
 pub mod Laws

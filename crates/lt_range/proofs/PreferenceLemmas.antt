@@ -1,0 +1,87 @@
+-- The weight of a tag, and the tags that are accepted.
+use Rattle.std.proofs.Common.{false, ◌≡◌, ◌<◌, ◌≤◌, ◌+◌, ◌++◌, ◌∷◌, ◌∙◌, ℕ, List, [], Option, Some, None, inl, inr, length, drop, sym, ap, refl, subst, arith}
+use Rattle.std.proofs.lemmas.List.{append_assoc, append-nil, drop_more}
+use Rattle.std.proofs.Math.ListN.{drop_of_length-le}
+use Rattle.std.proofs.lemmas.Bool.Decides.{leb_tells}
+use borrow.Author.Count.{below_more}
+use Rattle.lt_range.specs.Filtering.{ArePlaces}
+use Rattle.lt_range.specs.Preferences.{at, length_at, IsLonger, IsLongestOf, Matched, MayBeLongest, Accepts, AreAcceptedFrom, AreAccepted, Decides, NoneDecides, HasWeight, IsRefused}
+use Rattle.lt_range.specs.declared.preferences.Preference.{Preference}
+
+-- ---- the longest of some
+
+module _ (P : ℕ → Type 0) (long : ℕ → ℕ) where
+  -- there is one longest place
+  pub one_longest : (n p q : ℕ) → IsLongestOf P long n p → IsLongestOf P long n q → p ≡ q
+  one_longest n p q h k =
+      let a : long p ≤ long q = k.longest p h.within h.holds in
+      let b : long q ≤ long p = h.longest q k.within k.holds in
+      let c : p < q → long p < long q = λ l. k.first p l h.holds in
+      let d : q < p → long q < long p = λ l. h.first q l k.holds in
+      grind arith
+
+  -- the next place is the longest so far, if `P` is true of it and it is longer than what was found
+  pub longest_next : (n : ℕ) (best : Option ℕ) → MayBeLongest P long n best → P n → IsLonger long best n → IsLongestOf P long (n + 1) n
+  longest_next n None none p longer = record {
+    within = omega arith;
+    holds = p;
+    longest = below_more (λ (i : ℕ). P i → long i ≤ long n) n (λ i l h. absurd (none i l h)) (λ h. omega arith);
+    first = λ i l h. absurd (none i l h);
+  }
+  longest_next n (Some b) found p longer = record {
+    within = omega arith;
+    holds = p;
+    longest = below_more (λ (i : ℕ). P i → long i ≤ long n) n (λ i l h. omega (arith, longer, found.longest i l h)) (λ h. omega arith);
+    first = λ i l h. omega (arith, longer, found.longest i l h);
+  }
+
+  -- what was found is the longest with the next place too, if `P` is not true of that, or it is not longer
+  pub longest_same : (n : ℕ) (best : Option ℕ) → MayBeLongest P long n best → (P n → IsLonger long best n → ⊥) → MayBeLongest P long (n + 1) best
+  longest_same n None none other = below_more (λ (i : ℕ). P i → ⊥) n none (λ h. other h tt)
+  longest_same n (Some b) found other = record {
+    within = omega (arith, found.within);
+    holds = found.holds;
+    longest = below_more (λ (i : ℕ). P i → long i ≤ long b) n found.longest (λ h. elim (leb_tells (long n) (long b)) [ inl l ↦ l.1 | inr g ↦ absurd (other h (omega (arith, g.1))) ]);
+    first = found.first;
+  }
+
+-- ---- the range that decides
+
+module _ (all : List Preference) (tag : List (List ℕ)) where
+  -- one range decides the weight of a tag
+  pub one_decides : (p q : ℕ) → Decides all tag p → Decides all tag q → p ≡ q
+  one_decides p q h k = one_longest (Matched all tag) (length_at all) (length all) p q h k
+
+  -- a tag that is refused has the weight 0
+  pub refused_is_zero : (weight : ℕ) → HasWeight all tag (Some weight) → IsRefused all tag → weight ≡ 0
+  refused_is_zero weight h k = h.2 ∙ ap (λ (p : ℕ). (at all p).weight) (one_decides h.0 k.0 h.1 k.1) ∙ sym k.2
+
+  -- a tag that no range matches is not refused
+  pub none_refused : NoneDecides all tag → IsRefused all tag → ⊥
+  none_refused none h = none h.0 h.1.within h.1.holds
+
+  -- a tag that no range matches is not accepted
+  pub none_accepts : (place : ℕ) → NoneDecides all tag → Accepts all place tag → ⊥
+  none_accepts place none h = none place h.decides.within h.decides.holds
+
+-- ---- the tags that are accepted
+
+-- the loop over the ranges
+module _ (all : List Preference) (tags : List (List (List ℕ))) where
+  -- `found` are the places that the first `i` ranges accept: with those that the others accept, they are what all accept
+  abbrev pub AcceptsOn : ℕ → List ℕ → Type 0
+  AcceptsOn i found = (more : List ℕ) → AreAcceptedFrom all i (drop i all) tags more → AreAccepted all tags (found ++ more)
+
+  -- the next range adds the places of the tags that it accepts
+  pub accepts_next : (i : ℕ) (found here : List ℕ) → i < length all → ArePlaces (Accepts all i) 0 tags here → AcceptsOn i found → AcceptsOn (i + 1) (found ++ here)
+  accepts_next i found here within places go = λ more h.
+      let step : AreAcceptedFrom all i (at all i ∷ drop (i + 1) all) tags (here ++ more) = (here, more, refl, places, h) in
+      subst (λ (l : List ℕ). AreAccepted all tags l) (sym (append_assoc found here more))
+      (go (here ++ more) (subst (λ (l : List Preference). AreAcceptedFrom all i l tags (here ++ more)) (sym (drop_more all i (record { range = record { wild = false; named = [] }; weight = 0 }) within)) step))
+
+  -- past the last range, the places are what all accept
+  pub accepts_end : (i : ℕ) (found : List ℕ) → length all ≤ i → AcceptsOn i found → AreAccepted all tags found
+  accepts_end i found past go =
+      let none : drop i all ≡ [] = drop_of_length-le all past in
+      subst (λ (l : List ℕ). AreAccepted all tags l) (append-nil found)
+      (go [] (subst (λ (l : List Preference). AreAcceptedFrom all i l tags []) (sym none) refl))

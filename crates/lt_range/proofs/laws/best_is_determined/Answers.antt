@@ -1,0 +1,5 @@
+use Rattle.lt_range.proofs.PreferenceLaws.{best_determined}
+use Rattle.lt_range.proofs.laws.best_is_determined.Goals as goal
+
+pub returns : goal.returns
+returns c = best_determined

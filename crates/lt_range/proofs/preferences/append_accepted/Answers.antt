@@ -1,0 +1,31 @@
+use Rattle.std.proofs.Common.{◌≡◌, ◌++◌, List, ℕ, [], ◌∷◌, true, false, refl, ap, ◌∙◌}
+use Rattle.std.proofs.lemmas.List.{append_assoc}
+use Rattle.lt_range.specs.Preferences.{Accepts}
+use Rattle.lt_range.proofs.FilterLemmas.{places_yes, places_no, places_end}
+use Rattle.lt_range.proofs.preferences.append_accepted.Goals as goal
+use Rattle.lt_range.proofs.preferences.append_accepted.Goals.{then-accepts+in_ok-push, else-accepts}
+
+pub loop-place-preserved : goal.loop-place-preserved
+loop-place-preserved c =
+    let P = Accepts c.args.all.now c.args.index in
+    let tags = c.args.tags.now in
+    let i = c.loop-place.place in
+    let t = c.index-tags-place.result in
+    let found = c.loop-place.invariant.0 in
+    elim c.if-accepts.branch [
+      | then-accepts+in_ok-push w ↦ (
+        found ++ i ∷ [],
+        rw w.places-is (w.in_ok-push.ensures.items ∙ ap (λ (l : List ℕ). l ++ i ∷ []) c.loop-place.invariant.1 ∙ append_assoc _ found (i ∷ [])),
+        places_yes P tags i t found c.loop-place-test.true c.index-tags-place.is (w.if-accepts.ensures.0 refl) c.loop-place.invariant.2,
+      )
+      | else-accepts w ↦ (
+        found,
+        rw w.places-is c.loop-place.invariant.1,
+        places_no P tags i t found c.loop-place-test.true c.index-tags-place.is (λ p. let bad : false ≡ true = w.if-accepts.ensures.1 p in cc) c.loop-place.invariant.2,
+      )
+    ]
+
+pub returns : goal.returns
+returns c =
+    let inv = c.loop-place.invariant in
+    (inv.0, inv.1, places_end (Accepts c.args.all.now c.args.index) c.args.tags.now c.loop-place.place inv.0 c.loop-place-test.false inv.2)

@@ -1,0 +1,236 @@
+//! What a reader prefers: language ranges with weights.
+ghost use Rattle.std.specs.Prelude.{◌≡◌, ◌++◌, ◌↔◌, ◌<◌, ℕ, List, IsTrue, IfOk, IfSome, MatchOption, OnOk, length};
+ghost use Rattle.lt_range.specs.Filtering.{ArePlaces};
+ghost use Rattle.lt_range.specs.Preferences as spec;
+
+use crate::ranges::LanguageRange;
+use crate::tag_subtags::TagSubtags;
+use lt_tag::OutOfMemory;
+use std::alloc::Global;
+
+/// A language range and its weight (RFC 9110, 12.4.2).
+#[derive(Debug, Drop)]
+pub struct Preference {
+    /// The range.
+    pub range: LanguageRange,
+    /// The weight in thousandths, from 0 to 1,000. What a range of weight 0 matches is "not acceptable".
+    pub weight: u16,
+}
+
+/// Whether the range at a place matches a tag, and is longer than the one at `best`, if there is one.
+fn takes_over(all: &[Preference], tag: &TagSubtags, best: Option<usize>, place: usize) -> bool
+    requires place { place < length all.now }
+    requires best { IfSome best (λ found. found < length all.now) }
+    ensures { IsTrue result ↔ (spec.Matched all.now tag.now place × spec.IsLonger (spec.length_at all.now) best place) }
+{
+    let range = &all[place].range;
+    if !range.matches_basic(tag) {
+        return false;
+    }
+    match best {
+        Some(found) => all[found].range.named().len() < range.named().len(),
+        None => true,
+    }
+}
+
+/// The place of the range that decides the weight of a tag. None if no range matches it.
+#[tactic(auto, using(crate::proofs::PreferenceLemmas::longest_next, crate::proofs::PreferenceLemmas::longest_same))]
+fn deciding(all: &[Preference], tag: &TagSubtags) -> Option<usize>
+    ensures { MatchOption result (spec.NoneDecides all.now tag.now) (spec.Decides all.now tag.now) }
+{
+    let mut best: Option<usize> = None;
+    for place in 0..all.len() {
+        if takes_over(all, tag, best, place) {
+            best = Some(place);
+        }
+    }
+    best
+}
+
+/// The weight of a tag, in thousandths: that of the longest range that matches it by basic filtering (RFC 4647,
+/// 3.3.1), of which `*` is the shortest; of equal ranges the first. A tag is not acceptable where it is 0 (RFC 9110,
+/// 12.4.2). None if no range matches the tag.
+pub fn weight_of(all: &[Preference], tag: &TagSubtags) -> Option<u16>
+    ensures { spec.HasWeight all.now tag.now result }
+{
+    let place = deciding(all, tag)?;
+    Some(all[place].weight)
+}
+
+/// Whether a tag is not acceptable.
+#[tactic(auto, using(crate::proofs::PreferenceLemmas::refused_is_zero, crate::proofs::PreferenceLemmas::none_refused))]
+fn is_refused(all: &[Preference], tag: &TagSubtags) -> bool
+    ensures { IsTrue result ↔ spec.IsRefused all.now tag.now }
+{
+    match weight_of(all, tag) {
+        Some(weight) => weight == 0,
+        None => false,
+    }
+}
+
+/// Whether a range falls back to a tag that is not refused.
+fn falls(all: &[Preference], range: &LanguageRange, tag: &TagSubtags) -> bool
+    ensures { IsTrue result ↔ spec.Falls all.now range.now tag.now }
+{
+    range.falls_back_to(tag) && !is_refused(all, tag)
+}
+
+/// Whether a range matches, by basic filtering, a tag that is not refused.
+fn selects(all: &[Preference], range: &LanguageRange, tag: &TagSubtags) -> bool
+    ensures { IsTrue result ↔ spec.Selects all.now range.now tag.now }
+{
+    range.matches_basic(tag) && !is_refused(all, tag)
+}
+
+/// Whether a range falls back to the tag at a place, which is not refused and is longer than the one at `best`, if there
+/// is one.
+fn falls_further(
+    all: &[Preference],
+    range: &LanguageRange,
+    tags: &[TagSubtags],
+    best: Option<usize>,
+    place: usize,
+) -> bool
+    requires place { place < length tags.now }
+    requires best { IfSome best (λ found. found < length tags.now) }
+    ensures { IsTrue result ↔ (spec.FallsAt all.now range.now tags.now place × spec.IsLonger (spec.tag_length_at tags.now) best place) }
+{
+    let tag = &tags[place];
+    if !falls(all, range, tag) {
+        return false;
+    }
+    match best {
+        Some(found) => tags[found].subtags().len() < tag.subtags().len(),
+        None => true,
+    }
+}
+
+/// The place of the tag that lookup by a range finds, of those that are not refused.
+#[tactic(auto, using(crate::proofs::PreferenceLemmas::longest_next, crate::proofs::PreferenceLemmas::longest_same))]
+fn looked_up(all: &[Preference], range: &LanguageRange, tags: &[TagSubtags]) -> Option<usize>
+    ensures { MatchOption result (spec.FallsToNone all.now range.now tags.now) (spec.FallsTo all.now range.now tags.now) }
+{
+    let mut best: Option<usize> = None;
+    for place in 0..tags.len() {
+        if falls_further(all, range, tags, best, place) {
+            best = Some(place);
+        }
+    }
+    best
+}
+
+/// The place of the first tag that a range matches by basic filtering, of those that are not refused.
+fn selected(all: &[Preference], range: &LanguageRange, tags: &[TagSubtags]) -> Option<usize>
+    ensures { spec.MaySelect all.now range.now tags.now result }
+{
+    for place in 0..tags.len() {
+        if selects(all, range, &tags[place]) {
+            return Some(place);
+        }
+    }
+    None
+}
+
+/// The place of the tag that a range serves.
+fn served(all: &[Preference], range: &LanguageRange, tags: &[TagSubtags]) -> Option<usize>
+    ensures { spec.Serves all.now range.now tags.now result }
+{
+    match looked_up(all, range, tags) {
+        Some(place) => Some(place),
+        None => selected(all, range, tags),
+    }
+}
+
+/// Whether a preference takes part in the turn of the ranges that begin with `*`, or of those that don't.
+fn takes_turn(wild: bool, preference: &Preference) -> bool
+    ensures { IsTrue result ↔ spec.TakesTurn wild preference.now }
+{
+    preference.weight != 0 && preference.range.begins_wild() == wild
+}
+
+/// The place of the tag that the range at a place serves, if it takes part in the turn.
+fn served_by(all: &[Preference], wild: bool, index: usize, tags: &[TagSubtags]) -> Option<usize>
+    requires { index < length all.now }
+    ensures { spec.ServesBy wild all.now index tags.now result }
+{
+    if takes_turn(wild, &all[index]) {
+        served(all, &all[index].range, tags)
+    } else {
+        None
+    }
+}
+
+/// The place of the tag that is served in the turn of the ranges that begin with `*`, or of those that don't.
+fn served_in_turn(all: &[Preference], wild: bool, tags: &[TagSubtags]) -> Option<usize>
+    ensures { spec.ServesInTurn wild all.now tags.now result }
+{
+    for index in 0..all.len() {
+        match served_by(all, wild, index, tags) {
+            Some(place) => return Some(place),
+            None => {}
+        }
+    }
+    None
+}
+
+/// The place, counted from 0, of the tag to serve (RFC 9110, 12.5.4). No tag is served that is not acceptable. The
+/// ranges have their turn in order, `*` after all others, and the first that serves a tag decides: it serves the
+/// longest tag to which it falls back (RFC 4647, 3.4), so that `de-CH` serves `de`; where there is none, the first
+/// that it matches by basic filtering (3.3.1), so that `de` serves `de-CH`, and `*` the first of all. None where no
+/// range serves a tag: the caller takes a default then.
+pub fn best(all: &[Preference], tags: &[TagSubtags]) -> Option<usize>
+    ensures { spec.IsBest all.now tags.now result }
+{
+    match served_in_turn(all, false, tags) {
+        Some(place) => Some(place),
+        None => served_in_turn(all, true, tags),
+    }
+}
+
+/// Whether a tag's weight is decided by the range at a place, and is not 0.
+#[tactic(auto, using(crate::proofs::PreferenceLemmas::one_decides, crate::proofs::PreferenceLemmas::none_accepts))]
+fn accepts(all: &[Preference], place: usize, tag: &TagSubtags) -> bool
+    requires { place < length all.now }
+    ensures { IsTrue result ↔ spec.Accepts all.now place tag.now }
+{
+    match deciding(all, tag) {
+        Some(decided) => decided == place && all[place].weight != 0,
+        None => false,
+    }
+}
+
+/// Adds the places of the tags whose weight is decided by the range at `index`, if it is not 0. The only refusal is
+/// running out of memory.
+fn append_accepted(
+    all: &[Preference],
+    places: &mut Vec<usize>,
+    index: usize,
+    tags: &[TagSubtags],
+) -> Result<(), OutOfMemory>
+    requires { index < length all.now }
+    ensures { OnOk result ((found : List ℕ) × (places.new.items ≡ places.old.items ++ found) × ArePlaces (spec.Accepts all.now index) 0 tags.now found) }
+{
+    for (place, tag) in tags.iter().enumerate() {
+        if accepts(all, index, tag) {
+            places.push(place)?;
+        }
+    }
+    Ok(())
+}
+
+/// The places, counted from 0, of the tags whose weight is not 0 (RFC 9110, 12.5.4): for each range in order those
+/// whose weight it decides, in their order. So they go from the greatest weight to the least. The only refusal is
+/// running out of memory.
+pub fn filter_accepted(
+    alloc: Global,
+    all: &[Preference],
+    tags: &[TagSubtags],
+) -> Result<Vec<usize>, OutOfMemory>
+    ensures { IfOk result (λ places. spec.AreAccepted all.now tags.now places.items) }
+{
+    let mut places = Vec::new(alloc);
+    for index in 0..all.len() {
+        append_accepted(all, &mut places, index, tags)?;
+    }
+    Ok(places)
+}
