@@ -17,7 +17,10 @@ pub use lt_check::{Condition, Finding};
 pub use lt_jar::{Device, Jar, JarFault, JarFaultKind, JarField, Record, read_jar};
 pub use lt_match::RangeRefusal;
 pub use lt_parts::{Part, PartKind, parts};
-pub use lt_range::{LanguageRange, RangeFault, TagSubtags, filter_basic, filter_extended, lookup};
+pub use lt_range::{
+    LanguageRange, Preference, RangeFault, TagSubtags, best, filter_accepted, filter_basic,
+    filter_extended, lookup, weight_of,
+};
 pub use lt_registry::{
     Entry, EntryName, EntryValue, Kind, Prefix, RecordFault, RecordFaultKind, ValidFault,
     ValidFaultKind, ValidRefusal, WholeTag,

@@ -1,5 +1,4 @@
 //! Rows of the table of the Library of Congress, and what a call does where a growth of memory is refused.
-mod faults;
 mod growths;
 mod reading;
 mod texts;

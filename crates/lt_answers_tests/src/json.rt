@@ -1,5 +1,4 @@
-//! Lines that are answered by objects by a small registry, devices that fail, and growths of memory that are refused.
-mod devices;
+//! Lines that are answered by objects by a small registry, and growths of memory that are refused.
 mod growths;
 mod objects;
 
@@ -8,7 +7,7 @@ use lt_jar::Device;
 use lt_json::write_objects;
 use lt_registry::SortedTable;
 use lt_stream::ToolFault;
-use lt_test_tables::sorted_sample;
+use lt_testing::sorted_sample;
 use std::alloc::Global;
 use std::io::{Read, Write};
 use std::test::Fail;

@@ -1,4 +1,5 @@
-//! Tests of `lt_show`, `lt_json` and `lt_codes`, over what they make public.
+//! Tests of what `lt_show`, `lt_json`, `lt_codes`, `lt_match` and `lt_select` make public, and the uses of `bcp47` that
+//! `docs/LIBRARY.md` shows.
 #![tactic(auto)]
 
 #[cfg(test)]
@@ -6,4 +7,8 @@ mod codes;
 #[cfg(test)]
 mod json;
 #[cfg(test)]
+mod matched;
+#[cfg(test)]
 mod shown;
+#[cfg(test)]
+mod uses;

@@ -7,8 +7,7 @@ use lt_jar::{Device, Jar, Pieces};
 use lt_registry::{Registry, SortedTable};
 use lt_show::{RecordsFault, read_records};
 use lt_tag::{Tag, read_tag};
-use lt_test_tables::sorted;
-use lt_testing::again;
+use lt_testing::{again, sorted};
 use std::alloc::Global;
 use std::test::Fail;
 

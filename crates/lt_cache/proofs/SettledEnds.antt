@@ -206,3 +206,10 @@ end_appended R C front end text old middle new stay whole short front_grown a =
       grown = a.2 ∙ ap (λ (l : List ℕ). l ++ a.0) front_grown ∙ append_assoc old (conventional (list_of front)) a.0;
       is_canonical = rw (← whole) (a.1 R C front F (omega (arith, short, ap length whole)));
     }
+
+-- a front whose subtags stay and a settled end in lower case were appended, and that is the text's canonical text;
+-- `middle` is what was there between the two
+pub settled_appended : (R : List EntryParts) → IsChecked R → (front end text old middle new : List ℕ) → IsStaying R front → front ++ end ≡ text → length text ≤ longest_text
+    → middle ≡ old ++ conventional (list_of front) → is_settled_end end ≡ true → new ≡ middle ++ folded end → AppendsCanonicalText R text old new
+settled_appended R C front end text old middle new stay whole short front_grown settled grown =
+    end_appended R C front end text old middle new stay whole short front_grown (settled_appends end middle new settled grown)

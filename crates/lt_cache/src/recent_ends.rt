@@ -6,10 +6,11 @@ ghost use Rattle.lt_canon.specs.Texts.{AppendsCanonicalText, IsTextRefusal};
 ghost use Rattle.lt_cache.specs.Ends.{AreEnds, IsCanonicalCore, IsEnd, IsTransformed};
 ghost use Rattle.lt_cache.specs.Appending.{AppendsEnd, AppendsKept, AppendsTransformed, EndStands, EndsText};
 
+use crate::ends::is_settled_end;
 use crate::recent::Recent;
 use crate::splitting::{LONGEST_FRONT, split_end, split_source};
-use crate::texts::{append_front, append_other_text};
-use lt_canon::{Checked, TextRefusal, append_canonical_text};
+use crate::texts::{append_front, append_lower, append_other_text};
+use lt_canon::{Checked, TextRefusal, append_looked_up_text};
 use lt_registry::Lookup;
 use lt_tag::OutOfMemory;
 use std::alloc::Global;
@@ -236,11 +237,15 @@ impl RecentEnds {
         ensures ends { AreEnds (L.listed checked.now) self.old → AreEnds (L.listed checked.now) self.new }
     {
         let Some((front, end)) = split_end(text, LONGEST) else {
-            return append_canonical_text(alloc, checked, text, texts);
+            return append_looked_up_text(alloc, checked, text, texts);
         };
         let start = texts.len();
         if !append_front(checked, front, texts)? {
-            return append_canonical_text(alloc, checked, text, texts);
+            return append_looked_up_text(alloc, checked, text, texts);
+        }
+        if is_settled_end(end) {
+            append_lower(end, texts)?;
+            return Ok(());
         }
         let count = texts.len() - start;
         if self.append_end(checked, end, texts)? {

@@ -12,7 +12,7 @@ ghost use Rattle.lt_cache.specs.SettledEnds.{AppendsEndText};
 use crate::ends::is_settled_end;
 use crate::keyword_ends::keyword_end;
 use crate::splitting::split_end;
-use lt_canon::{Checked, TextRefusal, append_usual_text};
+use lt_canon::{Checked, TextRefusal, append_looked_up_text, append_usual_text};
 use lt_registry::Lookup;
 use lt_tag::OutOfMemory;
 use std::alloc::Global;
@@ -41,7 +41,7 @@ pub(crate) fn append_front<L: Lookup>(
 
 /// Appends a text in lower case.
 #[inline(always)]
-fn append_lower(text: &[u8], texts: &mut Vec<u8>) -> Result<(), OutOfMemory>
+pub(crate) fn append_lower(text: &[u8], texts: &mut Vec<u8>) -> Result<(), OutOfMemory>
     ensures appended { OnOk result (texts.new.items ≡ texts.old.items ++ folded text.now) }
     ensures kept { OnErr result (texts.new.items ≡ texts.old.items) }
 {
@@ -110,7 +110,7 @@ pub(crate) fn append_other_text<L: Lookup>(
     if append_settled_text(alloc, checked, text, texts) {
         return Ok(());
     }
-    lt_canon::append_canonical_text(alloc, checked, text, texts)
+    append_looked_up_text(alloc, checked, text, texts)
 }
 
 /// Appends the text, in conventional case, of the canonical form of the tag that a text is read as (RFC 5646, 2.1.1 and

@@ -25,13 +25,13 @@ pub fn append_canonical_text<L: Lookup>(
     if append_usual_text(checked, text, texts)? {
         return Ok(());
     }
-    append_other_text(alloc, checked, text, texts)
+    append_looked_up_text(alloc, checked, text, texts)
 }
 
-/// Appends to `texts` the canonical text of `text`, by the tag that it is read as, with look-ups in the registry. It is
-/// refused as `canonical_text` refuses, and then leaves `texts` as it was.
+/// Appends to `texts` what [`append_canonical_text`] does, with the same refusals, without asking [`append_usual_text`]
+/// first: for a text that this did not append.
 #[tactic(auto, using(crate::proofs::UsualForms::appended))]
-fn append_other_text<L: Lookup>(
+pub fn append_looked_up_text<L: Lookup>(
     alloc: Global,
     checked: &Checked<L>,
     text: &[u8],

@@ -16,7 +16,7 @@ mod usual_tags;
 mod usual_texts;
 
 pub use canonical_tags::canonical;
-pub use canonical_texts::{append_canonical_text, canonical_text};
+pub use canonical_texts::{append_canonical_text, append_looked_up_text, canonical_text};
 pub use equivalence::equivalent;
 pub use explaining::explain;
 pub use explanation_texts::{ExplanationLines, explanation_text};

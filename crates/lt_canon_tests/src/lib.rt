@@ -1,5 +1,7 @@
-//! Tests of the check, of canonical tags, of upgrades, of ends and of recent answers, over what is public.
+//! Tests of steps, of the check, of canonical tags, of upgrades and of recent answers, over what their crates make public.
 #![tactic(auto)]
 
 #[cfg(test)]
-mod tests;
+mod canonical;
+#[cfg(test)]
+mod rewriting;

@@ -149,7 +149,7 @@ marked_alone state m = subst (λ l. SplitsMark l state.mark.items state.text.ite
 -- `old` and `new` are the states before and after the bytes ended
 module _ (S : Separator) (old new : FirstRow) where
   -- the bytes end after a known mark: the result `r` of ending the text is that of ending the bytes
-  pub finish_begun : (r : Result ℕ ToolFault) → IsBegun S old → EndsText S old r → FinishesText S old old r
+  pub finish_begun : (r : Result ℕ ToolFault) → IsBegun S old → EndsText S old r → FinishesText S (taken_by old) old r
   finish_begun (Ok end) b e = (
     refl,
     marked_alone old b.marked,
@@ -175,16 +175,16 @@ module _ (S : Separator) (old new : FirstRow) where
 
     -- the bytes end: those that are kept are split into mark and text, and a line feed ends the text's first row, of
     -- the length `end`
-    pub finish_ended : (end : ℕ) → BeginsText S old new (Ok (Some end)) → FinishesText S old new (Ok end)
+    pub finish_ended : (end : ℕ) → BeginsText S old new (Ok (Some end)) → FinishesText S (taken_by old) new (Ok end)
     finish_ended end b = (split_whole old.mark.items new b.1 ∙ sym all_of, split_of b.1, narrow_of, inl b.2)
 
     -- the bytes end: those that are kept are split into mark and text, the text is one row, and `r` is the result of
     -- ending it
-    pub finish_last : (r : Result ℕ ToolFault) → BeginsText S old new (Ok None) → EndsText S new r → FinishesText S old new r
+    pub finish_last : (r : Result ℕ ToolFault) → BeginsText S old new (Ok None) → EndsText S new r → FinishesText S (taken_by old) new r
     finish_last (Ok end) b e = (split_whole old.mark.items new b.1 ∙ sym all_of, split_of b.1, narrow_of, inr (e.0, e.1 b.2))
     finish_last (Err f) b e = inl (e.0, record { mark = new.mark.items; text = new.text.items; split = split_of b.1; one = b.2.one; inside = e.1 b.2 })
 
     -- the bytes end: those that are kept are split, and their text can't be taken, for the fault `f`
-    pub finish_stopped : (f : ToolFault) → BeginsText S old new (Err f) → FinishesText S old new (Err f)
+    pub finish_stopped : (f : ToolFault) → BeginsText S old new (Err f) → FinishesText S (taken_by old) new (Err f)
     finish_stopped f (inl memory) = inr (inl memory)
     finish_stopped f (inr long) = inr (inr (inr (long.0, subst (HasLongHeading S) (sym all_of) long.1)))

@@ -1,10 +1,11 @@
 -- Names, one after another.
-use Rattle.std.proofs.Common.{◌≡◌, ◌≢◌, ◌+◌, ◌++◌, ◌∷◌, ◌∙◌, ℕ, Bool, true, false, List, [], inl, inr, length, sym, ap, refl, subst, arith, append_assoc, length-append}
-use Rattle.std.proofs.lemmas.List.{flat_map_more, nil_from_length}
+use Rattle.std.proofs.Common.{◌≡◌, ◌≢◌, ◌+◌, ◌++◌, ◌∷◌, ◌∙◌, ℕ, Bool, true, false, List, [], inl, inr, length, nat_lt, sym, ap, refl, subst, arith, append_assoc, append-nil, length-append}
+use Rattle.std.proofs.lemmas.Bool.{cases_Bool, ltb-false, ltb-true}
+use Rattle.std.proofs.lemmas.List.{flat_map_more, nil_from_length, take-append-le, take_all}
 use Rattle.lt_rows.specs.Rows.{HasField, IsAfterField, IsClosed, IsEnded, IsRowField, separated, separator}
 use Rattle.lt_rows.specs.declared.rows.Separator.{Separator}
 use Rattle.lt_rows.proofs.RowLemmas.{each-last}
-use Rattle.lt_heading.specs.Names.{AreNames, IsFound, IsNameOf, IsRepeated, LooksSo, found_then, shown_name, shown_names}
+use Rattle.lt_heading.specs.Names.{AreNames, IsFound, IsNameOf, IsRepeated, LooksSo, found_then, listed_after, listed_names, most_listed, rest_said, shown_name, shown_names}
 use Rattle.lt_heading.specs.declared.names.Found.{Found}
 use Rattle.lt_heading.specs.declared.names.Found.TheVariants as founds
 
@@ -50,6 +51,19 @@ found_more name names (founds.Only m) number true other n same same_is f = recor
 }
 found_more name names founds.Repeated number true other n same same_is f = repeated_more name names other f
 
+-- ---- the list of names
+
+-- the list of `names` and a further one is longer by what is appended for that
+listed_more : (names : List (List ℕ)) (name : List ℕ) (count : ℕ) → count ≡ length names → listed_names names ++ listed_after count name ≡ listed_names (names ++ name ∷ [])
+listed_more names name count is = elim (cases_Bool (nat_lt count most_listed)) [
+  | inl few ↦
+      let less = ltb-true _ _ few in
+      rw (few, take_all most_listed names (omega (arith, is, less)), take_all most_listed (names ++ name ∷ []) (omega (arith, is, less, length-append names (name ∷ [])))) (flat_map_more shown_name [] names name)
+  | inr many ↦
+      let least = ltb-false _ _ many in
+      rw (many, take-append-le most_listed names (name ∷ []) (omega (arith, is, least))) (append-nil (listed_names names))
+]
+
 -- ---- the fields of a row
 
 -- a row whose first field is `field` is that field and what is after it
@@ -81,13 +95,13 @@ names_more S row rest field more name names so one cut is (next ∷ others) are 
 pub looks_next : (S : Separator) (row rest field more name other : List ℕ) (found : Found) (listed : List ℕ) (count : ℕ) (is : Bool)
     → LooksSo S row rest name found listed count → IsEnded S field → rest ≡ field ++ separator S ∷ more → IsNameOf S field other
     → (is ≡ true → other ≡ name) → (other ≡ name → is ≡ true)
-    → LooksSo S row more name (found_then found (count + 1) is) (listed ++ shown_name other) (count + 1)
+    → LooksSo S row more name (found_then found (count + 1) is) (listed ++ listed_after count other) (count + 1)
 looks_next S row rest field more name other found listed count is l one cut named same same_is = record {
   names = l.names ++ other ∷ [];
   are_names = names_more S row rest field more other l.names l.are_names one cut named;
   number = ap (λ n. n + 1) l.number ∙ sym (length-append l.names (other ∷ []));
   is_found = found_more name l.names found (count + 1) is other (ap (λ n. n + 1) l.number) same same_is l.is_found;
-  listed_is = ap (λ t. t ++ shown_name other) l.listed_is ∙ flat_map_more shown_name [] l.names other;
+  listed_is = ap (λ t. t ++ listed_after count other) l.listed_is ∙ listed_more l.names other count l.number;
   room = omega (arith, l.room, ap length cut, length-append field (separator S ∷ more));
 }
 
@@ -96,10 +110,11 @@ looks_next S row rest field more name other found listed count is l one cut name
 pub looks_last : (S : Separator) (row rest name other : List ℕ) (found : Found) (listed : List ℕ) (count : ℕ) (is : Bool)
     → LooksSo S row rest name found listed count → IsRowField S rest → IsNameOf S rest other
     → (is ≡ true → other ≡ name) → (other ≡ name → is ≡ true)
-    → (names : List (List ℕ)) × AreNames S row names × IsFound name names (found_then found (count + 1) is) × (listed ++ shown_name other ≡ shown_names names)
+    → (names : List (List ℕ)) × AreNames S row names × IsFound name names (found_then found (count + 1) is) × ((listed ++ listed_after count other) ++ rest_said (count + 1) ≡ shown_names names)
 looks_last S row rest name other found listed count is l one named same same_is = (
   l.names ++ other ∷ [],
   l.are_names (other ∷ []) (one, named),
   found_more name l.names found (count + 1) is other (ap (λ n. n + 1) l.number) same same_is l.is_found,
-  ap (λ t. t ++ shown_name other) l.listed_is ∙ flat_map_more shown_name [] l.names other,
+  ap (λ t. (t ++ listed_after count other) ++ rest_said (count + 1)) l.listed_is ∙ ap (λ t. t ++ rest_said (count + 1)) (listed_more l.names other count l.number)
+      ∙ ap (λ n. listed_names (l.names ++ other ∷ []) ++ rest_said n) (ap (λ n. n + 1) l.number ∙ sym (length-append l.names (other ∷ []))),
 )

@@ -1,22 +1,25 @@
 -- The heading of a reader's bytes.
-use Rattle.std.proofs.Common.{◌≡◌, ◌≤◌, ◌<◌, ◌+◌, ◌++◌, ◌∷◌, ◌∙◌, inl, inr, ℕ, List, [], Option, Some, None, Result, Ok, Err, length, sym, ap, refl, subst, arith, append_assoc, append-nil, length-append}
-use Rattle.std.specs.Io.KnownBytes.{Consumes, IsAtEnd, Keeps}
-use Rattle.std.proofs.KnownBytes.{Consumes-kept, Consumes-nil, Consumes-trans}
+use Rattle.std.proofs.Common.{◌≡◌, ◌≤◌, ◌<◌, ◌++◌, ◌∷◌, ◌∙◌, inl, inr, ℕ, List, [], Option, Some, None, Result, Ok, Err, length, ap, refl, subst, arith, append_assoc, length-append}
+use Rattle.std.specs.Io.KnownBytes.{IsAtEnd}
 use Rattle.std.proofs.Math.Seq.{take-append_seam}
 use Rattle.std.proofs.Math.Seq.{take-length}
-use Rattle.lt_jar.specs.Devices.{HasFailed, failures_of, inner_of, one_more, reads_of}
-use Rattle.lt_jar.specs.Sources.{most_reads}
+use Rattle.lt_jar.specs.Devices.{inner_of}
 use Rattle.lt_jar.specs.declared.devices.Device.{Device}
 use Rattle.lt_rows.specs.Marks.{IsWide, SplitsMark}
 use Rattle.lt_rows.specs.declared.rows.Separator.{Separator}
 use Rattle.lt_rows.specs.declared.rows.Separator.TheVariants as separators
-use Rattle.lt_stream.specs.Running.{HasRead}
+use Rattle.lt_stream.specs.Pieces as pieces
+use Rattle.lt_stream.specs.Pieces.{RunsPieces}
 use Rattle.lt_stream.specs.declared.faults.ToolFault.{ToolFault}
 use Rattle.lt_stream.specs.declared.faults.ToolFault.TheVariants as faults
-use Rattle.lt_stream.proofs.DeviceLemmas.{failed_from}
-use Rattle.lt_stream.proofs.ReadLemmas.{ReadsPiece, read_more}
-use Rattle.lt_heading.specs.Headings.{EndsReading, EndsRow, FinishesText, HasHeading, HasLongHeading, HasOpenHeading, IsGoing, IsUndecided, IsWholeRow, ReadsHeading, StopsHeading, StopsText, TakesPiece, heading_in, long_fault, rows_of, taken_by}
+use Rattle.lt_heading.specs.Headings.{EndsReading, EndsRow, FinishesText, HasHeading, HasLongHeading, IsGoing, IsTaken, IsWholeRow, ReadsHeading, StopsHeading, StopsPieces, StopsText, TakesPiece, heading_in, long_fault, rows_of, taken_by}
+use Rattle.lt_heading.specs.declared.first_rows.Heading.{Heading}
 use Rattle.lt_heading.specs.declared.first_rows.FirstRow.{FirstRow}
+use Rattle.lt_heading.specs.Finding.{EndsFinding, FindsColumn, PicksColumn}
+use Rattle.lt_heading.specs.Names.{AreNamesIn, IsOnly}
+use Rattle.lt_heading.specs.declared.finding.ColumnFault.{ColumnFault}
+use Rattle.lt_heading.specs.declared.finding.ColumnFault.TheVariants as refusals
+use Rattle.lt_heading.specs.declared.finding.FoundColumn.{FoundColumn}
 use Rattle.lt_heading.proofs.RowLemmas.{rows_ended, rows_last, rows_none}
 
 -- ---- the heading
@@ -62,25 +65,21 @@ heading_last S bytes mark (byte ∷ text) split narrow whole = record {
 within : (S : Separator) (text : List ℕ) (end : ℕ) → EndsRow S text end → end ≤ length text
 within S text end e = omega (arith, e.end_is, ap length e.cut, length-append e.row (10 ∷ e.rest))
 
--- ---- the reads
+-- ---- the pieces
 
--- before the read of the number `turn`, counted from 0, at which the device `input` is `input'`: `read` was read so
--- far, and does not end the first row
-pub record ReadTurn {I : Type 0} (S : Separator) (remaining : I → Option (List ℕ)) (input input' : Device I) (state : FirstRow) (turn : ℕ) : Type 0 where
-  pub read : List ℕ
-  pub consumes : Consumes (remaining (inner_of input)) (remaining (inner_of input')) read
-  pub calls : HasRead input input' turn
-  pub failures : failures_of input' ≡ failures_of input
-  pub taken : taken_by state ≡ read
-  pub going : IsGoing S state
+-- a piece was taken, as a run over pieces asks; `old` and `new` are the heading before and after it
+module _ (piece : List ℕ) (old new : Heading) (same : new.separator ≡ old.separator) where
+  pub piece_taken : (r : Result (Option ℕ) ToolFault) → TakesPiece old.separator piece old.first new.first r
+      → pieces.TakesPiece {O = Unit {0}} {P = Heading} {A = ℕ} (λ first start now read here. IsTaken first.separator read here) (λ first start now read here end. StopsPieces first.separator read here.first end) piece tt tt old new r
+  piece_taken (Ok None) p = λ first start read t. record {
+    separator = same ∙ t.separator;
+    taken = p.0 ∙ ap (λ l. l ++ piece) t.taken;
+    going = subst (λ S. IsGoing S new.first) t.separator p.1;
+  }
+  piece_taken (Ok (Some end)) p = λ first start read t. (p.0 ∙ ap (λ l. l ++ piece) t.taken, p.1, subst (λ S. EndsRow S new.first.text.items end) t.separator p.2)
+  piece_taken (Err f) p = λ first start read t. subst (λ l. StopsText first.separator (l ++ piece) f) t.taken (subst (λ S. StopsText S (taken_by old.first ++ piece) f) t.separator p)
 
--- before the first read nothing was taken
-pub read_first : {I : Type 0} (S : Separator) (remaining : I → Option (List ℕ)) (input : Device I) (state : FirstRow) → IsUndecided state → taken_by state ≡ [] → ReadTurn S remaining input input state 0
-read_first S remaining input state u none = record { read = []; consumes = Consumes-nil _; calls = refl; failures = refl; taken = none; going = inr u }
-
--- memory ran out for the buffer before the first read
-pub read_lacks : {I : Type 0} (S : Separator) (remaining : I → Option (List ℕ)) (input : Device I) (state : FirstRow) → ReadsHeading S remaining input input state (Err faults.OutOfMemory)
-read_lacks S remaining input state = record { read = []; reads = 0; consumes = Consumes-nil _; calls = refl; bounded = omega arith; ends = tt }
+-- ---- the run
 
 -- a fault for which the first row can't be taken is one for which the heading is not read
 stops : {I : Type 0} (S : Separator) (remaining : I → Option (List ℕ)) (before after : Device I) (reads : ℕ) (bytes : List ℕ) (f : ToolFault) → StopsText S bytes f → StopsHeading S remaining before after reads bytes f
@@ -92,83 +91,83 @@ stops S remaining before after reads bytes f (inr (inr long)) = rw long.0 (of_lo
     of_long separators.Tab long = (refl, long)
     of_long (separators.Delimiter delimiter) long = inr (refl, long)
 
--- `input` is the device before the first read, and `before` the device before the read of the number `turn`, counted
--- from 0
-module _ {I : Type 0} (S : Separator) (remaining : I → Option (List ℕ)) (input before : Device I) (state : FirstRow) (turn : ℕ) (t : ReadTurn S remaining input before state turn) where
-  -- a read gave a piece that does not end the first row
-  pub read_next : (after : Device I) (new : FirstRow) (piece : List ℕ) → ReadsPiece remaining before after piece → TakesPiece S piece state new (Ok None) → ReadTurn S remaining input after new (turn + 1)
-  read_next after new piece r p = record {
-    read = t.read ++ piece;
-    consumes = Consumes-trans _ _ _ _ _ t.consumes r.consumes;
-    calls = read_more input before after turn t.calls r.calls;
-    failures = r.failures ∙ t.failures;
-    taken = p.0 ∙ ap (λ l. l ++ piece) t.taken;
-    going = p.1;
+-- the column with a name was looked for in a heading, of which `r` says how it was read
+module _ {I : Type 0} (S : Separator) (name : List ℕ) (remaining : I → Option (List ℕ)) (before after : Device I) (state : FirstRow) where
+  -- the heading was not read
+  pub finds_no_heading : (f : ToolFault) → ReadsHeading S remaining before after state (Err f) → FindsColumn S name remaining before after (Err (refusals.Heading f))
+  finds_no_heading f r = record {
+    read = r.read;
+    reads = r.reads;
+    consumes = r.consumes;
+    calls = r.calls;
+    bounded = r.bounded;
+    ends = r.ends;
+    read_rises = λ rises. let is = r.read_rises rises in let named : f ≡ faults.Read = cc in ap (λ (g : ToolFault). Err (refusals.Heading g)) named;
   }
 
-  -- the read of a piece was the last, and the reading of the heading ended with the result `r`
-  read_after : (after : Device I) (new : FirstRow) (piece : List ℕ) (r : Result ℕ ToolFault) → turn < most_reads → ReadsPiece remaining before after piece
-      → EndsReading S remaining input after new (turn + 1) (t.read ++ piece) r → ReadsHeading S remaining input after new r
-  read_after after new piece r few reads ends = record {
-    read = t.read ++ piece;
-    reads = turn + 1;
-    consumes = Consumes-trans _ _ _ _ _ t.consumes reads.consumes;
-    calls = read_more input before after turn t.calls reads.calls;
-    bounded = omega (arith, few);
-    ends = ends;
+  -- how the search ended in a heading with these names, whose first row has the length `end`
+  finds : (end : ℕ) (names : List (List ℕ)) (result : Result FoundColumn ColumnFault) (r : ReadsHeading S remaining before after state (Ok end))
+      → EndsFinding S name remaining before after r.reads r.read result → FindsColumn S name remaining before after result
+  finds end names result r ends =
+      record { read = r.read; reads = r.reads; consumes = r.consumes; calls = r.calls; bounded = r.bounded; ends = ends; read_rises = λ rises. let bad = r.read_rises rises in cc }
+
+  -- it found no column, for the fault `e`
+  pub finds_fault : (end : ℕ) (names : List (List ℕ)) (e : ColumnFault) → ReadsHeading S remaining before after state (Ok end) → AreNamesIn S (heading_in state.text.items end) names → PicksColumn name names (Err e)
+      → FindsColumn S name remaining before after (Err e)
+  finds_fault end names (refusals.Name said) r are picks = finds end names _ r (record { heading = heading_in state.text.items end; known = r.ends.2; names = names; are_names = are; holds = picks })
+  finds_fault end names (refusals.Heading f) r are picks = rw picks (finds end names _ r tt)
+
+  -- it found the column with this number, and `front` is all that was read
+  pub finds_column : (end : ℕ) (names : List (List ℕ)) (found : FoundColumn) → (r : ReadsHeading S remaining before after state (Ok end)) → AreNamesIn S (heading_in state.text.items end) names → IsOnly name names found.number
+      → found.front.items ≡ taken_by state → FindsColumn S name remaining before after (Ok found)
+  finds_column end names found r are only front = finds end names _ r (front ∙ r.ends.0, record { heading = heading_in state.text.items end; known = r.ends.2; names = names; are_names = are; holds = only })
+
+-- a run that read a heading, with its state after it
+module _ {I : Type 0} (S : Separator) (remaining : I → Option (List ℕ)) (before after : Device I) (state : Heading) where
+  -- what is known of the run by its result
+  abbrev Runs : Result ℕ ToolFault → Type 0
+  Runs r = RunsPieces {I = I} {O = Unit {0}} {P = Heading} {A = ℕ} (λ start now read here. IsTaken S read here) (λ start now read here end. StopsPieces S read here.first end)
+      (λ start now read here end. FinishesText S read here.first end) remaining before after tt tt state r
+
+  -- the reader had no more bytes, and those that were read end with the result
+  finished : (reads : ℕ) (read : List ℕ) (r : Result ℕ ToolFault) → IsAtEnd (remaining (inner_of after)) → FinishesText S read state.first r → EndsReading S remaining before after state.first reads read r
+  finished reads read (Ok end) at_end f = elim f.3 [
+    | inl e ↦ (f.0, within S state.first.text.items end e, inr (at_end, heading_at_end S read state.first.mark.items state.first.text.items end f.1 f.2 e))
+    | inr last ↦ (f.0, omega (arith, last.0), inr (at_end, rw last.0 (heading_last S read state.first.mark.items state.first.text.items f.1 f.2 last.1)))
+  ]
+  finished reads read (Err f) at_end (inl quotes) = rw quotes.0 (inl (refl, at_end, quotes.1))
+  finished reads read (Err f) at_end (inr stop) = stops S remaining before after reads read f stop
+
+  -- a piece ended the run with the result
+  stopped : (reads : ℕ) (read : List ℕ) (r : Result ℕ ToolFault) → StopsPieces S read state.first r → EndsReading S remaining before after state.first reads read r
+  stopped reads read (Ok end) p = (
+    p.0,
+    within S state.first.text.items end p.2,
+    inl (λ more. subst (λ l. HasHeading S (l ++ more) (heading_in state.first.text.items end)) p.0
+        (heading_ended S (taken_by state.first) state.first.mark.items state.first.text.items more end (p.1.split more) (p.1.narrow more) p.2)),
+  )
+  stopped reads read (Err f) p = stops S remaining before after reads read f p
+
+  -- the run read the heading, or ended by a fault
+  pub reads_heading : (r : Result ℕ ToolFault) → Runs r → ReadsHeading S remaining before after state.first r
+  reads_heading r p = record {
+    read = p.read;
+    reads = p.reads;
+    consumes = p.consumes;
+    calls = p.calls;
+    bounded = p.bounded;
+    ends = elim p.ends [
+      | inl f ↦ finished p.reads p.read r f.end f.finished
+      | inr (inl s) ↦ stopped p.reads p.read r s.stopped
+      | inr (inr (inl s)) ↦ rw s.fault s.failed
+      | inr (inr (inr (inl s))) ↦ rw s.fault (s.all_made, s.last_gave)
+      | inr (inr (inr (inr s))) ↦ rw s.fault tt
+    ];
+    read_rises = λ rises. elim p.ends [
+      | inl f ↦ absurd (omega (arith, rises, f.same))
+      | inr (inl s) ↦ absurd (omega (arith, rises, s.same))
+      | inr (inr (inl s)) ↦ s.fault
+      | inr (inr (inr (inl s))) ↦ absurd (omega (arith, rises, s.same))
+      | inr (inr (inr (inr s))) ↦ absurd (omega (arith, rises, s.same))
+    ];
   }
-
-  -- a read gave a piece that ends the first row
-  pub read_ended : (after : Device I) (new : FirstRow) (piece : List ℕ) (end : ℕ) → turn < most_reads → ReadsPiece remaining before after piece → TakesPiece S piece state new (Ok (Some end))
-      → ReadsHeading S remaining input after new (Ok end)
-  read_ended after new piece end few r p =
-      let all : taken_by new ≡ t.read ++ piece = p.0 ∙ ap (λ l. l ++ piece) t.taken in
-      read_after after new piece (Ok end) few r (
-        all,
-        within S new.text.items end p.2,
-        inl (λ more. subst (λ l. HasHeading S (l ++ more) (heading_in new.text.items end)) all (heading_ended S (taken_by new) new.mark.items new.text.items more end (p.1.split more) (p.1.narrow more) p.2)),
-      )
-
-  -- a read gave a piece that can't be taken, for the fault `f`
-  pub read_stopped : (after : Device I) (new : FirstRow) (piece : List ℕ) (f : ToolFault) → turn < most_reads → ReadsPiece remaining before after piece → TakesPiece S piece state new (Err f)
-      → ReadsHeading S remaining input after new (Err f)
-  read_stopped after new piece f few r p = read_after after new piece (Err f) few r
-      (stops S remaining input after (turn + 1) (t.read ++ piece) f (subst (λ l. StopsText S (l ++ piece) f) t.taken p))
-
-  -- a read gave no bytes: the reader is at its end, and the bytes so far end with the result `r`
-  pub read_finished : (after : Device I) (new : FirstRow) (r : Result ℕ ToolFault) → turn < most_reads → ReadsPiece remaining before after [] → IsAtEnd (remaining (inner_of after)) → FinishesText S state new r
-      → ReadsHeading S remaining input after new r
-  read_finished after new (Ok end) few r at_end f =
-      let all : taken_by state ≡ t.read ++ [] = t.taken ∙ sym (append-nil t.read) in
-      let split = subst (λ l. SplitsMark l new.mark.items new.text.items) all f.1 in
-      let narrow = subst (λ l. IsWide l → ⊥) all f.2 in
-      read_after after new [] (Ok end) few r (elim f.3 [
-        | inl e ↦ (f.0 ∙ all, within S new.text.items end e, inr (at_end, heading_at_end S (t.read ++ []) new.mark.items new.text.items end split narrow e))
-        | inr last ↦ (
-          f.0 ∙ all,
-          omega (arith, last.0),
-          inr (at_end, rw last.0 (heading_last S (t.read ++ []) new.mark.items new.text.items split narrow last.1)),
-        )
-      ])
-  read_finished after new (Err f) few r at_end (inl quotes) =
-      let all : taken_by state ≡ t.read ++ [] = t.taken ∙ sym (append-nil t.read) in
-      rw quotes.0 (read_after after new [] (Err (faults.BadCsv 1)) few r (inl (refl, at_end, subst (HasOpenHeading S) all quotes.1)))
-  read_finished after new (Err f) few r at_end (inr stop) =
-      let all : taken_by state ≡ t.read ++ [] = t.taken ∙ sym (append-nil t.read) in
-      read_after after new [] (Err f) few r (stops S remaining input after (turn + 1) (t.read ++ []) f (subst (λ l. StopsText S l f) all stop))
-
-  -- a read failed
-  pub read_failed : (after : Device I) → turn < most_reads → Keeps (remaining (inner_of before)) (remaining (inner_of after)) → reads_of after ≡ one_more (reads_of before)
-      → HasFailed before after → ReadsHeading S remaining input after state (Err faults.Read)
-  read_failed after few kept more failed = record {
-    read = t.read;
-    reads = turn + 1;
-    consumes = Consumes-kept _ _ _ _ t.consumes kept;
-    calls = read_more input before after turn t.calls more;
-    bounded = omega (arith, few);
-    ends = failed_from input before after t.failures failed;
-  }
-
-  -- the most reads were made, and none ended the first row
-  pub read_turns : turn ≡ most_reads → ReadsHeading S remaining input before state (Err faults.TooManyTurns)
-  read_turns all = record { read = t.read; reads = turn; consumes = t.consumes; calls = t.calls; bounded = omega (arith, all); ends = all }

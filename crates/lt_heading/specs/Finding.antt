@@ -1,7 +1,7 @@
 -- Which column of a reader's rows has a given name in the heading.
-use Rattle.std.specs.Prelude.{◌≡◌, ◌≤◌, ◌⊎◌, ℕ, List, Option, Result, Ok, Err, codes, string_bytes}
+use Rattle.std.specs.Prelude.{◌≡◌, ◌<◌, ◌≤◌, ◌⊎◌, ℕ, List, Option, Result, Ok, Err, codes, string_bytes}
 use Rattle.std.specs.Io.KnownBytes.{Consumes}
-use Rattle.lt_jar.specs.Devices.{inner_of}
+use Rattle.lt_jar.specs.Devices.{failures_of, inner_of}
 use Rattle.lt_jar.specs.Sources.{most_reads}
 use Rattle.lt_jar.specs.declared.devices.Device.{Device}
 use Rattle.lt_rows.specs.declared.rows.Separator.{Separator}
@@ -49,6 +49,7 @@ pub record FindsColumn {I : Type 0} (S : Separator) (name : List ℕ) (remaining
   pub calls : HasRead before after reads
   pub bounded : reads ≤ most_reads
   pub ends : EndsFinding S name remaining before after reads read result
+  pub read_rises : failures_of before < failures_of after → result ≡ Err (refusals.Heading faults.Read)
 
 -- ---- the steps
 

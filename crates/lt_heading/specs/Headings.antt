@@ -2,7 +2,7 @@
 use Rattle.std.specs.Prelude.{◌≡◌, ◌<◌, ◌≤◌, ◌⊎◌, ℕ, Bool, true, false, List, [], ◌∷◌, ◌++◌, Option, Some, None, Result}
 use Rattle.std.specs.Prelude.{Ok, Err, length, take}
 use Rattle.std.specs.Io.KnownBytes.{Consumes, IsAtEnd}
-use Rattle.lt_jar.specs.Devices.{HasFailed, inner_of}
+use Rattle.lt_jar.specs.Devices.{HasFailed, failures_of, inner_of, last_given_of}
 use Rattle.lt_jar.specs.Lines.{HoldsOfWhole, IsOneLine, lines_of}
 use Rattle.lt_jar.specs.Sources.{most_reads}
 use Rattle.lt_jar.specs.declared.devices.Device.{Device}
@@ -16,6 +16,7 @@ use Rattle.lt_stream.specs.Running.{HasRead, longest_row}
 use Rattle.lt_stream.specs.declared.faults.ToolFault.{ToolFault}
 use Rattle.lt_stream.specs.declared.faults.ToolFault.TheVariants as faults
 use Rattle.lt_heading.specs.declared.first_rows.FirstRow.{FirstRow}
+use Rattle.lt_heading.specs.declared.first_rows.Heading.{Heading}
 
 -- the rows of a text: its lines (TSV), or its records (CSV)
 abbrev pub rows_of : Separator → List ℕ → List (List ℕ)
@@ -88,7 +89,8 @@ long_fault (separators.Delimiter delimiter) = faults.BadCsv 1
 abbrev pub StopsHeading : {I : Type 0} → Separator → (I → Option (List ℕ)) → (before after : Device I)
     → (reads : ℕ) → (read : List ℕ) → ToolFault → Type 0
 StopsHeading S remaining before after reads read faults.Read = HasFailed before after
-StopsHeading S remaining before after reads read faults.TooManyTurns = reads ≡ most_reads
+StopsHeading S remaining before after reads read faults.TooManyTurns =
+    (reads ≡ most_reads) × (0 < last_given_of after)
 StopsHeading S remaining before after reads read (faults.BadCsv line) =
     ((line ≡ 1) × IsAtEnd (remaining (inner_of after)) × HasOpenHeading S read)
     ⊎ ((faults.BadCsv line ≡ long_fault S) × HasLongHeading S read)
@@ -198,12 +200,22 @@ EndsText S state (Err f) = (f ≡ faults.BadCsv 1)
     × (IsRowSoFar S state.text.items state.place → is_open S state.text.items ≡ true)
 
 -- the bytes ended: this is the length of their first row, or why that can't be taken
-abbrev pub FinishesText : Separator → (old new : FirstRow) → Result ℕ ToolFault → Type 0
-FinishesText S old new (Ok end) = (taken_by new ≡ taken_by old)
-    × SplitsMark (taken_by old) new.mark.items new.text.items × (IsWide (taken_by old) → ⊥)
+abbrev pub FinishesText : Separator → (bytes : List ℕ) → (new : FirstRow) → Result ℕ ToolFault → Type 0
+FinishesText S bytes new (Ok end) = (taken_by new ≡ bytes)
+    × SplitsMark bytes new.mark.items new.text.items × (IsWide bytes → ⊥)
     × (EndsRow S new.text.items end ⊎ ((end ≡ length new.text.items) × IsWholeRow S new.text.items))
-FinishesText S old new (Err f) = ((f ≡ faults.BadCsv 1) × HasOpenHeading S (taken_by old))
-    ⊎ StopsText S (taken_by old) f
+FinishesText S bytes new (Err f) = ((f ≡ faults.BadCsv 1) × HasOpenHeading S bytes) ⊎ StopsText S bytes f
+
+-- all bytes that were read were taken, and they don't end the first row
+pub record IsTaken (S : Separator) (read : List ℕ) (here : Heading) : Type 0 where
+  pub separator : here.separator ≡ S
+  pub taken : taken_by here.first ≡ read
+  pub going : IsGoing S here.first
+
+-- the bytes that were read end the first row, which has this length, or it can't be taken
+abbrev pub StopsPieces : Separator → (read : List ℕ) → FirstRow → Result ℕ ToolFault → Type 0
+StopsPieces S read state (Ok end) = (taken_by state ≡ read) × IsMarked state × EndsRow S state.text.items end
+StopsPieces S read state (Err f) = StopsText S read f
 
 -- how the reading of the heading of a reader ended, after so many reads, which gave the bytes `read`
 abbrev pub EndsReading : {I : Type 0} → Separator → (I → Option (List ℕ)) → (before after : Device I)
@@ -222,3 +234,4 @@ pub record ReadsHeading {I : Type 0} (S : Separator) (remaining : I → Option (
   pub calls : HasRead before after reads
   pub bounded : reads ≤ most_reads
   pub ends : EndsReading S remaining before after state reads read result
+  pub read_rises : failures_of before < failures_of after → result ≡ Err faults.Read

@@ -1,6 +1,7 @@
 -- The names that a heading gives to columns, and which columns have a given name.
 use Rattle.std.specs.Prelude.{◌≡◌, ◌≢◌, ◌≤◌, ◌+◌, ◌==◌, ◌&&◌, ℕ, Bool, false, true, List, [], ◌∷◌, ◌++◌, Option, Some}
-use Rattle.std.specs.Prelude.{None, codes, if◌then◌else◌, length, string_bytes}
+use Rattle.std.specs.Prelude.{◌-◌, None, codes, if◌then◌else◌, length, nat_lt, string_bytes, take}
+use Rattle.std.specs.Fmt.{decimal}
 use Rattle.std.specs.List.{AllByRecursion, flat_map}
 use Rattle.lt_jar.specs.Lines.{content_of}
 use Rattle.lt_rows.specs.Rows.{IsEnded, IsRowField, IsTextIn, separator}
@@ -71,25 +72,51 @@ IsFound name names founds.Repeated = IsRepeated name names
 
 -- ---- what is said of names
 
--- a name as it is shown: after a space (32), between quotes (34)
+-- the most bytes of a name that are shown
+abbrev pub most_shown : ℕ
+most_shown = 64
+
+-- the most names that are listed
+abbrev pub most_listed : ℕ
+most_listed = 64
+
+-- two dots for a name that is longer than what is shown of it, else nothing
+abbrev pub dots_after : (name : List ℕ) → List ℕ
+dots_after name = if nat_lt most_shown (length name) then codes ".." else []
+
+-- a name as it is shown: after a space (32), between quotes (34), the front of it if it is long, with dots after the
+-- quotes
 abbrev pub shown_name : List ℕ → List ℕ
-shown_name name = 32 ∷ 34 ∷ escaped name ++ 34 ∷ []
+shown_name name = 32 ∷ 34 ∷ escaped (take most_shown name) ++ 34 ∷ dots_after name
 
--- names as they are shown, one after another
+-- the first of these names as they are shown, one after another
+abbrev pub listed_names : List (List ℕ) → List ℕ
+listed_names names = flat_map shown_name (take most_listed names)
+
+-- how many of so many names are not listed, if any
+abbrev pub rest_said : (count : ℕ) → List ℕ
+rest_said count =
+    if nat_lt most_listed count then codes " and " ++ decimal (count - most_listed) ++ codes " more" else []
+
+-- names as they are shown: the first of them, and how many more there are
 abbrev pub shown_names : List (List ℕ) → List ℕ
-shown_names names = flat_map shown_name names
+shown_names names = listed_names names ++ rest_said (length names)
 
--- the line that says how many columns have a name, as `no column` (`whose`), and lists all names; the name (`shown`)
+-- the line that says how many columns have a name, as `no column` (`whose`), and lists the names; the name (`shown`)
 -- and these (`listed`) are given as they are shown
 abbrev pub shown_line : (whose shown listed : List ℕ) → List ℕ
 shown_line whose shown listed =
     codes "error: " ++ whose ++ codes " has the name" ++ shown ++ codes "; names:" ++ listed ++ 10 ∷ []
 
--- the line for a name that no column has, or more than one, as `whose` says, with all names of the heading
+-- the line for a name that no column has, or more than one, as `whose` says, with the names of the heading
 abbrev pub name_line : (whose : List ℕ) → (name : List ℕ) → List (List ℕ) → List ℕ
 name_line whose name names = shown_line whose (shown_name name) (shown_names names)
 
 -- ---- the steps
+
+-- what is appended to a list of names for a further one, if so many come before it
+abbrev pub listed_after : (count : ℕ) → (name : List ℕ) → List ℕ
+listed_after count name = if nat_lt count most_listed then shown_name name else []
 
 -- how often a name is found, after a further column with this number, which has the name or not
 abbrev pub found_then : Found → (number : ℕ) → (is_name : Bool) → Found
@@ -97,19 +124,18 @@ found_then found number false = found
 found_then founds.Missing number true = founds.Only number
 found_then found number true = founds.Repeated
 
--- the name was looked up in a heading, and all names are listed
+-- the name was looked up in a heading, and the names are listed
 pub record LooksUp (S : Separator) (heading : Option (List ℕ)) (name : List ℕ) (looked : Looked) : Type 0 where
   pub names : List (List ℕ)
   pub are_names : AreNamesIn S heading names
   pub is_found : IsFound name names looked.found
   pub listed : string_bytes looked.listed ≡ shown_names names
 
--- the name was looked up among the first `count` names of a row, before its `rest`; `listed` is these names as they
--- are shown
+-- the name was looked up among the first `count` names of a row, before its `rest`; `listed` is the list of these names
 pub record LooksSo (S : Separator) (row rest name : List ℕ) (found : Found) (listed : List ℕ) (count : ℕ) : Type 0 where
   pub names : List (List ℕ)
   pub are_names : (more : List (List ℕ)) → AreNames S rest more → AreNames S row (names ++ more)
   pub number : count ≡ length names
   pub is_found : IsFound name names found
-  pub listed_is : listed ≡ shown_names names
+  pub listed_is : listed ≡ listed_names names
   pub room : count + length rest ≤ length row

@@ -7,11 +7,11 @@ ghost use Rattle.lt_heading.specs.Headings as spec;
 ghost use Rattle.lt_heading.specs.Names.{IsFound, shown_line, shown_names};
 ghost use Rattle.lt_heading.specs.declared.finding.ColumnFault.TheVariants.{Heading};
 
-use crate::first_rows::{FirstRow, read_heading};
+use crate::first_rows::{FirstRow, Heading};
 use crate::names::{Found, Looked, append_shown, look_up};
 use lt_jar::Device;
 use lt_rows::Separator;
-use lt_stream::ToolFault;
+use lt_stream::{ToolFault, run_pieces};
 use std::alloc::{AllocError, Global};
 use std::io::Read;
 
@@ -49,8 +49,8 @@ impl From<AllocError> for ColumnFault {
     }
 }
 
-/// The line that says why a name is not found: that `whose`, as `no column`, has the name `shown`. `listed` are all
-/// names, and both are as they are shown.
+/// The line that says why a name is not found: that `whose`, as `no column`, has the name `shown`. `listed` are the
+/// names of the heading, and both are as they are shown.
 fn line_of(alloc: Global, whose: &str, shown: &str, listed: &str) -> Result<String, AllocError>
     ensures { IfOk result (λ line. string_bytes line ≡ shown_line whose.now shown.now listed.now) }
 {
@@ -92,10 +92,11 @@ fn heading_in(text: &[u8], end: usize) -> Option<&[u8]>
 /// heading is no part of the last. Names are equal where all bytes are. Where there is no row, no column has a name. It reads
 /// until the heading is whole, and gives all bytes that it read.
 ///
-/// - `Name`, if no column has the name, or more than one: the text is one line that says so and has all names.
+/// - `Name`, if no column has the name, or more than one: the text is one line that says so and has the first 64 names,
+///   each cut to 64 bytes.
 /// - `Heading`, if the heading can't be read: `BadCsv(1)` if the reader's bytes end within its quotes, this or `BadTsv(1)` if it
 ///   is longer than 16,777,216 bytes, `Utf16` if the bytes begin with a byte order mark of UTF-16, `Read` if a read fails,
-///   `TooManyTurns` if 10,000,000 reads were made; and `OutOfMemory`.
+///   `TooManyTurns` if all 10,000,000 reads were made and the last gave bytes; and `OutOfMemory`.
 pub fn find_column<R: Read>(
     alloc: Global,
     separator: Separator,
@@ -104,8 +105,15 @@ pub fn find_column<R: Read>(
 ) -> Result<FoundColumn, ColumnFault>
     ensures { FindsColumn separator name.now R.remaining input.old input.new result }
 {
-    let mut first = FirstRow::new(alloc);
-    let end = read_heading(alloc, separator, input, &mut first)?;
+    let mut reading = Heading {
+        separator,
+        first: FirstRow::new(alloc),
+    };
+    let end = run_pieces(alloc, &mut reading, input, &mut ())?;
+    let Heading {
+        first,
+        separator: _,
+    } = reading;
     let heading = heading_in(&first.text, end);
     let looked = look_up(alloc, separator, heading, name.as_bytes())?;
     let number = pick_column(alloc, &looked, name)?;

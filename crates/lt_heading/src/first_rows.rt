@@ -1,22 +1,14 @@
 //! Reading the first row of a text.
 ghost use Rattle.std.specs.Prelude.{◌≡◌, [], IfOk};
 ghost use Rattle.lt_heading.specs.Headings as spec;
-ghost use Rattle.lt_heading.specs.Headings.{AppendsPart, BeginsText, EndsText, FinishesText, IsGoing, IsRowSoFar, IsUndecided, ReadsHeading, TakesPiece, TakesText};
+ghost use Rattle.lt_heading.specs.Headings.{AppendsPart, BeginsText, EndsText, FinishesText, IsGoing, IsRowSoFar, IsUndecided, TakesPiece, TakesText};
 
-use lt_jar::Device;
 use lt_rows::{Place, Separator, after_text, is_wide, may_be_mark, split_first, split_mark};
-use lt_stream::ToolFault;
+use lt_stream::{Pieces, ToolFault};
 use std::alloc::{AllocError, Global};
-use std::io::Read;
 
 /// The most bytes of a row: 16 MiB, as of the rows that are answered after the heading.
 const LONGEST_ROW: usize = 16_777_216;
-
-/// The most reads of one heading, as of one run over lines.
-const MOST_READS: u32 = 10_000_000;
-
-/// The most bytes that a read is asked for.
-const PIECE: usize = 65536;
 
 /// The first row of a text that comes in pieces.
 #[derive(Drop)]
@@ -171,7 +163,7 @@ impl FirstRow {
     /// `BadCsv(1)` if a quote is open, or as `append_part` is.
     fn finish(&mut self, separator: Separator) -> Result<usize, ToolFault>
         requires { IsGoing separator self.old }
-        ensures { FinishesText separator self.old self.new result }
+        ensures { FinishesText separator (spec.taken_by self.old) self.new result }
     {
         if self.is_begun {
             return self.end_text();
@@ -183,29 +175,34 @@ impl FirstRow {
     }
 }
 
-/// Reads the first row into `first`, and gives the index in the text after the mark at which it ends. Refused with the
-/// fault that `find_column` answers in `Heading`.
-pub(crate) fn read_heading<R: Read>(
-    alloc: Global,
-    separator: Separator,
-    input: &mut Device<R>,
-    first: &mut FirstRow,
-) -> Result<usize, ToolFault>
-    requires undecided { IsUndecided first.old }
-    requires nothing { spec.taken_by first.old ≡ [] }
-    ensures { ReadsHeading separator R.remaining input.old input.new first.new result }
-{
-    let mut buffer = vec![in alloc; 0u8; PIECE]?;
-    for _read in 0..MOST_READS {
-        match input.read(&mut buffer) {
-            Ok(0) => return first.finish(separator),
-            Ok(count) => {
-                if let Some(end) = first.take_piece(separator, &buffer[..count])? {
-                    return Ok(end);
-                }
-            }
-            Err(_) => return Err(ToolFault::Read),
-        }
+/// The heading of rows that come in pieces: the first row, and what stands between its fields.
+#[derive(Drop)]
+pub(crate) struct Heading {
+    pub(crate) separator: Separator,
+    pub(crate) first: FirstRow,
+}
+
+impl Pieces<()> for Heading {
+    type Answer = usize;
+
+    ghost taken = { λ first start now read here. spec.IsTaken first.separator read here };
+
+    ghost stopped = { λ first start now read here result. spec.StopsPieces first.separator read here.first result };
+
+    ghost finished = { λ first start now read here result. FinishesText first.separator read here.first result };
+
+    /// Takes the next bytes, and gives the index in the text after the mark at which the first row ends, if they end it.
+    fn take_piece(
+        &mut self,
+        _alloc: Global,
+        piece: &[u8],
+        _output: &mut (),
+    ) -> Result<Option<usize>, ToolFault> {
+        self.first.take_piece(self.separator, piece)
     }
-    Err(ToolFault::TooManyTurns)
+
+    /// Ends the bytes, and gives the index in the text after the mark at which the first row ends.
+    fn finish(&mut self, _alloc: Global, _output: &mut ()) -> Result<usize, ToolFault> {
+        self.first.finish(self.separator)
+    }
 }

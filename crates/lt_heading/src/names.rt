@@ -1,5 +1,5 @@
 //! The names of a heading, and where a name stands among them.
-ghost use Rattle.std.specs.Prelude.{◌≡◌, ◌++◌, ℕ, List, IfOk, OnOk, false, string_bytes};
+ghost use Rattle.std.specs.Prelude.{◌≡◌, ◌++◌, ℕ, List, IfOk, OnOk, false, string_bytes, take};
 ghost use Rattle.std.specs.Option.{option_map};
 ghost use Rattle.lt_jar.specs.Lines.{content_of};
 ghost use Rattle.lt_heading.specs.Names as spec;
@@ -8,6 +8,12 @@ ghost use Rattle.lt_heading.specs.Names.{AreNames, IsFound, IsNameOf, LooksUp, f
 use lt_rows::{Separator, find_field, text_in};
 use lt_words::escaped;
 use std::alloc::{AllocError, Global};
+
+/// The most names of a heading that are listed where one is not found.
+const MOST_LISTED: usize = 64;
+
+/// The most bytes of a name that are shown.
+const MOST_SHOWN: usize = 64;
 
 /// Where a name stands among others.
 #[derive(Clone, Copy)]
@@ -38,7 +44,7 @@ impl Found {
 #[derive(Drop)]
 pub(crate) struct Looked {
     pub(crate) found: Found,
-    /// All names, each after a space and between quotes.
+    /// The first names, each after a space and between quotes, and how many more there are.
     pub(crate) listed: String,
 }
 
@@ -72,14 +78,62 @@ fn name_of(alloc: Global, separator: Separator, field: &[u8]) -> Result<Vec<u8>,
     Ok(name)
 }
 
-/// Appends a space and a name between quotes, with escapes for what can't be printed as it is.
+/// The front of a name that is shown.
+fn shown_front(name: &[u8]) -> &[u8]
+    ensures { result.now ≡ take spec.most_shown name.now }
+{
+    &name[..name.len().min(MOST_SHOWN)]
+}
+
+/// Two dots for a name that is longer than what is shown of it, else no text.
+fn dots_after(name: &[u8]) -> &'static str
+    ensures { result.now ≡ spec.dots_after name.now }
+{
+    if name.len() > MOST_SHOWN { ".." } else { "" }
+}
+
+/// Appends a space and a name between quotes, with escapes for what can't be printed as it is. Of a long name its front
+/// is appended, and two dots after the quotes.
 pub(crate) fn append_shown(shown: &mut String, alloc: Global, name: &[u8]) -> Result<(), AllocError>
     ensures { OnOk result (string_bytes shown.new ≡ string_bytes shown.old ++ shown_name name.now) }
 {
-    let name = escaped(alloc, name)?;
+    let front = escaped(alloc, shown_front(name))?;
     shown.push_str(" \"")?;
-    shown.push_str(&name)?;
-    shown.push('"')
+    shown.push_str(&front)?;
+    shown.push('"')?;
+    shown.push_str(dots_after(name))?;
+    Ok(())
+}
+
+/// Appends a name to the list of those before it, which are so many, if it is one of the first that are listed.
+fn append_listed(
+    listed: &mut String,
+    alloc: Global,
+    count: usize,
+    name: &[u8],
+) -> Result<(), AllocError>
+    ensures { OnOk result (string_bytes listed.new ≡ string_bytes listed.old ++ spec.listed_after count name.now) }
+{
+    if count < MOST_LISTED {
+        append_shown(listed, alloc, name)?;
+    }
+    Ok(())
+}
+
+/// What was found of a name among so many names, the first of which are listed: the list says how many more there are.
+fn looked_among(
+    alloc: Global,
+    found: Found,
+    mut listed: String,
+    count: usize,
+) -> Result<Looked, AllocError>
+    ensures { IfOk result (λ looked. (looked.found ≡ found) × (string_bytes looked.listed ≡ string_bytes listed ++ spec.rest_said count)) }
+{
+    if count > MOST_LISTED {
+        let more = count - MOST_LISTED;
+        listed.push_str(&format!(in alloc; " and {more} more")?)?;
+    }
+    Ok(Looked { found, listed })
 }
 
 /// Looks a name up among the names of the columns in a heading: `row`, without the carriage return that may end it.
@@ -98,15 +152,15 @@ fn look_up_in_row(
     let mut rest = row;
     while let Some((_, field, after)) = find_field(separator, rest, 0) {
         let other = name_of(alloc, separator, field)?;
-        append_shown(&mut listed, alloc, &other)?;
+        append_listed(&mut listed, alloc, count, &other)?;
         count += 1;
         found = found.with(count, other.as_slice() == name);
         match after.split_first() {
             Some((_, more)) => rest = more,
-            None => return Ok(Looked { found, listed }),
+            None => return looked_among(alloc, found, listed, count),
         }
     }
-    Ok(Looked { found, listed })
+    looked_among(alloc, found, listed, count)
 }
 
 /// A row without the carriage return that may end it.

@@ -3,11 +3,11 @@ use Rattle.std.proofs.Common.{◌≡◌, ◌<◌, ◌+◌, ◌++◌, ◌∙◌, 
 use Rattle.std.proofs.lemmas.List.{nil_from_length, take_all}
 use Rattle.lt_jar.specs.Devices.{failures_of}
 use Rattle.lt_jar.specs.declared.devices.Device.{Device}
-use Rattle.lt_rows.specs.Marks.{IsWide, MayBeMark}
+use Rattle.lt_rows.specs.Marks.{IsWide, MayBeMark, SplitsMark}
 use Rattle.lt_rows.proofs.MarkLemmas.{short_mark, short_narrow, short_one_line, short_unmarked, split_more, split_of}
 use Rattle.lt_lines.specs.Answering.{IsLongBy, IsPieceStop, IsStop, IsTaken, kept_of, longest_kept, part_kept, place_then}
 use Rattle.lt_lines.specs.Marked.{EndsText, HasRoomFor, IsKeptFront, IsTakenAfter, IsTakenText}
-use Rattle.lt_lines.specs.Owed.{AfterMark, IsBegunText, SplitsText, Terms, ended}
+use Rattle.lt_lines.specs.Owed.{AfterMark, IsBegunText, MayHaveMark, SplitsText, Terms, ended}
 use Rattle.lt_lines.specs.Tallied.{AreTalliesOf, TalliesToLastFeed}
 use Rattle.lt_lines.specs.declared.answering.Answering.{Answering}
 use Rattle.lt_lines.specs.declared.forms.LineForm.{LineForm}
@@ -26,6 +26,18 @@ pub splits_whole : (form : LineForm) (bytes mark text : List ℕ) → SplitsText
 splits_whole forms.Tag bytes mark text s = rw (s.0, s.1) refl
 splits_whole (forms.Row row) bytes mark text s = s.whole
 splits_whole (forms.Csv row delimiter) bytes mark text s = s.whole
+
+-- where a mark is looked for, the bytes are split into the one that they begin with, if any, and the text after it
+pub splits_marked : (form : LineForm) (bytes mark text : List ℕ) → MayHaveMark form → SplitsMark bytes mark text → SplitsText form bytes mark text
+splits_marked forms.Tag bytes mark text looked s = absurd looked
+splits_marked (forms.Row row) bytes mark text looked s = s
+splits_marked (forms.Csv row delimiter) bytes mark text looked s = s
+
+-- where no mark is looked for, all bytes are text
+pub splits_never : (form : LineForm) (bytes : List ℕ) → (MayHaveMark form → ⊥) → SplitsText form bytes [] bytes
+splits_never forms.Tag bytes never = (refl, refl)
+splits_never (forms.Row row) bytes never = absurd (never tt)
+splits_never (forms.Csv row delimiter) bytes never = absurd (never tt)
 
 -- bytes that tell whether they begin with a mark have the same mark whatever follows them
 pub splits_more : (form : LineForm) (bytes mark text more : List ℕ) → (MayBeMark bytes → ⊥) → SplitsText form bytes mark text → SplitsText form (bytes ++ more) mark (text ++ more)
@@ -58,7 +70,7 @@ pub record IsAt (T : Terms) (bytes written : List ℕ) (state : Answering) : Typ
   pub mark : List ℕ
   pub text : List ℕ
   pub split : SplitsText T.form bytes mark text
-  pub narrow : IsWide bytes → ⊥
+  pub narrow : MayHaveMark T.form → IsWide bytes → ⊥
   pub out : List ℕ
   pub written_is : written ≡ mark ++ out
   pub taken : IsTaken T text out state
@@ -69,7 +81,7 @@ at_after T bytes written state a = record {
   mark = a.mark;
   text = a.text;
   split = subst (λ (l : List ℕ). SplitsText T.form l a.mark a.text) (append-nil bytes) (subst (λ (l : List ℕ). SplitsText T.form (bytes ++ []) a.mark l) (append-nil a.text) (a.split []));
-  narrow = subst (λ (l : List ℕ). IsWide l → ⊥) (append-nil bytes) (a.narrow []);
+  narrow = λ looked. subst (λ (l : List ℕ). IsWide l → ⊥) (append-nil bytes) (a.narrow [] looked);
   out = a.out;
   written_is = a.written_is;
   taken = a.taken;
@@ -106,7 +118,7 @@ at_front T bytes written state k none =
         mark = [];
         text = bytes;
         split = splits_short T.form bytes k.may_be;
-        narrow = short_narrow bytes k.may_be;
+        narrow = λ looked. short_narrow bytes k.may_be;
         out = [];
         written_is = k.nothing;
         taken = taken_part T [] [] bytes old mid k.taken (short_one_line bytes k.may_be) (λ long. few_short T.form (length bytes) few (rw empty at long)) kept refl refl refl refl refl refl;
@@ -158,7 +170,7 @@ stop_from before between after f same (inr lacks) = inr (lacks.0, lacks.1 ∙ sa
 
 -- a piece of the text after the mark ends the run
 pub piece_stopped : {W : Type 0} (T : Terms) (bytes text out piece wrote mark : List ℕ) (state new : Answering) (before between after : Device W) (f : ToolFault) → SplitsText T.form bytes mark (text ++ piece)
-    → (IsWide bytes → ⊥) → IsTaken T text out state → failures_of between ≡ failures_of before → IsPieceStop T piece state new between after wrote f → EndsText T before after bytes (mark ++ (out ++ wrote)) new.tallies f
+    → (MayHaveMark T.form → IsWide bytes → ⊥) → IsTaken T text out state → failures_of between ≡ failures_of before → IsPieceStop T piece state new between after wrote f → EndsText T before after bytes (mark ++ (out ++ wrote)) new.tallies f
 piece_stopped T bytes text out piece wrote mark state new before between after f split narrow taken same (inl long) = inr (inr (
   long.line,
   long.fault,

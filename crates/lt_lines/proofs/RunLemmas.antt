@@ -61,7 +61,7 @@ ends_long T remaining input input' output output' reads read written tallies lin
 module _ {W : Type 0} (T : Terms) (contents : W → Option (List ℕ)) (start : Device W) where
   -- at its beginning a run has read and written nothing
   pub reading_none : (state : Marked) → IsNew T state → IsReading T contents start start [] state
-  reading_none state new = record { written = []; appends = Appends-nil _; same = refl; taken = inr new.kept; emptied = new.emptied }
+  reading_none state new = record { written = []; appends = Appends-nil _; same = refl; taken = new.taken; emptied = new.emptied }
 
   -- while fewer than 2 to the 63 bytes are read, the counts have room for a piece of `count` bytes and one line more
   pub reading_room : (now : Device W) (read : List ℕ) (state : Marked) (count : ℕ) → IsReading T contents start now read state → length read + count < 2 ^ 63 → HasRoomFor state (count + 1)
@@ -85,7 +85,7 @@ module _ {W : Type 0} (T : Terms) (contents : W → Option (List ℕ)) (start : 
     -- why a run over a text ends, told of the output since `before`, is true of it since the beginning of the run
     ends_from : (bytes written : List ℕ) (tallies : List Tally) (f : ToolFault) → EndsText T before after bytes written tallies f → EndsText T start after bytes written tallies f
     ends_from bytes written tallies f (inl stop) = inl (stop_from start before after f t.same stop.0, stop.1)
-    ends_from bytes written tallies f (inr (inl wide)) = inr (inl (wide.0, wide.1 ∙ t.same, wide.2, wide.3, wide.4))
+    ends_from bytes written tallies f (inr (inl wide)) = inr (inl (wide.0, wide.1 ∙ t.same, wide.2, wide.3, wide.4, wide.5))
     ends_from bytes written tallies f (inr (inr long)) = inr (inr (long.0, long.1, long.2 ∙ t.same, long.3))
 
     -- a piece that ends by a fault ends the run by it
@@ -183,7 +183,7 @@ module _ {I W A : Type 0} (T : Terms) (U : A → Terms) (text : A → Marked) (r
         run_over written appends begun (rw fault tt) (λ lt. absurd (omega (arith, lt, same))) (λ lt. absurd (omega (arith, lt, lacks.1)))
     run_stopped f is same written appends (inr (inl wide)) =
         let fault : r ≡ Err faults.Utf16 = is ∙ ap (λ (e : ToolFault). Err e) wide.0 in
-        run_over written appends (rw wide.3 (begun_none T p.read)) (rw fault (record { wide = wide.2; nothing = wide.3; none = wide.4 })) (λ lt. absurd (omega (arith, lt, same))) (λ lt. absurd (omega (arith, lt, wide.1)))
+        run_over written appends (rw wide.3 (begun_none T p.read)) (rw fault (record { looked = wide.5; wide = wide.2; nothing = wide.3; none = wide.4 })) (λ lt. absurd (omega (arith, lt, same))) (λ lt. absurd (omega (arith, lt, wide.1)))
     run_stopped f is same written appends (inr (inr long)) =
         let fault : r ≡ Err (long_fault T.form long.0) = is ∙ ap (λ (e : ToolFault). Err e) long.1 in
         run_over written appends (begun_after T p.read written long.0 (text here).answering.tallies long.3)

@@ -3,17 +3,17 @@ use Rattle.std.proofs.Common.{Result, Ok, Err, ◌≡◌, ◌++◌, ◌∙◌, �
 use Rattle.std.proofs.KnownBytes.{Appends-trans}
 use Rattle.lt_jar.specs.Devices.{failures_of}
 use Rattle.lt_jar.specs.declared.devices.Device.{Device}
-use Rattle.lt_rows.specs.Marks.{IsWide}
+use Rattle.lt_rows.specs.Marks.{IsWide, SplitsMark}
 use Rattle.lt_rows.proofs.MarkLemmas.{short_narrow}
 use Rattle.lt_lines.specs.Answering.{FinishesLines}
 use Rattle.lt_lines.specs.Marked.{BeginsText, EndsText, EndsTextInQuotes, FinishesText, IsKeptFront}
-use Rattle.lt_lines.specs.Owed.{AfterMark, SplitsText, Terms}
+use Rattle.lt_lines.specs.Owed.{AfterMark, Terms}
 use Rattle.lt_lines.specs.Tallied.{OwesAll}
 use Rattle.lt_lines.specs.declared.answering.Answering.{Answering}
 use Rattle.lt_lines.specs.declared.marked.Marked.{Marked}
 use Rattle.lt_lines.specs.declared.runs.Counts.{Counts}
 use Rattle.lt_stream.specs.declared.faults.ToolFault.{ToolFault}
-use Rattle.lt_lines.proofs.MarkedLemmas.{IsAt, at_after, stop_from}
+use Rattle.lt_lines.proofs.MarkedLemmas.{IsAt, at_after, splits_marked, stop_from}
 use Rattle.lt_lines.proofs.TextRunLemmas.{unbegun}
 
 -- ---- the end
@@ -85,8 +85,8 @@ module _ {W : Type 0} (T : Terms) (contents : W → Option (List ℕ)) (old mid 
       record {
         mark = b.mark;
         text = b.text;
-        split = subst (λ (l : List ℕ). SplitsText T.form l b.mark b.text) k.kept b.split;
-        narrow = short_narrow bytes k.may_be;
+        split = splits_marked T.form bytes b.mark b.text k.looked (subst (λ (l : List ℕ). SplitsMark l b.mark b.text) k.kept b.split);
+        narrow = λ looked. short_narrow bytes k.may_be;
         out = more.0;
         written_is = ap (λ (l : List ℕ). l ++ b.written) k.nothing ∙ more.1;
         taken = more.2 k.taken;
@@ -125,6 +125,6 @@ module _ {W : Type 0} (T : Terms) (contents : W → Option (List ℕ)) (old mid 
     stopped = λ bytes out t none. elim t [
       | inl a ↦ unbegun old.is_begun a.begun begun
       | inr k ↦ inr (rw k.nothing (subst (λ (l : List ℕ). EndsText T before after l b.written mid.answering.tallies e) k.kept
-          (b.stopped (subst (λ (l : List ℕ). IsWide l → ⊥) (sym k.kept) (short_narrow bytes k.may_be)) k.taken)))
+          (b.stopped k.looked (subst (λ (l : List ℕ). IsWide l → ⊥) (sym k.kept) (short_narrow bytes k.may_be)) k.taken)))
     ];
   }

@@ -1,63 +1,85 @@
 -- The calls that answer a text that may begin with a byte order mark, piece by piece.
-use Rattle.std.proofs.Common.{Result, Ok, Err, ◌≡◌, ◌++◌, ◌∷◌, ◌∙◌, ℕ, List, [], Bool, true, false, Option, length, sym, ap, refl, subst, arith, append_assoc, append-nil, length-append, inl, inr}
+use Rattle.std.proofs.Common.{Result, Ok, Err, ◌≡◌, ◌↔◌, IsTrue, not, ◌++◌, ◌∷◌, ◌∙◌, ℕ, List, [], Bool, true, false, Option, length, sym, ap, refl, subst, arith, append_assoc, append-nil, length-append, inl, inr}
 use Rattle.std.specs.Io.KnownBytes.{Appends}
 use Rattle.std.proofs.KnownBytes.{Appends-nil, Appends-trans}
 use Rattle.lt_jar.specs.Devices.{inner_of}
 use Rattle.lt_jar.specs.declared.devices.Device.{Device}
-use Rattle.lt_rows.specs.Marks.{IsWide, MayBeMark}
+use Rattle.lt_rows.specs.Marks.{IsWide, MayBeMark, SplitsMark}
 use Rattle.lt_rows.proofs.MarkLemmas.{wide_more}
 use Rattle.lt_stream.specs.DeviceOutput.{WritesText}
-use Rattle.lt_lines.specs.Answering.{IsFresh, TakesPiece}
+use Rattle.lt_lines.specs.Answering.{IsFresh, IsTaken, TakesPiece}
 use Rattle.lt_lines.specs.Marked.{BeginsText, EndsText, IsNew, TakesText}
-use Rattle.lt_lines.specs.Owed.{IsBegunText, SplitsText, Terms}
+use Rattle.lt_lines.specs.Owed.{IsBegunText, MayHaveMark, SplitsText, Terms}
 use Rattle.lt_stream.proofs.TallyLemmas.{no_tallies}
 use Rattle.lt_lines.specs.declared.answering.Answering.{Answering}
 use Rattle.lt_lines.specs.declared.marked.Marked.{Marked}
 use Rattle.lt_stream.specs.declared.faults.ToolFault.{ToolFault}
 use Rattle.lt_stream.specs.declared.faults.ToolFault.TheVariants as faults
 use Rattle.lt_lines.proofs.FormLemmas.{of_none}
-use Rattle.lt_lines.proofs.MarkedLemmas.{begun_none, piece_stopped, splits_more, splits_whole}
+use Rattle.lt_lines.proofs.MarkedLemmas.{begun_none, piece_stopped, splits_marked, splits_more, splits_never}
 
 -- anything follows where a flag is both true and false
 pub unbegun : {P : Type 0} (b : Bool) → b ≡ true → b ≡ false → P
 unbegun b begun not = let bad : true ≡ false = sym begun ∙ not in cc
 
--- a state that keeps no bytes and has not begun has read nothing of a text
-pub new_text : (T : Terms) (state : Marked) → state.front.items ≡ [] → state.is_begun ≡ false → IsFresh state.answering → IsNew T state
-new_text T state front begun fresh = record {
-  kept = record {
+-- a state that has answered nothing has taken nothing in
+fresh_taken : (T : Terms) (state : Answering) → IsFresh state → IsTaken T [] [] state
+fresh_taken T state fresh = record {
+  lines = [];
+  last = [];
+  cut = refl;
+  each_one = tt;
+  last_one = (of_none T.form).unit;
+  kept = fresh.items.0 ∙ sym (of_none T.form).kept;
+  goes_on = fresh.place.0 ∙ sym (of_none T.form).closed;
+  short = λ _. (of_none T.form).short;
+  feeds = fresh.place.1;
+  owed = [];
+  each = tt;
+  all = fresh.items.1;
+  count = fresh.counts.0;
+  refused = fresh.counts.1;
+  tallied = record { refusals = []; are_refused = refl; tallied = rw fresh.tallies no_tallies };
+  recent = fresh.recent T.ground.entries T.form;
+}
+
+-- a state that keeps no bytes and has answered nothing has read nothing of a text; it has begun where no mark is looked
+-- for, which `may` tells
+pub new_text : (T : Terms) (state : Marked) (may : Bool) → IsTrue may ↔ MayHaveMark T.form → state.front.items ≡ [] → state.is_begun ≡ not may → IsFresh state.answering → IsNew T state
+new_text T state true tells front begun fresh = record {
+  taken = inr (record {
+    looked = tells.0 refl;
     begun = begun;
     kept = front;
     may_be = inl (239, 187 ∷ 191 ∷ [], refl);
     nothing = refl;
     none_refused = fresh.tallies;
-    taken = record {
-      lines = [];
-      last = [];
-      cut = refl;
-      each_one = tt;
-      last_one = (of_none T.form).unit;
-      kept = fresh.items.0 ∙ sym (of_none T.form).kept;
-      goes_on = fresh.place.0 ∙ sym (of_none T.form).closed;
-      short = λ _. (of_none T.form).short;
-      feeds = fresh.place.1;
-      owed = [];
-      each = tt;
-      all = fresh.items.1;
-      count = fresh.counts.0;
-      refused = fresh.counts.1;
-      tallied = record { refusals = []; are_refused = refl; tallied = rw fresh.tallies no_tallies };
-      recent = fresh.recent T.ground.entries T.form;
-    };
-  };
+    taken = fresh_taken T state.answering fresh;
+  });
   emptied = fresh.items.1;
 }
+new_text T state false tells front begun fresh =
+    let never : MayHaveMark T.form → ⊥ = λ looked. let bad : false ≡ true = tells.1 looked in cc in
+    record {
+      taken = inl (record {
+        begun = begun;
+        emptied = front;
+        mark = [];
+        text = [];
+        split = λ more. splits_never T.form more never;
+        narrow = λ more looked. absurd (never looked);
+        out = [];
+        written_is = refl;
+        taken = fresh_taken T state.answering fresh;
+      });
+      emptied = fresh.items.1;
+    }
 
 -- ---- the mark is written
 
 -- the kept first bytes were split into `mark` and `text`: the output is `before` until the mark is written, then
 -- `between`, and `after` once the text was taken in
-module _ {W : Type 0} (T : Terms) (contents : W → Option (List ℕ)) (old new : Marked) (before between after : Device W) (mark text : List ℕ) (split : SplitsText T.form old.front.items mark text) where
+module _ {W : Type 0} (T : Terms) (contents : W → Option (List ℕ)) (old new : Marked) (before between after : Device W) (mark text : List ℕ) (split : SplitsMark old.front.items mark text) where
   -- the mark could not be written
   pub begin_unwritten : (f : ToolFault) → WritesText contents mark before after (Err f) → BeginsText T contents old new before after (Err f)
   begin_unwritten f w = record {
@@ -68,7 +90,7 @@ module _ {W : Type 0} (T : Terms) (contents : W → Option (List ℕ)) (old new 
     split = split;
     done = tt;
     room = tt;
-    stopped = λ narrow taken. inl (inl w.stopped, record { mark = mark; text = text; split = split; front = inl w.front });
+    stopped = λ looked narrow taken. inl (inl w.stopped, record { mark = mark; text = text; split = splits_marked T.form old.front.items mark text looked split; front = inl w.front });
   }
 
   -- the mark was written, and the text after it ended the run
@@ -81,7 +103,7 @@ module _ {W : Type 0} (T : Terms) (contents : W → Option (List ℕ)) (old new 
     split = split;
     done = tt;
     room = tt;
-    stopped = λ narrow taken. piece_stopped T old.front.items [] [] text p.written mark old.answering new.answering before between after f split narrow taken w.done.1 p.stopped;
+    stopped = λ looked narrow taken. piece_stopped T old.front.items [] [] text p.written mark old.answering new.answering before between after f (splits_marked T.form old.front.items mark text looked split) (λ _. narrow) taken w.done.1 p.stopped;
   }
 
   -- the mark was written, and the text after it was taken in
@@ -94,7 +116,7 @@ module _ {W : Type 0} (T : Terms) (contents : W → Option (List ℕ)) (old new 
     text = text;
     split = split;
     done = (p.done.0 ∙ w.done.1, p.done.1, begun, emptied, (p.written, refl, λ taken. p.done.2 [] [] taken));
-    room = λ count has. let long = ap length (splits_whole T.form old.front.items mark text split) ∙ length-append mark text in p.room count (record {
+    room = λ count has. let long = ap length split.whole ∙ length-append mark text in p.room count (record {
       room = omega (arith, has.room, long);
       feeds = omega (arith, has.feeds, long);
       refused = has.refused;
@@ -122,7 +144,7 @@ module _ {W : Type 0} (T : Terms) (contents : W → Option (List ℕ)) (piece : 
             mark = a.mark;
             text = a.text ++ piece;
             split = λ more. rw (append_assoc bytes piece more, append_assoc a.text piece more) (a.split (piece ++ more));
-            narrow = λ more. rw (append_assoc bytes piece more) (a.narrow (piece ++ more));
+            narrow = λ more looked. rw (append_assoc bytes piece more) (a.narrow (piece ++ more) looked);
             out = a.out ++ p.written;
             written_is = ap (λ (l : List ℕ). l ++ p.written) a.written_is ∙ append_assoc a.mark a.out p.written;
             taken = p.done.2 a.text a.out a.taken;
@@ -154,7 +176,7 @@ module _ {W : Type 0} (T : Terms) (contents : W → Option (List ℕ)) (piece : 
     done = tt;
     stopped = λ bytes out t. elim t [
       | inl a ↦ unbegun old.is_begun a.begun begun
-      | inr k ↦ inr (inl (refl, refl, subst (λ (l : List ℕ). IsWide (l ++ piece)) k.kept wide, append-nil out ∙ k.nothing, ap (λ (a : Answering). a.tallies) same ∙ k.none_refused))
+      | inr k ↦ inr (inl (refl, refl, subst (λ (l : List ℕ). IsWide (l ++ piece)) k.kept wide, append-nil out ∙ k.nothing, ap (λ (a : Answering). a.tallies) same ∙ k.none_refused, k.looked))
     ];
   }
 
@@ -181,6 +203,7 @@ module _ {W : Type 0} (T : Terms) (contents : W → Option (List ℕ)) (piece : 
         | inl a ↦ unbegun old.is_begun a.begun begun
         | inr k ↦ (
           inr (record {
+            looked = k.looked;
             begun = still;
             kept = front ∙ ap (λ (l : List ℕ). l ++ piece) k.kept;
             may_be = subst (λ (l : List ℕ). MayBeMark (l ++ piece)) k.kept may;
@@ -208,7 +231,7 @@ module _ {W : Type 0} (T : Terms) (contents : W → Option (List ℕ)) (piece : 
         | inr k ↦
             let whole : mid.front.items ≡ bytes ++ piece = front ∙ ap (λ (l : List ℕ). l ++ piece) k.kept in
             let kept : old.front.items ++ piece ≡ bytes ++ piece = ap (λ (l : List ℕ). l ++ piece) k.kept in
-            let split = subst (λ (l : List ℕ). SplitsText T.form l b.mark b.text) whole b.split in
+            let split = splits_marked T.form (bytes ++ piece) b.mark b.text k.looked (subst (λ (l : List ℕ). SplitsMark l b.mark b.text) whole b.split) in
             let undecided = subst (λ (l : List ℕ). MayBeMark l → ⊥) kept none in
             let more = b.done.4 in (
               inl (record {
@@ -217,7 +240,7 @@ module _ {W : Type 0} (T : Terms) (contents : W → Option (List ℕ)) (piece : 
                 mark = b.mark;
                 text = b.text;
                 split = λ rest. splits_more T.form (bytes ++ piece) b.mark b.text rest undecided split;
-                narrow = λ rest. wide_more (bytes ++ piece) rest undecided (subst (λ (l : List ℕ). IsWide l → ⊥) kept narrow);
+                narrow = λ rest looked. wide_more (bytes ++ piece) rest undecided (subst (λ (l : List ℕ). IsWide l → ⊥) kept narrow);
                 out = more.0;
                 written_is = ap (λ (l : List ℕ). l ++ b.written) k.nothing ∙ more.1;
                 taken = more.2 (rw same k.taken);
@@ -235,6 +258,6 @@ module _ {W : Type 0} (T : Terms) (contents : W → Option (List ℕ)) (piece : 
     stopped = λ bytes out t. elim t [
       | inl a ↦ unbegun old.is_begun a.begun begun
       | inr k ↦ rw k.nothing (subst (λ (l : List ℕ). EndsText T before after l b.written new.answering.tallies f) (front ∙ ap (λ (l : List ℕ). l ++ piece) k.kept)
-          (b.stopped (subst (λ (l : List ℕ). IsWide l → ⊥) (sym front) narrow) (rw same k.taken)))
+          (b.stopped k.looked (subst (λ (l : List ℕ). IsWide l → ⊥) (sym front) narrow) (rw same k.taken)))
     ];
   }

@@ -3,9 +3,9 @@ use Rattle.std.specs.Prelude.{◌≡◌, ◌+◌, ◌⊎◌, ℕ, true, false, L
 use Rattle.std.specs.Io.KnownBytes.{Appends}
 use Rattle.lt_jar.specs.Devices.{failures_of, inner_of}
 use Rattle.lt_jar.specs.declared.devices.Device.{Device}
-use Rattle.lt_rows.specs.Marks.{IsWide, MayBeMark}
+use Rattle.lt_rows.specs.Marks.{IsWide, MayBeMark, SplitsMark}
 use Rattle.lt_lines.specs.Answering.{HasRoom, IsStop, IsTaken}
-use Rattle.lt_lines.specs.Owed.{AfterMark, IsBegunText, SplitsText, Terms, long_fault}
+use Rattle.lt_lines.specs.Owed.{AfterMark, IsBegunText, MayHaveMark, SplitsText, Terms, long_fault}
 use Rattle.lt_lines.specs.Tallied.{OwesAll, TalliesInQuotes, TalliesTooLong}
 use Rattle.lt_lines.specs.declared.marked.Marked.{Marked}
 use Rattle.lt_stream.specs.declared.tallies.Tally.{Tally}
@@ -21,13 +21,14 @@ pub record IsTakenAfter (T : Terms) (bytes written : List ℕ) (state : Marked) 
   pub mark : List ℕ
   pub text : List ℕ
   pub split : (more : List ℕ) → SplitsText T.form (bytes ++ more) mark (text ++ more)
-  pub narrow : (more : List ℕ) → IsWide (bytes ++ more) → ⊥
+  pub narrow : (more : List ℕ) → MayHaveMark T.form → IsWide (bytes ++ more) → ⊥
   pub out : List ℕ
   pub written_is : written ≡ mark ++ out
   pub taken : IsTaken T text out state.answering
 
 -- these first bytes are kept, since they may be part of a mark, and nothing is written or answered yet
 pub record IsKeptFront (T : Terms) (bytes written : List ℕ) (state : Marked) : Type 0 where
+  pub looked : MayHaveMark T.form
   pub begun : state.is_begun ≡ false
   pub kept : state.front.items ≡ bytes
   pub may_be : MayBeMark bytes
@@ -42,7 +43,7 @@ IsTakenText T bytes written state = IsTakenAfter T bytes written state ⊎ IsKep
 
 -- the state of a run over a text that has read nothing
 pub record IsNew (T : Terms) (state : Marked) : Type 0 where
-  pub kept : IsKeptFront T [] [] state
+  pub taken : IsTakenText T [] [] state
   pub emptied : state.answering.owed.items ≡ []
 
 -- the counts have room for the lines of the bytes that are kept and of this many further ones
@@ -54,7 +55,8 @@ HasRoomFor state count = HasRoom state.answering (length state.front.items + cou
 abbrev pub EndsText : {W : Type 0} → Terms → Device W → Device W → (bytes written : List ℕ) → List Tally
     → ToolFault → Type 0
 EndsText T before after bytes written tallies f = (IsStop before after f × IsBegunText T bytes written)
-    ⊎ (((f ≡ faults.Utf16) × (failures_of after ≡ failures_of before) × IsWide bytes × (written ≡ []) × (tallies ≡ []))
+    ⊎ (((f ≡ faults.Utf16) × (failures_of after ≡ failures_of before) × IsWide bytes × (written ≡ []) × (tallies ≡ [])
+    × MayHaveMark T.form)
     ⊎ ((line : ℕ) × (f ≡ long_fault T.form line) × (failures_of after ≡ failures_of before)
     × AfterMark T (TalliesTooLong T line tallies) bytes written))
 
@@ -67,12 +69,12 @@ pub record BeginsText {W : Type 0} (T : Terms) (contents : W → Option (List �
   pub appends : Appends (contents (inner_of before)) (contents (inner_of after)) written
   pub mark : List ℕ
   pub text : List ℕ
-  pub split : SplitsText T.form old.front.items mark text
+  pub split : SplitsMark old.front.items mark text
   pub done : IfOk result (λ _. (failures_of after ≡ failures_of before) × (new.answering.owed.items ≡ [])
       × (new.is_begun ≡ true) × (new.front.items ≡ [])
       × ((out : List ℕ) × (written ≡ mark ++ out) × (IsTaken T [] [] old.answering → IsTaken T text out new.answering)))
   pub room : IfOk result (λ _. (count : ℕ) → HasRoomFor old count → HasRoom new.answering count)
-  pub stopped : IfErr result (λ f. (IsWide old.front.items → ⊥) → IsTaken T [] [] old.answering
+  pub stopped : IfErr result (λ f. MayHaveMark T.form → (IsWide old.front.items → ⊥) → IsTaken T [] [] old.answering
       → EndsText T before after old.front.items written new.answering.tallies f)
 
 -- a piece of the reader's bytes was taken in, and all answers that are due were written; or a fault ended the run.

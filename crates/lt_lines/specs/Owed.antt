@@ -350,8 +350,13 @@ pub record IsBegun (T : Terms) (bytes written : List ℕ) : Type 0 where
 
 -- ---- a byte order mark
 
--- the byte order mark at the beginning of the bytes, if there is one, and the text after it; before tags none is looked
--- for
+-- a byte order mark is looked for before rows and records; before tags none is, since each line is answered as it is
+abbrev pub MayHaveMark : LineForm → Type 0
+MayHaveMark forms.Tag = ⊥
+MayHaveMark (forms.Row row) = Unit {0}
+MayHaveMark (forms.Csv row delimiter) = Unit {0}
+
+-- the byte order mark at the beginning of the bytes, if one is looked for and there, and the text after it
 abbrev pub SplitsText : LineForm → (bytes mark text : List ℕ) → Type 0
 SplitsText forms.Tag bytes mark text = (mark ≡ []) × (text ≡ bytes)
 SplitsText (forms.Row row) bytes mark text = SplitsMark bytes mark text
@@ -362,7 +367,7 @@ pub record AfterMark (T : Terms) (P : (text written : List ℕ) → Type 0) (byt
   pub mark : List ℕ
   pub text : List ℕ
   pub split : SplitsText T.form bytes mark text
-  pub narrow : IsWide bytes → ⊥
+  pub narrow : MayHaveMark T.form → IsWide bytes → ⊥
   pub more : List ℕ
   pub written_is : written ≡ mark ++ more
   pub holds : P text more

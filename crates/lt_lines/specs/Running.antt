@@ -5,7 +5,7 @@ use Rattle.lt_jar.specs.Devices.{HasFailed, failures_of, inner_of, last_given_of
 use Rattle.lt_jar.specs.Sources.{most_reads}
 use Rattle.lt_jar.specs.declared.devices.Device.{Device}
 use Rattle.lt_rows.specs.Marks.{IsWide}
-use Rattle.lt_lines.specs.Owed.{AfterMark, IsBegunText, Terms, long_fault}
+use Rattle.lt_lines.specs.Owed.{AfterMark, IsBegunText, MayHaveMark, Terms, long_fault}
 use Rattle.lt_lines.specs.Tallied.{OwesAll, TalliesInQuotes, TalliesToLastFeed, TalliesTooLong}
 use Rattle.lt_stream.specs.Running.{HasRead}
 use Rattle.lt_stream.specs.declared.faults.ToolFault.{ToolFault}
@@ -47,8 +47,9 @@ pub record IsStoppedByLength (T : Terms) (read written : List ℕ) (tallies : Li
   pub named : f ≡ long_fault T.form line
   pub ends : AfterMark T (TalliesTooLong T line tallies) read written
 
--- the bytes begin with a byte order mark of UTF-16, and nothing was written
-pub record IsStoppedByMark (read written : List ℕ) (tallies : List Tally) : Type 0 where
+-- the bytes begin with a byte order mark of UTF-16, before rows or records, and nothing was written
+pub record IsStoppedByMark (T : Terms) (read written : List ℕ) (tallies : List Tally) : Type 0 where
+  pub looked : MayHaveMark T.form
   pub wide : IsWide read
   pub nothing : written ≡ []
   pub none : tallies ≡ []
@@ -70,7 +71,7 @@ EndsAs T remaining input input' output output' reads read written tallies (Err (
 EndsAs T remaining input input' output output' reads read written tallies (Err (faults.BadTsv line)) =
     IsStoppedByLength T read written tallies (faults.BadTsv line) line
 EndsAs T remaining input input' output output' reads read written tallies (Err faults.Utf16) =
-    IsStoppedByMark read written tallies
+    IsStoppedByMark T read written tallies
 EndsAs T remaining input input' output output' reads read written tallies (Err faults.Write) = HasFailed output output'
 EndsAs T remaining input input' output output' reads read written tallies (Err faults.OutOfMemory) = Unit {0}
 

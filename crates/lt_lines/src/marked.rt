@@ -1,7 +1,7 @@
 //! Answering a text that may begin with a byte order mark.
-ghost use Rattle.std.specs.Prelude.{◌+◌, length};
+ghost use Rattle.std.specs.Prelude.{◌≡◌, ◌↔◌, ◌+◌, IsTrue, length};
 ghost use Rattle.lt_lines.specs.Marked.{BeginsText, FinishesText, HasRoomFor, IsNew, TakesText};
-ghost use Rattle.lt_lines.specs.Owed.{SplitsText, Terms, ground_of, terms};
+ghost use Rattle.lt_lines.specs.Owed.{MayHaveMark, Terms, ground_of, terms};
 
 use crate::answering::Answering;
 use crate::bases::Basis;
@@ -24,27 +24,27 @@ pub(crate) struct Marked {
     pub(crate) answering: Answering,
 }
 
-/// The byte order mark that some bytes begin with, if any, and the text after it. In lines that are tags no mark is looked
-/// for.
-fn split_text(form: LineForm, bytes: &[u8]) -> (&[u8], &[u8])
-    ensures { SplitsText form bytes.now result.0.now result.1.now }
+/// Whether a byte order mark is looked for before lines of this form: before rows and records, and not before tags, each of
+/// which is answered as it is.
+fn may_have_mark(form: LineForm) -> bool
+    ensures { IsTrue result ↔ MayHaveMark form }
 {
     match form {
-        LineForm::Tag => bytes.split_at(0),
-        LineForm::Row(_) | LineForm::Csv(_, _) => split_mark(bytes),
+        LineForm::Tag => false,
+        LineForm::Row(_) | LineForm::Csv(_, _) => true,
     }
 }
 
 impl Marked {
-    /// No bytes taken so far.
-    pub(crate) fn new(alloc: Global) -> Marked
-        ensures { (terms : Terms) → IsNew terms result }
+    /// No bytes taken so far, of a text whose lines have this form.
+    pub(crate) fn new(alloc: Global, form: LineForm) -> Marked
+        ensures { (terms : Terms) → terms.form ≡ form → IsNew terms result }
     {
         let front = Vec::new(alloc);
         let answering = Answering::new(alloc);
         Marked {
             front,
-            is_begun: false,
+            is_begun: !may_have_mark(form),
             answering,
         }
     }
@@ -61,7 +61,7 @@ impl Marked {
         requires { HasRoomFor self.old 1 }
         ensures { BeginsText (terms (ground_of L.listed basis.now) form) W.contents self.old self.new output.old output.new result }
     {
-        let (mark, text) = split_text(form, &self.front);
+        let (mark, text) = split_mark(&self.front);
         write_text(mark, output)?;
         self.is_begun = true;
         self.answering.take_piece(alloc, basis, form, text, output)?;

@@ -88,7 +88,8 @@ impl<'a, L: Lookup, W: Write> Pieces<Device<W>> for Reading<'a, L> {
 /// - `BadCsv`, if the reader's bytes end within the quotes of a record, or a record is longer than 16,777,216 bytes: the
 ///   records before it have been answered.
 /// - `BadTsv`, if a row is longer than that: the rows before it have been answered.
-/// - `Utf16`, if the reader's bytes begin with a byte order mark of UTF-16: nothing has been written.
+/// - `Utf16`, if rows or records begin with a byte order mark of UTF-16: nothing has been written. Before tags no mark is
+///   looked for, and each line is answered as it is.
 /// - `Read`, if a read fails: what is owed for each line whose line feed was read has been written.
 /// - `TooManyTurns`, if all 10,000,000 reads were made and the last gave bytes: the same has been written.
 /// - `Write`, if a write fails or takes none of some bytes, and `OutOfMemory`: a front of what is owed was
@@ -106,7 +107,7 @@ pub fn run_lines<L: Lookup, R: Read, W: Write>(
     let mut reading = Reading {
         basis,
         form,
-        text: Marked::new(alloc),
+        text: Marked::new(alloc, form),
     };
     let end = run_pieces(alloc, &mut reading, input, output);
     mem::swap(tallies, &mut reading.text.answering.tallies);

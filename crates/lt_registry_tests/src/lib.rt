@@ -1,5 +1,9 @@
-//! Tests of `lt_registry`, over what it makes public.
+//! Tests of tags, their parts and ranges, of record jars, and of registries, over what their crates make public.
 #![tactic(auto)]
 
 #[cfg(test)]
-mod tests;
+mod jars;
+#[cfg(test)]
+mod registries;
+#[cfg(test)]
+mod tags;

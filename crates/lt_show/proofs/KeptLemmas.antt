@@ -1,13 +1,23 @@
 -- The records that a reader lends one by one are kept.
-use Rattle.std.proofs.Common.{◌≡◌, ℕ, true, false, List, [], ◌∷◌, ◌++◌, ap, ◌∙◌, Option, Ok, Err}
+use Rattle.std.proofs.Common.{◌≡◌, ℕ, true, false, List, [], ◌∷◌, ◌++◌, ap, sym, subst, ◌∙◌, Option, Ok, Err}
+use Rattle.std.proofs.lemmas.List.{map-append}
 use Rattle.lt_jar.specs.Records.{Field}
 use Rattle.lt_jar.specs.Sources.{Advances, IsFresh, record_in}
 use Rattle.lt_jar.specs.declared.devices.Device.{Device}
 use Rattle.lt_jar.specs.declared.faults.JarFault.{JarFault}
 use Rattle.lt_jar.specs.declared.sources.JarSource.{JarSource}
+use Rattle.lt_registry.specs.Parts.{EntryParts}
+use Rattle.lt_registry.specs.RecordRefusals.{IsRecordRefusal}
+use Rattle.lt_registry.specs.Records.{HasEntries}
+use Rattle.lt_registry.specs.declared.faults.RecordFault.{RecordFault}
+use Rattle.lt_registry.specs.declared.faults.RegistryFault.TheVariants as registry_faults
 use Rattle.lt_registry.proofs.ReadingLaws.{HasReadSoFar, read_ended, read_more, read_none, read_stops}
+use Rattle.lt_show.specs.Fields.{kept_fields}
 use Rattle.lt_show.specs.Kept.{HasKept, Keeps, ReadsDraft}
+use Rattle.lt_show.specs.Reading.{ReadsRecords}
 use Rattle.lt_show.specs.declared.reading.Draft.{Draft}
+use Rattle.lt_show.specs.declared.reading.RecordsFault.TheVariants as faults
+use Rattle.lt_show.proofs.NeededLemmas.{entries_kept, refusal_kept}
 
 -- before the first record: the reader `s` has lent none, and the draft `d` has none, so `d` has kept what was read so
 -- far
@@ -20,7 +30,8 @@ pub kept_more : {R : Type 0} (remaining : R → Option (List ℕ)) (first old ne
     → Advances remaining old new now after (Ok true) → Keeps (record_in new) d e → HasReadSoFar remaining first new before after (HasKept e)
 kept_more remaining first old new before now after d e so advances takes =
     read_more remaining first old new before now after (HasKept d) (HasKept e) so advances
-    (λ records kept full. let more = takes full in more.more ∙ ap (λ (l : List (List Field)). l ++ record_in new ∷ []) (kept more.before))
+    (λ records kept full. let more = takes full in
+    more.more ∙ ap (λ (l : List (List Field)). l ++ kept_fields (record_in new) ∷ []) (kept more.before) ∙ sym (map-append kept_fields records (record_in new ∷ [])))
 
 -- The text has ended, so the draft `d`, which has kept the records so far, is the answer. `first`, `old` and `new` are
 -- the reader as the reading began, before this call and after it; `before`, `now` and `after` are the device at these
@@ -37,3 +48,38 @@ pub kept_stops : {R : Type 0} (remaining : R → Option (List ℕ)) (first old n
     → Advances remaining old new now after (Err fault) → ReadsDraft remaining before after (Err fault)
 unfolding ReadsDraft
 kept_stops remaining first old new before now after d fault so advances = read_stops remaining first old new before now after (HasKept d) _ _ fault so advances (λ bytes reads is. is) (λ is. is)
+
+-- what was kept of a file gives these entries, and so do its records
+pub read_kept : {R : Type 0} (remaining : R → Option (List ℕ)) (before after : Device R) (d : Draft) (es : List EntryParts) → ReadsDraft remaining before after (Ok d) → d.lacks ≡ false → HasEntries d.records.items es
+    → ReadsRecords remaining before after (Ok (es, d.records.items))
+unfolding ReadsDraft ReadsRecords
+read_kept remaining before after d es r full has =
+    let a = r.answers in
+    let same = a.2 full in
+    record {
+      bytes = r.bytes;
+      reads = r.reads;
+      consumes = r.consumes;
+      calls = r.calls;
+      bounded = r.bounded;
+      each = r.each;
+      answers = (a.0, a.1, entries_kept a.0 es (subst (λ (l : List (List Field)). HasEntries l es) same has), same);
+      rises = r.rises;
+    }
+
+-- what was kept of a file is refused with this fault, and so are its records
+pub read_refused : {R : Type 0} (remaining : R → Option (List ℕ)) (before after : Device R) (d : Draft) (fault : RecordFault) → ReadsDraft remaining before after (Ok d) → d.lacks ≡ false → IsRecordRefusal d.records.items fault
+    → ReadsRecords remaining before after (Err (faults.Registry (registry_faults.Record fault)))
+unfolding ReadsDraft ReadsRecords
+read_refused remaining before after d fault r full refuses =
+    let a = r.answers in
+    record {
+      bytes = r.bytes;
+      reads = r.reads;
+      consumes = r.consumes;
+      calls = r.calls;
+      bounded = r.bounded;
+      each = r.each;
+      answers = (a.0, a.1, refusal_kept a.0 fault (subst (λ (l : List (List Field)). IsRecordRefusal l fault) (a.2 full) refuses));
+      rises = r.rises;
+    }

@@ -1,5 +1,5 @@
 -- The records of a registry that are kept while it is read. No public contract cites this.
-use Rattle.std.specs.Prelude.{◌≡◌, ℕ, Bool, true, false, List, [], ◌∷◌, ◌++◌, Option, Result, Ok, Err}
+use Rattle.std.specs.Prelude.{◌≡◌, ℕ, Bool, true, false, List, [], ◌∷◌, ◌++◌, Option, Result, Ok, Err, map}
 use Rattle.lt_jar.specs.Records.{Field}
 use Rattle.lt_jar.specs.Sources.{Advances, record_in}
 use Rattle.lt_jar.specs.declared.devices.Device.{Device}
@@ -8,14 +8,16 @@ use Rattle.lt_jar.specs.declared.faults.JarFaultKind.TheVariants as jars
 use Rattle.lt_jar.specs.declared.readers.JarReader.{JarReader}
 use Rattle.lt_jar.specs.declared.sources.JarSource.{JarSource}
 use Rattle.lt_registry.specs.ReadRegistry.{IsJarRefusal, IsReadWhole, Reads}
+use Rattle.lt_show.specs.Fields.{kept_fields}
 use Rattle.lt_show.specs.declared.reading.Draft.{Draft}
 
--- memory has not run out before, and the record `r` is put behind those of the draft `old`, which gives `new`
+-- memory has not run out before, and what is kept of the record `r` is put behind those of the draft `old`, which gives
+-- `new`
 pub record KeepsMore (r : List Field) (old new : Draft) : Type 0 where
   pub before : old.lacks ≡ false
-  pub more : new.records.items ≡ old.records.items ++ r ∷ []
+  pub more : new.records.items ≡ old.records.items ++ kept_fields r ∷ []
 
--- the record `r` is put behind those of the draft `old`, which gives `new`, unless memory ran out for it or for one
+-- what is kept of the record `r` is put behind those of the draft `old`, which gives `new`, unless memory ran out for it or for one
 -- before
 abbrev pub Keeps : List Field → (old new : Draft) → Type 0
 Keeps r old new = new.lacks ≡ false → KeepsMore r old new
@@ -29,9 +31,9 @@ pub record KeepsNext {R : Type 0} (remaining : R → Option (List ℕ)) (old new
   pub takes : result ≡ Ok true → Keeps (record_in new.source) draft drafted
   pub keeps : result ≡ Ok false → drafted ≡ draft
 
--- the draft has these records, unless memory ran out for one
+-- the draft has what is kept of these records, unless memory ran out for one
 abbrev pub HasKept : Draft → List (List Field) → Type 0
-HasKept draft records = draft.lacks ≡ false → draft.records.items ≡ records
+HasKept draft records = draft.lacks ≡ false → draft.records.items ≡ map kept_fields records
 
 -- What is true of an answer after `reads` reads of a device that gave `bytes`: the draft has kept the records of the
 -- bytes, or the fault is why they have none or were not read to their end. `remaining` is what a reader has left, where

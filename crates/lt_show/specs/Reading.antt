@@ -1,24 +1,26 @@
 -- What reading a registry together with its records answers.
-use Rattle.std.specs.Prelude.{ℕ, List, Option, Result, Ok, Err}
+use Rattle.std.specs.Prelude.{◌≡◌, ℕ, List, Option, Result, Ok, Err, map}
 use Rattle.lt_jar.specs.Records.{Field}
 use Rattle.lt_jar.specs.declared.devices.Device.{Device}
 use Rattle.lt_registry.specs.Parts.{EntryParts}
 use Rattle.lt_registry.specs.Records.{HasEntries}
 use Rattle.lt_registry.specs.ReadRegistry.{AnswersAs, IsReadFailure, IsReadWhole, Reads}
+use Rattle.lt_show.specs.Fields.{kept_fields}
 use Rattle.lt_show.specs.declared.reading.RecordsFault.{RecordsFault}
 use Rattle.lt_show.specs.declared.reading.RecordsFault.TheVariants as faults
 
--- the answer of a reading: the entries and the records, or why there are none
+-- the answer of a reading: the entries, and of each record the fields that are kept; or why there are none
 abbrev pub RecordsReading : Type 0
 RecordsReading = Result (List EntryParts × List (List Field)) RecordsFault
 
--- What is true of an answer after `reads` reads of a device that gave `bytes`: the bytes have these records, of which
--- these are the entries; or they are refused as where the entries are read alone; or memory ran out. `remaining` is
+-- What is true of an answer after `reads` reads of a device that gave `bytes`: the bytes have records, of which these
+-- are the entries and the fields that are kept; or they are refused as where the entries are read alone; or memory ran out. `remaining` is
 -- what a reader has left, where that is known.
 abbrev pub AnswersWith : {R : Type 0} → (R → Option (List ℕ)) → RecordsReading → (before after : Device R)
     → List ℕ → ℕ → Type 0
 AnswersWith remaining (Ok both) before after bytes reads =
-    IsReadWhole remaining before after bytes both.1 × HasEntries both.1 both.0
+    (records : List (List Field)) × IsReadWhole remaining before after bytes records × HasEntries records both.0
+    × (both.1 ≡ map kept_fields records)
 AnswersWith remaining (Err (faults.Registry fault)) before after bytes reads =
     AnswersAs remaining (Err fault) before after bytes reads
 AnswersWith remaining (Err faults.OutOfMemory) before after bytes reads = Unit {0}

@@ -1,4 +1,4 @@
-//! What the record of a number says.
+//! What the record of a number says, and which fields are kept of it.
 ghost use Rattle.std.specs.Prelude.{◌≡◌};
 ghost use Rattle.lt_show.specs.Fields as spec;
 
@@ -16,6 +16,27 @@ pub fn fields_of(records: &[Record], number: u32) -> &[JarField]
         Some(record) => record.fields(),
         None => &[],
     }
+}
+
+/// Whether a field tells what its record registers (RFC 5646, 3.1.3 to 3.1.8), or that it is the header: `Type`,
+/// `Subtag`, `Tag`, `Preferred-Value`, `Prefix` and `File-Date` do, in either case of their letters.
+fn is_of_entry(field: &JarField) -> bool
+    ensures { result ≡ spec.is_of_entry field.now }
+{
+    let name = field.name();
+    name.eq_ignore_ascii_case("Type")
+        || name.eq_ignore_ascii_case("Subtag")
+        || name.eq_ignore_ascii_case("Tag")
+        || name.eq_ignore_ascii_case("Preferred-Value")
+        || name.eq_ignore_ascii_case("Prefix")
+        || name.eq_ignore_ascii_case("File-Date")
+}
+
+/// Whether a field is kept: it is shown, or it tells what its record registers.
+pub(crate) fn is_kept(field: &JarField) -> bool
+    ensures { result ≡ spec.is_kept field.now }
+{
+    is_shown(field.name()) || is_of_entry(field)
 }
 
 /// Whether the fields of a name are shown, in either case of its letters: `Description`, `Deprecated`,

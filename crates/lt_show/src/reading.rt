@@ -1,9 +1,11 @@
 //! A registry and the records of its file, which is read once.
 ghost use Rattle.std.specs.Prelude.{◌≡◌, ◌++◌, ◌∷◌, [], IfOk, OnOk, false};
 ghost use Rattle.lt_jar.specs.Sources.{lent_by};
+ghost use Rattle.lt_show.specs.Fields.{kept_fields};
 ghost use Rattle.lt_show.specs.Kept.{Keeps, KeepsNext, ReadsDraft};
 ghost use Rattle.lt_show.specs.Reading.{ReadsRecords};
 
+use crate::fields::is_kept;
 use lt_jar::{Device, Jar, JarFault, JarField, JarReader, Record};
 use lt_registry::{Registry, RegistryFault};
 use lt_tag::OutOfMemory;
@@ -29,24 +31,26 @@ fn copy_field(alloc: Global, field: &JarField) -> Result<JarField, OutOfMemory>
     })
 }
 
-/// Copies of fields, in a new vector. They are refused only where memory runs out.
+/// Copies of those of a record's fields that are kept. They are refused only where memory runs out.
 fn copy_fields(alloc: Global, fields: &[JarField]) -> Result<Vec<JarField>, OutOfMemory>
-    ensures { IfOk result (λ copies. copies.items ≡ fields.now) }
+    ensures { IfOk result (λ copies. copies.items ≡ kept_fields fields.now) }
 {
-    let mut copies = Vec::with_capacity(alloc, fields.len())?;
+    let mut copies = Vec::new(alloc);
     for field in fields {
-        copies.push(copy_field(alloc, field)?)?;
+        if is_kept(field) {
+            copies.push(copy_field(alloc, field)?)?;
+        }
     }
     Ok(copies)
 }
 
-/// Puts a record of copies of these fields after the other records. It is refused only where memory runs out.
+/// Puts a record of copies of those of these fields that are kept after the other records. It is refused only where memory runs out.
 fn push_record(
     alloc: Global,
     records: &mut Vec<Record>,
     fields: &[JarField],
 ) -> Result<(), OutOfMemory>
-    ensures { OnOk result (records.new.items ≡ records.old.items ++ fields.now ∷ []) }
+    ensures { OnOk result (records.new.items ≡ records.old.items ++ kept_fields fields.now ∷ []) }
 {
     let fields = copy_fields(alloc, fields)?;
     records.push(Record { fields })?;
@@ -73,7 +77,7 @@ impl Draft {
         }
     }
 
-    /// Keeps a record of copies of these fields, after the others. Once memory runs out for one, no more are kept; the
+    /// Keeps a record of copies of these fields, but for those that nobody asks for, after the others. Once memory runs out for one, no more are kept; the
     /// file is read on, since a fault of it is answered before the lack of memory.
     fn take(&mut self, alloc: Global, fields: &[JarField])
         ensures { Keeps fields.now self.old self.new }
@@ -113,8 +117,8 @@ fn read_draft<R: Read>(alloc: Global, device: &mut Device<R>) -> Result<Draft, J
     Ok(draft)
 }
 
-/// The registry that a device gives, and the records of its file, of which the entries are made: an entry's number is
-/// that of its record among them, counted from 1. The device is read to its end, record by record, once. It is refused
+/// The registry that a device gives, and of each record of its file the fields that are shown or make its entry: an
+/// entry's number is that of its record among them, counted from 1. The device is read to its end, record by record, once. It is refused
 /// as `Registry::read` refuses it; and by `OutOfMemory` where memory runs out for the records.
 #[tactic(auto, unfolding(crate::specs::Kept::ReadsDraft, crate::specs::Reading::ReadsRecords))]
 pub fn read_records<R: Read>(

@@ -12,13 +12,13 @@ use Rattle.std.proofs.lemmas.List.Quantifiers.{position-Some}
 use Rattle.std.proofs.lemmas.List.Sums.{count_by-le-length, sum_by-append}
 use Rattle.std.proofs.lemmas.Map.Keys.{IsDistinct-head, IsDistinct-push, IsDistinct-tail}
 use Rattle.std.proofs.lemmas.Slice.Eq.{bytes_eq-Decides}
-use Rattle.lt_stream.specs.Tallies.{AreTallies, IsTally, Refused, faults_of, is_by}
+use Rattle.lt_stream.specs.Tallies.{AreTallies, IsTally, Refused, faults_of, is_by, names_from, with_name}
 use Rattle.lt_stream.specs.declared.tallies.Tally.{Tally}
 
 -- no lines have no tallies
 pub no_tallies : AreTallies [] []
 unfolding IsDistinct
-no_tallies = record { each = tt; once = tt; all = tt }
+no_tallies = record { each = tt; once = tt; all = tt; order = refl }
 
 -- two names that differ when they are compared in one order differ in the other
 differs : (a b : List ℕ) → bytes_eq a b ≡ false → bytes_eq b a ≡ false
@@ -109,6 +109,11 @@ fits lines tallies place d at t = by_each tallies place at t.each
     by_each (tally ∷ some) zero at h = omega (arith, h.0.count, count_by-le-length (is_by tally.fault.items) lines)
     by_each (tally ∷ some) (suc place) at h = by_each some place (omega (arith, at)) h.1
 
+-- the names of the faults of these lines and of one more
+names_more : (names : List (List ℕ)) (lines : List Refused) (line : Refused) → names_from names (lines ++ line ∷ []) ≡ with_name (names_from names lines) line.fault
+names_more names [] line = refl
+names_more names (l ∷ lines) line = names_more (with_name names l.fault) lines line
+
 -- one line more, whose fault has a tally at this place: that one counts one more
 pub counted : (lines : List Refused) (line : Refused) (tallies : List Tally) (place count : ℕ) (tally : Tally)
     → position (λ (tally : Tally). bytes_eq line.fault tally.fault.items) tallies ≡ Some place → tally ≡ get_or tallies place tally
@@ -117,13 +122,15 @@ pub counted : (lines : List Refused) (line : Refused) (tallies : List Tally) (pl
 counted lines line tallies place count tally found is counts room t =
     let p = position-Some (λ (tally : Tally). bytes_eq line.fault tally.fault.items) tallies place tally found in
     let names = same_faults tallies place count tally p.0 in
+    let there = is_there line.fault tallies place tally p.0 p.1 in
     let short = fits lines tallies place tally p.0 t in
     let same : tally.lines ≡ (get_or tallies place tally).lines = ap (λ (other : Tally). other.lines) is in
     let more : count ≡ (get_or tallies place tally).lines + 1 = omega (arith, counts, short, room, same) in
     subst (λ (other : Tally). AreTallies (lines ++ line ∷ []) (set tallies place (with_count other count))) (sym is) (record {
       each = each_grows lines line tallies place count tally p.0 p.1 p.2 t.once more t.each;
       once = rw names t.once;
-      all = rw names (all_more (λ l. is_member bytes_eq (faults_of tallies) l.fault ≡ true) lines line t.all (is_there line.fault tallies place tally p.0 p.1));
+      all = rw names (all_more (λ l. is_member bytes_eq (faults_of tallies) l.fault ≡ true) lines line t.all there);
+      order = names ∙ sym (names_more [] lines line ∙ rw (← t.order, there) refl);
     })
 
 -- ---- the first line of a fault
@@ -189,6 +196,7 @@ begun lines line tallies tally none name one number text t =
       once = rw names (IsDistinct-push nat_list_eq_equiv (faults_of tallies) line.fault t.once absent);
       all = rw names (all_more (λ l. is_member bytes_eq (faults_of tallies ++ line.fault ∷ []) l.fault ≡ true) lines line (kept lines t.all)
           (list_any-append (bytes_eq line.fault) (faults_of tallies) (line.fault ∷ []) ∙ or_right _ _ (or_left _ _ itself)));
+      order = names ∙ sym (names_more [] lines line ∙ rw (← t.order, absent) refl);
     }
   where
     tallies_more : (some : List Tally) → AllByRecursion (IsTally (lines ++ line ∷ [])) some → IsTally (lines ++ line ∷ []) tally → AllByRecursion (IsTally (lines ++ line ∷ [])) (some ++ tally ∷ [])

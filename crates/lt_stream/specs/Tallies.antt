@@ -1,5 +1,5 @@
 -- How many lines were refused by each fault, and which was the first.
-use Rattle.std.specs.Prelude.{◌≡◌, ℕ, Bool, true, List, map, Some, bytes_eq, find}
+use Rattle.std.specs.Prelude.{◌≡◌, ◌++◌, ◌∷◌, ℕ, Bool, true, List, [], map, Some, bytes_eq, find, if◌then◌else◌}
 use Rattle.std.specs.List.{AllByRecursion, IsDistinct, count_by}
 use Rattle.std.specs.Set.{is_member}
 use Rattle.lt_stream.specs.declared.tallies.Tally.{Tally}
@@ -30,8 +30,19 @@ pub record IsTally (lines : List Refused) (tally : Tally) : Type 0 where
 abbrev pub faults_of : List Tally → List (List ℕ)
 faults_of tallies = map (λ tally. tally.fault.items) tallies
 
--- the tallies of these lines: one for each fault that refused any, and no fault twice
+-- these names, and after them one more where it is none of them
+abbrev pub with_name : (names : List (List ℕ)) → (name : List ℕ) → List (List ℕ)
+with_name names name = if is_member bytes_eq names name then names else names ++ name ∷ []
+
+-- these names, and after them the faults that refused the lines, in the order in which they came
+abbrev pub names_from : (names : List (List ℕ)) → List Refused → List (List ℕ)
+names_from names [] = names
+names_from names (line ∷ lines) = names_from (with_name names line.fault) lines
+
+-- the tallies of these lines: one for each fault that refused any, in the order in which the faults came, and no fault
+-- twice
 pub record AreTallies (lines : List Refused) (tallies : List Tally) : Type 0 where
   pub each : AllByRecursion (IsTally lines) tallies
   pub once : IsDistinct bytes_eq (faults_of tallies)
   pub all : AllByRecursion (λ line. is_member bytes_eq (faults_of tallies) line.fault ≡ true) lines
+  pub order : faults_of tallies ≡ names_from [] lines

@@ -1,3 +1,0 @@
-mod WatchingLemmas
-mod WordLemmas
-mod TableLemmas

@@ -1,8 +1,4 @@
 //! What to do about a fault that refused a text.
-ghost use Rattle.std.specs.Prelude.{◌≡◌, ◌++◌, OnOk, map, option_map};
-ghost use Rattle.lt_codes.specs.Codes.{first_subtag};
-ghost use Rattle.lt_terminal.specs.Advice as spec;
-ghost use Rattle.lt_terminal.specs.Codes.{two_letters};
 
 use crate::codes::CODES;
 use crate::meanings::{first_of, message_of};
@@ -13,19 +9,9 @@ use std::alloc::AllocError;
 const NAME_MESSAGE: &str =
     "This is a name of a language and not a code: write en for English, de for German.";
 
-/// The messages for codes of three letters that BCP 47 does not register.
-fn codes() -> &'static [&'static str]
-    ensures { map (λ message. message.now) result.now ≡ two_letters }
-{
-    &CODES
-}
-
 /// The message that tells the code of two letters that BCP 47 writes for a code of three, in any letter case. None if there is
 /// no message for it.
-#[tactic(auto, unfolding(crate::specs::Advice::code_message))]
-fn code_message(code: &[u8]) -> Option<&'static str>
-    ensures { option_map (λ message. message.now) result ≡ spec.code_message code.now }
-{
+fn code_message(code: &[u8]) -> Option<&'static str> {
     match code {
         [first, second, third] => {
             let lower = [
@@ -33,7 +19,7 @@ fn code_message(code: &[u8]) -> Option<&'static str>
                 second.to_ascii_lowercase(),
                 third.to_ascii_lowercase(),
             ];
-            first_of(codes(), &lower)
+            first_of(&CODES, &lower)
         }
         _ => None,
     }
@@ -41,9 +27,7 @@ fn code_message(code: &[u8]) -> Option<&'static str>
 
 /// What is before the first hyphen of a text, or all of it if it has none.
 #[tactic(auto, using(lt_lines::proofs::FaultLemmas::before_found, lt_lines::proofs::FaultLemmas::before_none))]
-fn first_subtag(text: &[u8]) -> &[u8]
-    ensures { result.now ≡ first_subtag text.now }
-{
+fn first_subtag(text: &[u8]) -> &[u8] {
     match first_hyphen(text) {
         Some(end) => &text[..end],
         None => text,
@@ -52,9 +36,7 @@ fn first_subtag(text: &[u8]) -> &[u8]
 
 /// What to do about a language that is not registered; None if no more can be said. With 5 letters or more it is taken
 /// for a name: codes have 2 or 3, and 4 are reserved (RFC 5646, 2.2.1).
-fn language_advice(subtag: &[u8]) -> Option<&'static str>
-    ensures { option_map (λ advice. advice.now) result ≡ spec.language_advice subtag.now }
-{
+fn language_advice(subtag: &[u8]) -> Option<&'static str> {
     match code_message(subtag) {
         Some(message) => Some(message),
         None if subtag.len() > 4 => Some(NAME_MESSAGE),
@@ -64,9 +46,7 @@ fn language_advice(subtag: &[u8]) -> Option<&'static str>
 
 /// What to do about a text whose region is not registered; None unless it ends with `-UK`, in any letter case, for
 /// which ISO 3166 has GB.
-fn region_advice(text: &[u8]) -> Option<&'static str>
-    ensures { option_map (λ advice. advice.now) result ≡ spec.region_advice text.now }
-{
+fn region_advice(text: &[u8]) -> Option<&'static str> {
     if text.ends_with(b"-UK")
         || text.ends_with(b"-uk")
         || text.ends_with(b"-Uk")
@@ -80,9 +60,7 @@ fn region_advice(text: &[u8]) -> Option<&'static str>
 
 /// What to do about `text`, which the fault with the name `fault` refuses. None if there is no advice but that for the
 /// fault.
-fn advice_for(fault: &[u8], text: &[u8]) -> Option<&'static str>
-    ensures { option_map (λ advice. advice.now) result ≡ spec.advice_for fault.now text.now }
-{
+fn advice_for(fault: &[u8], text: &[u8]) -> Option<&'static str> {
     if fault == b"UnknownLanguage".as_slice() {
         language_advice(first_subtag(text))
     } else if fault == b"UnknownRegion".as_slice() {
@@ -93,9 +71,7 @@ fn advice_for(fault: &[u8], text: &[u8]) -> Option<&'static str>
 }
 
 /// Appends a line of advice, after two spaces, by which it stands under the line on its fault.
-fn append_line(told: &mut Vec<u8>, advice: &[u8]) -> Result<(), AllocError>
-    ensures { OnOk result (told.new.items ≡ told.old.items ++ spec.said advice.now) }
-{
+fn append_line(told: &mut Vec<u8>, advice: &[u8]) -> Result<(), AllocError> {
     told.extend_from_slice(b"  ")?;
     told.extend_from_slice(advice)?;
     told.push(b'\n')?;
@@ -104,9 +80,11 @@ fn append_line(told: &mut Vec<u8>, advice: &[u8]) -> Result<(), AllocError>
 
 /// Appends a line that says what to do about the fault with the name `fault`, which refused `text`: advice for that
 /// text, or else what the fault means. Nothing for a fault without a message.
-pub(crate) fn append_advice(told: &mut Vec<u8>, fault: &[u8], text: &[u8]) -> Result<(), AllocError>
-    ensures { OnOk result (told.new.items ≡ told.old.items ++ spec.advice_line fault.now text.now) }
-{
+pub(crate) fn append_advice(
+    told: &mut Vec<u8>,
+    fault: &[u8],
+    text: &[u8],
+) -> Result<(), AllocError> {
     if let Some(advice) = advice_for(fault, text) {
         return append_line(told, advice.as_bytes());
     }

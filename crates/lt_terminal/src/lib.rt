@@ -13,7 +13,6 @@ mod table;
 mod telling;
 mod watched;
 
-pub use meanings::message_of;
 pub use openings::{Openings, Traced};
 pub use progress::Progress;
 pub use run::run_for_people;

@@ -1,6 +1,4 @@
 //! What each fault means, and what to do: the words that the manual has too.
-ghost use Rattle.std.specs.Prelude.{◌≡◌, find, map, option_map};
-ghost use Rattle.lt_terminal.specs.Meanings as spec;
 
 /// The messages that a person may be told: a name that is printed, a colon, a space, what it means, and what to do. A
 /// range that is refused is wrong usage and needs none, so Empty and BadFirst have none.
@@ -75,25 +73,13 @@ const MESSAGES: [&str; 68] = [
     "Utf16: The input is in UTF-16: write it in UTF-8, as by iconv -f UTF-16 -t UTF-8.",
 ];
 
-/// All messages. Each begins with what the program prints, the name of a fault or `ok 0`, and a colon. A function, so
-/// that a clause says what they are.
-fn messages() -> &'static [&'static str]
-    ensures { map (λ message. message.now) result.now ≡ spec.messages }
-{
-    &MESSAGES
-}
-
 /// Whether a message is for the fault that a word names: the word stands before its colon.
-fn is_of(message: &[u8], word: &[u8]) -> bool
-    ensures { result ≡ spec.is_of message.now word.now }
-{
+fn is_of(message: &[u8], word: &[u8]) -> bool {
     message.starts_with(word) && message[word.len()..].starts_with(b": ")
 }
 
 /// The first of some messages that is for the fault that a word names. None if there is none.
-pub(crate) fn first_of(messages: &[&'static str], word: &[u8]) -> Option<&'static str>
-    ensures { option_map (λ message. message.now) result ≡ find (λ message. spec.is_of message word.now) (map (λ message. message.now) messages.now) }
-{
+pub(crate) fn first_of(messages: &[&'static str], word: &[u8]) -> Option<&'static str> {
     for message in messages {
         if is_of(message.as_bytes(), word) {
             return Some(message);
@@ -104,9 +90,6 @@ pub(crate) fn first_of(messages: &[&'static str], word: &[u8]) -> Option<&'stati
 
 /// What a person is told of the fault that a word names, as `BadByte` or `C2`: the word, what it means, and what to do.
 /// None if the word names no fault.
-#[tactic(auto, unfolding(crate::specs::Meanings::message_of))]
-pub fn message_of(word: &[u8]) -> Option<&'static str>
-    ensures { option_map (λ message. message.now) result ≡ spec.message_of word.now }
-{
-    first_of(messages(), word)
+pub(crate) fn message_of(word: &[u8]) -> Option<&'static str> {
+    first_of(&MESSAGES, word)
 }

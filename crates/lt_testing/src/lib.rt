@@ -1,11 +1,11 @@
-//! What the tests of several crates share: the text of a small registry, and calls that are made again
-//! where a growth of memory is refused.
+//! What the tests of several crates share: a small registry, its tables, and calls that are made again where a
+//! growth of memory is refused.
 #![tactic(auto)]
 
 mod growths;
-mod sample;
+mod tables;
+mod texts;
 
 pub use growths::{answered, answers, is_shown, mark, shown};
-pub use sample::{
-    FOLDED, HEADER, ROWS, Row, changed_text, push_record, returned_text, sample_text,
-};
+pub use tables::{registry_of, sample, sample_with, sorted, sorted_sample};
+pub use texts::{FOLDED, HEADER, ROWS, Row, changed_text, push_record, returned_text, sample_text};

@@ -11,9 +11,9 @@ use Rattle.lt_words.specs.declared.faults.WordsFault.TheVariants as fault
 abbrev pub hex_digit : ℕ → ℕ
 hex_digit n = if nat_lt (n % 16) 10 then 48 + n % 16 else 87 + n % 16
 
--- whether a byte is shown as it is: it is printable ASCII (32 to 126), and no backslash (92)
+-- whether a byte is shown as it is: it is printable ASCII (32 to 126), and no quote (34) or backslash (92)
 abbrev pub is_shown : ℕ → Bool
-is_shown byte = nat_le 32 byte && nat_le byte 126 && not (byte == 92)
+is_shown byte = nat_le 32 byte && nat_le byte 126 && not (byte == 34) && not (byte == 92)
 
 -- a byte as it is shown: as it is, or as a backslash (92), x (120) and its two digits to the base 16
 abbrev pub escaped_byte : ℕ → List ℕ

@@ -1,6 +1,7 @@
 -- The command that the words of a command line name, or why they name none.
-use Rattle.std.specs.Prelude.{◌≡◌, ◌<◌, ◌^◌, ◌==◌, ◌&&◌, not, ⊤, ℕ, Bool, true, false, List, [], ◌∷◌, Option, Some}
+use Rattle.std.specs.Prelude.{◌≡◌, ◌<◌, ◌^◌, ◌==◌, ◌&&◌, ◌||◌, not, ⊤, ℕ, Bool, true, false, List, [], ◌∷◌, Option, Some}
 use Rattle.std.specs.Prelude.{None, if◌then◌else◌, bytes_eq, codes, map, nat_lt, option_map, string_bytes}
+use Rattle.std.specs.Char.{is_ascii_alphanumeric}
 use Rattle.std.specs.Option.{option_map_or}
 use Rattle.std.specs.Str.Parse.{IsNumeral, digits_value, without_leading_plus}
 use Rattle.clap.specs.Words.{Row, Text, all_of, first_of, subcommand_of, fault_of, IsAmong}
@@ -79,9 +80,15 @@ AreValues (command.Upgrade old new) texts = texts ≡ string_bytes old ∷ strin
 AreValues (command.Show file tags) texts = texts ≡ string_bytes file ∷ []
 AreValues (command.Json file) texts = texts ≡ string_bytes file ∷ []
 
--- whether a byte may stand between fields: it is ASCII, but no quote (34), line feed (10) or carriage return (13)
+-- whether a byte may be part of a field that is added to rows: of a canonical text, of a fault with its place, or of a
+-- name: letters, digits, spaces (32), hyphens (45) and underscores (95)
+abbrev pub is_of_added : ℕ → Bool
+is_of_added byte = is_ascii_alphanumeric byte || (byte == 32) || (byte == 45) || (byte == 95)
+
+-- whether a byte may stand between fields: it is ASCII, but no quote (34), line feed (10) or carriage return (13), and no
+-- byte of the fields that are added, so that these stay one field each
 abbrev pub is_delimiter : ℕ → Bool
-is_delimiter byte = nat_lt byte 128 && not (byte == 34) && not (byte == 10) && not (byte == 13)
+is_delimiter byte = nat_lt byte 128 && not (byte == 34) && not (byte == 10) && not (byte == 13) && not (is_of_added byte)
 
 -- the byte that a text is alone, if it may stand between fields
 abbrev pub delimiter_alone : Text → Option ℕ

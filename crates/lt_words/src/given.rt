@@ -6,11 +6,11 @@ ghost use Rattle.lt_words.specs.Given.{IsNoText};
 use crate::faults::WordsFault;
 use std::alloc::{AllocError, Global};
 
-/// Whether a byte is shown as it is: it is printable ASCII, and no backslash.
+/// Whether a byte is shown as it is: it is printable ASCII, and no quote or backslash.
 fn is_shown(byte: u8) -> bool
     ensures { result ≡ spec.is_shown byte }
 {
-    byte >= b' ' && byte <= b'~' && byte != b'\\'
+    byte >= b' ' && byte <= b'~' && byte != b'"' && byte != b'\\'
 }
 
 /// The last digit of a number to the base 16, from `0` to `9` or from `a` to `f`.
@@ -37,7 +37,7 @@ fn append_escaped(said: &mut String, byte: u8) -> Result<(), AllocError>
     said.push(hex_digit(byte))
 }
 
-/// Bytes as they are shown: each that is printable ASCII and no backslash as it is, and any other as `\x` and two digits to
+/// Bytes as they are shown: each that is printable ASCII and no quote or backslash as it is, and any other as `\x` and two digits to
 /// the base 16.
 pub fn escaped(alloc: Global, bytes: &[u8]) -> Result<String, AllocError>
     ensures { IfOk result (λ text. string_bytes text ≡ spec.escaped bytes.now) }

@@ -132,8 +132,11 @@ fn number_of(alloc: Global, text: &str) -> Result<usize, WordsFault>
 {
     match text.parse::<usize>() {
         Ok(column) if column > 0 => Ok(column),
-        _ => Err(WordsFault::Usage(format!(in alloc;
+        Ok(_) => Err(WordsFault::Usage(format!(in alloc;
             "error: COLUMN is a number from 1, and not {text}\n\nFor more information, try '--help'.\n"
+        )?)),
+        Err(_) => Err(WordsFault::Usage(format!(in alloc;
+            "error: COLUMN is at most 18446744073709551615, and not {text}\n\nFor more information, try '--help'.\n"
         )?)),
     }
 }
@@ -157,11 +160,19 @@ pub(crate) fn column_of(alloc: Global, text: &str, heading: bool) -> Result<Colu
     Ok(Column::Name(String::from_str(alloc, text)?))
 }
 
-/// Whether a byte may be the delimiter between fields: ASCII, but no quote, line feed or carriage return.
+/// Whether a byte may be part of a field that is added to rows, as of `UnknownLanguage 1` or of the name `langtag_fault`.
+fn is_of_added(byte: u8) -> bool
+    ensures { result ≡ spec.is_of_added byte }
+{
+    byte.is_ascii_alphanumeric() || byte == b' ' || byte == b'-' || byte == b'_'
+}
+
+/// Whether a byte may be the delimiter between fields: ASCII, but no quote, line feed or carriage return, and no byte of
+/// the fields that are added, which are written without quotes.
 fn is_delimiter(byte: u8) -> bool
     ensures { result ≡ spec.is_delimiter byte }
 {
-    byte.is_ascii() && byte != b'"' && byte != b'\n' && byte != b'\r'
+    byte.is_ascii() && byte != b'"' && byte != b'\n' && byte != b'\r' && !is_of_added(byte)
 }
 
 /// The delimiter that a text names, a byte or the word `tab`. None if it names none.
@@ -186,7 +197,7 @@ pub(crate) fn delimiter_of(alloc: Global, matches: &ArgMatches<'_>) -> Result<u8
     match delimiter_named(text) {
         Some(byte) => Ok(byte),
         None => Err(WordsFault::Usage(format!(in alloc;
-            "error: the delimiter is one byte of ASCII but no quote, carriage return or line feed, or the word tab\n\nFor more information, try '--help'.\n"
+            "error: the delimiter is the word tab, or one byte of ASCII but no letter, digit, space, hyphen, underscore, quote, carriage return or line feed\n\nFor more information, try '--help'.\n"
         )?)),
     }
 }

@@ -1,6 +1,5 @@
 //! Texts whose first subtag is a code, and texts of which it is none.
 use super::{ROWS, replaced, table_of};
-use lt_codes::TableFaultKind;
 use std::test::Fail;
 
 /// Texts, and what is read in their place.
@@ -30,28 +29,5 @@ fn first_subtags_are_replaced(rt: HostRuntime) -> Result<(), Fail> {
         let read = replaced(rt.alloc(), &table, text)?;
         assert_eq!(rt; read.as_slice(), wanted.as_bytes());
     }
-    Ok(())
-}
-
-#[test]
-fn a_mark_and_returns_are_no_part(rt: HostRuntime) -> Result<(), Fail> {
-    let text = b"\xEF\xBB\xBFger|deu|de|German|allemand\r\nchi|zho|zh|Chinese|chinois\r";
-    let table = table_of(rt.alloc(), text).map_err(|fault| fault.kind.name())?;
-    for (text, wanted) in &[("ger", "de"), ("zho", "zh")] {
-        let read = replaced(rt.alloc(), &table, text)?;
-        assert_eq!(rt; read.as_slice(), wanted.as_bytes());
-    }
-    Ok(())
-}
-
-#[test]
-fn no_line_is_an_empty_table(rt: HostRuntime) -> Result<(), Fail> {
-    let table = table_of(rt.alloc(), b"").map_err(|fault| fault.kind.name())?;
-    let read = replaced(rt.alloc(), &table, "ger")?;
-    assert_eq!(rt; read.as_slice(), b"ger".as_slice());
-    assert_ne!(rt;
-        TableFaultKind::BadRow.name(),
-        TableFaultKind::BadCode.name()
-    );
     Ok(())
 }

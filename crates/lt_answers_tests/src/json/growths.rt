@@ -20,6 +20,11 @@ const INPUT: &[u8] = b"zh-yue-u-attr-co-trad-t-he-m0-true-a-bc-x-a\r\nfr\n\xff";
 const FRONT: &[u8] =
     b"{\"input\":\"zh-yue-u-attr-co-trad-t-he-m0-true-a-bc-x-a\",\"bytes\":null,\"canonical\":\"yue-a-bc-t-he-m0-true-u-attr-co-trad-x-a\"";
 
+/// Whether a run that memory ended has written nothing, or its first objects.
+fn is_front(text: &[u8]) -> bool {
+    text.is_empty() || text.starts_with(FRONT)
+}
+
 #[test]
 fn lines_are_answered(rt: HostRuntime) -> Result<(), Fail> {
     let checked = checked_table(rt.alloc())?;
@@ -32,7 +37,7 @@ fn lines_are_answered(rt: HostRuntime) -> Result<(), Fail> {
             (end, page)
         },
         |(end, page)| *end == Ok(()) && text_of(page).starts_with(FRONT),
-        |(end, page)| *end == Err(ToolFault::OutOfMemory) && text_of(page).is_empty(),
+        |(end, page)| *end == Err(ToolFault::OutOfMemory) && is_front(text_of(page)),
     );
     assert!(rt; are_answered?);
     Ok(())

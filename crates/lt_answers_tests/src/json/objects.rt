@@ -1,5 +1,5 @@
 //! Objects that were written by hand, from the examples of RFC 5646, 6067 and 6497.
-use super::{answer, checked_table};
+use super::checked_table;
 use lt_json::{append_object, class_name};
 use lt_tag::Class;
 use std::test::Fail;
@@ -7,19 +7,10 @@ use std::test::Fail;
 /// A line, its object, and whether it is refused.
 type Row = (&'static [u8], &'static str, bool);
 
-/// Of a text that is no tag, after the fault.
-const NO_PARTS: &str =
-    r#""class":null,"language":null,"extlangs":[],"script":null,"region":null,"variants":[],"extensions":[],"private":[]}"#;
-
 const ROWS: &[Row] = &[
     (
         b"zh-cmn-hans-gb",
         r#"{"input":"zh-cmn-hans-gb","bytes":null,"canonical":"cmn-Hans-GB","fault":null,"place":null,"variant":null,"class":"langtag","language":"zh","extlangs":["cmn"],"script":"Hans","region":"GB","variants":[],"extensions":[],"private":[]}"#,
-        false,
-    ),
-    (
-        b"ja-latn-HEPBURN-heploc",
-        r#"{"input":"ja-latn-HEPBURN-heploc","bytes":null,"canonical":"ja-Latn-hepburn-alalc97","fault":null,"place":null,"variant":null,"class":"langtag","language":"ja","extlangs":[],"script":"Latn","region":null,"variants":["hepburn","heploc"],"extensions":[],"private":[]}"#,
         false,
     ),
     (
@@ -33,28 +24,8 @@ const ROWS: &[Row] = &[
         false,
     ),
     (
-        b"de-t-m0-true",
-        r#"{"input":"de-t-m0-true","bytes":null,"canonical":"de-t-m0-true","fault":null,"place":null,"variant":null,"class":"langtag","language":"de","extlangs":[],"script":null,"region":null,"variants":[],"extensions":[{"singleton":"t","source":null,"fields":[{"separator":"m0","values":["true"]}]}],"private":[]}"#,
-        false,
-    ),
-    (
-        b"de-a-bc-def-1-ab-x-GB-q",
-        r#"{"input":"de-a-bc-def-1-ab-x-GB-q","bytes":null,"canonical":"de-1-ab-a-bc-def-x-gb-q","fault":null,"place":null,"variant":null,"class":"langtag","language":"de","extlangs":[],"script":null,"region":null,"variants":[],"extensions":[{"singleton":"a","subtags":["bc","def"]},{"singleton":"1","subtags":["ab"]}],"private":["gb","q"]}"#,
-        false,
-    ),
-    (
         b"X-a-GB",
         r#"{"input":"X-a-GB","bytes":null,"canonical":"x-a-gb","fault":null,"place":null,"variant":null,"class":"privateuse","language":null,"extlangs":[],"script":null,"region":null,"variants":[],"extensions":[],"private":["a","gb"]}"#,
-        false,
-    ),
-    (
-        b"EN-gb-OED",
-        r#"{"input":"EN-gb-OED","bytes":null,"canonical":"en-GB-oxendict","fault":null,"place":null,"variant":null,"class":"grandfathered","language":null,"extlangs":[],"script":null,"region":null,"variants":[],"extensions":[],"private":[]}"#,
-        false,
-    ),
-    (
-        b"de-latn-dd-1996",
-        r#"{"input":"de-latn-dd-1996","bytes":null,"canonical":"de-Latn-DE-1996","fault":null,"place":null,"variant":null,"class":"langtag","language":"de","extlangs":[],"script":"Latn","region":"DD","variants":["1996"],"extensions":[],"private":[]}"#,
         false,
     ),
     (
@@ -65,16 +36,6 @@ const ROWS: &[Row] = &[
     (
         b"ja-heploc-alalc97",
         r#"{"input":"ja-heploc-alalc97","bytes":null,"canonical":null,"fault":"ReplacementRepeats","place":null,"variant":"alalc97","class":"langtag","language":"ja","extlangs":[],"script":null,"region":null,"variants":["heploc","alalc97"],"extensions":[],"private":[]}"#,
-        true,
-    ),
-    (
-        b"de-t-DE-m0-xx",
-        r#"{"input":"de-t-DE-m0-xx","bytes":null,"canonical":null,"fault":"BadTransform","place":2,"variant":null,"class":"langtag","language":"de","extlangs":[],"script":null,"region":null,"variants":[],"extensions":[{"singleton":"t","subtags":["de","m0","xx"]}],"private":[]}"#,
-        true,
-    ),
-    (
-        b"a\"\\\t\x01\x7f\xc3\xa9",
-        "{\"input\":\"a\\\"\\\\\\u0009\\u0001\x7f\u{e9}\",\"bytes\":null,\"canonical\":null,\"fault\":\"BadByte\",\"place\":1,\"variant\":null,\"class\":null,\"language\":null,\"extlangs\":[],\"script\":null,\"region\":null,\"variants\":[],\"extensions\":[],\"private\":[]}",
         true,
     ),
     (
@@ -109,40 +70,4 @@ fn words_for_classes(rt: HostRuntime) {
     for (class, word) in &CLASSES {
         assert!(rt; class_name(*class) == *word);
     }
-}
-
-/// The line of the object of the first line of `LINES`.
-const FIRST: &str =
-    r#"{"input":"zh-yue","bytes":null,"canonical":"yue","fault":null,"place":null,"variant":null,"class":"langtag","language":"zh","extlangs":["yue"],"script":null,"region":null,"variants":[],"extensions":[],"private":[]}"#;
-
-/// That of an empty line.
-const EMPTY: &str =
-    r#"{"input":"","bytes":null,"canonical":null,"fault":"EmptySubtag","place":1,"variant":null,"#;
-
-#[test]
-fn lines_of_a_reader(rt: HostRuntime) -> Result<(), Fail> {
-    let checked = checked_table(rt.alloc())?;
-    let mut output = Vec::new(rt.alloc());
-    let (refused, end) = answer(
-        rt.alloc(),
-        &checked,
-        b"zh-yue\r\n\nzh-yue".as_slice(),
-        &mut output,
-    );
-    assert!(rt; refused && end == Ok(()));
-    let expected = format!(in rt.alloc(); "{FIRST}\n{EMPTY}{NO_PARTS}\n{FIRST}\n")?;
-    let found = std::str::from_utf8(&output)?;
-    assert!(rt; found == expected.as_str(), "{found}");
-    Ok(())
-}
-
-#[test]
-fn no_line_refused(rt: HostRuntime) -> Result<(), Fail> {
-    let checked = checked_table(rt.alloc())?;
-    let mut output = Vec::new(rt.alloc());
-    let (refused, end) = answer(rt.alloc(), &checked, b"zh-yue\n".as_slice(), &mut output);
-    assert!(rt; !refused && end == Ok(()));
-    let expected = format!(in rt.alloc(); "{FIRST}\n")?;
-    assert!(rt; output.as_slice() == expected.as_bytes());
-    Ok(())
 }

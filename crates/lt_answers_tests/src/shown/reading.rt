@@ -2,7 +2,7 @@
 use super::{FILE, read_file};
 use lt_jar::{Device, JarFaultKind, Pieces};
 use lt_registry::RegistryFault;
-use lt_show::{RecordsFault, read_records};
+use lt_show::{RecordsFault, fields_of, read_records};
 use std::test::Fail;
 
 #[test]
@@ -13,6 +13,8 @@ fn records_are_kept(rt: HostRuntime) -> Result<(), Fail> {
         };
         assert_eq!(rt; registry.entries().len(), 6);
         assert_eq!(rt; jar.records().len(), 7);
+        // All but `Added`, which is neither shown nor makes an entry.
+        assert_eq!(rt; fields_of(jar.records(), 2).len(), 4);
     }
     Ok(())
 }

@@ -1,8 +1,10 @@
-use Rattle.std.proofs.Common.{◌≡◌, ◌∙◌, ◌++◌, Bool, ℕ, List, true, bytes_eq, string_bytes, ap, append-nil, subst, sym}
+use Rattle.std.proofs.Common.{◌≡◌, ◌∙◌, ◌+◌, ◌++◌, Bool, ℕ, List, true, bytes_eq, string_bytes, ap, append-nil, subst, sym}
 use Rattle.std.proofs.lemmas.List.{nil_from_length}
 use Rattle.std.proofs.lemmas.Slice.Eq.{bytes_eq-Decides}
 use Rattle.lt_rows.specs.Rows.{IsRowField}
-use Rattle.lt_heading.specs.Names.{IsNameOf, shown_name}
+use Rattle.std.proofs.lemmas.Result.{IfOk-weaker}
+use Rattle.lt_heading.specs.Names.{AreNames, IsFound, IsNameOf, listed_after, rest_said, shown_names}
+use Rattle.lt_heading.specs.declared.names.Looked.{Looked}
 use Rattle.lt_heading.proofs.NameLemmas.{after_is, first_is, looks_last, looks_next}
 use Rattle.lt_heading.proofs.names.look_up_in_row.Goals as goal
 
@@ -20,7 +22,16 @@ returns-in-None c =
     let same = same_of c.eq.result other c.args.name.now (rw c.as_slice.ensures.value at c.eq.ensures) in
     let found = looks_last S c.args.row.now held.rest.now c.args.name.now other held.found (string_bytes held.listed) held.count c.eq.result held.invariant
     (subst (IsRowField S) (sym whole) c.in-Some.ensures.one) (subst (λ l. IsNameOf S l other) (sym whole) c.in_ok-other.ensures) same.0 same.1 in
-    (found.0, found.1, rw c.with-found.ensures found.2, c.in_ok-append_shown.ensures ∙ ap (λ n. string_bytes held.listed ++ shown_name n) c.deref.ensures.value ∙ found.3)
+    let names = found.0 in
+    IfOk-weaker c.looked_among.result
+    (λ (looked : Looked). (looked.found ≡ c.with-found.result) × (string_bytes looked.listed ≡ string_bytes c.append_listed.new.listed ++ rest_said (held.count + 1)))
+    (λ (looked : Looked). (names : List (List ℕ)) × AreNames c.args.separator c.args.row.now names × IsFound c.args.name.now names looked.found × (string_bytes looked.listed ≡ shown_names names))
+    (λ looked l. (
+      names,
+      found.1,
+      rw (l.0, c.with-found.ensures) found.2,
+      l.1 ∙ ap (λ t. t ++ rest_said (held.count + 1)) (c.in_ok-append_listed.ensures ∙ ap (λ n. string_bytes held.listed ++ listed_after held.count n) c.deref.ensures.value) ∙ found.3,
+    )) c.looked_among.ensures
 
 pub loop-field-preserved : goal.loop-field-preserved
 loop-field-preserved c =
@@ -34,4 +45,4 @@ loop-field-preserved c =
     let same = same_of c.eq.result other c.args.name.now (rw c.as_slice.ensures.value at c.eq.ensures) in
     let next = looks_next S c.args.row.now held.rest.now field more c.args.name.now other held.found (string_bytes held.listed) held.count c.eq.result held.invariant
     (record { field = c.in-Some.ensures.one; closed = ends.0 }) cut c.in_ok-other.ensures same.0 same.1 in
-    rw (c.with-found.ensures, c.in_ok-append_shown.ensures, c.deref.ensures.value) next
+    rw (c.with-found.ensures, c.in_ok-append_listed.ensures, c.deref.ensures.value) next

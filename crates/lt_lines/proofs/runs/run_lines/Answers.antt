@@ -4,7 +4,7 @@ use Rattle.lt_lines.proofs.RunLemmas.{reading_none, runs_lines}
 use Rattle.lt_lines.proofs.runs.run_lines.Goals as goal
 
 pub run_pieces-end-requires : goal.run_pieces-end-requires
-run_pieces-end-requires g c = (refl, reading_none _ _ _ _ (c.new.ensures _))
+run_pieces-end-requires g c = (refl, reading_none _ _ _ _ (c.new.ensures _ refl))
 
 pub returns : goal.returns
 returns g c =

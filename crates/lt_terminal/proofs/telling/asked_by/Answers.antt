@@ -6,5 +6,4 @@ returns-then-is_told c = (
   c.in-Ok-read_words.command,
   rw c.in-Ok.is (rw c.deref.ensures.value at c.in-Ok-read_words.ensures.read),
   sym c.is_told.ensures ∙ c.if-is_told.true,
-  c.unit_of.ensures,
 )

@@ -1,5 +1,0 @@
-//! Tests of the commands over a registry.
-#![tactic(auto)]
-
-#[cfg(test)]
-mod tests;

@@ -1,5 +1,0 @@
-use Rattle.lt_tool.proofs.AnswerLemmas.{text_said}
-use Rattle.lt_terminal.proofs.telling.say.Goals as goal
-
-pub returns : goal.returns
-returns g c = text_said _ _ _ c.write_text.ensures
