@@ -23,6 +23,9 @@ bench/bindings/sqlite.sh "$folder" "$registry"
 bench/bindings/postgresql.sh "$folder" "$registry"
 mkdir "$folder/rust" "$folder/go"
 printf '[package]\nname = "speed"\nversion = "1.0.0"\nedition = "2021"\n[dependencies]\nbcp47 = { path = "%s/bindings/rust/bcp47" }\n' "$PWD" > "$folder/rust/Cargo.toml"
+export CARGO_HOME=$folder/home
+mkdir "$CARGO_HOME"
+printf '[source.crates-io]\nreplace-with = "debian"\n[source.debian]\ndirectory = "/usr/share/cargo/registry"\n' > "$CARGO_HOME/config.toml"
 for peer in /usr/share/cargo/registry/oxilangtag-*; do
     [ ! -d "$peer" ] || printf 'oxilangtag = { path = "%s" }\n[features]\ndefault = ["peer"]\npeer = []\n' "$peer" >> "$folder/rust/Cargo.toml"
 done
@@ -32,9 +35,11 @@ printf '[[bin]]\nname = "speed"\npath = "%s/bench/bindings/rust/main.rs"\n' "$PW
 NODE_HEADERS=${NODE_HEADERS:-/usr/include/node} bindings/node/build.sh
 node bench/bindings/node.mjs "$registry" "$folder/tags"
 TARGET=$folder/java bindings/java/build.sh
-java -cp "$(ls "$folder"/java/bcp47-[0-9]*.jar)" bench/bindings/Speed.java "$registry" "$folder/tags"
+java -cp "$folder/java/bcp47-$(cat VERSION).jar" bench/bindings/Speed.java "$registry" "$folder/tags"
+bindings/go/build.sh
 cp bench/bindings/go/main.go "$folder/go"
+module=$(sed -n 's/^module //p' bindings/go/go.mod)
 text=/usr/share/gocode/src/golang.org/x/text
-printf 'module speed\n\ngo 1.19\n\nrequire (\n\tbcp47 v0.0.0\n\tgolang.org/x/text v0.0.0\n)\n\nreplace bcp47 => %s/bindings/go\n\nreplace golang.org/x/text => %s\n' \
-    "$PWD" "$text" > "$folder/go/go.mod"
+printf 'module speed\n\ngo 1.19\n\nrequire (\n\t%s v0.0.0\n\tgolang.org/x/text v0.0.0\n)\n\nreplace %s => %s/bindings/go\n\nreplace golang.org/x/text => %s\n' \
+    "$module" "$module" "$PWD" "$text" > "$folder/go/go.mod"
 (cd "$folder/go" && GOFLAGS=-mod=mod GOPROXY=off go build -o speed . && ./speed "$registry" "$folder/tags")

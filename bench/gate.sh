@@ -11,7 +11,7 @@ room=$(mktemp -d)
 trap 'rm -rf "$room"' EXIT
 git clone -q "$bench/.." "$room/clone"
 cd "$room/clone"
-# (what edits came to is kept on this machine)
+# (what was proved is kept on this machine)
 export XDG_CACHE_HOME=$room/cache
 if [ $# -gt 0 ]; then
     taskset -c "0-$(($1 - 1))" "$bench/gate_times.py" .ci/run

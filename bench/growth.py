@@ -1,15 +1,15 @@
 #!/usr/bin/env python3
-"""Refuses each growth of memory in turn: in the tests of each crate that are meant for it, and in the program.
+"""Refuses each growth of memory in turn: in the tests of each crate that are meant for it, and in the program by tests/runs.py.
 
-Usage: growth.py [NAME..]
+Usage: growth.py [--turn | NAME..]
 
-A NAME is a crate of tests, or `langtag` for the program; without one, all are run. `rt test` in a crate's folder
-leaves its tests there, and `make` builds the program; `make growth` does both first.
+A NAME is a crate of tests, or `langtag` for the program; without one, all are run. `rt test` in a crate's folder leaves its tests
+there, and `make` builds the program; `make growth` does both first. --turn prints the crate whose turn it is, by the sum of the
+commit.
 
 A run refuses the growth of one number and no other, for each number from 1 on until a run met no refusal.
 A test of a module `growths` has to pass in each. A test `.._in_order` prints where memory ran out: over the
-runs these numbers may never fall, and each from 1 to the last has to be among them. A command has to give the
-answer that it gives without a refusal, or a front of it with `! OutOfMemory` and status 4. A test `.._without_growth` marks where calls
+runs these numbers may never fall, and each from 1 to the last has to be among them. A test `.._without_growth` marks where calls
 begin that take no memory, and each growth after that is refused: it has to pass and to meet none.
 Prints the number of refusals in each, and ends with status 1 where one is not as it has to be.
 """
@@ -23,9 +23,7 @@ import tempfile
 from pathlib import Path
 
 ROOT = Path(__file__).resolve().parent.parent
-CRATES = ["lt_tag_tests", "lt_jar_tests", "lt_registry_tests", "lt_rewrite_tests", "lt_canon_tests", "lt_match_tests",
-          "lt_lines_tests", "lt_answers_tests"]
-PROGRAM = ROOT / "build" / "langtag"
+CRATES = ["lt_registry_tests", "lt_canon_tests", "lt_answers_tests"]
 SECONDS = 60
 NONE = "_without_growth"
 ORDER = "_in_order"
@@ -61,38 +59,6 @@ void *calloc(size_t items, size_t size) { return refused(size) ? NULL : __libc_c
 void *realloc(void *old, size_t size) { return refused(size) ? NULL : __libc_realloc(old, size); }
 """
 
-SAMPLE = ROOT / "examples" / "sample-registry.txt"
-LINES = b"zh-yue\r\nfr\n\nen-u-foo-bar-foo-nu-latn-ca-buddhist-NU-arab\nen-t-zh-yue-m0-names-a0-xyz\nsgn-dd"
-TABLE = "TABLE"
-CODES = b"chi|zho|zh|Chinese|chinois\nger|deu|de|German|allemand\n"
-# Each command with its input; TABLE stands for a file with these codes.
-COMMANDS = [
-    (["--help"], b""),
-    (["classify", "en-Latn-a-bb"], b""),
-    (["check", SAMPLE], b""),
-    (["canon", SAMPLE], LINES),
-    (["codes", TABLE, SAMPLE], b"chi-yue\r\nfre\nger-u-foo-bar-foo-nu-latn\ndeu-dd"),
-    (["csv", SAMPLE, "2", "--codes", TABLE], b"id,tag\n1,\"chi-yue\"\n2,fre\n"),
-    (["tsv", SAMPLE, "2"], b"1\tzh-yue\tx\r\n2\tfr\n3\n4\tsgn-dd"),
-    (["csv", SAMPLE, "2"], b"id,tag\r\n\"1\n,\",zh-yue\r\n2,\"fr\"\n3\n4,sgn-dd"),
-    (["extlang", SAMPLE, "cmn-hans"], b""),
-    (["equal", SAMPLE, "YUE", "zh-yue"], b""),
-    (["explain", SAMPLE, "sgn-dd"], b""),
-    (["show", SAMPLE, "zh-yue", "en_US"], b""),
-    (["show", "--json", SAMPLE, "de-t-zh", "de-foobar"], b""),
-    (["json", SAMPLE], LINES + b"\nen-\xff\nde-a-bc-x-a"),
-    (["explain", SAMPLE, "en-u-foo-bar-foo-nu-latn-ca-buddhist-NU-arab"], b""),
-    (["match", SAMPLE, "zh-yue", "de"], b"yue\nfr\nde-DE\n"),
-    (["match", "--extended", SAMPLE, "de-*-DE", "zh-yue"], b"de-Latn-DE\r\nen_US\nYUE\nhe"),
-    (["match", "--lookup", SAMPLE, "hy-x-a", "zh-yue-Hans-DE"], b"zh\nyue-x-a\r\nen_US\nyue\r\nYUE"),
-    (["verify", SAMPLE, "sgn-dd"], b"Region 2 27 sgn-DE\nWhole 1 44 gsg\n= gsg\n"),
-    (["verify", SAMPLE, "sgn-dd"], b"Region 2 27 sgn-DE" + b" " * 40),
-    (["upgrade", SAMPLE, SAMPLE], b""),
-]
-# A command that meets too many growths to refuse each: the first, the second, the fourth, the eighth .. are refused.
-LONG = ["explain", SAMPLE, "en-u" + "".join(f"-a{number}" for number in range(159, 99, -1))]
-
-
 def build_refuser(folder):
     """The library that refuses a growth, built in a folder."""
     library = Path(folder, "refuser.so")
@@ -101,12 +67,12 @@ def build_refuser(folder):
     return library
 
 
-def run(library, words, number, lines=b""):
+def run(library, words, number):
     """The status, output and errors of a run that refuses the growth of this number, and what it met."""
     reading, writing = os.pipe()
     names = {"LD_PRELOAD": str(library), "REFUSED_GROWTH": str(number), "REFUSED_TOLD": str(writing)}
     try:
-        done = subprocess.run(words, input=lines, capture_output=True, timeout=SECONDS,
+        done = subprocess.run(words, stdin=subprocess.DEVNULL, capture_output=True, timeout=SECONDS,
                               pass_fds=[writing], env={**os.environ, **names})
     finally:
         os.close(writing)
@@ -120,12 +86,11 @@ def stop(words, answer, why):
         " ".join(map(str, words)), why, status, output.decode(), errors.decode()))
 
 
-def try_each(library, words, is_right, lines=b"", numbers=None):
-    """How many runs met a refusal, by these numbers or by all. `is_right` has to be true of each, and of the last, which
-    met none."""
-    for count, number in enumerate(numbers or itertools.count(1)):
-        answer, met = run(library, words, number, lines)
-        if not is_right(answer, met):
+def try_each(library, words, is_right):
+    """How many runs met a refusal. `is_right` has to be true of each answer, and of the last, which met none."""
+    for count, number in enumerate(itertools.count(1)):
+        answer, met = run(library, words, number)
+        if not is_right(answer):
             stop(words, answer, "growth %d was refused" % number)
         if not met:
             return count
@@ -158,7 +123,7 @@ def judge_test(library, name, words):
         return 0
     places = []
 
-    def is_right(answer, met):
+    def is_right(answer):
         places.extend((int(at), int(last)) for at, last in RAN_OUT.findall(answer[1]))
         return answer[0] == 0
 
@@ -168,22 +133,15 @@ def judge_test(library, name, words):
     return refused or sys.exit("growth.py: %s of %s met no growth" % (name, words[0].name))
 
 
-def judge_command(library, command, lines, numbers=None):
-    """How many growths of a command were refused, of these numbers or of all."""
-    words = [PROGRAM, *command]
-    own, _ = run(library, words, 0, lines)
-
-    def is_right(answer, met):
-        status, output, errors = answer
-        is_cut = status == 4 and own[1].startswith(output) and errors == b"! OutOfMemory\n"
-        return answer == own or (met == b"r" and is_cut)
-
-    if own[0] not in (0, 1) or own[2]:
-        stop(words, own, "no growth was refused")
-    return try_each(library, words, is_right, lines, numbers)
+def turn():
+    """The crate of tests whose turn it is."""
+    commit = subprocess.run(["git", "rev-parse", "HEAD"], cwd=ROOT, capture_output=True, text=True).stdout
+    return CRATES[int(commit or "0", 16) % len(CRATES)]
 
 
 def main():
+    if sys.argv[1:] == ["--turn"]:
+        return print(turn())
     with tempfile.TemporaryDirectory() as folder:
         library = build_refuser(folder)
         for crate in sys.argv[1:] or [*CRATES, "langtag"]:
@@ -191,13 +149,7 @@ def main():
                 for name, words in tests_of(crate):
                     print("%s %s: %d" % (crate, name, judge_test(library, name, words)), flush=True)
                 continue
-            table = Path(folder, "table")
-            table.write_bytes(CODES)
-            for command, lines in COMMANDS:
-                shown = " ".join(word for word in command if word != SAMPLE)
-                print("langtag %s: %d" % (shown, judge_command(library, [table if word == TABLE else word for word in command], lines)), flush=True)
-            doubled = (2 ** power for power in itertools.count())
-            print("langtag explain, of a long tag: %d" % judge_command(library, LONG, b"", doubled), flush=True)
+            subprocess.run([ROOT / "tests" / "runs.py", "--growths"], check=True)
 
 
 if __name__ == "__main__":

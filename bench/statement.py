@@ -8,7 +8,8 @@ in crates/*/src the enums, structs, views (`impl Model`) and traits that they sp
 and not the private fields, nor an invariant on these alone; what a variant of an enum holds is followed only if a definition looks at it. What std defines is not
 counted. A line counts unless it is blank, a comment, a `use`, an attribute or a closing bracket alone.
 
-It prints each file with the lines reached, and their sum. With --list it prints each definition too. It ends with 1 if a
+It prints each file with the lines reached, and their sum, and how many tokens they have, so that lines that are joined gain
+nothing. With --list it prints each definition too. It ends with 1 if a
 definition is reached that is in an inner file (specs/inner/), or if the sum is above N (700); with --docs also if README.md
 doesn't give the sum, docs/READING.md doesn't name a definition, or its table of notation doesn't have a name of std that a
 definition uses.
@@ -32,6 +33,7 @@ HEADLINE = [
     ("canonical_forms", ["canonical", "twice", "text_twice", "equal_texts"]),
 ]
 
+TOKENS = re.compile(r"[\w.']+|[^\w\s]")
 SEPARATORS = re.compile(r"[\s(){}\[\],;]+")
 
 
@@ -93,6 +95,10 @@ class Item:
 
     def count(self):
         return sum(1 for line in self.lines if is_counted(line))
+
+    def tokens(self):
+        """How many names, numbers and signs the lines that count have."""
+        return sum(len(TOKENS.findall(line)) for line in self.text().splitlines() if is_counted(line))
 
 
 class Spec:
@@ -416,6 +422,7 @@ def main(arguments=None, headline=HEADLINE):
     for item in items:
         files.setdefault(item.path, []).append(item)
     total, failed = 0, False
+    tokens_of_all = sum(item.tokens() for item in items)
     for path in sorted(files):
         items = sorted(files[path], key=lambda item: item.first)
         count = sum(item.count() for item in items)
@@ -427,7 +434,7 @@ def main(arguments=None, headline=HEADLINE):
         if words.list:
             for item in items:
                 print(f"      {item.count():3} {item.name} ({item.first})")
-    print(f"{total} lines of {len(tree.reached)} definitions in {len(files)} files")
+    print(f"{total} lines, {tokens_of_all:,} tokens, of {len(tree.reached)} definitions in {len(files)} files")
     if total > words.most:
         print(f"more than {words.most}")
         failed = True

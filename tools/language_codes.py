@@ -7,7 +7,7 @@ import sys
 
 TOP = pathlib.Path(__file__).resolve().parent.parent
 TABLE = TOP / "tools/iso639-2.tsv"
-CRATE = TOP / "crates/lt_terminal"
+CODES = TOP / "crates/lt_terminal/src/codes.rt"
 
 
 def rows():
@@ -35,19 +35,6 @@ pub(crate) static CODES: [&str; {len(messages)}] = [
 """
 
 
-def definition(messages):
-    lines = "".join(f'    codes "{message}" ∷\n' for message in messages)
-    return f"""-- The codes of three letters of ISO 639-2 that BCP 47 does not register (RFC 5646, 2.2.1), since the language has one
--- of two. tools/language_codes.py writes this file.
-use Rattle.std.specs.Prelude.{{ℕ, List, [], ◌∷◌, codes}}
-
--- the code of two letters beside each
-abbrev pub two_letters : List (List ℕ)
-two_letters =
-{lines}    []
-"""
-
-
 def main():
     words = sys.argv[1:]
     if words and words[0] != "--write":
@@ -55,12 +42,10 @@ def main():
             sys.exit(f"{TABLE.name} and {words[0]} differ")
         return
     messages = [f"{three}: BCP 47 writes {two}." for three, two in rows()]
-    texts = {CRATE / "src/codes.rt": code(messages), CRATE / "specs/Codes.antt": definition(messages)}
-    for path, text in texts.items():
-        if words:
-            path.write_text(text)
-        elif path.read_text() != text:
-            sys.exit(f"{path.relative_to(TOP)} and {TABLE.name} differ")
+    if words:
+        CODES.write_text(code(messages))
+    elif CODES.read_text() != code(messages):
+        sys.exit(f"{CODES.relative_to(TOP)} and {TABLE.name} differ")
     print(f"{len(messages)} codes of three letters")
 
 

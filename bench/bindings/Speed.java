@@ -1,4 +1,6 @@
+import bcp47.RefusedTag;
 import bcp47.Registry;
+import bcp47.Tag;
 import java.lang.management.ManagementFactory;
 import java.nio.charset.StandardCharsets;
 import java.nio.file.Files;
@@ -46,12 +48,16 @@ final class Speed {
             measure("Registry.canonical, valid tags", tags, tag -> registry.canonical(tag).length());
             measure("Locale.Builder, valid tags", tags, tag -> built(tag).length());
             measure("Locale.forLanguageTag, valid tags", tags, tag -> Locale.forLanguageTag(tag).toLanguageTag().length());
-            for (int round = 0; round < 10; round++) {
-                registry.canonicalMany(all);
-            }
-            double begun = now();
-            registry.canonicalMany(all);
-            System.out.printf("Java, Registry.canonicalMany: %.2f million tags a second%n", all.size() / (now() - begun) / 1e6);
+            List<String> bad = all.stream().filter(tag -> !registry.isValid(tag)).toList();
+            measure("Registry.answer, refused tags", bad, tag -> (int) registry.answer(tag).refusal().place() + 1);
+            measure("Registry.canonical, refused tags", bad, tag -> {
+                try {
+                    return registry.canonical(tag).length();
+                } catch (RefusedTag refused) {
+                    return 1;
+                }
+            });
+            measure("Tag.of, valid tags", tags, tag -> Tag.of(tag).length());
             long same = tags.stream().filter(tag -> built(tag).equals(registry.canonical(tag))).count();
             long refused = tags.stream().filter(tag -> built(tag).isEmpty()).count();
             long taken = all.stream().filter(tag -> !registry.isValid(tag) && !built(tag).isEmpty()).count();

@@ -10,7 +10,7 @@ import (
 	"syscall"
 	"time"
 
-	"bcp47"
+	"langtag.example/bcp47"
 
 	"golang.org/x/text/language"
 )
@@ -44,12 +44,28 @@ func main() {
 		log.Fatal(err)
 	}
 	tags := strings.Split(strings.TrimSuffix(string(content), "\n"), "\n")
-	measure("Registry.Canonical", len(tags), func() {
-		for _, tag := range tags {
-			registry.Canonical(tag)
+	var valid, refused []string
+	for _, tag := range tags {
+		if registry.Validate(tag) == nil {
+			valid = append(valid, tag)
+		} else {
+			refused = append(refused, tag)
+		}
+	}
+	for name, some := range map[string][]string{"valid": valid, "refused": refused} {
+		measure("Registry.Canonical, "+name+" tags", len(some), func() {
+			for _, tag := range some {
+				registry.Canonical(tag)
+			}
+		})
+		measure("Registry.CanonicalMany, "+name+" tags", len(some), func() { registry.CanonicalMany(some) })
+	}
+	measure("ParseTag and Parts, valid tags", len(valid), func() {
+		for _, tag := range valid {
+			read, _ := bcp47.ParseTag(tag)
+			read.Parts()
 		}
 	})
-	measure("Registry.CanonicalMany", len(tags), func() { registry.CanonicalMany(tags) })
 	measure("x/text", len(tags), func() {
 		for _, tag := range tags {
 			if read, err := language.All.Parse(tag); err == nil {

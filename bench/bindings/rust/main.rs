@@ -24,12 +24,16 @@ fn main() -> Result<(), Box<dyn std::error::Error>> {
     let registry = bcp47::Registry::open(&words[1])?;
     let content = std::fs::read_to_string(&words[2])?;
     let tags: Vec<&str> = content.lines().collect();
-    let length = |text: Result<String, _>| text.map_or(0, |text| text.len());
-    measure("Registry::canonical", tags.len(), || {
-        tags.iter().map(|tag| length(registry.canonical(tag))).sum()
-    });
-    measure("Registry::canonical_many", tags.len(), || {
-        registry.canonical_many(&tags).into_iter().map(length).sum()
+    let length = |text: Result<String, _>| text.map_or(0, |text: String| text.len());
+    let (valid, refused): (Vec<&str>, Vec<&str>) = tags.iter().partition(|tag| registry.validate(tag).is_ok());
+    for (name, some) in [("valid", &valid), ("refused", &refused)] {
+        measure(&format!("Registry::canonical, {name} tags"), some.len(), || {
+            some.iter().map(|tag| length(registry.canonical(tag))).sum()
+        });
+    }
+    measure("Tag and its parts, valid tags", valid.len(), || {
+        let parts = |tag: &&str| tag.parse::<bcp47::Tag>().map_or(0, |tag| tag.parts().count());
+        valid.iter().map(parts).sum()
     });
     #[cfg(feature = "peer")]
     measure("oxilangtag, letter case alone", tags.len(), || {
