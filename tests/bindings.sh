@@ -68,6 +68,7 @@ sed -n '/^```python$/,/^```$/{/^```/!p}' docs/PYTHON.md > "$folder/examples/exam
 export LD_LIBRARY_PATH=$root/build
 flags="-std=c11 -D_GNU_SOURCE -g -Wall -Wextra -Werror -pthread -Ibindings/c"
 wrapped="-Wl,--wrap=malloc,--wrap=calloc,--wrap=realloc"
+within="-Wl,--wrap=malloc,--wrap=calloc"
 files="bindings/c/bcp47.c bindings/c/names.c build/proved.o"
 memory="-O1 -fsanitize=address,undefined -fno-sanitize-recover=all"
 of_sample="$(sha256sum < "$sample" | cut -d ' ' -f 1) $(grep -c '^%%' "$sample") $(sed -n '1s/File-Date: //p' "$sample")"
@@ -109,7 +110,6 @@ made calls-shared tests/bindings/calls.c -Lbuild -lbcp47
 made answers-shared tests/bindings/answers.c -Lbuild -lbcp47
 made answers tests/bindings/answers.c build/libbcp47.a
 made growths tests/bindings/growths.c build/libbcp47.a $wrapped
-made nested tests/bindings/nested.c build/libbcp47.a -Wl,--wrap=malloc
 made threads tests/bindings/threads.c build/libbcp47.a
 made stacks tests/bindings/stacks.c build/libbcp47.a
 # shellcheck disable=SC2086
@@ -121,7 +121,6 @@ made stacks tests/bindings/stacks.c build/libbcp47.a
 passes "each growth refused" "$folder/growths" "$sample"
 cat "$folder/out"
 passes "growths refused under valgrind" valgrind -q --error-exitcode=9 --leak-check=full "$folder/growths" "$sample" 50
-passes "calls within calls" "$folder/nested" "$sample"
 passes "small stacks" "$folder/stacks" "$registry" 16
 tail -n 1 "$folder/out"
 passes "threads of 64 kB" "$folder/threads" "$registry" "$folder/tags" 20000 8 65536
@@ -135,16 +134,20 @@ writes "C shows as the program" "$folder/shown" "$folder/answers-shared" "$regis
 # Under sanitizers. The proved calls have none, so that helgrind and drd, which see each instruction, look at them too.
 made calls-memory tests/bindings/calls.c $files $memory
 made growths-memory tests/bindings/growths.c $files $memory $wrapped
-made nested-memory tests/bindings/nested.c $files $memory -DBCP47_WAIT=9 -Wl,--wrap=malloc
+made nested tests/bindings/nested.c $files $memory -DBCP47_SLOTS=64 -DBCP47_WAIT=9 $within
+made nested-few tests/bindings/nested.c $files $memory -DBCP47_SLOTS=4 -DBCP47_WAIT=9 $within
 made threads-memory tests/bindings/threads.c $files $memory
 made answers-memory tests/bindings/answers.c $files $memory
-made threads-races tests/bindings/threads.c $files -O1 -fsanitize=thread
-made threads-helgrind tests/bindings/threads.c $files -O1 -include tests/bindings/order.h
-made threads-drd tests/bindings/threads.c $files -O1 -DDRD -include tests/bindings/order.h
+made threads-forks tests/bindings/threads.c $files -O1 -DBCP47_SLOTS=2
+made threads-races tests/bindings/threads.c $files -O1 -DBCP47_SLOTS=4 -fsanitize=thread
+made threads-helgrind tests/bindings/threads.c $files -O1 -DBCP47_SLOTS=4 -include tests/bindings/order.h
+made threads-drd tests/bindings/threads.c $files -O1 -DBCP47_SLOTS=4 -DDRD -include tests/bindings/order.h
 # shellcheck disable=SC2086
 passes "calls under sanitizers" "$folder/calls-memory" "$sample" $of_sample
 passes "each growth refused under sanitizers" "$folder/growths-memory" "$sample"
-passes "calls within calls under sanitizers" "$folder/nested-memory" "$sample"
+passes "calls within calls" "$folder/nested" "$sample"
+passes "calls within calls, of few slots, each growth refused" "$folder/nested-few" "$sample" refused
+passes "forks in the midst of calls, of few slots" "$folder/threads-forks" "$sample" "$folder/few" 500 6 forks
 passes "signals under sanitizers" "$folder/threads-memory" "$sample" "$folder/few" 500 2 signals
 writes "8 readers under sanitizers" "$folder/wanted" "$folder/answers-memory" "$registry" "$folder/tags" 8
 passes "8 threads under the thread sanitizer" "$folder/threads-races" "$registry" "$folder/tags" 3000 8
@@ -156,17 +159,17 @@ passes "8 threads under drd" valgrind -q --tool=drd --error-exitcode=9 "$folder/
 mkdir "$folder/coverage"
 for source in bcp47 names; do
     # shellcheck disable=SC2086
-    passes "compile $source for gcov" gcc $flags -O0 --coverage -DBCP47_WAIT=9 -c bindings/c/$source.c -o "$folder/coverage/$source.o"
+    passes "compile $source for gcov" gcc $flags -O0 --coverage -DBCP47_SLOTS=4 -DBCP47_WAIT=9 -c bindings/c/$source.c -o "$folder/coverage/$source.o"
 done
 # shellcheck disable=SC2086
 {
     made coverage/calls tests/bindings/calls.c "$folder"/coverage/*.o build/proved.o --coverage
     made coverage/growths tests/bindings/growths.c "$folder"/coverage/*.o build/proved.o --coverage $wrapped
-    made coverage/nested tests/bindings/nested.c "$folder"/coverage/*.o build/proved.o --coverage -Wl,--wrap=malloc
+    made coverage/nested tests/bindings/nested.c "$folder"/coverage/*.o build/proved.o --coverage -DBCP47_SLOTS=4 $within
     passes "calls for gcov" "$folder/coverage/calls" "$sample" $of_sample
 }
 passes "growths for gcov" "$folder/coverage/growths" "$sample"
-passes "nested for gcov" "$folder/coverage/nested" "$sample"
+passes "nested for gcov" "$folder/coverage/nested" "$sample" refused
 (cd "$folder/coverage" && gcov -b -o . bcp47.o names.o > report 2>&1)
 grep -A 2 -E "^File '.*bindings/c/" "$folder/coverage/report" | grep -vE '^--$|^File|:100.00%' > "$folder/uncovered"
 passes "each line and branch in C is run" test ! -s "$folder/uncovered" -a "$(grep -c ':100.00%' "$folder/coverage/report")" -ge 4
@@ -193,7 +196,7 @@ passes "nothing is global but constants" test -z "$(nm build/libbcp47.a | grep -
 made numbers tests/bindings/numbers.c $files
 passes "names" "$folder/numbers"
 sed -n 's/^    "\(.*\)",$/\1/p' crates/lt_terminal/src/meanings.rt > "$folder/messages"
-grep -vE '^(None|Failed|BadFirst|Done|NotATag|Invalid|BufferTooSmall|Different|BadFile|BadRecord|Rejected|NoUpgrade|NoSuchStep|WrongEnd|NotOpen|BadCall|Busy|TooManySteps): ' \
+grep -vE '^(None|Failed|BadFirst|Done|NotATag|Invalid|BufferTooSmall|Different|BadFile|BadRecord|Rejected|NoUpgrade|NoSuchStep|WrongEnd|NotOpen|BadCall|Busy|TooManySteps|NoEntries): ' \
     "$folder/out" > "$folder/helps"
 passes "meanings" test "$(grep -cvxFf "$folder/messages" "$folder/helps")" = 0 -a "$(wc -l < "$folder/helps")" = 53
 
@@ -232,20 +235,20 @@ under="env PYTHONPATH=$folder/python-memory PYTHONMALLOC=malloc ASAN_OPTIONS=det
 {
     passes "Python's tests under sanitizers" $under bindings/python/tests/test_bcp47.py "$sample" "$registry"
     passes "Python: growths, signals, threads, columns under sanitizers" $under bindings/python/tests/test_habits.py "$sample" Growths \
-        Signals Facts Parts Columns.test_missing_values Columns.test_long_columns Threads.test_a_registry_is_closed_in_the_midst_of_calls
+        Signals Facts Parts Refusals Columns.test_missing_values Columns.test_long_columns Threads.test_a_registry_is_closed_in_the_midst_of_calls
 }
-# Each line of the extension but six: where memory runs out at the import, and where too many threads ask.
+# Each line of the extension.
 passes "compile the extension for gcov" gcc -O0 --coverage -std=c11 -fPIC -fvisibility=hidden -Ibindings/c \
     "-I$($python -c 'import sysconfig; print(sysconfig.get_paths()["include"])')" -c bindings/python/_bcp47.c -o "$folder/coverage/_bcp47.o"
 cp -r bindings/python/bcp47 "$folder/coverage/bcp47"
 passes "link the extension for gcov" gcc -shared --coverage "$folder/coverage/_bcp47.o" build/libbcp47.a -Wl,--exclude-libs,ALL \
     -o "$folder/coverage/bcp47/_bcp47.abi3.so"
-for test in "test_bcp47.py $sample $registry" "test_habits.py $sample Growths Copies Parts Columns Threads Facts"; do
+for test in "test_bcp47.py $sample $registry" "test_habits.py $sample Growths Copies Parts Refusals Columns Threads Facts"; do
     # shellcheck disable=SC2086
     passes "Python for gcov: ${test%% *}" env PYTHONPATH="$folder/coverage" $python -B bindings/python/tests/$test
 done
 (cd "$folder/coverage" && gcov -o . _bcp47.o > report 2>&1)
-passes "lines of the extension are run" test "$(grep -c '#####' "$folder/coverage/_bcp47.c.gcov")" -le 6
+passes "each line of the extension is run" test "$(grep -c '#####' "$folder/coverage/_bcp47.c.gcov")" = 0
 unset PYTHONPATH LD_LIBRARY_PATH
 
 # ---- SQLite

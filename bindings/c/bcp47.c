@@ -11,11 +11,15 @@
 #include <string.h>
 #include <time.h>
 
-/* How many calls may be under way on a registry at once, and how many milliseconds a call waits for another to end. */
+/* How many slots a registry is opened with, and how many more, from which a call that finds those taken makes one of its own. A call
+   has one of these for moments only, but where a fork left it behind: another waits for it so many milliseconds. */
+#ifndef BCP47_SLOTS
+#define BCP47_SLOTS 64
+#endif
 #ifndef BCP47_WAIT
 #define BCP47_WAIT 500
 #endif
-enum { SLOTS = 64 };
+enum { SLOTS = BCP47_SLOTS, SEEDS = 8, KEPT = SLOTS + SEEDS };
 
 /* Room for what is shown of most tags. */
 enum { ROWS = 4096 };
@@ -24,17 +28,24 @@ enum { ROWS = 4096 };
 #define OPEN 0x37345042u
 
 /* What one call at a time asks by. It fills a line of a processor's cache, so that threads don't wait for each other. */
-typedef struct {
+typedef struct slot {
     bcp47_handle handle;
+    struct slot *next; /* of those that calls made */
     atomic_bool is_taken;
-    char rest[64 - sizeof(bcp47_handle) - sizeof(atomic_bool)];
+    char rest[64 - sizeof(bcp47_handle) - sizeof(struct slot *) - sizeof(atomic_bool)];
 } slot;
+
+/* Slots whose handles hold one registry. Those that calls made stay until it is closed: as many as calls were under way at once. */
+typedef struct {
+    slot kept[KEPT];
+    _Atomic(slot *) made;
+} slots;
 
 /* For tools that see no atomic operations: tests/bindings/order.h. */
 #ifndef BCP47_TAKEN
 #define BCP47_TAKEN(slot) ((void)0)
 #define BCP47_GIVEN(slot) ((void)0)
-#define BCP47_SHOWN(shown) ((void)0)
+#define BCP47_SHARED(pointer) ((void)0)
 #endif
 
 struct bcp47_registry {
@@ -42,8 +53,8 @@ struct bcp47_registry {
     bcp47_info info; /* but for the digest, which is taken of the bytes when it is asked for */
     void *bytes;
     size_t length;
-    slot slots[SLOTS];      /* their handles hold one registry */
-    _Atomic(slot *) shown;  /* as many whose handles keep its records, too: made by the first bcp47_show */
+    slots asked;
+    _Atomic(slots *) shown; /* those whose handles keep its records, too: made by the first bcp47_show */
 };
 
 /* ---- what is answered */
@@ -110,37 +121,85 @@ static inline bool takes(slot *s) {
     return true;
 }
 
+/* The same, with a look before: most that are looked at among many are taken. */
+static bool takes_free(slot *s) {
+    bool is_free = !atomic_load_explicit(&s->is_taken, memory_order_relaxed);
+    if (is_free) is_free = takes(s);
+    return is_free;
+}
+
 static int64_t milliseconds(void) {
     struct timespec now;
     clock_gettime(CLOCK_MONOTONIC, &now);
     return (int64_t)now.tv_sec * 1000 + now.tv_nsec / 1000000;
 }
 
-/* The first slot, from one on, that no other call has; NULL where none is given back for a while. */
-static slot *take_other(slot *slots, size_t first) {
-    int64_t begun = milliseconds();
-    do {
-        for (size_t i = 0; i < SLOTS; i++) {
-            slot *s = &slots[(first + i) % SLOTS];
-            if (takes(s)) return s;
-        }
-        sched_yield();
-    } while (milliseconds() - begun < BCP47_WAIT);
-    return NULL;
-}
-
-static inline slot *take_of(slot *slots) {
-    size_t first = first_slot();
-    return takes(&slots[first]) ? &slots[first] : take_other(slots, first + 1);
-}
-
-static inline slot *take(const bcp47_registry *registry) {
-    return take_of(((bcp47_registry *)(uintptr_t)registry)->slots);
+/* A slot that no other call has, of those that are kept from one on or that calls made; NULL where each is taken. */
+static slot *take_free(slots *all, size_t first) {
+    for (size_t i = 0; i < SLOTS; i++) {
+        slot *s = &all->kept[(first + i) % SLOTS];
+        if (takes_free(s)) return s;
+    }
+    BCP47_SHARED(&all->made);
+    slot *s = atomic_load_explicit(&all->made, memory_order_acquire);
+    while (s && !takes_free(s)) s = s->next;
+    return s;
 }
 
 static inline void give(slot *s) {
     BCP47_GIVEN(s);
     atomic_store_explicit(&s->is_taken, false, memory_order_release);
+}
+
+/* Lets a handle hold what those of the slots do, by one that is kept for that; false where memory runs out. Where none of them is
+   given back for a while, as in the child of a fork that left a thread in each, the bytes are read anew. */
+static bool holds(const bcp47_registry *registry, slots *all, bcp47_handle *handle) {
+    uint8_t line[BCP47_LINE];
+    int64_t begun = milliseconds();
+    do {
+        for (size_t i = SLOTS; i < KEPT; i++) {
+            if (!takes(&all->kept[i])) continue;
+            uint8_t status = bcp47_handle_share(&all->kept[i].handle, handle);
+            give(&all->kept[i]);
+            return !status;
+        }
+        sched_yield();
+    } while (milliseconds() - begun < BCP47_WAIT);
+    if (bcp47_handle_open(handle, registry->bytes, registry->length, line, sizeof line).status) return false;
+    if (all == &registry->asked || !bcp47_handle_keep(handle, registry->bytes, registry->length)) return true;
+    bcp47_handle_close(handle);
+    return false;
+}
+
+/* A slot of a call's own, which other calls may have after it; NULL where memory runs out. */
+static slot *make_slot(const bcp47_registry *registry, slots *all) {
+    slot *made = calloc(1, sizeof *made);
+    if (!made) return NULL;
+    BCP47_SHARED(&made->next);
+    BCP47_SHARED(&made->is_taken);
+    atomic_init(&made->is_taken, true);
+    made->next = atomic_load_explicit(&all->made, memory_order_relaxed);
+    if (!holds(registry, all, &made->handle)) {
+        free(made);
+        return NULL;
+    }
+    while (!atomic_compare_exchange_weak_explicit(&all->made, &made->next, made, memory_order_release, memory_order_relaxed)) {}
+    return made;
+}
+
+static slot *take_other(const bcp47_registry *registry, slots *all, size_t first) {
+    slot *s = take_free(all, first);
+    return s ? s : make_slot(registry, all);
+}
+
+/* A slot for a call; NULL where memory runs out. */
+static inline slot *take_of(const bcp47_registry *registry, slots *all) {
+    size_t first = first_slot();
+    return takes(&all->kept[first]) ? &all->kept[first] : take_other(registry, all, first + 1);
+}
+
+static inline slot *take(const bcp47_registry *registry) {
+    return take_of(registry, &((bcp47_registry *)(uintptr_t)registry)->asked);
 }
 
 /* ---- opening and closing */
@@ -175,31 +234,38 @@ static void read_date(const uint8_t *bytes, size_t length, char date[11]) {
     date[10] = 0;
 }
 
-/* Lets the others hold what the first handle does: how many hold it then, fewer than all where memory runs out. */
-static size_t share_first(slot *slots) {
+/* Lets the others hold what the first handle does, and gives them: how many hold it then, fewer than all where memory runs out. */
+static size_t share_first(slots *all) {
     size_t count = 1;
-    while (count < SLOTS && !bcp47_handle_share(&slots[0].handle, &slots[count].handle)) count++;
+    while (count < KEPT && !bcp47_handle_share(&all->kept[0].handle, &all->kept[count].handle)) count++;
+    for (size_t i = 0; i < count; i++) give(&all->kept[i]);
     return count;
 }
 
-static void close_handles(slot *slots, size_t count) {
-    for (size_t i = 0; i < count; i++) bcp47_handle_close(&slots[i].handle);
+static void close_handles(slots *all, size_t count) {
+    for (size_t i = 0; i < count; i++) bcp47_handle_close(&all->kept[i].handle);
 }
 
 /* Closes the handles that no call has: whether that is all. A slot that a call has stays: a call of a thread that a fork left
    behind in the parent never ends. */
-static bool close_slots(slot *slots) {
+static bool close_slots(slots *all) {
     bool is_whole = true;
-    for (size_t i = 0; i < SLOTS; i++) {
-        if (takes(&slots[i])) bcp47_handle_close(&slots[i].handle);
+    for (size_t i = 0; i < KEPT; i++) {
+        if (takes(&all->kept[i])) bcp47_handle_close(&all->kept[i].handle);
         else is_whole = false;
+    }
+    for (slot *s = atomic_load_explicit(&all->made, memory_order_relaxed), *next; s; s = next) {
+        next = s->next;
+        if (!takes(s)) continue;
+        bcp47_handle_close(&s->handle);
+        free(s);
     }
     return is_whole;
 }
 
 /* Lets go of a registry that has so many handles. */
 static void let_go(bcp47_registry *registry, size_t handles) {
-    close_handles(registry->slots, handles);
+    close_handles(&registry->asked, handles);
     free(registry->bytes);
     free(registry);
 }
@@ -218,10 +284,11 @@ static bcp47_registry *without_handles(const void *bytes, size_t length) {
     return NULL;
 }
 
-static bcp47_outcome no_memory(char *line, size_t room) {
-    static const char text[] = "OutOfMemory";
-    bcp47_outcome outcome = {BCP47_OUT_OF_MEMORY, 0, 0, sizeof text - 1, 0, 0};
-    tell(&outcome, (const uint8_t *)text, line, room);
+/* A refusal of a registry whose line is the name of the status. */
+static bcp47_outcome refuse(int status, char *line, size_t room) {
+    const char *name = bcp47_status_name(status);
+    bcp47_outcome outcome = {status, 0, 0, strlen(name), 0, 0};
+    tell(&outcome, (const uint8_t *)name, line, room);
     return outcome;
 }
 
@@ -231,21 +298,22 @@ bcp47_outcome bcp47_open(bcp47_registry **registry, const void *bytes, size_t le
     *registry = NULL;
     if (!are_apart(bytes, length, line, room)) return ended(BCP47_BAD_CALL);
     bcp47_registry *opened = without_handles(bytes, length);
-    if (!opened) return no_memory(line, room);
-    bcp47_outcome outcome = bcp47_handle_open(&opened->slots[0].handle, opened->bytes, length, said, sizeof said);
+    if (!opened) return refuse(BCP47_OUT_OF_MEMORY, line, room);
+    bcp47_handle *first = &opened->asked.kept[0].handle;
+    bcp47_outcome outcome = bcp47_handle_open(first, opened->bytes, length, said, sizeof said);
     if (outcome.status != BCP47_DONE) {
         let_go(opened, 0);
         tell(&outcome, said, line, room);
         return outcome;
     }
-    size_t handles = share_first(opened->slots);
-    if (handles < SLOTS) {
-        let_go(opened, handles);
-        return no_memory(line, room);
-    }
-    opened->info.entries = bcp47_handle_entries(&opened->slots[0].handle);
     read_date(opened->bytes, length, opened->info.file_date);
-    for (size_t i = 0; i < SLOTS; i++) give(&opened->slots[i]);
+    opened->info.entries = bcp47_handle_entries(first);
+    size_t handles = opened->info.entries ? share_first(&opened->asked) : 1;
+    if (handles < KEPT) {
+        int status = opened->info.entries ? BCP47_OUT_OF_MEMORY : BCP47_NO_ENTRIES;
+        let_go(opened, handles);
+        return refuse(status, line, room);
+    }
     atomic_init(&opened->mark, OPEN);
     *registry = opened;
     tell(&outcome, said, line, room);
@@ -255,9 +323,9 @@ bcp47_outcome bcp47_open(bcp47_registry **registry, const void *bytes, size_t le
 void bcp47_close(bcp47_registry *registry) {
     if (!is_open(registry)) return;
     atomic_store_explicit(&registry->mark, 0, memory_order_relaxed);
-    slot *shown = atomic_load_explicit(&registry->shown, memory_order_relaxed);
+    slots *shown = atomic_load_explicit(&registry->shown, memory_order_relaxed);
     if (shown && close_slots(shown)) free(shown);
-    if (close_slots(registry->slots)) let_go(registry, 0);
+    if (close_slots(&registry->asked)) let_go(registry, 0);
 }
 
 bcp47_outcome bcp47_registry_info(const bcp47_registry *registry, bcp47_info *info) {
@@ -363,53 +431,44 @@ bcp47_outcome bcp47_explanation(const bcp47_registry *registry, const char *text
 }
 
 /* Slots whose handles share the registry of one, and keep the records of the bytes from which it was opened. */
-static bcp47_outcome keep_records(const bcp47_registry *registry, bcp47_handle *handle, slot **made) {
-    slot *slots = calloc(SLOTS, sizeof *slots);
+static slots *keep_records(const bcp47_registry *registry, bcp47_handle *handle) {
+    slots *made = calloc(1, sizeof *made);
     size_t handles = 0;
-    if (!slots) return ended(BCP47_OUT_OF_MEMORY);
-    if (!bcp47_handle_share(handle, &slots[0].handle))
-        handles = bcp47_handle_keep(&slots[0].handle, registry->bytes, registry->length) ? 1 : share_first(slots);
-    if (handles < SLOTS) {
-        close_handles(slots, handles);
-        free(slots);
-        return ended(BCP47_OUT_OF_MEMORY);
-    }
-    for (size_t i = 0; i < SLOTS; i++) give(&slots[i]);
-    *made = slots;
-    return ended(BCP47_DONE);
+    if (!made) return NULL;
+    bcp47_handle *first = &made->kept[0].handle;
+    if (!bcp47_handle_share(handle, first)) handles = bcp47_handle_keep(first, registry->bytes, registry->length) ? 1 : share_first(made);
+    if (handles == KEPT) return made;
+    close_handles(made, handles);
+    free(made);
+    return NULL;
 }
 
-/* The slots whose handles keep the records: those that a call before, or another thread meanwhile, has made, or else new ones. */
-static bcp47_outcome find_shown(bcp47_registry *registry, slot **shown) {
-    slot *made;
-    BCP47_SHOWN(&registry->shown);
-    *shown = atomic_load_explicit(&registry->shown, memory_order_acquire);
-    if (*shown) return ended(BCP47_DONE);
-    slot *s = take(registry);
-    if (!s) return ended(BCP47_BUSY);
-    bcp47_outcome outcome = keep_records(registry, &s->handle, &made);
+/* The slots whose handles keep the records: those that a call before, or another thread meanwhile, has made, or else new ones; NULL
+   where memory runs out. */
+static slots *find_shown(bcp47_registry *registry) {
+    BCP47_SHARED(&registry->shown);
+    slots *shown = atomic_load_explicit(&registry->shown, memory_order_acquire);
+    slot *s = shown ? NULL : take(registry);
+    if (!s) return shown;
+    slots *made = keep_records(registry, &s->handle);
     give(s);
-    if (outcome.status != BCP47_DONE) return outcome;
-    if (atomic_compare_exchange_strong_explicit(&registry->shown, shown, made, memory_order_acq_rel, memory_order_acquire)) {
-        *shown = made;
-    } else {
-        close_handles(made, SLOTS);
-        free(made);
-    }
-    return outcome;
+    if (!made || atomic_compare_exchange_strong_explicit(&registry->shown, &shown, made, memory_order_acq_rel, memory_order_acquire))
+        return made;
+    close_handles(made, KEPT);
+    free(made);
+    return shown;
 }
 
 bcp47_outcome bcp47_show(const bcp47_registry *registry, const char *text, size_t length, char **rows) {
-    slot *shown;
     if (!rows) return ended(BCP47_BAD_CALL);
     *rows = NULL;
     if (!is_open(registry)) return ended(BCP47_NOT_OPEN);
     if (!is_text(text, length)) return ended(BCP47_BAD_CALL);
-    bcp47_outcome outcome = find_shown((bcp47_registry *)(uintptr_t)registry, &shown);
-    if (outcome.status != BCP47_DONE) return outcome;
-    slot *s = take_of(shown);
+    slots *shown = find_shown((bcp47_registry *)(uintptr_t)registry);
+    if (!shown) return ended(BCP47_OUT_OF_MEMORY);
+    slot *s = take_of(registry, shown);
     if (!s) return ended(BCP47_BUSY);
-    outcome = write_whole(bcp47_handle_show, s, bytes_of(text), length, ROWS, rows);
+    bcp47_outcome outcome = write_whole(bcp47_handle_show, s, bytes_of(text), length, ROWS, rows);
     give(s);
     return outcome;
 }
@@ -441,7 +500,7 @@ static void tell_text(bcp47_outcome *outcome, slot *s, const uint8_t *first, siz
     else outcome->text = alone.status == outcome->status ? 1 : 2;
 }
 
-bcp47_outcome bcp47_equal(const bcp47_registry *registry, const char *first, size_t first_length, const char *second,
+bcp47_outcome bcp47_equivalent(const bcp47_registry *registry, const char *first, size_t first_length, const char *second,
                           size_t second_length, char *buffer, size_t room) {
     uint8_t variant[8];
     if (!is_open(registry)) return ended(BCP47_NOT_OPEN);
@@ -499,31 +558,4 @@ bcp47_outcome bcp47_upgrade_check(const bcp47_registry *older, const bcp47_regis
     give(other);
     give(s);
     return outcome;
-}
-
-/* ---- many texts */
-
-/* The outcome of one of them, written after so many bytes of the buffer, of which it has none. */
-static bcp47_outcome write_next(slot *s, const char *texts, size_t begin, size_t end, char *buffer, size_t used, size_t room) {
-    uint8_t nowhere;
-    if (end < begin || !are_apart(texts ? texts + begin : NULL, end - begin, buffer, room)) return ended(BCP47_BAD_CALL);
-    const char *text = texts ? texts + begin : NULL;
-    return bcp47_handle_canonical(&s->handle, bytes_of(text), end - begin, room_of(buffer, &nowhere) + used, room - used);
-}
-
-size_t bcp47_canonical_many(const bcp47_registry *registry, const char *texts, const size_t *ends, size_t begin,
-                            size_t count, bcp47_outcome *outcomes, char *buffer, size_t room) {
-    size_t used = 0, i;
-    if (!outcomes) return 0;
-    int status = !is_open(registry) ? BCP47_NOT_OPEN : !ends || !is_text(buffer, room) ? BCP47_BAD_CALL : BCP47_DONE;
-    slot *s = status ? NULL : take(registry);
-    if (!status && !s) status = BCP47_BUSY;
-    for (i = 0; i < count; i++) {
-        outcomes[i] = status ? ended(status) : write_next(s, texts, begin, ends[i], buffer, used, room);
-        if (outcomes[i].status == BCP47_BUFFER_TOO_SMALL) break;
-        used += outcomes[i].length;
-        if (!status) begin = ends[i];
-    }
-    if (s) give(s);
-    return i;
 }

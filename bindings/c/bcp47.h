@@ -22,7 +22,7 @@ typedef struct {
     int detail;    /* the number of a fault, which bcp47_fault_name names; for bcp47_classify the class; else 0 */
     size_t place;  /* of a fault: the subtag, the line, the record or the step, counted from 1; of parts: how many; else 0 */
     size_t length; /* the bytes of the text, also where it does not fit the buffer */
-    int text;      /* where bcp47_equal, bcp47_match or bcp47_verify refuses one of its two texts: which, 1 or 2; else 0 */
+    int text;      /* where bcp47_equivalent, bcp47_match or bcp47_verify refuses one of its two texts: which, 1 or 2; else 0 */
     int reserved;  /* 0 */
 } bcp47_outcome;
 
@@ -34,7 +34,7 @@ enum {
     BCP47_REPLACEMENT_REPEATS = 3, /* the text is the variant that would be repeated */
     BCP47_OUT_OF_MEMORY = 4,
     BCP47_BUFFER_TOO_SMALL = 5,    /* nothing was written: make room for `length` bytes, and call again */
-    BCP47_DIFFERENT = 6,           /* of bcp47_equal and bcp47_match */
+    BCP47_DIFFERENT = 6,           /* of bcp47_equivalent and bcp47_match */
     BCP47_BAD_FILE = 7,            /* of bcp47_open, with the line that the program prints, as the two below */
     BCP47_BAD_RECORD = 8,
     BCP47_REJECTED = 9,
@@ -43,8 +43,9 @@ enum {
     BCP47_WRONG_END = 12,          /* of bcp47_verify: the steps lead to another tag than the last */
     BCP47_NOT_OPEN = 13,           /* the registry is NULL, or no registry that is open */
     BCP47_BAD_CALL = 14,           /* NULL where something is needed, a length that no text has, a buffer over a text, or no scheme */
-    BCP47_BUSY = 15,               /* as many calls as there is room for are under way, and none ended for a while */
-    BCP47_TOO_MANY_STEPS = 16      /* of bcp47_explanation: more than the steps that were allowed */
+    BCP47_BUSY = 15,               /* 64 calls and more are under way, and no memory was left for this one: call again */
+    BCP47_TOO_MANY_STEPS = 16,     /* of bcp47_explanation: more than the steps that were allowed */
+    BCP47_NO_ENTRIES = 17          /* of bcp47_open: the bytes have no record but a header, so that each tag would be refused */
 };
 
 /* The classes of a tag, in `detail` of bcp47_classify. */
@@ -135,7 +136,7 @@ bcp47_outcome bcp47_open(bcp47_registry **registry, const void *bytes, size_t le
 void bcp47_close(bcp47_registry *registry);
 
 /* File-Date, number of entries and digest of a registry. The digest is taken anew at each call, of the bytes that were
-   read: a millisecond or two for a registry of IANA's size. */
+   read: some milliseconds for a registry of IANA's size. */
 bcp47_outcome bcp47_registry_info(const bcp47_registry *registry, bcp47_info *info);
 
 /* Calls that write the text of a tag: its canonical text, the same with the extlang prefix, and the tag in conventional
@@ -154,13 +155,13 @@ bcp47_outcome bcp47_validate(const bcp47_registry *registry, const char *text, s
 
 /* Whether two tags are equivalent: BCP47_DONE, or BCP47_DIFFERENT. The buffer, which may be NULL, gets the variant of
    BCP47_REPLACEMENT_REPEATS, if it fits: 9 bytes are room for each, with a zero. */
-bcp47_outcome bcp47_equal(const bcp47_registry *registry, const char *first, size_t first_length, const char *second,
+bcp47_outcome bcp47_equivalent(const bcp47_registry *registry, const char *first, size_t first_length, const char *second,
                           size_t second_length, char *buffer, size_t room);
 
 /* Whether a language range matches a tag by a scheme: BCP47_DONE, or BCP47_DIFFERENT; by BCP47_LOOKUP, whether the range, cut
    from its end, is the tag. Both are matched by their canonical forms, so that "zh-yue" matches "yue-HK"; a range that is no
    valid tag, as "zh-*", is taken as it is written. The range is text 1: BCP47_NOT_A_TAG says of it that it is neither a valid
-   tag nor a range, and the place is 0. The buffer is that of bcp47_equal. */
+   tag nor a range, and the place is 0. The buffer is that of bcp47_equivalent. */
 bcp47_outcome bcp47_match(const bcp47_registry *registry, int scheme, const char *range, size_t range_length, const char *tag,
                           size_t tag_length, char *buffer, size_t room);
 
@@ -189,14 +190,6 @@ bcp47_outcome bcp47_verify(const bcp47_registry *registry, const char *text, siz
 
 /* Whether a newer registry keeps what an older one promised. Both may be the same. */
 bcp47_outcome bcp47_upgrade_check(const bcp47_registry *older, const bcp47_registry *newer);
-
-/* Canonical texts of `count` texts that follow one another in `texts`: text i ends before byte ends[i], and begins where
-   the one before it ends, the first at `begin`. Their outcomes go to `outcomes`, and the texts, one after another, to the
-   buffer: the canonical text of each, or the variant of a tag that is refused for one; no zero follows them. Returns how
-   many were answered: fewer than `count` where the next text does not fit what is left of the buffer, as its outcome
-   says. To go on, call with what is left of `ends` and `outcomes`, and with the end of the last text as `begin`. */
-size_t bcp47_canonical_many(const bcp47_registry *registry, const char *texts, const size_t *ends, size_t begin,
-                            size_t count, bcp47_outcome *outcomes, char *buffer, size_t room);
 
 /* The name of a number, as "NotATag", "BadByte" and "Extlang", which is "" where the number has none. */
 const char *bcp47_status_name(int status);

@@ -4,8 +4,12 @@
 #define BCP47_HPP
 
 #include "bcp47.h"
+#include <cerrno>
+#include <charconv>
 #include <cstddef>
 #include <cstdio>
+#include <cstdlib>
+#include <cstring>
 #include <memory>
 #include <stdexcept>
 #include <string>
@@ -13,8 +17,25 @@
 #include <utility>
 #include <variant>
 #include <vector>
+#if defined(__has_include)
+#if __has_include(<expected>)
+#include <expected>
+#endif
+#endif
+
+/* What a file is compiled by decides on the types here: files that were compiled by others can be linked to it. */
+#if defined(__cpp_lib_expected) && defined(__cpp_exceptions)
+#define BCP47_TYPES expected
+#elif defined(__cpp_lib_expected)
+#define BCP47_TYPES expected_without_exceptions
+#elif defined(__cpp_exceptions)
+#define BCP47_TYPES results
+#else
+#define BCP47_TYPES results_without_exceptions
+#endif
 
 namespace bcp47 {
+inline namespace BCP47_TYPES {
 
 /* Why a call was refused. */
 struct refusal {
@@ -46,7 +67,7 @@ struct refusal {
     }
 };
 
-/* What result::value throws where there is none. */
+/* What is thrown where a value is asked for that is not there. Without exceptions the process ends. */
 class error : public std::runtime_error {
   public:
     explicit error(refusal why) : std::runtime_error(why.line()), why_(std::move(why)) {}
@@ -56,7 +77,32 @@ class error : public std::runtime_error {
     refusal why_;
 };
 
-/* A value, or why there is none: as std::expected<T, refusal> of C++23. */
+namespace detail {
+
+[[noreturn]] inline void fail(const refusal &why) {
+#if defined(__cpp_exceptions)
+    throw bcp47::error(why);
+#else
+    static_cast<void>(why);
+    std::abort();
+#endif
+}
+
+} // namespace detail
+
+#if defined(__cpp_lib_expected)
+/* A value, or why there is none. */
+template <class T> using result = std::expected<T, refusal>;
+
+namespace detail {
+using refused = std::unexpected<refusal>;
+}
+#else
+namespace detail {
+using refused = refusal;
+}
+
+/* A value, or why there is none, used as std::expected<T, refusal> of C++23, which it is there. */
 template <class T> class [[nodiscard]] result {
   public:
     result(T value) : held_(std::in_place_index<0>, std::move(value)) {}
@@ -65,20 +111,19 @@ template <class T> class [[nodiscard]] result {
     bool has_value() const noexcept { return held_.index() == 0; }
     explicit operator bool() const noexcept { return has_value(); }
 
-    const T &value() const & {
-        if (!has_value()) throw bcp47::error(error());
-        return std::get<0>(held_);
-    }
-    T &&value() && {
-        if (!has_value()) throw bcp47::error(error());
-        return std::get<0>(std::move(held_));
-    }
+    T &value() & { return has_value() ? **this : (detail::fail(error()), **this); }
+    const T &value() const & { return has_value() ? **this : (detail::fail(error()), **this); }
+    T &&value() && { return std::move(value()); }
+    T &operator*() & noexcept { return *std::get_if<0>(&held_); }
     const T &operator*() const & noexcept { return *std::get_if<0>(&held_); }
-    T &&operator*() && noexcept { return std::move(*std::get_if<0>(&held_)); }
+    T &&operator*() && noexcept { return std::move(**this); }
+    T *operator->() noexcept { return std::get_if<0>(&held_); }
     const T *operator->() const noexcept { return std::get_if<0>(&held_); }
     template <class U> T value_or(U &&other) const & { return has_value() ? **this : static_cast<T>(std::forward<U>(other)); }
+    template <class U> T value_or(U &&other) && { return has_value() ? *std::move(*this) : static_cast<T>(std::forward<U>(other)); }
 
     /* There is one where there is no value. */
+    refusal &error() noexcept { return *std::get_if<1>(&held_); }
     const refusal &error() const noexcept { return *std::get_if<1>(&held_); }
 
   private:
@@ -86,26 +131,49 @@ template <class T> class [[nodiscard]] result {
 };
 
 /* Nothing, or why a call was refused. */
-template <> class [[nodiscard]] result<void> {
+template <> class [[nodiscard]] result<void> : public result<std::monostate> {
   public:
-    result() = default;
-    result(refusal why) : held_(std::move(why)) {}
+    result() : result<std::monostate>(std::monostate()) {}
+    using result<std::monostate>::result;
+    void value() const { static_cast<void>(result<std::monostate>::value()); }
+};
+#endif
 
-    bool has_value() const noexcept { return held_.index() == 0; }
-    explicit operator bool() const noexcept { return has_value(); }
-    void value() const {
-        if (!has_value()) throw bcp47::error(error());
-    }
-    const refusal &error() const noexcept { return *std::get_if<1>(&held_); }
+/* Whether something is so, or why that can't be told. It is no condition: `if (registry.equivalent(a, b))` would be true of each two
+   tags that are told of. Ask for the value(). */
+class [[nodiscard]] answer {
+  public:
+    answer(bool is_so) : held_(is_so) {}
+    answer(refusal why) : held_(detail::refused(std::move(why))) {}
+
+    bool has_value() const noexcept { return held_.has_value(); }
+    explicit operator bool() const = delete;
+    bool value() const { return has_value() ? *held_ : (detail::fail(error()), false); }
+    bool operator*() const noexcept { return *held_; }
+    bool value_or(bool other) const noexcept { return has_value() ? *held_ : other; }
+    const refusal &error() const noexcept { return held_.error(); }
 
   private:
-    std::variant<std::monostate, refusal> held_;
+    result<bool> held_;
 };
 
 /* A tag in conventional case, and its class: BCP47_LANGTAG, BCP47_PRIVATE_USE or BCP47_GRANDFATHERED. */
 struct tag {
     std::string text;
     int kind;
+};
+
+/* A part of a tag: its kind, BCP47_PART_LANGUAGE and so on, and its text. */
+struct part {
+    int kind;
+    std::string text;
+};
+
+/* The steps to the canonical tag, as `verify` takes them, and the tag to which each leads. */
+struct explanation {
+    std::vector<bcp47_step> steps;
+    std::vector<std::string> tags;
+    std::string canonical;
 };
 
 namespace detail {
@@ -129,11 +197,11 @@ template <class Call> result<std::string> text_of(Call call) {
     std::string text;
     bcp47_outcome outcome = write(call, text);
     if (outcome.status == BCP47_DONE) return text;
-    return refusal{outcome, std::move(text)};
+    return refused(refusal{outcome, std::move(text)});
 }
 
 /* Whether two texts go together, as a call tells it, or why one is refused. */
-template <class Call> result<bool> told_of_two(Call call) {
+template <class Call> answer told_of_two(Call call) {
     char variant[9];
     bcp47_outcome outcome = call(variant, sizeof variant);
     if (outcome.status == BCP47_DONE || outcome.status == BCP47_DIFFERENT) return outcome.status == BCP47_DONE;
@@ -142,7 +210,33 @@ template <class Call> result<bool> told_of_two(Call call) {
 
 inline result<void> nothing_of(bcp47_outcome outcome) {
     if (outcome.status == BCP47_DONE) return {};
-    return refusal{outcome, {}};
+    return refused(refusal{outcome, {}});
+}
+
+/* The number of the kind of step that has a name. */
+inline std::uint8_t kind_of(std::string_view name) {
+    std::uint8_t kind = BCP47_EXTLANG;
+    while (kind < BCP47_SWAP_FIELDS && name != bcp47_kind_name(kind)) kind++;
+    return kind;
+}
+
+/* The words of the lines of bcp47_explanation. */
+inline explanation read_lines(std::string_view lines) {
+    explanation read;
+    while (lines[0] != '=') {
+        std::string_view words[4];
+        for (int i = 0; i < 4; i++) {
+            words[i] = lines.substr(0, lines.find(i < 3 ? ' ' : '\n'));
+            lines.remove_prefix(words[i].size() + 1);
+        }
+        bcp47_step step{kind_of(words[0]), 0, 0};
+        std::from_chars(words[1].data(), words[2].data(), step.place);
+        std::from_chars(words[2].data(), words[3].data(), step.number);
+        read.steps.push_back(step);
+        read.tags.emplace_back(words[3]);
+    }
+    read.canonical = lines.substr(2, lines.size() - 3);
+    return read;
 }
 
 } // namespace detail
@@ -153,7 +247,19 @@ inline result<tag> classify(std::string_view text) {
     bcp47_outcome outcome = detail::write(
         [&](char *buffer, std::size_t room) { return bcp47_classify(nullptr, text.data(), text.size(), buffer, room); }, shown);
     if (outcome.status == BCP47_DONE) return tag{std::move(shown), outcome.detail};
-    return refusal{outcome, {}};
+    return detail::refused(refusal{outcome, {}});
+}
+
+/* The parts of a tag in conventional case, one for each subtag, which needs no registry. */
+inline result<std::vector<part>> parts(std::string_view text) {
+    char shown[BCP47_TEXT];
+    bcp47_part found[BCP47_PARTS];
+    bcp47_outcome outcome = bcp47_parts(text.data(), text.size(), shown, sizeof shown, found, BCP47_PARTS);
+    if (outcome.status != BCP47_DONE) return detail::refused(refusal{outcome, {}});
+    std::vector<part> read;
+    read.reserve(outcome.place);
+    for (std::size_t i = 0; i < outcome.place; i++) read.push_back({found[i].kind, std::string(shown + found[i].start, found[i].length)});
+    return read;
 }
 
 /* A registry that is open until its object ends. Any number of threads may make const calls at once. */
@@ -165,7 +271,7 @@ class registry {
         char line[BCP47_LINE];
         bcp47_outcome outcome = bcp47_open(&opened, bytes.data(), bytes.size(), line, sizeof line);
         if (outcome.status == BCP47_DONE) return registry(opened);
-        return refusal{outcome, std::string(line, outcome.length)};
+        return detail::refused(refusal{outcome, std::string(line, outcome.length)});
     }
 
     /* The registry of a file: BCP47_BAD_FILE where it can't be read. */
@@ -174,7 +280,8 @@ class registry {
         std::string bytes;
         char piece[1 << 16];
         for (std::size_t got = 1; file && got; bytes.append(piece, got)) got = std::fread(piece, 1, sizeof piece, file.get());
-        if (!file || std::ferror(file.get())) return refusal{{BCP47_BAD_FILE, 0, 0, 0, 0, 0}, "the file can't be read"};
+        if (!file || std::ferror(file.get()))
+            return detail::refused(refusal{{BCP47_BAD_FILE, 0, 0, 0, 0, 0}, "the file can't be read: " + std::string(std::strerror(errno))});
         return from_bytes(bytes);
     }
 
@@ -192,33 +299,34 @@ class registry {
     /* Whether a tag is valid; throws an error where that can't be told, as where memory runs out. */
     bool is_valid(std::string_view tag) const {
         auto judged = validate(tag);
-        if (!judged && judged.error().status() != BCP47_NOT_A_TAG && judged.error().status() != BCP47_INVALID) judged.value();
+        if (!judged && judged.error().status() != BCP47_NOT_A_TAG && judged.error().status() != BCP47_INVALID) detail::fail(judged.error());
         return judged.has_value();
     }
 
     /* Whether two tags are equivalent; `outcome.text` of a refusal says which of them it is of, 1 or 2. */
-    result<bool> equal(std::string_view first, std::string_view second) const {
+    answer equivalent(std::string_view first, std::string_view second) const {
         return detail::told_of_two([&](char *buffer, std::size_t room) {
-            return bcp47_equal(opened_.get(), first.data(), first.size(), second.data(), second.size(), buffer, room);
+            return bcp47_equivalent(opened_.get(), first.data(), first.size(), second.data(), second.size(), buffer, room);
         });
     }
 
     /* Whether a language range matches a tag by a scheme, BCP47_BASIC, BCP47_EXTENDED or BCP47_LOOKUP; `outcome.text` of a refusal
        is 1 of the range, and 2 of the tag. */
-    result<bool> match(std::string_view range, std::string_view tag, int scheme = BCP47_EXTENDED) const {
+    answer match(std::string_view range, std::string_view tag, int scheme = BCP47_EXTENDED) const {
         return detail::told_of_two([&](char *buffer, std::size_t room) {
             return bcp47_match(opened_.get(), scheme, range.data(), range.size(), tag.data(), tag.size(), buffer, room);
         });
     }
 
-    /* The lines that `langtag explain` prints: BCP47_TOO_MANY_STEPS where there are more steps than `most`. */
-    result<std::string> explain(std::string_view tag, std::size_t most = static_cast<std::size_t>(-1)) const {
+    /* The steps to the canonical tag: BCP47_TOO_MANY_STEPS where there are more than `most`. */
+    result<explanation> explain(std::string_view tag, std::size_t most = 20000) const {
         char *lines;
         bcp47_outcome outcome = bcp47_explanation(opened_.get(), tag.data(), tag.size(), most, &lines);
         std::unique_ptr<char, void (*)(void *)> freed(lines, &bcp47_free);
-        if (outcome.status == BCP47_DONE) return std::string(lines, outcome.length);
-        if (outcome.status == BCP47_REPLACEMENT_REPEATS) return canonical(tag); /* which has the variant */
-        return refusal{outcome, {}};
+        if (outcome.status == BCP47_DONE) return detail::read_lines({lines, outcome.length});
+        /* the variant that would be repeated is told by another call */
+        if (outcome.status == BCP47_REPLACEMENT_REPEATS) return detail::refused(canonical(tag).error());
+        return detail::refused(refusal{outcome, {}});
     }
 
     /* What the registry says of a tag: the array of JSON that bcp47_show gives. */
@@ -227,7 +335,7 @@ class registry {
         bcp47_outcome outcome = bcp47_show(opened_.get(), tag.data(), tag.size(), &rows);
         std::unique_ptr<char, void (*)(void *)> freed(rows, &bcp47_free);
         if (outcome.status == BCP47_DONE) return std::string(rows, outcome.length);
-        return refusal{outcome, {}};
+        return detail::refused(refusal{outcome, {}});
     }
 
     /* Nothing, if the steps lead from a valid tag, one after another, to the last. */
@@ -239,14 +347,6 @@ class registry {
     /* Nothing, if a newer registry keeps what this one promised. */
     result<void> upgrade_check(const registry &newer) const {
         return detail::nothing_of(bcp47_upgrade_check(opened_.get(), newer.opened_.get()));
-    }
-
-    /* The canonical text of each tag, or why there is none. */
-    std::vector<result<std::string>> canonical_many(const std::vector<std::string_view> &tags) const {
-        std::vector<result<std::string>> answers;
-        answers.reserve(tags.size());
-        for (std::string_view tag : tags) answers.push_back(canonical(tag));
-        return answers;
     }
 
     /* File-Date, number of entries and digest; those of no registry where this one was moved away. */
@@ -274,6 +374,7 @@ class registry {
     std::unique_ptr<bcp47_registry, closer> opened_;
 };
 
+} // namespace BCP47_TYPES
 } // namespace bcp47
 
 #endif

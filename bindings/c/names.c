@@ -22,9 +22,10 @@ static const word statuses[] = {
     {"NoSuchStep", "The step at the place that is named does not lead on: mend it, or take the registry by which the tag was explained."},
     {"WrongEnd", "The steps lead to another tag than the last: mend the last tag, or the steps."},
     {"NotOpen", "The registry is not open: open it first, and ask nothing of it once it is closed."},
-    {"BadCall", "NULL where something is needed, a length that no text has, ends that fall, a buffer over a text, or a number of no scheme: mend the call."},
-    {"Busy", "As many calls as there is room for are under way, and none ended for a while: call again, or open the registry once more."},
+    {"BadCall", "NULL where something is needed, a length that no text has, a buffer over a text, or a number of no scheme: mend the call."},
+    {"Busy", "64 calls and more are under way, and no memory was left for one more: call again, by fewer threads or on a larger machine."},
     {"TooManySteps", "The explanation has more steps than were allowed: allow more, or leave the tag unexplained."},
+    {"NoEntries", "The registry has no entries: the file is empty, or was not downloaded or written to its end: get it again."},
 };
 
 static const word faults[] = {

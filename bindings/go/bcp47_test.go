@@ -3,12 +3,12 @@ package bcp47
 import (
 	"bytes"
 	"crypto/sha256"
+	"encoding/json"
 	"errors"
 	"fmt"
 	"os"
 	"reflect"
 	"runtime"
-	"sort"
 	"strings"
 	"sync"
 	"testing"
@@ -52,8 +52,8 @@ func TestTexts(t *testing.T) {
 	is(t, "yue", said(registry.Canonical("zh-yue")))
 	is(t, "en-t-he-t0-und", said(registry.Canonical("en-t-iw-t0-und")))
 	is(t, "zh-yue", said(registry.Extlang("yue")))
-	is(t, "true", said(registry.Equal("I-KLINGON", "tlh")))
-	is(t, "false", said(registry.Equal("zh", "yue")))
+	is(t, "true", said(registry.Equivalent("I-KLINGON", "tlh")))
+	is(t, "false", said(registry.Equivalent("zh", "yue")))
 	is(t, nil, registry.Validate("zh-yue"))
 	is(t, 3, strings.Count(Version()+".", "."))
 }
@@ -98,9 +98,11 @@ func TestRefusals(t *testing.T) {
 	is(t, true, errors.As(err, &refused))
 	is(t, "BadByte 1/NotATag/BadByte/1/en_US/", fmt.Sprintf("%v/%s/%s/%d/%s/%s", err, refused.Status, refused.Fault, refused.Place,
 		refused.Tag, refused.Variant))
-	is(t, true, strings.Contains(refused.Help, "hyphen"))
+	is(t, true, errors.Is(err, ErrBadByte) && errors.Is(err, ErrNotATag))
+	is(t, false, errors.Is(err, ErrTooLong) || errors.Is(err, ErrInvalid) || errors.Is(err, ErrClosed))
+	is(t, true, strings.Contains(refused.Help(), "hyphen"))
 	is(t, "UnknownLanguage 1", registry.Validate("xx").Error())
-	_, err = registry.Equal("en", "e_n")
+	_, err = registry.Equivalent("en", "e_n")
 	is(t, true, errors.As(err, &refused))
 	is(t, "e_n", refused.Tag)
 	for tag, wanted := range map[string]string{
@@ -109,25 +111,42 @@ func TestRefusals(t *testing.T) {
 	} {
 		is(t, wanted, said(registry.Canonical(tag)))
 		is(t, wanted, said(registry.Extlang(tag)))
-		_, _, err := Parts(tag)
+		_, err := ParseTag(tag)
 		is(t, wanted, said("", err))
 	}
+	_, err = registry.Canonical(strings.Repeat("a", 100_000_000))
+	is(t, true, errors.As(err, &refused))
+	is(t, longest, len(refused.Tag))
 	_, err = Read([]byte("no registry\n"))
 	var none *RegistryError
 	is(t, true, errors.As(err, &none))
 	is(t, "jar BadLine line 1/BadFile/BadLine/1", fmt.Sprintf("%v/%s/%s/%d", err, none.Status, none.Fault, none.Place))
+	for _, empty := range []string{"", "File-Date: 2000-01-01\n"} {
+		_, err = Read([]byte(empty))
+		is(t, true, errors.As(err, &none) && errors.Is(err, ErrNoEntries))
+		is(t, "NoEntries", err.Error())
+	}
 	_, err = Open("/no/such/file")
 	is(t, true, errors.Is(err, os.ErrNotExist))
 	repeats := "ja-Latn-hepburn-alalc97-heploc"
 	_, canonical := registry.Canonical(repeats)
 	_, explain := registry.Explain(repeats, 9)
-	_, equal := registry.Equal("ja", repeats)
+	_, equal := registry.Equivalent("ja", repeats)
 	answers, _ := registry.CanonicalMany([]string{"de", repeats, "DE"})
 	for _, err := range []error{canonical, explain, equal, answers[1].Err} {
 		is(t, true, errors.As(err, &refused))
 		is(t, "ReplacementRepeats alalc97/alalc97", err.Error()+"/"+refused.Variant)
+		is(t, true, errors.Is(err, ErrReplacementRepeats) && strings.Contains(refused.Help(), "repeat the variant"))
 	}
 	is(t, "{de <nil>} {de <nil>}", fmt.Sprint(answers[0], answers[2]))
+}
+
+// That memory runs out, or is too little for many calls at once, is no fault of a tag, and is told apart.
+func TestMemory(t *testing.T) {
+	for status, wanted := range map[int]error{4: ErrOutOfMemory, 15: ErrBusy} {
+		_, err := causeOf(status, 0, 0)
+		is(t, wanted, err)
+	}
 }
 
 func TestRanges(t *testing.T) {
@@ -168,51 +187,62 @@ func TestExplanations(t *testing.T) {
 	is(t, "= en", said(registry.Explain("en", 0)))
 	is(t, "! TooManySteps", said(registry.Explain("sgn-dd", 1)))
 	is(t, "! TooManySteps", said(registry.Explain("sgn-dd", -1)))
-	is(t, nil, registry.Verify("sgn-dd", explanation.Steps, "gsg"))
-	is(t, nil, registry.Verify("en", nil, "en"))
-	var trace *TraceError
-	is(t, true, errors.As(registry.Verify("sgn-dd", explanation.Steps[:1], "gsg"), &trace))
-	is(t, "WrongEnd 0", fmt.Sprintln(trace.Fault, trace.Place)[:10])
-	wrong := Step{"region", 2, 27, "sgn-DE"}
-	is(t, true, errors.As(registry.Verify("sgn-dd", []Step{wrong}, "gsg"), &trace))
-	is(t, "NoSuchStep 1", trace.Error())
-	var refused *TagError
-	is(t, true, errors.As(registry.Verify("e_n", nil, "e_n"), &refused))
-	is(t, "BadByte 1 e_n", refused.Error()+" "+refused.Tag)
-	is(t, true, errors.As(registry.Verify("en", nil, "en-"), &refused))
-	is(t, "EmptySubtag 2 en-", refused.Error()+" "+refused.Tag)
+	_, err = registry.Explain("sgn-dd", 1)
+	is(t, true, errors.Is(err, ErrTooManySteps))
 }
 
-func TestParts(t *testing.T) {
-	tag, parts, err := Parts("ZH-yue-hANT-hk-1996-U-co-phonebk-T-de-X-own")
+func TestTags(t *testing.T) {
+	tag, err := ParseTag("ZH-yue-hANT-hk-1996-U-co-phonebk-T-de-X-own-1")
 	is(t, nil, err)
-	is(t, Tag("zh-yue-Hant-HK-1996-u-co-phonebk-t-de-x-own"), tag)
+	is(t, "zh-yue-Hant-HK-1996-u-co-phonebk-t-de-x-own-1", tag.String())
 	is(t, "[{Language zh} {Extlang yue} {Script Hant} {Region HK} {Variant 1996} {Singleton u} {Key co} {Type phonebk} "+
-		"{Singleton t} {SourceLanguage de} {PrivateUseSingleton x} {PrivateUse own}]", fmt.Sprint(parts))
-	_, parts, _ = Parts("i-KLINGON")
-	is(t, []Part{{"Grandfathered", "i-klingon"}}, parts)
-	tags := []Tag{"en", "de"}
-	sort.Slice(tags, func(i, j int) bool { return tags[i] < tags[j] })
-	is(t, []Tag{"de", "en"}, tags)
+		"{Singleton t} {SourceLanguage de} {PrivateUseSingleton x} {PrivateUse own} {PrivateUse 1}]", fmt.Sprint(tag.Parts()))
+	is(t, "zh [yue] Hant HK [1996] [own 1]", fmt.Sprint(tag.Language(), " ", tag.Extlangs(), " ", tag.Script(), " ", tag.Region(), " ",
+		tag.Variants(), " ", tag.PrivateUse()))
+	whole := MustParseTag("i-KLINGON")
+	is(t, []Part{{Grandfathered, "i-klingon"}}, whole.Parts())
+	is(t, "//[]", whole.Language()+"/"+whole.Script()+"/"+fmt.Sprint(whole.Variants()))
+	is(t, true, MustParseTag("EN") == MustParseTag("en"))
+	is(t, "/[]", Tag{}.String()+"/"+fmt.Sprint(Tag{}.Parts()))
+	defer func() { is(t, `bcp47: "e": BadLanguage 1`, recover()) }()
+	MustParseTag("e")
 }
 
-func TestUpgrades(t *testing.T) {
+// A tag in JSON is its text, and no text that is none is read as a tag.
+func TestJSON(t *testing.T) {
+	var row struct{ Tag Tag }
+	is(t, nil, json.Unmarshal([]byte(`{"Tag": "ZH-hant"}`), &row))
+	is(t, MustParseTag("zh-Hant"), row.Tag)
+	written, err := json.Marshal(row)
+	is(t, `{"Tag":"zh-Hant"} <nil>`, fmt.Sprint(string(written), " ", err))
+	is(t, true, errors.Is(json.Unmarshal([]byte(`{"Tag": "<script>en_US"}`), &row), ErrBadByte))
+	is(t, Tag{}, row.Tag)
+	is(t, nil, json.Unmarshal([]byte(`{"Tag": ""}`), &row))
+	is(t, Tag{}, row.Tag)
+}
+
+// The parts of a tag are had without a large array in memory each time.
+func TestPartsAreCheap(t *testing.T) {
+	bytes := testing.Benchmark(func(b *testing.B) {
+		b.ReportAllocs()
+		for i := 0; i < b.N; i++ {
+			tag, _ := ParseTag("zh-Hant-TW")
+			tag.Parts()
+		}
+	}).AllocedBytesPerOp()
+	if bytes > 3000 {
+		t.Error(bytes, "bytes a tag")
+	}
+}
+
+func TestInfo(t *testing.T) {
 	registry := opened(t)
 	defer registry.Close()
-	is(t, nil, registry.UpgradeCheck(registry))
-	other, err := Read([]byte("File-Date: 2000-01-01\n"))
-	is(t, nil, err)
-	defer other.Close()
-	var refused *UpgradeError
-	is(t, true, errors.As(registry.UpgradeCheck(other), &refused))
-	is(t, "U1/U1 2", refused.Fault+"/"+refused.Error())
 	content, err := os.ReadFile(sample)
 	is(t, nil, err)
 	info, err := registry.Info()
 	is(t, nil, err)
 	is(t, Info{"2024-01-01", bytes.Count(content, []byte("%%")), fmt.Sprintf("%x", sha256.Sum256(content))}, info)
-	_, err = Read(nil)
-	is(t, nil, err)
 }
 
 func TestClosed(t *testing.T) {
@@ -222,13 +252,12 @@ func TestClosed(t *testing.T) {
 	is(t, nil, own.Close())
 	_, canonical := own.Canonical("en")
 	_, extlang := own.Extlang("en")
-	_, equal := own.Equal("en", "en")
+	_, equal := own.Equivalent("en", "en")
 	_, match := own.Matches("en", "en", Basic)
 	_, explain := own.Explain("en", 1)
 	_, many := own.CanonicalMany([]string{"en"})
 	_, info := own.Info()
-	for _, err := range []error{canonical, extlang, equal, match, explain, many, info, own.Validate("en"), own.Verify("en", nil, "en"),
-		own.UpgradeCheck(registry), registry.UpgradeCheck(own)} {
+	for _, err := range []error{canonical, extlang, equal, match, explain, many, info, own.Validate("en")} {
 		is(t, ErrClosed, err)
 	}
 }
@@ -259,9 +288,6 @@ func TestGoroutines(t *testing.T) {
 				defer asking.Done()
 				for n := 0; ; n++ {
 					_, err := own.Explain("sgn-dd", 100)
-					if err == nil {
-						err = registry.UpgradeCheck(own)
-					}
 					if n == 0 {
 						begun <- true
 					}
@@ -308,6 +334,21 @@ func TestCollected(t *testing.T) {
 	}
 	if grown := resident(t) - before; of300 < 10_000_000 || grown > 3*of300 {
 		t.Errorf("registries are not collected: 300 have %d bytes, 3000 that are not kept %d", of300, grown)
+	}
+}
+
+func BenchmarkParts(b *testing.B) {
+	for i := 0; i < b.N; i++ {
+		tag, _ := ParseTag("zh-Hant-TW")
+		tag.Parts()
+	}
+}
+
+func BenchmarkRefused(b *testing.B) {
+	registry := opened(b)
+	defer registry.Close()
+	for i := 0; i < b.N; i++ {
+		registry.Canonical("zh_Hant_TW")
 	}
 }
 

@@ -8,86 +8,133 @@ import "C"
 import (
 	"errors"
 	"strconv"
+	"strings"
 )
 
 // ErrClosed is what a registry answers that is closed.
 var ErrClosed = errors.New("bcp47: the registry is closed")
 
-// ErrUnavailable says that memory ran out, or that as many calls are under way as there is room for.
-var ErrUnavailable = errors.New("bcp47: out of memory, or too many calls at once")
+// ErrOutOfMemory says that memory ran out.
+var ErrOutOfMemory = errors.New("bcp47: out of memory")
+
+// ErrBusy says that as many calls are under way as there is room for: call again.
+var ErrBusy = errors.New("bcp47: too many calls at once")
 
 // ErrScheme says that a number is none of Basic, Extended and Lookup.
 var ErrScheme = errors.New("bcp47: no scheme of matching")
 
-// A Cause says why something is refused.
-type Cause struct {
-	Status string // how the call ended, as "NotATag"
-	Fault  string // the name of the fault, as "BadByte"; the status where there is no fault
-	Place  int    // the subtag, the line, the record or the step at fault, counted from 1; else 0
-	Help   string // what it means, and what to do
-	line   string
+// How a call ended, where the fault says no more, or as Cause.Status beside it.
+const (
+	ErrNotATag            Fault = -C.BCP47_NOT_A_TAG
+	ErrInvalid            Fault = -C.BCP47_INVALID
+	ErrReplacementRepeats Fault = -C.BCP47_REPLACEMENT_REPEATS
+	ErrTooManySteps       Fault = -C.BCP47_TOO_MANY_STEPS
+	ErrBadFile            Fault = -C.BCP47_BAD_FILE
+	ErrBadRecord          Fault = -C.BCP47_BAD_RECORD
+	ErrRejected           Fault = -C.BCP47_REJECTED
+	ErrNoEntries          Fault = -C.BCP47_NO_ENTRIES
+)
+
+// Error is the name of a fault, for example "BadByte".
+func (f Fault) Error() string {
+	if f < 0 {
+		return C.GoString(C.bcp47_status_name(C.int(-f)))
+	}
+	return C.GoString(C.bcp47_fault_name(C.int(f)))
 }
 
-// Error is the line of the program langtag without "! ", as "BadByte 1" or "jar BadLine line 1"; of an upgrade it is the
-// condition and the record, as "U1 3".
-func (c *Cause) Error() string { return c.line }
+// Help says what a fault means, and what to do.
+func (f Fault) Help() string {
+	if f < 0 {
+		return C.GoString(C.bcp47_status_help(C.int(-f)))
+	}
+	return C.GoString(C.bcp47_fault_help(C.int(f)))
+}
+
+// A Cause says why something is refused. errors.Is finds its Fault and its Status.
+type Cause struct {
+	Status Fault // how the call ended, for example ErrNotATag
+	Fault  Fault // what is wrong, for example ErrBadByte; the status where there is no fault
+	Place  int   // the subtag, the line or the record at fault, counted from 1; else 0
+}
+
+// Error is the line of the program langtag without "! ", for example "BadByte 1".
+func (c *Cause) Error() string {
+	if c.Fault < 0 {
+		return c.Fault.Error()
+	}
+	return c.Fault.Error() + " " + strconv.Itoa(c.Place)
+}
+
+// Is tells whether an error is the fault or the status.
+func (c *Cause) Is(target error) bool { return target == error(c.Fault) || target == error(c.Status) }
+
+// Help says what the fault means, and what to do.
+func (c *Cause) Help() string { return c.Fault.Help() }
 
 // A TagError says that a text is no tag or no language range, that a tag is not valid, that its replacements can repeat a
 // variant, or that its explanation has too many steps.
 type TagError struct {
 	Cause
-	Tag     string
+	Tag     string // the text that is refused: no more than its first 1,024 bytes
 	Variant string // the variant that replacements can repeat, or ""
 }
 
-// A RegistryError says that bytes are no registry that passes the check.
-type RegistryError struct{ Cause }
-
-// An UpgradeError says that a newer registry does not keep what an older one promised.
-type UpgradeError struct{ Cause }
-
-// A TraceError says that steps do not lead from a tag to another: NoSuchStep, with the number of a step, or WrongEnd.
-type TraceError struct{ Cause }
-
-// The error of an outcome, whose text is at the front of a buffer; nil where nothing is refused.
-func refused(outcome C.bcp47_outcome, buffer []byte, made func(Cause) error) error {
-	switch outcome.status {
-	case C.BCP47_DONE:
-		return nil
-	case C.BCP47_OUT_OF_MEMORY, C.BCP47_BUSY:
-		return ErrUnavailable
+// Error is the line of the program langtag without "! ", for example "BadByte 1" or "ReplacementRepeats alalc97".
+func (e *TagError) Error() string {
+	if e.Variant != "" {
+		return e.Fault.Error() + " " + e.Variant
 	}
-	cause := Cause{Status: C.GoString(C.bcp47_status_name(outcome.status)), Place: int(outcome.place)}
-	if outcome.detail != 0 {
-		cause.Fault = C.GoString(C.bcp47_fault_name(outcome.detail))
-		cause.Help = C.GoString(C.bcp47_fault_help(outcome.detail))
-	} else {
-		cause.Fault = cause.Status
-		cause.Help = C.GoString(C.bcp47_status_help(outcome.status))
-	}
-	text := ""
-	if int(outcome.length) <= len(buffer) {
-		text = string(buffer[:outcome.length])
-	}
-	switch {
-	case outcome.status == C.BCP47_REPLACEMENT_REPEATS:
-		cause.line = cause.Fault + " " + text
-	case text != "":
-		cause.line = text
-	case outcome.detail != 0 || cause.Place != 0:
-		cause.line = cause.Fault + " " + strconv.Itoa(cause.Place)
-	default:
-		cause.line = cause.Fault
-	}
-	return made(cause)
+	return e.Cause.Error()
 }
 
-func refusedTag(outcome C.bcp47_outcome, buffer []byte, tag string) error {
-	return refused(outcome, buffer, func(cause Cause) error {
-		err := &TagError{Cause: cause, Tag: tag}
-		if outcome.status == C.BCP47_REPLACEMENT_REPEATS {
-			err.Variant = string(buffer[:outcome.length])
-		}
+// A RegistryError says that bytes are no registry that passes the check.
+type RegistryError struct {
+	Cause
+	line string
+}
+
+// Error is the line of the program langtag, for example "jar BadLine line 1".
+func (e *RegistryError) Error() string { return e.line }
+
+// The cause that an outcome has which is a refusal; else the error.
+func causeOf(status, fault, place int) (Cause, error) {
+	switch status {
+	case C.BCP47_OUT_OF_MEMORY:
+		return Cause{}, ErrOutOfMemory
+	case C.BCP47_BUSY:
+		return Cause{}, ErrBusy
+	}
+	cause := Cause{Status: -Fault(status), Fault: Fault(fault), Place: place}
+	if cause.Fault == 0 {
+		cause.Fault = cause.Status
+	}
+	return cause, nil
+}
+
+func refusedRegistry(outcome C.bcp47_outcome, line string) error {
+	cause, err := causeOf(int(outcome.status), int(outcome.detail), int(outcome.place))
+	if err != nil {
 		return err
-	})
+	}
+	return &RegistryError{cause, line}
+}
+
+// The longest text of a tag: no more is kept of one that is refused.
+const longest = 1024
+
+// Why a tag is refused. Where that is a variant, it is at the front of a buffer.
+func refusedTag(outcome C.bcp47_outcome, buffer []byte, tag string) error {
+	cause, err := causeOf(int(outcome.status), int(outcome.detail), int(outcome.place))
+	if err != nil {
+		return err
+	}
+	if len(tag) > longest {
+		tag = strings.Clone(tag[:longest])
+	}
+	refused := &TagError{Cause: cause, Tag: tag}
+	if outcome.status == C.BCP47_REPLACEMENT_REPEATS {
+		refused.Variant = string(buffer[:outcome.length])
+	}
+	return refused
 }

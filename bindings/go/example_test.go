@@ -5,7 +5,7 @@ import (
 	"fmt"
 	"log"
 
-	"bcp47"
+	"langtag.example/bcp47"
 )
 
 func Example() {
@@ -40,9 +40,9 @@ func ExampleRegistry_Explain() {
 	// = gsg <nil>
 }
 
-func ExampleParts() {
-	tag, parts, err := bcp47.Parts("ZH-hant-tw")
-	fmt.Println(tag, parts, err)
+func ExampleParseTag() {
+	tag, err := bcp47.ParseTag("ZH-hant-tw")
+	fmt.Println(tag, tag.Script(), tag.Region(), err)
 	// Output:
-	// zh-Hant-TW [{Language zh} {Script Hant} {Region TW}] <nil>
+	// zh-Hant-TW Hant TW <nil>
 }

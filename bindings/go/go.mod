@@ -1,3 +1,3 @@
-module bcp47
+module langtag.example/bcp47
 
 go 1.19

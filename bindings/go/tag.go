@@ -4,8 +4,13 @@ package bcp47
 
 // #include <bcp47.h>
 //
-// static bcp47_outcome parts(_GoString_ tag, char *buffer, size_t room, bcp47_part *parts, size_t count) {
-//     return bcp47_parts(_GoStringPtr(tag), _GoStringLen(tag), buffer, room, parts, count);
+// // The text of a tag, and after it a byte for each part: its kind.
+// static bcp47_outcome parts(_GoString_ tag, char *buffer, size_t room) {
+//     bcp47_part parts[BCP47_PARTS];
+//     bcp47_outcome outcome = bcp47_parts(_GoStringPtr(tag), _GoStringLen(tag), buffer, room - BCP47_PARTS, parts, BCP47_PARTS);
+//     if (outcome.status == BCP47_DONE)
+//         for (size_t i = 0; i < outcome.place; i++) buffer[outcome.length + i] = (char)parts[i].kind;
+//     return outcome;
 // }
 import "C"
 
@@ -14,16 +19,122 @@ import (
 	"strings"
 )
 
-// A Part of a tag: its kind, as "Script", and its text, as "Hant".
-type Part struct{ Kind, Text string }
+// A PartKind is the kind of a part of a tag (RFC 5646, 2.1; RFC 6067, 2.1; RFC 6497, 2.2).
+type PartKind byte
 
-// A Tag is a text of a tag in conventional case (RFC 5646, 2.1.1): == and < compare texts, and Registry.Equal
-// compares meanings.
-type Tag string
+// The kinds of most parts; the others are those of extensions.
+const (
+	Language            PartKind = C.BCP47_PART_LANGUAGE
+	ExtendedLanguage    PartKind = C.BCP47_PART_EXTLANG
+	Script              PartKind = C.BCP47_PART_SCRIPT
+	Region              PartKind = C.BCP47_PART_REGION
+	Variant             PartKind = C.BCP47_PART_VARIANT
+	Singleton           PartKind = C.BCP47_PART_SINGLETON
+	PrivateUse          PartKind = C.BCP47_PART_PRIVATE_USE
+	PrivateUseSingleton PartKind = C.BCP47_PART_PRIVATE_USE_SINGLETON
+	Grandfathered       PartKind = C.BCP47_PART_GRANDFATHERED
+)
+
+// String is the name of a kind, for example "Script".
+func (k PartKind) String() string { return C.GoString(C.bcp47_part_kind_name(C.int(k))) }
+
+// A Part of a tag: its kind, for example Script, and its text, for example "Hant".
+type Part struct {
+	Kind PartKind
+	Text string
+}
+
+// A Tag in conventional case (RFC 5646, 2.1.1), by no registry. Tags are compared by == as their texts are, and serve as keys
+// of maps; Registry.Equivalent compares what they mean. The zero Tag is none, and its text is empty.
+type Tag struct{ text, kinds string }
+
+// ParseTag reads a tag in any letter case. The error is a *TagError where the text is no tag.
+func ParseTag(text string) (Tag, error) {
+	buffer := buffers.Get().(*[room]byte)
+	defer buffers.Put(buffer)
+	outcome := C.parts(text, chars(buffer), room)
+	if outcome.status != C.BCP47_DONE {
+		return Tag{}, refusedTag(outcome, nil, text)
+	}
+	both := string(buffer[:outcome.length+outcome.place])
+	return Tag{both[:outcome.length], both[outcome.length:]}, nil
+}
+
+// MustParseTag is ParseTag for constants: it panics where the text is no tag.
+func MustParseTag(text string) Tag {
+	tag, err := ParseTag(text)
+	if err != nil {
+		panic("bcp47: " + strconv.Quote(text) + ": " + err.Error())
+	}
+	return tag
+}
+
+// String is the text of the tag.
+func (t Tag) String() string { return t.text }
+
+// MarshalText gives the text of the tag, for JSON and others.
+func (t Tag) MarshalText() ([]byte, error) { return []byte(t.text), nil }
+
+// UnmarshalText reads a tag as ParseTag does, and the empty text as the zero Tag.
+func (t *Tag) UnmarshalText(text []byte) (err error) {
+	*t = Tag{}
+	if len(text) > 0 {
+		*t, err = ParseTag(string(text))
+	}
+	return err
+}
+
+// Parts gives the parts of the tag, one for each subtag, in their order; a grandfathered tag is one part.
+func (t Tag) Parts() []Part {
+	parts := make([]Part, 0, len(t.kinds))
+	rest := t.text
+	for _, kind := range []byte(t.kinds) {
+		text := rest
+		if len(t.kinds) > 1 {
+			text, rest, _ = strings.Cut(rest, "-")
+		}
+		parts = append(parts, Part{PartKind(kind), text})
+	}
+	return parts
+}
+
+func (t Tag) all(kind PartKind) (texts []string) {
+	for _, part := range t.Parts() {
+		if part.Kind == kind {
+			texts = append(texts, part.Text)
+		}
+	}
+	return texts
+}
+
+func (t Tag) one(kind PartKind) string {
+	if strings.IndexByte(t.kinds, byte(kind)) < 0 {
+		return ""
+	}
+	return t.all(kind)[0]
+}
+
+// Language is the primary language (RFC 5646, 2.2.1); "" for private use and for a grandfathered tag.
+func (t Tag) Language() string { return t.one(Language) }
+
+// Extlangs are the extended languages (RFC 5646, 2.2.2).
+func (t Tag) Extlangs() []string { return t.all(ExtendedLanguage) }
+
+// Script is the script (RFC 5646, 2.2.3), or "".
+func (t Tag) Script() string { return t.one(Script) }
+
+// Region is the region (RFC 5646, 2.2.4), or "".
+func (t Tag) Region() string { return t.one(Region) }
+
+// Variants are the variants (RFC 5646, 2.2.5).
+func (t Tag) Variants() []string { return t.all(Variant) }
+
+// PrivateUse are the subtags after x (RFC 5646, 2.2.7).
+func (t Tag) PrivateUse() []string { return t.all(PrivateUse) }
 
 // A Step of an explanation.
 type Step struct {
-	Kind   string // as "Region"
+	Kind   string // for example "Region"
 	Place  uint32 // the subtag that changes, counted from 1
 	Number uint32 // the record that the step uses, counted from 1; 0 where it uses none
 	Tag    string // the tag to which it leads
@@ -33,23 +144,6 @@ type Step struct {
 type Explanation struct {
 	Steps     []Step
 	Canonical string
-}
-
-// The numbers of the kinds of step.
-var kinds = func() map[string]C.uint8_t {
-	found := map[string]C.uint8_t{}
-	for number := 1; ; number++ {
-		name := C.GoString(C.bcp47_kind_name(C.int(number)))
-		if name == "" {
-			return found
-		}
-		found[name] = C.uint8_t(number)
-	}
-}()
-
-// The step in numbers: a kind that there is not is 0, which leads nowhere.
-func (s Step) numbers() C.bcp47_step {
-	return C.bcp47_step{kind: kinds[s.Kind], place: C.uint32_t(s.Place), number: C.uint32_t(s.Number)}
 }
 
 // String is the step, as the program prints it.
@@ -78,23 +172,4 @@ func explanationOf(lines string) Explanation {
 		steps = append(steps, Step{words[0], uint32(place), uint32(number), words[3]})
 	}
 	return Explanation{steps, strings.TrimPrefix(all[last], "= ")}
-}
-
-// Parts gives a tag in conventional case and its parts, one for each subtag, in their order; a grandfathered tag is
-// one part. It asks no registry. The error is a *TagError where the text is no tag.
-func Parts(tag string) (Tag, []Part, error) {
-	buffer := buffers.Get().(*[room]byte)
-	defer buffers.Put(buffer)
-	var found [C.BCP47_PARTS]C.bcp47_part
-	outcome := C.parts(tag, chars(buffer), room, &found[0], C.BCP47_PARTS)
-	text, err := textOf(outcome, buffer, tag)
-	if err != nil {
-		return "", nil, err
-	}
-	parts := make([]Part, outcome.place)
-	for i := range parts {
-		part := found[i]
-		parts[i] = Part{C.GoString(C.bcp47_part_kind_name(C.int(part.kind))), text[part.start : part.start+part.length]}
-	}
-	return Tag(text), parts, nil
 }

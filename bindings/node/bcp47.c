@@ -1,15 +1,14 @@
 /* SPDX-License-Identifier: MIT OR Apache-2.0 */
-/* The calls of bcp47.h for Node.js, by Node-API: index.js makes classes and exceptions of them. A call answers what it gives,
-   or where it refuses an array: status, number of the fault, place, text, and which of two tags. */
+/* The calls of bcp47.h for Node.js, by Node-API: index.js makes classes and exceptions of them. A call answers what it gives, or
+   where it refuses a number: ((place * 256 + fault) * 4 + which of two tags) * 32 + status. */
 #define NAPI_VERSION 8
 #include <bcp47.h>
-#include <limits.h>
 #include <node_api.h>
 #include <stdlib.h>
 
 /* Room for the text of any tag, and for its canonical text; a longer one is no tag, which the library says of its front. A range
    may have any length. A registry takes about BYTES_OF_ONE bytes for one of its file. */
-enum { ROOM = 4096, STEPS = 20000, BYTES_OF_ONE = 4 };
+enum { ROOM = 4096, BYTES_OF_ONE = 4 };
 
 /* A registry, which its object holds until it is closed or collected, and how many bytes of it the collector was told. */
 typedef struct {
@@ -80,14 +79,8 @@ static napi_value number_of(napi_env env, double number) {
     return made;
 }
 
-static napi_value refusal(napi_env env, bcp47_outcome outcome, const char *text) {
-    napi_value made = NULL, parts[] = {
-        number_of(env, outcome.status), number_of(env, outcome.detail), number_of(env, (double)outcome.place),
-        string_of(env, text ? text : "", text ? outcome.length : 0), number_of(env, outcome.text),
-    };
-    napi_create_array(env, &made);
-    for (uint32_t i = 0; i < sizeof parts / sizeof *parts; i++) napi_set_element(env, made, i, parts[i]);
-    return made;
+static napi_value refusal(napi_env env, bcp47_outcome outcome) {
+    return number_of(env, (((double)outcome.place * 256 + outcome.detail) * 4 + outcome.text) * 32 + outcome.status);
 }
 
 /* The arguments of a call, as many as it has. */
@@ -95,7 +88,7 @@ static bool takes(napi_env env, napi_callback_info info, size_t count, napi_valu
     return napi_get_cb_info(env, info, &count, values, NULL, NULL) == napi_ok;
 }
 
-/* open(bytes): an object that holds a registry */
+/* open(bytes): an object that holds a registry, or an array of the refusal and its line */
 static napi_value open_registry(napi_env env, napi_callback_info info) {
     napi_value bytes, made;
     napi_typedarray_type kind;
@@ -108,11 +101,14 @@ static napi_value open_registry(napi_env env, napi_callback_info info) {
         return NULL;
     }
     holder *it = calloc(1, sizeof *it);
-    if (!it) return refusal(env, (bcp47_outcome){BCP47_OUT_OF_MEMORY, 0, 0, 0, 0, 0}, NULL);
-    bcp47_outcome outcome = bcp47_open(&it->registry, data, length, line, sizeof line);
+    bcp47_outcome outcome = {BCP47_OUT_OF_MEMORY, 0, 0, 0, 0, 0};
+    if (it) outcome = bcp47_open(&it->registry, data, length, line, sizeof line);
     if (outcome.status != BCP47_DONE) {
         free(it);
-        return refusal(env, outcome, line);
+        napi_create_array(env, &made);
+        napi_set_element(env, made, 0, refusal(env, outcome));
+        napi_set_element(env, made, 1, string_of(env, line, outcome.length));
+        return made;
     }
     if (napi_create_object(env, &made) != napi_ok || napi_type_tag_object(env, made, &tag_of_holder) != napi_ok ||
         napi_wrap(env, made, it, finalize, NULL, NULL) != napi_ok) {
@@ -132,8 +128,8 @@ static napi_value close_registry(napi_env env, napi_callback_info info) {
 
 typedef bcp47_outcome writer(const bcp47_registry *, const char *, size_t, char *, size_t);
 
-/* (registry, tag): the text that a call writes */
-static napi_value text_by(napi_env env, napi_callback_info info, writer *writes) {
+/* (registry, tag): the text that a call writes where it ends with a status */
+static napi_value text_by(napi_env env, napi_callback_info info, writer *writes, int status) {
     napi_value values[2];
     char text[ROOM], buffer[ROOM];
     size_t length;
@@ -141,45 +137,34 @@ static napi_value text_by(napi_env env, napi_callback_info info, writer *writes)
     holder *it = held(env, values[0]);
     if (!it || !text_of(env, values[1], text, &length)) return NULL;
     bcp47_outcome outcome = writes(it->registry, text, length, buffer, sizeof buffer);
-    return outcome.status == BCP47_DONE ? string_of(env, buffer, outcome.length) : refusal(env, outcome, buffer);
+    return outcome.status == status ? string_of(env, buffer, outcome.length) : refusal(env, outcome);
 }
 
 static napi_value canonical(napi_env env, napi_callback_info info) {
-    return text_by(env, info, bcp47_canonical);
+    return text_by(env, info, bcp47_canonical, BCP47_DONE);
+}
+
+/* variant(registry, tag): the variant that replacements can repeat */
+static napi_value variant(napi_env env, napi_callback_info info) {
+    return text_by(env, info, bcp47_canonical, BCP47_REPLACEMENT_REPEATS);
 }
 
 static napi_value extlang(napi_env env, napi_callback_info info) {
-    return text_by(env, info, bcp47_extlang);
+    return text_by(env, info, bcp47_extlang, BCP47_DONE);
 }
 
-/* classify(tag): the class and the text in conventional case, with a point between them */
-static napi_value classify(napi_env env, napi_callback_info info) {
-    napi_value value;
-    char text[ROOM], buffer[ROOM];
-    size_t length;
-    if (!takes(env, info, 1, &value) || !text_of(env, value, text, &length)) return NULL;
-    bcp47_outcome outcome = bcp47_classify(NULL, text, length, buffer + 1, sizeof buffer - 1);
-    if (outcome.status != BCP47_DONE) return refusal(env, outcome, NULL);
-    buffer[0] = (char)('0' + outcome.detail);
-    return string_of(env, buffer, outcome.length + 1);
-}
-
-/* parts(tag): kind and text of each part, one after another */
+/* parts(tag): its text in conventional case, a point, and a character for each part: the number of its kind and 64 */
 static napi_value parts(napi_env env, napi_callback_info info) {
-    napi_value value, made = NULL;
-    char text[ROOM], buffer[BCP47_TEXT];
+    napi_value value;
+    char text[ROOM], buffer[BCP47_TEXT + BCP47_PARTS];
     bcp47_part found[BCP47_PARTS];
     size_t length;
     if (!takes(env, info, 1, &value) || !text_of(env, value, text, &length)) return NULL;
-    bcp47_outcome outcome = bcp47_parts(text, length, buffer, sizeof buffer, found, BCP47_PARTS);
-    if (outcome.status != BCP47_DONE) return refusal(env, outcome, NULL);
-    napi_create_array(env, &made);
-    for (uint32_t i = 0; i < outcome.place; i++) {
-        const char *kind = bcp47_part_kind_name(found[i].kind);
-        napi_set_element(env, made, 2 * i, string_of(env, kind, NAPI_AUTO_LENGTH));
-        napi_set_element(env, made, 2 * i + 1, string_of(env, buffer + found[i].start, found[i].length));
-    }
-    return made;
+    bcp47_outcome outcome = bcp47_parts(text, length, buffer, BCP47_TEXT, found, BCP47_PARTS);
+    if (outcome.status != BCP47_DONE) return refusal(env, outcome);
+    buffer[outcome.length++] = '.';
+    for (size_t i = 0; i < outcome.place; i++) buffer[outcome.length++] = (char)(64 + found[i].kind);
+    return string_of(env, buffer, outcome.length);
 }
 
 /* explain(registry, tag, most): the lines that the program prints */
@@ -187,15 +172,30 @@ static napi_value explain(napi_env env, napi_callback_info info) {
     napi_value values[3];
     char text[ROOM], *lines;
     size_t length;
-    uint32_t most = STEPS;
+    uint32_t most = 0;
     if (!takes(env, info, 3, values)) return NULL;
     holder *it = held(env, values[0]);
     if (!it || !text_of(env, values[1], text, &length)) return NULL;
     napi_get_value_uint32(env, values[2], &most);
     bcp47_outcome outcome = bcp47_explanation(it->registry, text, length, most, &lines);
-    if (outcome.status != BCP47_DONE) return refusal(env, outcome, NULL);
+    if (outcome.status != BCP47_DONE) return refusal(env, outcome);
     napi_value made = string_of(env, lines, outcome.length);
     bcp47_free(lines);
+    return made;
+}
+
+/* show(registry, tag): the rows that the program prints, as JSON */
+static napi_value show(napi_env env, napi_callback_info info) {
+    napi_value values[2], made = NULL;
+    char text[ROOM], *rows;
+    size_t length;
+    if (!takes(env, info, 2, values)) return NULL;
+    holder *it = held(env, values[0]);
+    if (!it || !text_of(env, values[1], text, &length)) return NULL;
+    bcp47_outcome outcome = bcp47_show(it->registry, text, length, &rows);
+    if (outcome.status != BCP47_DONE) return refusal(env, outcome);
+    napi_create_string_utf8(env, rows, outcome.length, &made);
+    bcp47_free(rows);
     return made;
 }
 
@@ -208,72 +208,29 @@ static napi_value validate(napi_env env, napi_callback_info info) {
     holder *it = held(env, values[0]);
     if (!it || !text_of(env, values[1], text, &length)) return NULL;
     bcp47_outcome outcome = bcp47_validate(it->registry, text, length);
-    return outcome.status == BCP47_DONE ? NULL : refusal(env, outcome, NULL);
+    return outcome.status == BCP47_DONE ? NULL : refusal(env, outcome);
 }
 
-/* equal(registry, first, second): whether they are. match(registry, range, tag, scheme): whether the range matches the tag */
-static napi_value agrees(napi_env env, napi_callback_info info, size_t count) {
-    napi_value values[4], made = NULL;
-    char second[ROOM], variant[BCP47_LINE];
-    size_t length, other;
-    int32_t scheme = 0;
-    if (!takes(env, info, count, values)) return NULL;
-    holder *it = held(env, values[0]);
-    char *first = it ? whole_text_of(env, values[1], &length) : NULL;
-    if (!first || !text_of(env, values[2], second, &other)) {
-        free(first);
-        return NULL;
-    }
-    if (count == 4) napi_get_value_int32(env, values[3], &scheme);
-    bcp47_outcome outcome =
-        count == 4 ? bcp47_match(it->registry, scheme, first, length, second, other, variant, sizeof variant)
-                   : bcp47_equal(it->registry, first, length, second, other, variant, sizeof variant);
-    free(first);
-    if (outcome.status != BCP47_DONE && outcome.status != BCP47_DIFFERENT) return refusal(env, outcome, variant);
-    napi_get_boolean(env, outcome.status == BCP47_DONE, &made);
-    return made;
-}
-
-static napi_value equal(napi_env env, napi_callback_info info) {
-    return agrees(env, info, 3);
-}
-
+/* match(registry, range, tag, scheme): whether the range matches the tag; by the scheme 0, whether two tags are equivalent */
 static napi_value match(napi_env env, napi_callback_info info) {
-    return agrees(env, info, 4);
-}
-
-/* verify(registry, tag, numbers, last): nothing. The numbers are kind, place and number of each step, one after another. */
-static napi_value verify(napi_env env, napi_callback_info info) {
-    napi_value values[4];
-    napi_typedarray_type type;
-    char text[ROOM], end[ROOM];
-    size_t length, end_length, count;
-    void *data;
+    napi_value values[4], made = NULL;
+    char tag[ROOM];
+    size_t length, tag_length;
+    int32_t scheme = 0;
     if (!takes(env, info, 4, values)) return NULL;
     holder *it = held(env, values[0]);
-    if (!it || !text_of(env, values[1], text, &length) || !text_of(env, values[3], end, &end_length)) return NULL;
-    if (napi_get_typedarray_info(env, values[2], &type, &count, &data, NULL, NULL) != napi_ok || type != napi_uint32_array) {
-        napi_throw_type_error(env, NULL, "steps are given in a Uint32Array");
+    char *range = it ? whole_text_of(env, values[1], &length) : NULL;
+    if (!range || !text_of(env, values[2], tag, &tag_length)) {
+        free(range);
         return NULL;
     }
-    const uint32_t *numbers = data;
-    bcp47_step *steps = calloc(count / 3 + 1, sizeof *steps);
-    if (!steps) return refusal(env, (bcp47_outcome){BCP47_OUT_OF_MEMORY, 0, 0, 0, 0, 0}, NULL);
-    for (size_t i = 0; i < count / 3; i++)
-        steps[i] = (bcp47_step){(uint8_t)numbers[3 * i], numbers[3 * i + 1], numbers[3 * i + 2]};
-    bcp47_outcome outcome = bcp47_verify(it->registry, text, length, steps, count / 3, end, end_length);
-    free(steps);
-    return outcome.status == BCP47_DONE ? NULL : refusal(env, outcome, NULL);
-}
-
-/* upgrade(older, newer): nothing */
-static napi_value upgrade(napi_env env, napi_callback_info info) {
-    napi_value values[2];
-    if (!takes(env, info, 2, values)) return NULL;
-    holder *older = held(env, values[0]), *newer = older ? held(env, values[1]) : NULL;
-    if (!newer) return NULL;
-    bcp47_outcome outcome = bcp47_upgrade_check(older->registry, newer->registry);
-    return outcome.status == BCP47_DONE ? NULL : refusal(env, outcome, NULL);
+    napi_get_value_int32(env, values[3], &scheme);
+    bcp47_outcome outcome = scheme ? bcp47_match(it->registry, scheme, range, length, tag, tag_length, NULL, 0)
+                                   : bcp47_equivalent(it->registry, range, length, tag, tag_length, NULL, 0);
+    free(range);
+    if (outcome.status != BCP47_DONE && outcome.status != BCP47_DIFFERENT) return refusal(env, outcome);
+    napi_get_boolean(env, outcome.status == BCP47_DONE, &made);
+    return made;
 }
 
 /* facts(registry): File-Date, number of entries, SHA-256 in hexadecimal digits */
@@ -285,29 +242,27 @@ static napi_value facts(napi_env env, napi_callback_info info) {
     holder *it = takes(env, info, 1, &object) ? held(env, object) : NULL;
     if (!it) return NULL;
     bcp47_outcome outcome = bcp47_registry_info(it->registry, &of);
-    if (outcome.status != BCP47_DONE) return refusal(env, outcome, NULL);
+    if (outcome.status != BCP47_DONE) return refusal(env, outcome);
     for (int i = 0; i < 32; i++) hex[2 * i] = digits[of.sha256[i] >> 4], hex[2 * i + 1] = digits[of.sha256[i] & 15];
-    napi_value date = NULL;
-    napi_create_string_latin1(env, of.file_date, NAPI_AUTO_LENGTH, &date);
-    napi_value parts[] = {date, number_of(env, (double)of.entries), string_of(env, hex, sizeof hex)};
     napi_create_object(env, &made);
-    napi_set_named_property(env, made, "fileDate", parts[0]);
-    napi_set_named_property(env, made, "entries", parts[1]);
-    napi_set_named_property(env, made, "sha256", parts[2]);
+    napi_set_named_property(env, made, "fileDate", string_of(env, of.file_date, NAPI_AUTO_LENGTH));
+    napi_set_named_property(env, made, "entries", number_of(env, (double)of.entries));
+    napi_set_named_property(env, made, "sha256", string_of(env, hex, sizeof hex));
     return made;
 }
 
-/* name(kind of name, number): the name that the number has */
-static napi_value name(napi_env env, napi_callback_info info) {
-    static const char *(*const names[])(int) = {bcp47_status_name, bcp47_fault_name, bcp47_status_help, bcp47_fault_help,
-                                                bcp47_kind_name};
-    napi_value values[2], made = NULL;
+/* names(which): an array of the names of the numbers from 1 on, or of what they mean */
+static napi_value names(napi_env env, napi_callback_info info) {
+    static const char *(*const all[])(int) = {bcp47_status_name, bcp47_status_help, bcp47_fault_name, bcp47_fault_help,
+                                              bcp47_part_kind_name};
+    napi_value value, made = NULL;
     uint32_t which = 0;
-    int32_t number = 0;
-    if (!takes(env, info, 2, values)) return NULL;
-    napi_get_value_uint32(env, values[0], &which);
-    napi_get_value_int32(env, values[1], &number);
-    napi_create_string_utf8(env, names[which % 5](number), NAPI_AUTO_LENGTH, &made);
+    if (!takes(env, info, 1, &value)) return NULL;
+    napi_get_value_uint32(env, value, &which);
+    napi_create_array(env, &made);
+    const char *name;
+    for (uint32_t number = 1; *(name = all[which % 5]((int)number)); number++)
+        napi_set_element(env, made, number, string_of(env, name, NAPI_AUTO_LENGTH));
     return made;
 }
 
@@ -316,18 +271,15 @@ NAPI_MODULE_INIT() {
         const char *name;
         napi_callback calls;
     } functions[] = {
-        {"open", open_registry}, {"close", close_registry}, {"canonical", canonical}, {"extlang", extlang},
-        {"classify", classify},  {"explain", explain},      {"validate", validate},   {"equal", equal},
-        {"upgrade", upgrade},    {"facts", facts},          {"name", name},           {"parts", parts},
-        {"verify", verify},      {"match", match},
+        {"open", open_registry}, {"close", close_registry}, {"canonical", canonical}, {"variant", variant}, {"extlang", extlang},
+        {"parts", parts},        {"explain", explain},      {"validate", validate},   {"match", match},     {"facts", facts},
+        {"names", names},        {"show", show},
     };
     for (size_t i = 0; i < sizeof functions / sizeof *functions; i++) {
         napi_value made = NULL;
         napi_create_function(env, functions[i].name, NAPI_AUTO_LENGTH, functions[i].calls, NULL, &made);
         napi_set_named_property(env, exports, functions[i].name, made);
     }
-    napi_value version = NULL;
-    napi_create_string_utf8(env, bcp47_version(), NAPI_AUTO_LENGTH, &version);
-    napi_set_named_property(env, exports, "version", version);
+    napi_set_named_property(env, exports, "version", string_of(env, bcp47_version(), NAPI_AUTO_LENGTH));
     return exports;
 }

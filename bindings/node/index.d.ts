@@ -1,10 +1,30 @@
-/**
- * What is refused: `status` and `fault` are names, `place` a number, `help` says what to do. `message` is one line, as
- * `BadByte 1`; of an upgrade the condition and the record, as `U1 3`.
- */
-export class Refused extends Error {
+import type { Fault } from './faults';
+
+export type { Fault };
+
+/** Why a text is refused: an answer, and the `cause` of the error that other calls throw. */
+export class Refusal {
+  private constructor();
+  /** How the call ended, for example `NotATag`, `Invalid` or `BadFile`. */
   readonly status: string;
-  readonly fault: string;
+  readonly fault: Fault;
+  /** The subtag, the line or the record at fault, counted from 1; else 0. */
+  readonly place: number;
+  /** The text that is refused: no more than its first 1,024 characters. */
+  readonly tag: string;
+  /** The variant that replacements can repeat, where that is why. */
+  readonly variant?: string;
+  /** What the fault means, and what to do. */
+  readonly help: string;
+  /** One line, for example `BadByte 1`. */
+  readonly message: string;
+}
+
+/** Something is refused. `message` is that of its `cause`; of a registry it has the line, for example `jar BadLine line 1`. */
+export class Refused extends Error {
+  readonly cause: Refusal;
+  readonly status: string;
+  readonly fault: Fault;
   readonly place: number;
   readonly help: string;
 }
@@ -18,22 +38,27 @@ export class RefusedTag extends Refused {
   readonly variant?: string;
 }
 
-/** Bytes are no registry that passes the check. The place is a line, or the number of a record. */
+/** Bytes are no registry that passes the check, or one of no entries. The place is a line, or the number of a record. */
 export class RefusedRegistry extends Refused {}
 
-/** A newer registry does not keep what an older one promised. The place is the number of a record. */
-export class RefusedUpgrade extends Refused {}
-
-/** Steps do not lead from a tag to another: NoSuchStep, with the number of a step as the place, or WrongEnd, at 0. */
-export class RefusedTrace extends Refused {}
-
-/** A tag in conventional case, by no registry. It does not change. */
+/** A tag in conventional case (RFC 5646, 2.1.1), by no registry. It does not change. */
 export class Tag {
   /** @throws RefusedTag */
-  constructor(text: string | Tag);
+  constructor(text: string | Tag | Intl.Locale);
+  readonly text: string;
   readonly kind: 'langtag' | 'privateuse' | 'grandfathered';
-  /** Its parts, one for each subtag, in their order, as { kind: 'Script', text: 'Hant' }; a grandfathered tag is one part. */
-  readonly parts: { readonly kind: string; readonly text: string }[];
+  /** The primary language; none of private use and of a grandfathered tag. */
+  readonly language: string | undefined;
+  readonly extlangs: string[];
+  readonly script: string | undefined;
+  readonly region: string | undefined;
+  readonly variants: string[];
+  /** The subtags after `x`. */
+  readonly privateUse: string[];
+  /** One part for each subtag, in their order, for example { kind: 'Script', text: 'Hant' }; a grandfathered tag is one part. */
+  readonly parts: readonly { readonly kind: string; readonly text: string }[];
+  /** @throws RangeError for a tag that Unicode's locales leave out, for example `x-own` */
+  toLocale(): Intl.Locale;
   toString(): string;
   toJSON(): string;
 }
@@ -44,6 +69,21 @@ export interface Step {
   readonly place: number;
   readonly number: number;
   readonly tag: string;
+}
+
+/** What a registry says of a part of a tag. */
+export interface Row {
+  /** The place of the part, counted from 1. */
+  readonly place: number;
+  /** The kind of the part, or `Whole` for the tag as a whole. */
+  readonly kind: string;
+  readonly text: string;
+  /** `Unlisted` where no registry lists parts of the kind. */
+  readonly listing: 'Record' | 'Unregistered' | 'Unlisted';
+  /** The number of the record. */
+  readonly record: number | null;
+  /** For example { name: 'Description', body: 'Cantonese' }. */
+  readonly fields: readonly { readonly name: string; readonly body: string }[];
 }
 
 /** Which registry answers. */
@@ -59,35 +99,31 @@ export class Registry {
   constructor(bytes: Uint8Array);
   /** The registry of a file. @throws RefusedRegistry, and what `readFileSync` throws */
   static fromFile(path: string | URL): Registry;
+  /** The registry of IANA's that the package `bcp47-registry` has. @throws Error where that is not installed */
+  static bundled(): Registry;
   /** Frees the registry; no call but this one may follow. */
   close(): void;
   /** The canonical text of a tag (RFC 5646, 4.5). */
-  canonical(tag: string | Tag): string;
+  canonical(tag: string | Tag | Intl.Locale): string;
   /** The canonical text of a tag with its extlang prefix. */
-  extlang(tag: string | Tag): string;
+  extlang(tag: string | Tag | Intl.Locale): string;
   /** The canonical text of each tag, or in its place why there is none; null for null and undefined. */
-  canonicalMany(tags: Iterable<string | Tag | null | undefined>): (string | RefusedTag | null)[];
+  canonicalMany(tags: Iterable<string | Tag | Intl.Locale | null | undefined>): (string | Refusal | null)[];
   /** Returns where a tag is valid (RFC 5646, 2.2.9). */
-  validate(tag: string | Tag): void;
-  isValid(tag: string | Tag): boolean;
+  validate(tag: string | Tag | Intl.Locale): void;
+  isValid(tag: string | Tag | Intl.Locale): boolean;
   /** Whether two tags are equivalent: their canonical texts are equal. */
-  equivalent(first: string | Tag, second: string | Tag): boolean;
+  equivalent(first: string | Tag | Intl.Locale, second: string | Tag | Intl.Locale): boolean;
   /**
    * Whether a language range matches a tag (RFC 4647), by their canonical forms: by basic filtering (3.3.1), by extended
-   * filtering (3.3.2), or by lookup (3.4), where the range, cut from its end, is the tag. A range that is no valid tag, as
-   * `zh-*`, is taken as it is written. Throws RefusedTag for the range, or else for the tag.
+   * filtering (3.3.2), or by lookup (3.4), where the range, cut from its end, is the tag. A range that is no valid tag, for
+   * example `zh-*`, is taken as it is written. Throws RefusedTag for the range, or else for the tag.
    */
-  matches(range: string | Tag, tag: string | Tag, scheme?: 'basic' | 'extended' | 'lookup'): boolean;
+  matches(range: string | Tag | Intl.Locale, tag: string | Tag | Intl.Locale, scheme?: 'basic' | 'extended' | 'lookup'): boolean;
   /** The steps from a tag to its canonical form, at most so many, else 20,000, and that form. A tag can have 57,000. */
-  explain(tag: string | Tag, most?: number): { steps: Step[]; canonical: string };
-  /**
-   * Returns where steps lead from a valid tag, one after another, to the last: that of the last step, if none is given.
-   * They are judged by kind, place and number, not by the tags between.
-   * @throws RefusedTrace, and RefusedTag for the tag, or else for the last
-   */
-  verify(tag: string | Tag, steps: Iterable<Step>, last?: string | Tag): void;
-  /** Returns where a newer registry keeps what this one promised. @throws RefusedUpgrade */
-  upgradeCheck(newer: Registry): void;
+  explain(tag: string | Tag | Intl.Locale, most?: number): { steps: Step[]; canonical: string };
+  /** What the registry says of each part of a tag, which need not be valid. The first call reads the records, some milliseconds. */
+  show(tag: string | Tag | Intl.Locale): Row[];
   readonly info: Info;
 }
 

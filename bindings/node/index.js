@@ -2,89 +2,143 @@
 'use strict';
 
 const { readFileSync } = require('node:fs');
-const native = require('./bcp47.node');
+const native = require('./native.js');
 
-const [STATUS, FAULT, STATUS_HELP, FAULT_HELP, KIND] = [0, 1, 2, 3, 4];
-const OUT_OF_MEMORY = 4;
-const REPEATS = 3;
-const [NO_SUCH_STEP, WRONG_END] = [11, 12];
+const [STATUSES, STATUS_HELP, FAULTS, FAULT_HELP, KINDS] = [0, 1, 2, 3, 4].map(native.names);
+const [REPEATS, OUT_OF_MEMORY] = ['ReplacementRepeats', 'OutOfMemory'].map((name) => STATUSES.indexOf(name));
 const SCHEMES = ['basic', 'extended', 'lookup'];
-const CLASSES = ['', 'langtag', 'privateuse', 'grandfathered'];
+const CLASSES = { Language: 'langtag', PrivateUseSingleton: 'privateuse', Grandfathered: 'grandfathered' };
+const INSPECT = Symbol.for('nodejs.util.inspect.custom');
+// The most bytes of a tag; of a text that is refused no more is kept.
+const LONGEST = 1024;
+
+/** A text without the longer one that it may be a slice of. */
+const front = (text) => (text.length > LONGEST ? ` ${text.slice(0, LONGEST)}`.slice(1) : text);
+
+class Refusal {
+  constructor(code, tag, text) {
+    const [status, fault] = [code % 32, Math.floor(code / 128) % 256];
+    this.status = STATUSES[status];
+    this.fault = FAULTS[fault] ?? this.status;
+    this.place = Math.floor(code / 32768);
+    if (tag !== undefined) this.tag = front(String(tag));
+    if (status === REPEATS) this.variant = text;
+  }
+
+  get message() {
+    if (this.variant !== undefined) return `${this.fault} ${this.variant}`;
+    return this.fault === this.status ? this.fault : `${this.fault} ${this.place}`;
+  }
+
+  get help() {
+    return this.fault === this.status ? STATUS_HELP[STATUSES.indexOf(this.status)] : FAULT_HELP[FAULTS.indexOf(this.fault)];
+  }
+
+  toString() {
+    return `! ${this.message}`;
+  }
+}
 
 class Refused extends Error {
-  constructor([status, fault, place, text], tag) {
-    const name = native.name(STATUS, status);
-    const faultName = fault ? native.name(FAULT, fault) : name;
-    const line = status === REPEATS ? `${name} ${text}` : text || (fault || place ? `${faultName} ${place}` : name);
-    super(line);
-    this.status = name;
-    this.fault = faultName;
-    this.place = place;
-    this.help = fault ? native.name(FAULT_HELP, fault) : native.name(STATUS_HELP, status);
-    if (tag !== undefined) this.tag = String(tag);
-    if (status === REPEATS) this.variant = text;
+  constructor(refusal, line) {
+    super(line || refusal.message, { cause: refusal });
   }
 
   get name() {
     return this.constructor.name;
   }
 }
+for (const fact of ['status', 'fault', 'place', 'tag', 'variant', 'help'])
+  Object.defineProperty(Refused.prototype, fact, { get() { return this.cause[fact]; } });
 
 class RefusedTag extends Refused {}
 class RefusedRegistry extends Refused {}
-class RefusedUpgrade extends Refused {}
-class RefusedTrace extends Refused {}
 
 /** Throws where memory ran out, which is no refusal, and gives what a call answers. */
 function checked(answer) {
-  if (Array.isArray(answer) && answer[0] === OUT_OF_MEMORY) throw new RangeError('out of memory');
+  if (typeof answer === 'number' && answer % 32 === OUT_OF_MEMORY) throw new RangeError('out of memory');
   return answer;
 }
 
-/** Throws what a call refuses, too. */
-function answered(answer, kind, ...tags) {
-  if (!Array.isArray(checked(answer))) return answer;
-  throw new kind(answer, tags[answer[4] === 2 ? 1 : 0]);
+const textOf = (tag) => (typeof tag === 'object' && (tag instanceof Tag || tag instanceof Intl.Locale) ? tag.toString() : tag);
+
+/** The refusal that a number tells, of one of the tags that were asked. */
+function refusalOf(held, code, ...tags) {
+  const tag = tags[Math.floor(code / 32) % 4 === 2 ? 1 : 0];
+  return new Refusal(code, tag, code % 32 === REPEATS ? native.variant(held, textOf(tag)) : undefined);
 }
 
-const textOf = (tag) => (tag instanceof Tag ? tag.toString() : tag);
-
-// The number of each kind of step.
-const KINDS = new Map();
-for (let number = 1; native.name(KIND, number); number++) KINDS.set(native.name(KIND, number), number);
-
-/** A step in numbers. One that has none, as no kind has its name, gets zeros, which lead nowhere. */
-function numbersOf({ kind, place, number }) {
-  const isCount = (it) => it >>> 0 === it;
-  return KINDS.has(kind) && isCount(place) && isCount(number) ? [KINDS.get(kind), place, number] : [0, 0, 0];
+/** Throws what a call refuses. */
+function answered(held, answer, ...tags) {
+  if (typeof checked(answer) !== 'number') return answer;
+  throw new RefusedTag(refusalOf(held, answer, ...tags));
 }
 
 class Tag {
-  #text;
-  #kind;
+  #kinds;
+  #parts;
 
   constructor(text) {
-    const shown = answered(native.classify(textOf(text)), RefusedTag, text);
-    this.#kind = CLASSES[Number(shown[0])];
-    this.#text = shown.slice(1);
+    const shown = answered(null, native.parts(textOf(text)), text);
+    const point = shown.indexOf('.');
+    this.text = shown.slice(0, point);
+    this.#kinds = shown.slice(point + 1);
     Object.freeze(this);
   }
 
-  get kind() {
-    return this.#kind;
+  get parts() {
+    // a grandfathered tag is one part
+    const texts = this.#kinds.length === 1 ? [this.text] : this.text.split('-');
+    const kindOf = (i) => KINDS[this.#kinds.charCodeAt(i) - 64];
+    return (this.#parts ??= Object.freeze(texts.map((text, i) => Object.freeze({ kind: kindOf(i), text }))));
   }
 
-  get parts() {
-    const answer = checked(native.parts(this.#text));
-    return Array.from({ length: answer.length / 2 }, (_, i) => ({ kind: answer[2 * i], text: answer[2 * i + 1] }));
+  get kind() {
+    return CLASSES[this.parts[0].kind];
+  }
+
+  #all(kind) {
+    return this.parts.filter((part) => part.kind === kind).map((part) => part.text);
+  }
+
+  get language() {
+    return this.#all('Language')[0];
+  }
+
+  get extlangs() {
+    return this.#all('Extlang');
+  }
+
+  get script() {
+    return this.#all('Script')[0];
+  }
+
+  get region() {
+    return this.#all('Region')[0];
+  }
+
+  get variants() {
+    return this.#all('Variant');
+  }
+
+  get privateUse() {
+    return this.#all('PrivateUse');
+  }
+
+  toLocale() {
+    return new Intl.Locale(this.text);
   }
 
   toString() {
-    return this.#text;
+    return this.text;
   }
 
   toJSON() {
-    return this.#text;
+    return this.text;
+  }
+
+  [INSPECT]() {
+    return `Tag '${this.text}'`;
   }
 }
 
@@ -92,11 +146,17 @@ class Registry {
   #held;
 
   constructor(bytes) {
-    this.#held = answered(native.open(bytes), RefusedRegistry);
+    const answer = native.open(bytes);
+    if (Array.isArray(answer)) throw new RefusedRegistry(new Refusal(checked(answer[0])), answer[1]);
+    this.#held = answer;
   }
 
   static fromFile(path) {
     return new Registry(readFileSync(path));
+  }
+
+  static bundled() {
+    return Registry.fromFile(require('bcp47-registry').path);
   }
 
   get #open() {
@@ -110,47 +170,44 @@ class Registry {
   }
 
   canonical(tag) {
-    return answered(native.canonical(this.#open, textOf(tag)), RefusedTag, tag);
+    return answered(this.#open, native.canonical(this.#open, textOf(tag)), tag);
   }
 
   extlang(tag) {
-    return answered(native.extlang(this.#open, textOf(tag)), RefusedTag, tag);
+    return answered(this.#open, native.extlang(this.#open, textOf(tag)), tag);
   }
 
   canonicalMany(tags) {
-    const held = this.#open;
     if (typeof tags === 'string') throw new TypeError('many tags are a list, and not one text');
     return [...tags].map((tag) => {
       if (tag === null || tag === undefined) return null;
-      const answer = checked(native.canonical(held, textOf(tag)));
-      return Array.isArray(answer) ? new RefusedTag(answer, tag) : answer;
+      const answer = checked(native.canonical(this.#open, textOf(tag)));
+      return typeof answer === 'number' ? refusalOf(this.#open, answer, tag) : answer;
     });
   }
 
   validate(tag) {
-    answered(native.validate(this.#open, textOf(tag)), RefusedTag, tag);
+    answered(this.#open, native.validate(this.#open, textOf(tag)), tag);
   }
 
   isValid(tag) {
-    return !checked(native.validate(this.#open, textOf(tag)));
+    return checked(native.validate(this.#open, textOf(tag))) === undefined;
   }
 
   equivalent(first, second) {
-    return answered(native.equal(this.#open, textOf(first), textOf(second)), RefusedTag, first, second);
+    return answered(this.#open, native.match(this.#open, textOf(first), textOf(second), 0), first, second);
   }
 
   matches(range, tag, scheme = 'extended') {
-    if (!SCHEMES.includes(scheme)) throw new TypeError(`a scheme is basic, extended or lookup, not ${String(scheme)}`);
-    const answer = native.match(this.#open, textOf(range), textOf(tag), SCHEMES.indexOf(scheme) + 1);
-    return answered(answer, RefusedTag, range, tag);
+    const number = SCHEMES.indexOf(scheme) + 1;
+    if (!number) throw new TypeError(`a scheme is basic, extended or lookup, not ${String(scheme)}`);
+    return answered(this.#open, native.match(this.#open, textOf(range), textOf(tag), number), range, tag);
   }
 
   explain(tag, most = 20_000) {
     if (typeof most !== 'number' || Number.isNaN(most)) throw new TypeError('the most steps are a number');
     const answer = native.explain(this.#open, textOf(tag), Math.min(Math.max(most, 0), 0xffffffff));
-    // the variant that would be repeated
-    if (Array.isArray(answer) && answer[0] === REPEATS) this.canonical(tag);
-    const lines = answered(answer, RefusedTag, tag).trimEnd().split('\n');
+    const lines = answered(this.#open, answer, tag).trimEnd().split('\n');
     const canonical = lines.pop().slice(2);
     const steps = lines.map((line) => {
       const [kind, place, number, after] = line.split(' ');
@@ -159,22 +216,14 @@ class Registry {
     return { steps, canonical };
   }
 
-  verify(tag, steps, last) {
-    const all = [...steps];
-    const end = last ?? (all.length ? all[all.length - 1].tag : tag);
-    const answer = native.verify(this.#open, textOf(tag), Uint32Array.from(all.flatMap(numbersOf)), textOf(end));
-    if (answer && [NO_SUCH_STEP, WRONG_END].includes(answer[0])) throw new RefusedTrace(answer);
-    answered(answer, RefusedTag, tag, end);
-  }
-
-  upgradeCheck(newer) {
-    if (!(newer instanceof Registry)) throw new TypeError('a Registry is wanted');
-    answered(native.upgrade(this.#open, newer.#open), RefusedUpgrade);
+  show(tag) {
+    return JSON.parse(answered(this.#open, native.show(this.#open, textOf(tag)), tag));
   }
 
   get info() {
-    return answered(native.facts(this.#open), Refused);
+    return native.facts(this.#open);
   }
 }
+if (Symbol.dispose) Registry.prototype[Symbol.dispose] = Registry.prototype.close;
 
-module.exports = { Refused, RefusedRegistry, RefusedTag, RefusedTrace, RefusedUpgrade, Registry, Tag, version: native.version };
+module.exports = { Refusal, Refused, RefusedRegistry, RefusedTag, Registry, Tag, version: native.version };

@@ -4,12 +4,13 @@
 #include "postgres.h"
 #include "fmgr.h"
 #include "mb/pg_wchar.h"
+#include "access/xact.h"
 #include "miscadmin.h"
-#include "storage/fd.h"
 #include "utils/builtins.h"
 #include "utils/guc.h"
 #include "utils/memutils.h"
 #include "bcp47.h"
+#include <dirent.h>
 #include <sys/stat.h>
 
 PG_MODULE_MAGIC;
@@ -34,86 +35,100 @@ void _PG_init(void);
 
 /* ---- reading */
 
-static void read_registry(const char *path, named_registry *it) {
+/* Why a file gives no registry; NULL where it does. */
+static const char *read_registry(const char *path, named_registry *it) {
     char line[BCP47_LINE] = "";
     struct stat about;
-    bcp47_outcome outcome;
+    bcp47_outcome outcome = {.status = BCP47_OUT_OF_MEMORY};
+    FILE *file;
     char *bytes;
-    size_t length;
-    FILE *file = AllocateFile(path, "rb");
 
-    if (!file || fstat(fileno(file), &about))
-        ereport(ERROR, (errcode_for_file_access(), errmsg("could not read the registry \"%s\": %m", path)));
-    if (about.st_size > LONGEST)
-        ereport(ERROR, (errcode(ERRCODE_PROGRAM_LIMIT_EXCEEDED), errmsg("the registry \"%s\" is too long", path)));
-    bytes = palloc((size_t)about.st_size + 1);
-    length = fread(bytes, 1, (size_t)about.st_size, file);
-    FreeFile(file);
-    if (length != (size_t)about.st_size)
-        ereport(ERROR, (errcode(ERRCODE_IO_ERROR), errmsg("the registry \"%s\" is not read to its end", path)));
-    outcome = bcp47_open(&it->registry, bytes, length, line, sizeof line);
-    pfree(bytes);
-    if (outcome.status != BCP47_DONE)
-        ereport(ERROR, (errcode(ERRCODE_DATA_EXCEPTION), errmsg("the registry \"%s\" is refused: %s", path, line)));
+    /* what is no file, as a pipe, could be read for ever */
+    if (stat(path, &about)) return psprintf("could not read the registry \"%s\": %m", path);
+    if (!S_ISREG(about.st_mode)) return psprintf("\"%s\" is no file", path);
+    if (about.st_size > LONGEST) return psprintf("the registry \"%s\" is too long", path);
+    if (!(file = fopen(path, "rb"))) return psprintf("could not read the registry \"%s\": %m", path);
+    bytes = malloc((size_t)about.st_size + 1);
+    if (bytes) outcome = bcp47_open(&it->registry, bytes, fread(bytes, 1, (size_t)about.st_size, file), line, sizeof line);
+    free(bytes);
+    fclose(file);
+    if (outcome.status != BCP47_DONE) return psprintf("the registry \"%s\" is refused: %s", path, line);
     bcp47_registry_info(it->registry, &it->info);
     for (int i = 0; i < 32; i++) sprintf(it->digest + 2 * i, "%02x", it->info.sha256[i]);
+    return NULL;
 }
 
-/* Reads each file of the folder that is named by a date, as 2025-05-15.txt, and has that File-Date. */
-static void read_folder(const char *path) {
-    DIR *folder = AllocateDir(path);
+/* Reads each file of the folder that is named by a date, as 2025-05-15.txt, and has that File-Date: how many there are then in
+   `read`, which has one more to begin with, or why they are not. */
+static const char *read_folder(const char *path, named_registry *read, int *count) {
+    DIR *folder = opendir(path);
+    const char *why = folder ? NULL : psprintf("could not read the folder \"%s\": %m", path);
     struct dirent *entry;
 
-    while ((entry = ReadDir(folder, path)) != NULL) {
+    *count = 1;
+    while (!why && (entry = readdir(folder)) != NULL) {
         size_t length = strlen(entry->d_name);
         char *whole;
         if (length != 14 || strspn(entry->d_name, "0123456789-") != 10 || strcmp(entry->d_name + 10, ".txt")) continue;
-        if (count > MOST)
-            ereport(ERROR, (errcode(ERRCODE_PROGRAM_LIMIT_EXCEEDED), errmsg("\"%s\" has more than %d registries", path, MOST)));
+        if (*count > MOST) {
+            why = psprintf("\"%s\" has more than %d registries", path, MOST);
+            break;
+        }
         whole = psprintf("%s/%s", path, entry->d_name);
-        read_registry(whole, &registries[count]);
-        if (strncmp(registries[count].info.file_date, entry->d_name, 10))
-            ereport(ERROR, (errcode(ERRCODE_DATA_EXCEPTION),
-                            errmsg("the registry \"%s\" has the File-Date \"%s\"", whole, registries[count].info.file_date)));
-        count++;
-        pfree(whole);
+        why = read_registry(whole, &read[*count]);
+        if (why) break;
+        if (strncmp(read[(*count)++].info.file_date, entry->d_name, 10))
+            why = psprintf("the registry \"%s\" has the File-Date \"%s\"", whole, read[*count - 1].info.file_date);
     }
-    FreeDir(folder);
+    if (folder) closedir(folder);
+    return why;
 }
 
-/* What ALTER SYSTEM is told. While the server starts, reading the file says more. */
-static bool is_there(char **path, void **extra, GucSource source) {
-    struct stat about;
-    if (process_shared_preload_libraries_in_progress || !**path || !stat(*path, &about)) return true;
-    GUC_check_errdetail("There is no \"%s\" that the server can see.", *path);
-    return false;
+/* Whether ALTER SYSTEM may set what the next start reads. It is no place for an error, which would end a server that reads its
+   settings again; and there nothing is read. */
+static bool is_readable(const char *path, bool is_folder) {
+    named_registry *read;
+    const char *why;
+    int count = 1;
+
+    if (process_shared_preload_libraries_in_progress || !*path || !IsTransactionState()) return true;
+    read = palloc0((1 + MOST) * sizeof *read);
+    why = is_folder ? read_folder(path, read, &count) : read_registry(path, read);
+    for (int i = 0; i < count; i++) bcp47_close(read[i].registry);
+    if (why) GUC_check_errdetail("%s", why);
+    return !why;
+}
+
+static bool is_registry(char **path, void **extra, GucSource source) {
+    return is_readable(*path, false);
+}
+
+static bool is_folder(char **path, void **extra, GucSource source) {
+    return is_readable(*path, true);
 }
 
 void _PG_init(void) {
+    const char *why = NULL;
+
     if (!process_shared_preload_libraries_in_progress)
         ereport(ERROR, (errcode(ERRCODE_OBJECT_NOT_IN_PREREQUISITE_STATE),
                         errmsg("bcp47 is not loaded by the server"),
                         errhint("Add bcp47 to shared_preload_libraries in postgresql.conf, and start the server again.")));
     DefineCustomStringVariable("bcp47.registry", "The file of the registry that functions without a name ask.", NULL,
-                               &registry_path, "", PGC_POSTMASTER, 0, is_there, NULL, NULL);
+                               &registry_path, "", PGC_POSTMASTER, GUC_SUPERUSER_ONLY, is_registry, NULL, NULL);
     DefineCustomStringVariable("bcp47.folder", "The folder of registries, each in a file that is named by its File-Date.", NULL,
-                               &folder_path, "", PGC_POSTMASTER, 0, is_there, NULL, NULL);
+                               &folder_path, "", PGC_POSTMASTER, GUC_SUPERUSER_ONLY, is_folder, NULL, NULL);
 #if PG_VERSION_NUM >= 150000
     MarkGUCPrefixReserved("bcp47");
 #else
     EmitWarningsOnPlaceholders("bcp47");
 #endif
-    if (*registry_path) read_registry(registry_path, &registries[0]);
-    if (*folder_path) read_folder(folder_path);
+    if (*registry_path) why = read_registry(registry_path, &registries[0]);
+    if (!why && *folder_path) why = read_folder(folder_path, registries, &count);
+    if (why) ereport(ERROR, (errcode(ERRCODE_CONFIG_FILE_ERROR), errmsg("%s", why)));
 }
 
 /* ---- which registry */
-
-static const named_registry *unnamed(void) {
-    if (registries[0].registry) return &registries[0];
-    ereport(ERROR, (errcode(ERRCODE_OBJECT_NOT_IN_PREREQUISITE_STATE), errmsg("bcp47.registry names no file"),
-                    errhint("Set it in postgresql.conf, and start the server again.")));
-}
 
 /* The registry of a name: its File-Date, or at least 8 digits of its digest. Those of the folder come first, so that what a name
    means there is no matter of bcp47.registry. */
@@ -131,11 +146,20 @@ static const named_registry *named(const text *value) {
                     errhint("Put it into the folder that bcp47.folder names, and start the server again.")));
 }
 
+/* The registry that a function asks for so many texts, after which there may be its name. */
+static const named_registry *asked(FunctionCallInfo fcinfo, int texts) {
+    if (PG_NARGS() > texts) return named(PG_GETARG_TEXT_PP(texts));
+    if (registries[0].registry) return &registries[0];
+    ereport(ERROR, (errcode(ERRCODE_OBJECT_NOT_IN_PREREQUISITE_STATE), errmsg("bcp47.registry names no file"),
+                    errhint("Set it in postgresql.conf, and start the server again.")));
+}
+
 /* ---- asking */
 
 /* Raises an error for what is no refusal of a tag. */
 static void check(bcp47_outcome outcome) {
-    if (outcome.status == BCP47_OUT_OF_MEMORY) ereport(ERROR, (errcode(ERRCODE_OUT_OF_MEMORY), errmsg("out of memory")));
+    if (outcome.status == BCP47_OUT_OF_MEMORY || outcome.status == BCP47_BUSY)
+        ereport(ERROR, (errcode(ERRCODE_OUT_OF_MEMORY), errmsg("out of memory")));
     if (outcome.status == BCP47_TOO_MANY_STEPS)
         ereport(ERROR, (errcode(ERRCODE_PROGRAM_LIMIT_EXCEEDED), errmsg("the explanation has more than %d steps", STEPS)));
     if (outcome.status >= BCP47_NOT_OPEN)
@@ -145,18 +169,20 @@ static void check(bcp47_outcome outcome) {
 /* Room for any canonical text, and more. */
 enum { BUFFER = 2048 };
 
-static bcp47_outcome canonical(const named_registry *it, text *value, char *buffer) {
-    bcp47_outcome outcome = bcp47_canonical(it->registry, VARDATA_ANY(value), VARSIZE_ANY_EXHDR(value), buffer, BUFFER);
+/* The outcome for the tag of (tag), or (tag, name), whose canonical text or variant goes to the buffer. */
+static bcp47_outcome canonical(FunctionCallInfo fcinfo, char *buffer) {
+    text *tag = PG_GETARG_TEXT_PP(0);
+    bcp47_outcome outcome = bcp47_canonical(asked(fcinfo, 1)->registry, VARDATA_ANY(tag), VARSIZE_ANY_EXHDR(tag), buffer, BUFFER);
+
     check(outcome);
     return outcome;
 }
 
-/* The canonical text, or NULL: of (tag), and of (tag, name). */
+/* The canonical text, or NULL: of (tag), and of (tag, name), as the next three. */
 PG_FUNCTION_INFO_V1(canonical_of);
 Datum canonical_of(PG_FUNCTION_ARGS) {
     char buffer[BUFFER];
-    const named_registry *it = PG_NARGS() == 2 ? named(PG_GETARG_TEXT_PP(1)) : unnamed();
-    bcp47_outcome outcome = canonical(it, PG_GETARG_TEXT_PP(0), buffer);
+    bcp47_outcome outcome = canonical(fcinfo, buffer);
 
     if (outcome.status != BCP47_DONE) PG_RETURN_NULL();
     PG_RETURN_TEXT_P(cstring_to_text_with_len(buffer, (int)outcome.length));
@@ -166,8 +192,7 @@ Datum canonical_of(PG_FUNCTION_ARGS) {
 PG_FUNCTION_INFO_V1(fault_of);
 Datum fault_of(PG_FUNCTION_ARGS) {
     char buffer[BUFFER];
-    const named_registry *it = PG_NARGS() == 2 ? named(PG_GETARG_TEXT_PP(1)) : unnamed();
-    bcp47_outcome outcome = canonical(it, PG_GETARG_TEXT_PP(0), buffer);
+    bcp47_outcome outcome = canonical(fcinfo, buffer);
 
     if (outcome.status == BCP47_DONE) PG_RETURN_NULL();
     if (outcome.status == BCP47_REPLACEMENT_REPEATS)
@@ -175,28 +200,40 @@ Datum fault_of(PG_FUNCTION_ARGS) {
     PG_RETURN_TEXT_P(cstring_to_text(psprintf("%s %zu", bcp47_fault_name(outcome.detail), outcome.place)));
 }
 
-/* The front of a text that a call gave, as a text of the server, whose encoding may be another. */
+/* The text of a text of UTF-8 that a call gave. Where the server has another encoding, a letter that is not ASCII is escaped as JSON
+   escapes it (RFC 8259, 7): explanations have none. */
 static text *taken(char *given, size_t length) {
-    char *copy = AllocSizeIsValid(length + 1) ? palloc_extended(length + 1, MCXT_ALLOC_NO_OOM) : NULL;
+    bool is_utf8 = GetDatabaseEncoding() == PG_UTF8;
+    size_t most = is_utf8 ? length : 6 * length;
+    text *it = AllocSizeIsValid(most + VARHDRSZ) ? palloc_extended(most + VARHDRSZ, MCXT_ALLOC_NO_OOM) : NULL;
+    char *to = it ? VARDATA(it) : NULL;
 
-    if (copy) {
-        memcpy(copy, given, length);
-        copy[length] = 0;
+    for (size_t i = 0; it && i < length;) {
+        pg_wchar letter;
+        if (is_utf8 || !IS_HIGHBIT_SET(given[i])) {
+            *to++ = given[i++];
+            continue;
+        }
+        letter = utf8_to_unicode((unsigned char *)given + i);
+        i += (size_t)pg_utf_mblen((unsigned char *)given + i);
+        if (letter > 0xFFFF) to += sprintf(to, "\\u%04x", 0xD7C0 + (letter >> 10)), letter = 0xDC00 | (letter & 0x3FF);
+        to += sprintf(to, "\\u%04x", letter);
     }
     bcp47_free(given);
-    check((bcp47_outcome){.status = copy ? BCP47_DONE : BCP47_OUT_OF_MEMORY});
-    return cstring_to_text(pg_any_to_server(copy, (int)length, PG_UTF8));
+    if (!it) check((bcp47_outcome){.status = BCP47_OUT_OF_MEMORY});
+    SET_VARSIZE(it, to - (char *)it);
+    return it;
 }
 
 /* The lines that the program prints, without the line feed of the last. */
 PG_FUNCTION_INFO_V1(explanation_of);
 Datum explanation_of(PG_FUNCTION_ARGS) {
-    text *value = PG_GETARG_TEXT_PP(0), *answer;
+    text *tag = PG_GETARG_TEXT_PP(0), *answer;
     char *lines;
     bcp47_outcome outcome;
 
     CHECK_FOR_INTERRUPTS();
-    outcome = bcp47_explanation(unnamed()->registry, VARDATA_ANY(value), VARSIZE_ANY_EXHDR(value), STEPS, &lines);
+    outcome = bcp47_explanation(asked(fcinfo, 1)->registry, VARDATA_ANY(tag), VARSIZE_ANY_EXHDR(tag), STEPS, &lines);
     check(outcome);
     if (outcome.status != BCP47_DONE) PG_RETURN_NULL();
     answer = taken(lines, outcome.length - 1);
@@ -204,42 +241,39 @@ Datum explanation_of(PG_FUNCTION_ARGS) {
     PG_RETURN_TEXT_P(answer);
 }
 
-/* What the registry says of a tag, as JSON: of (tag), and of (tag, name). */
+/* What the registry says of a tag, as JSON. */
 PG_FUNCTION_INFO_V1(rows_of);
 Datum rows_of(PG_FUNCTION_ARGS) {
-    text *value = PG_GETARG_TEXT_PP(0);
-    const named_registry *it = PG_NARGS() == 2 ? named(PG_GETARG_TEXT_PP(1)) : unnamed();
+    text *tag = PG_GETARG_TEXT_PP(0);
     char *rows;
-    bcp47_outcome outcome = bcp47_show(it->registry, VARDATA_ANY(value), VARSIZE_ANY_EXHDR(value), &rows);
+    bcp47_outcome outcome = bcp47_show(asked(fcinfo, 1)->registry, VARDATA_ANY(tag), VARSIZE_ANY_EXHDR(tag), &rows);
 
     check(outcome);
     if (outcome.status != BCP47_DONE) PG_RETURN_NULL();
     PG_RETURN_TEXT_P(taken(rows, outcome.length));
 }
 
-PG_FUNCTION_INFO_V1(equality_of);
-Datum equality_of(PG_FUNCTION_ARGS) {
-    text *first = PG_GETARG_TEXT_PP(0), *second = PG_GETARG_TEXT_PP(1);
-    const named_registry *it = PG_NARGS() == 3 ? named(PG_GETARG_TEXT_PP(2)) : unnamed();
-    bcp47_outcome outcome = bcp47_equal(it->registry, VARDATA_ANY(first), VARSIZE_ANY_EXHDR(first), VARDATA_ANY(second),
-                                        VARSIZE_ANY_EXHDR(second), NULL, 0);
-
+/* Whether two texts go together; NULL where one of them is refused. */
+static Datum told_of_two(FunctionCallInfo fcinfo, bcp47_outcome outcome) {
     check(outcome);
     if (outcome.status != BCP47_DONE && outcome.status != BCP47_DIFFERENT) PG_RETURN_NULL();
     PG_RETURN_BOOL(outcome.status == BCP47_DONE);
 }
 
-/* Whether a language range matches a tag by extended filtering: of (tag, range), and of (tag, range, name). */
+/* Whether two tags are equivalent: of (tag, tag), and of (tag, tag, name). */
+PG_FUNCTION_INFO_V1(equality_of);
+Datum equality_of(PG_FUNCTION_ARGS) {
+    text *first = PG_GETARG_TEXT_PP(0), *second = PG_GETARG_TEXT_PP(1);
+    return told_of_two(fcinfo, bcp47_equivalent(asked(fcinfo, 2)->registry, VARDATA_ANY(first), VARSIZE_ANY_EXHDR(first),
+                                                VARDATA_ANY(second), VARSIZE_ANY_EXHDR(second), NULL, 0));
+}
+
+/* Whether a language range matches a tag by extended filtering: of (range, tag), and of (range, tag, name). */
 PG_FUNCTION_INFO_V1(match_of);
 Datum match_of(PG_FUNCTION_ARGS) {
-    text *tag = PG_GETARG_TEXT_PP(0), *range = PG_GETARG_TEXT_PP(1);
-    const named_registry *it = PG_NARGS() == 3 ? named(PG_GETARG_TEXT_PP(2)) : unnamed();
-    bcp47_outcome outcome = bcp47_match(it->registry, BCP47_EXTENDED, VARDATA_ANY(range), VARSIZE_ANY_EXHDR(range),
-                                        VARDATA_ANY(tag), VARSIZE_ANY_EXHDR(tag), NULL, 0);
-
-    check(outcome);
-    if (outcome.status != BCP47_DONE && outcome.status != BCP47_DIFFERENT) PG_RETURN_NULL();
-    PG_RETURN_BOOL(outcome.status == BCP47_DONE);
+    text *range = PG_GETARG_TEXT_PP(0), *tag = PG_GETARG_TEXT_PP(1);
+    return told_of_two(fcinfo, bcp47_match(asked(fcinfo, 2)->registry, BCP47_EXTENDED, VARDATA_ANY(range), VARSIZE_ANY_EXHDR(range),
+                                           VARDATA_ANY(tag), VARSIZE_ANY_EXHDR(tag), NULL, 0));
 }
 
 /* The parts of a kind, with hyphens between them: of (tag, kind). */
@@ -272,7 +306,7 @@ Datum part_of(PG_FUNCTION_ARGS) {
 /* File-Date, number of entries and SHA-256 of the registry that functions without a name ask. */
 PG_FUNCTION_INFO_V1(registry_of);
 Datum registry_of(PG_FUNCTION_ARGS) {
-    const named_registry *it = unnamed();
+    const named_registry *it = asked(fcinfo, 0);
     PG_RETURN_TEXT_P(cstring_to_text(
         psprintf("%s %zu %s", *it->info.file_date ? it->info.file_date : "-", it->info.entries, it->digest)));
 }

@@ -7,7 +7,6 @@
 #include <Python.h>
 
 #include <bcp47.h>
-#include <math.h>
 #include <stdlib.h>
 #include <string.h>
 
@@ -23,10 +22,10 @@ PyAPI_FUNC(const char *) PyUnicode_AsUTF8AndSize(PyObject *, Py_ssize_t *);
 #define CHUNK 2048
 #define CHUNK_ROOM (32 * CHUNK + ROOM)
 
-/* The names under which each interpreter of the process keeps what its package gives: what makes an exception of a refusal, and
-   the type of a tag that was read. */
-#define REFUSE "bcp47.refuse"
-#define TAG_TYPE "bcp47.tag_type"
+/* The name under which each interpreter of the process keeps what its package gives, and what that is, in this order: types of
+   exceptions, and what makes one of them; the types of a tag that was read and of a registry; the words of refusals that were made. */
+#define GIVEN "bcp47.given"
+enum { REFUSED_TAG, REFUSED_REGISTRY, REFUSED_UPGRADE, REFUSED_TRACE, TAG, REGISTRY, WORDS, COUNT };
 
 typedef struct {
     PyObject_HEAD
@@ -37,17 +36,19 @@ typedef struct {
 
 /* ---- what the package gives */
 
-static PyObject *of_interpreter(void) {
-    return PyInterpreterState_GetDict(PyInterpreterState_Get());
-}
-
-/* What the package of this interpreter gave under a name: borrowed. */
-static PyObject *given(const char *name) {
-    PyObject *all = of_interpreter(), *key = all ? PyUnicode_FromString(name) : NULL;
+/* What the package of this interpreter gave: borrowed. */
+static PyObject *given(Py_ssize_t which) {
+    PyObject *all = PyInterpreterState_GetDict(PyInterpreterState_Get()), *key = all ? PyUnicode_FromString(GIVEN) : NULL;
     PyObject *it = key ? PyDict_GetItemWithError(all, key) : NULL;
     Py_XDECREF(key);
     if (!it && !PyErr_Occurred()) PyErr_SetString(PyExc_RuntimeError, "import bcp47 first");
-    return it;
+    return it ? PyTuple_GetItem(it, which) : NULL;
+}
+
+/* Whether an object has one of the types that the package gave, whatever it says of itself; -1 where that can't be told. */
+static int is_of(PyObject *object, Py_ssize_t which) {
+    PyObject *type = given(which);
+    return type ? PyObject_TypeCheck(object, (PyTypeObject *)type) : -1;
 }
 
 /* ---- texts */
@@ -60,8 +61,7 @@ static PyObject *same(PyObject *object) {
 /* The str of a tag, a str or a Tag: a new reference. */
 static PyObject *str_of(PyObject *tag) {
     if (PyUnicode_CheckExact(tag) || PyUnicode_Check(tag)) return same(tag);
-    PyObject *type = given(TAG_TYPE);
-    int is_tag = type ? PyObject_IsInstance(tag, type) : -1;
+    int is_tag = is_of(tag, TAG);
     if (is_tag > 0) return PyObject_Str(tag);
     PyObject *name = is_tag ? NULL : PyObject_GetAttrString((PyObject *)Py_TYPE(tag), "__name__");
     if (name) PyErr_Format(PyExc_TypeError, "a tag is a str or a Tag, not %U", name);
@@ -96,21 +96,71 @@ static inline PyObject *answered(const text *it, const char *answer, size_t leng
     return PyUnicode_FromStringAndSize(answer, (Py_ssize_t)length);
 }
 
-/* The exception for an outcome: one of the package's class of this name, or one of Python's. A new reference. */
-static PyObject *refusal(const char *name, bcp47_outcome outcome, const char *line, PyObject *tag) {
-    if (outcome.status == BCP47_OUT_OF_MEMORY) return PyErr_NoMemory();
-    if (outcome.status == BCP47_BUSY) {
-        PyErr_SetString(PyExc_RuntimeError, "too many threads ask this registry at once");
-        return NULL;
-    }
-    PyObject *refuse = given(REFUSE);
-    if (!refuse) return NULL;
-    return PyObject_CallFunction(refuse, "siiKs#O", name, outcome.status, outcome.detail, (unsigned long long)outcome.place,
-                                 line, line ? (Py_ssize_t)outcome.length : (Py_ssize_t)0, tag);
+/* ---- refusals */
+
+/* The name of the fault of an outcome or, where there is none, of the status, and what it means. */
+static const char *name_of(bcp47_outcome outcome) {
+    return outcome.detail ? bcp47_fault_name(outcome.detail) : bcp47_status_name(outcome.status);
 }
 
-static PyObject *raise_refusal(const char *name, bcp47_outcome outcome, const char *line, PyObject *tag) {
-    PyObject *made = refusal(name, outcome, line, tag);
+static const char *help_of(bcp47_outcome outcome) {
+    return outcome.detail ? bcp47_fault_help(outcome.detail) : bcp47_status_help(outcome.status);
+}
+
+/* The words of a refusal: its line, or else `line`, which gets the reference, and status, fault, place and help. */
+static PyObject *make_words(bcp47_outcome outcome, PyObject *line) {
+    unsigned long long place = outcome.place;
+    if (!line) line = place || outcome.detail ? PyUnicode_FromFormat("%s %llu", name_of(outcome), place) : PyUnicode_FromString(name_of(outcome));
+    return line ? Py_BuildValue("NssKs", line, bcp47_status_name(outcome.status), name_of(outcome), place, help_of(outcome)) : NULL;
+}
+
+/* The same of what has no text: they are made once for each place of each fault, and kept, since a table has many. */
+static PyObject *kept_words(bcp47_outcome outcome) {
+    PyObject *all = given(WORDS), *words = NULL;
+    PyObject *key = all ? PyLong_FromUnsignedLongLong((outcome.place * 64 + (size_t)outcome.detail) * 32 + (size_t)outcome.status) : NULL;
+    if (key && (words = PyDict_GetItemWithError(all, key))) Py_INCREF(words);
+    else if (key && !PyErr_Occurred() && (words = make_words(outcome, NULL)) && PyDict_SetItem(all, key, words)) Py_CLEAR(words);
+    Py_XDECREF(key);
+    return words;
+}
+
+/* The words of a refusal, with a text: the line of a registry, or the variant that replacements would repeat. A new reference. */
+static PyObject *words_of(bcp47_outcome outcome, const char *text) {
+    if (outcome.status == BCP47_OUT_OF_MEMORY || outcome.status == BCP47_BUSY) return PyErr_NoMemory();
+    if (!text || !outcome.length) return kept_words(outcome);
+    PyObject *line = PyUnicode_FromStringAndSize(text, (Py_ssize_t)outcome.length), *variant = line;
+    if (line && outcome.status == BCP47_REPLACEMENT_REPEATS) {
+        line = PyUnicode_FromFormat("%s %U", name_of(outcome), variant);
+        Py_DECREF(variant);
+    }
+    return line ? make_words(outcome, line) : NULL;
+}
+
+/* The words of a refusal, which it takes, and the tag. */
+static PyObject *with_tag(PyObject *words, PyObject *tag) {
+    PyObject *all = words ? PyTuple_New(6) : NULL, *text = all ? PyUnicode_FromObject(tag) : NULL;
+    for (Py_ssize_t i = 0; text && i < 5; i++) PyTuple_SetItem(all, i, same(PyTuple_GetItem(words, i)));
+    Py_XDECREF(words);
+    if (text) PyTuple_SetItem(all, 5, text);
+    else Py_CLEAR(all);
+    return all;
+}
+
+/* The exception for an outcome: one of the package's, or one of Python's, which is raised. A new reference. */
+static PyObject *refusal(Py_ssize_t type, bcp47_outcome outcome, const char *text, PyObject *tag) {
+    PyObject *words = words_of(outcome, text);
+    if (type == REFUSED_TAG) words = with_tag(words, tag);
+    PyObject *maker = words ? given(type) : NULL, *made = maker ? PyObject_CallObject(maker, words) : NULL;
+    Py_XDECREF(words);
+    if (!made || outcome.status != BCP47_REPLACEMENT_REPEATS) return made;
+    PyObject *variant = PyUnicode_FromStringAndSize(text, (Py_ssize_t)outcome.length);
+    if (!variant || PyObject_SetAttrString(made, "variant", variant)) Py_CLEAR(made);
+    Py_XDECREF(variant);
+    return made;
+}
+
+static PyObject *raise_refusal(Py_ssize_t type, bcp47_outcome outcome, const char *text, PyObject *tag) {
+    PyObject *made = refusal(type, outcome, text, tag);
     if (made) PyErr_SetObject((PyObject *)Py_TYPE(made), made);
     Py_XDECREF(made);
     return NULL;
@@ -148,7 +198,13 @@ static PyObject *module_open(PyObject *module, PyObject *arguments) {
     Py_ssize_t length;
     PyObject *type, *content;
     (void)module;
-    if (!PyArg_ParseTuple(arguments, "OS", &type, &content) || PyBytes_AsStringAndSize(content, &bytes, &length)) return NULL;
+    if (!PyArg_ParseTuple(arguments, "O!S", &PyType_Type, &type, &content) || PyBytes_AsStringAndSize(content, &bytes, &length)) return NULL;
+    PyObject *registry_type = given(REGISTRY);
+    if (!registry_type) return NULL;
+    if (!PyType_IsSubtype((PyTypeObject *)type, (PyTypeObject *)registry_type)) {
+        PyErr_SetString(PyExc_TypeError, "the type is none of registries");
+        return NULL;
+    }
     allocfunc allocate = (allocfunc)PyType_GetSlot((PyTypeObject *)type, Py_tp_alloc);
     registry_object *it = (registry_object *)allocate((PyTypeObject *)type, 0);
     if (!it) return NULL;
@@ -160,7 +216,7 @@ static PyObject *module_open(PyObject *module, PyObject *arguments) {
     it->registry = registry;
     if (outcome.status == BCP47_DONE) return (PyObject *)it;
     Py_DECREF(it);
-    return raise_refusal("RefusedRegistry", outcome, line, Py_None);
+    return raise_refusal(REFUSED_REGISTRY, outcome, line, NULL);
 }
 
 static PyObject *registry_close(PyObject *self, PyObject *none) {
@@ -209,7 +265,7 @@ static inline PyObject *text_by(writer *writes, PyObject *self, PyObject *tag) {
     if (registry) {
         bcp47_outcome outcome = writes(registry->registry, it.bytes, it.length, buffer, sizeof buffer);
         made = outcome.status == BCP47_DONE ? answered(&it, buffer, outcome.length)
-                                            : raise_refusal("RefusedTag", outcome, buffer, tag);
+                                            : raise_refusal(REFUSED_TAG, outcome, buffer, it.str);
     }
     end_text(&it);
     return made;
@@ -231,7 +287,7 @@ static PyObject *module_classify(PyObject *module, PyObject *tag) {
     if (!has_text(tag, &it)) return NULL;
     bcp47_outcome outcome = bcp47_classify(NULL, it.bytes, it.length, buffer, sizeof buffer);
     PyObject *made = outcome.status == BCP47_DONE ? Py_BuildValue("is#", outcome.detail, buffer, (Py_ssize_t)outcome.length)
-                                                  : raise_refusal("RefusedTag", outcome, NULL, tag);
+                                                  : raise_refusal(REFUSED_TAG, outcome, NULL, it.str);
     end_text(&it);
     return made;
 }
@@ -258,7 +314,7 @@ static PyObject *module_parts(PyObject *module, PyObject *tag) {
     if (!has_text(tag, &it)) return NULL;
     bcp47_outcome outcome = bcp47_parts(it.bytes, it.length, buffer, sizeof buffer, parts, BCP47_PARTS);
     PyObject *made = outcome.status == BCP47_DONE ? listed(parts, outcome.place, buffer)
-                                                  : raise_refusal("RefusedTag", outcome, NULL, tag);
+                                                  : raise_refusal(REFUSED_TAG, outcome, NULL, it.str);
     end_text(&it);
     return made;
 }
@@ -270,41 +326,26 @@ static PyObject *registry_validate(PyObject *self, PyObject *tag) {
     registry_object *registry = opened(self);
     if (registry) {
         bcp47_outcome outcome = bcp47_validate(registry->registry, it.bytes, it.length);
-        made = outcome.status == BCP47_DONE ? same(Py_None) : raise_refusal("RefusedTag", outcome, NULL, tag);
+        made = outcome.status == BCP47_DONE ? same(Py_None) : raise_refusal(REFUSED_TAG, outcome, NULL, it.str);
     }
     end_text(&it);
     return made;
 }
 
-/* explain_lines(tag, most): the lines that the program prints, of at most so many steps. */
-static PyObject *registry_explain_lines(PyObject *self, PyObject *arguments) {
-    char *lines, variant[BCP47_LINE];
-    Py_ssize_t most;
-    PyObject *tag, *made = NULL;
+static PyObject *registry_is_valid(PyObject *self, PyObject *tag) {
+    bcp47_outcome outcome = {.status = BCP47_NOT_OPEN};
     text it;
-    if (!PyArg_ParseTuple(arguments, "On", &tag, &most) || !has_text(tag, &it)) return NULL;
+    if (!has_text(tag, &it)) return NULL;
     registry_object *registry = opened(self);
-    if (registry) {
-        bcp47_outcome outcome;
-        registry->calls++;
-        Py_BEGIN_ALLOW_THREADS
-        outcome = bcp47_explanation(registry->registry, it.bytes, it.length, most < 0 ? 0 : (size_t)most, &lines);
-        /* the variant that would be repeated */
-        if (outcome.status == BCP47_REPLACEMENT_REPEATS)
-            outcome = bcp47_canonical(registry->registry, it.bytes, it.length, variant, sizeof variant);
-        Py_END_ALLOW_THREADS
-        end_call(registry);
-        made = outcome.status == BCP47_DONE ? PyUnicode_FromStringAndSize(lines, (Py_ssize_t)outcome.length)
-                                            : raise_refusal("RefusedTag", outcome, variant, tag);
-        bcp47_free(lines);
-    }
+    if (registry) outcome = bcp47_validate(registry->registry, it.bytes, it.length);
     end_text(&it);
-    return made;
+    if (!registry) return NULL;
+    return outcome.status == BCP47_OUT_OF_MEMORY || outcome.status == BCP47_BUSY ? PyErr_NoMemory() : PyBool_FromLong(outcome.status == BCP47_DONE);
 }
 
-/* show_rows(tag): the rows that the program prints as JSON. The first call reads the records. */
-static PyObject *registry_show_rows(PyObject *self, PyObject *tag) {
-    char *rows;
+/* A whole text that a call gives for a tag, as a str: what is shown of it, or the lines of an explanation of at most so many steps. */
+static PyObject *whole_text(PyObject *self, PyObject *tag, int is_shown, size_t most) {
+    char *given = NULL, variant[BCP47_LINE];
     PyObject *made = NULL;
     text it;
     if (!has_text(tag, &it)) return NULL;
@@ -313,15 +354,31 @@ static PyObject *registry_show_rows(PyObject *self, PyObject *tag) {
         bcp47_outcome outcome;
         registry->calls++;
         Py_BEGIN_ALLOW_THREADS
-        outcome = bcp47_show(registry->registry, it.bytes, it.length, &rows);
+        outcome = is_shown ? bcp47_show(registry->registry, it.bytes, it.length, &given)
+                           : bcp47_explanation(registry->registry, it.bytes, it.length, most, &given);
+        /* the variant that would be repeated */
+        if (outcome.status == BCP47_REPLACEMENT_REPEATS)
+            outcome = bcp47_canonical(registry->registry, it.bytes, it.length, variant, sizeof variant);
         Py_END_ALLOW_THREADS
         end_call(registry);
-        made = outcome.status == BCP47_DONE ? PyUnicode_FromStringAndSize(rows, (Py_ssize_t)outcome.length)
-                                            : raise_refusal("RefusedTag", outcome, NULL, tag);
-        bcp47_free(rows);
+        made = outcome.status == BCP47_DONE ? PyUnicode_FromStringAndSize(given, (Py_ssize_t)outcome.length)
+                                            : raise_refusal(REFUSED_TAG, outcome, variant, it.str);
+        bcp47_free(given);
     }
     end_text(&it);
     return made;
+}
+
+/* explain_lines(tag, most) */
+static PyObject *registry_explain_lines(PyObject *self, PyObject *arguments) {
+    PyObject *tag;
+    Py_ssize_t most;
+    return PyArg_ParseTuple(arguments, "On", &tag, &most) ? whole_text(self, tag, 0, most < 0 ? 0 : (size_t)most) : NULL;
+}
+
+/* show_rows(tag): as JSON. The first call reads the records. */
+static PyObject *registry_show_rows(PyObject *self, PyObject *tag) {
+    return whole_text(self, tag, 1, 0);
 }
 
 /* ---- two texts */
@@ -334,44 +391,36 @@ static int have_texts(PyObject *one, PyObject *other, text *first, text *second)
     return 0;
 }
 
-/* Whether two tags go together, as a call tells it; or what it refuses of them is raised. */
-static PyObject *told_of_two(bcp47_outcome outcome, const char *variant, PyObject *one, PyObject *other) {
-    if (outcome.status == BCP47_DONE || outcome.status == BCP47_DIFFERENT) return PyBool_FromLong(outcome.status == BCP47_DONE);
-    return raise_refusal("RefusedTag", outcome, variant, outcome.text == 2 ? other : one);
-}
-
-static PyObject *registry_equivalent(PyObject *self, PyObject *arguments) {
+/* Asks of two tags, or of a range and a tag by a scheme. */
+static PyObject *ask_of_two(PyObject *self, int scheme, PyObject *one, PyObject *other) {
     char variant[BCP47_LINE];
-    PyObject *one, *other, *made = NULL;
+    PyObject *made = NULL;
     text first, second;
-    if (!PyArg_ParseTuple(arguments, "OO", &one, &other) || !have_texts(one, other, &first, &second)) return NULL;
+    if (!have_texts(one, other, &first, &second)) return NULL;
     registry_object *registry = opened(self);
     if (registry) {
-        bcp47_outcome outcome = bcp47_equal(registry->registry, first.bytes, first.length, second.bytes, second.length, variant,
-                                            sizeof variant);
-        made = told_of_two(outcome, variant, one, other);
+        bcp47_outcome outcome =
+            scheme ? bcp47_match(registry->registry, scheme, first.bytes, first.length, second.bytes, second.length, variant, sizeof variant)
+                   : bcp47_equivalent(registry->registry, first.bytes, first.length, second.bytes, second.length, variant, sizeof variant);
+        made = outcome.status == BCP47_DONE || outcome.status == BCP47_DIFFERENT
+                   ? PyBool_FromLong(outcome.status == BCP47_DONE)
+                   : raise_refusal(REFUSED_TAG, outcome, variant, outcome.text == 2 ? second.str : first.str);
     }
     end_text(&first);
     end_text(&second);
     return made;
+}
+
+static PyObject *registry_equivalent(PyObject *self, PyObject *arguments) {
+    PyObject *one, *other;
+    return PyArg_ParseTuple(arguments, "OO", &one, &other) ? ask_of_two(self, 0, one, other) : NULL;
 }
 
 /* match(scheme, range, tag) */
 static PyObject *registry_match(PyObject *self, PyObject *arguments) {
-    char variant[BCP47_LINE];
     int scheme;
-    PyObject *range, *tag, *made = NULL;
-    text first, second;
-    if (!PyArg_ParseTuple(arguments, "iOO", &scheme, &range, &tag) || !have_texts(range, tag, &first, &second)) return NULL;
-    registry_object *registry = opened(self);
-    if (registry) {
-        bcp47_outcome outcome = bcp47_match(registry->registry, scheme, first.bytes, first.length, second.bytes, second.length,
-                                            variant, sizeof variant);
-        made = told_of_two(outcome, variant, range, tag);
-    }
-    end_text(&first);
-    end_text(&second);
-    return made;
+    PyObject *range, *tag;
+    return PyArg_ParseTuple(arguments, "iOO", &scheme, &range, &tag) ? ask_of_two(self, scheme, range, tag) : NULL;
 }
 
 /* The steps of a sequence of (kind, place, number), for free() to let go of. */
@@ -411,9 +460,9 @@ static PyObject *registry_verify_steps(PyObject *self, PyObject *arguments) {
         if (outcome.status == BCP47_DONE)
             made = same(Py_None);
         else if (outcome.status == BCP47_NO_SUCH_STEP || outcome.status == BCP47_WRONG_END)
-            made = raise_refusal("RefusedTrace", outcome, NULL, tag);
+            made = raise_refusal(REFUSED_TRACE, outcome, NULL, NULL);
         else
-            made = raise_refusal("RefusedTag", outcome, NULL, outcome.text == 2 ? last : tag);
+            made = raise_refusal(REFUSED_TAG, outcome, NULL, outcome.text == 2 ? end.str : it.str);
     }
     free(steps);
     end_text(&it);
@@ -422,8 +471,10 @@ static PyObject *registry_verify_steps(PyObject *self, PyObject *arguments) {
 }
 
 static PyObject *registry_upgrade_to(PyObject *self, PyObject *other) {
-    registry_object *it = opened(self), *newer = it ? opened(other) : NULL;
     bcp47_outcome outcome;
+    int is_registry = is_of(other, REGISTRY);
+    if (!is_registry) PyErr_SetString(PyExc_TypeError, "a registry is a Registry");
+    registry_object *it = is_registry > 0 ? opened(self) : NULL, *newer = it ? opened(other) : NULL;
     if (!newer) return NULL;
     it->calls++, newer->calls++;
     Py_BEGIN_ALLOW_THREADS
@@ -431,7 +482,7 @@ static PyObject *registry_upgrade_to(PyObject *self, PyObject *other) {
     Py_END_ALLOW_THREADS
     end_call(newer);
     end_call(it);
-    return outcome.status == BCP47_DONE ? same(Py_None) : raise_refusal("RefusedUpgrade", outcome, NULL, Py_None);
+    return outcome.status == BCP47_DONE ? same(Py_None) : raise_refusal(REFUSED_UPGRADE, outcome, NULL, NULL);
 }
 
 /* ---- many texts */
@@ -444,15 +495,20 @@ typedef struct {
     char buffer[CHUNK_ROOM];
 } chunk;
 
-/* Whether an object stands for a value that is missing: None, a NaN, or NA and NaT of pandas. */
+/* Whether an object stands for a value that is missing: None, NA of pandas, or what is not equal to itself, as a NaN or NaT. */
 static int is_missing(PyObject *object) {
     if (PyUnicode_CheckExact(object)) return 0;
     if (object == Py_None) return 1;
-    if (PyFloat_Check(object)) return isnan(PyFloat_AsDouble(object)) != 0;
+    PyObject *differs = PyObject_RichCompare(object, object, Py_NE);
+    int is_one = differs ? PyObject_IsTrue(differs) : -1;
+    Py_XDECREF(differs);
+    if (is_one >= 0 || !PyErr_ExceptionMatches(PyExc_TypeError)) return is_one;
+    /* NA is neither */
+    PyErr_Clear();
     PyObject *name = PyObject_GetAttrString((PyObject *)Py_TYPE(object), "__name__");
-    int is_one = name && (!PyUnicode_CompareWithASCIIString(name, "NAType") || !PyUnicode_CompareWithASCIIString(name, "NaTType"));
+    is_one = name ? !PyUnicode_CompareWithASCIIString(name, "NAType") : -1;
     Py_XDECREF(name);
-    return name ? is_one : -1;
+    return is_one;
 }
 
 /* Takes the texts of a list from a place on. The list holds the str of each, from here on in place of a Tag. */
@@ -489,10 +545,10 @@ static void answer(chunk *it, registry_object *registry) {
 
 /* What a list gets for a text that was refused: the exception, or its line. */
 static PyObject *told(bcp47_outcome outcome, const char *variant, PyObject *tag, int is_line) {
-    PyObject *made = refusal("RefusedTag", outcome, variant, tag);
-    PyObject *line = made && is_line ? PyObject_Str(made) : NULL;
-    if (!is_line) return made;
-    Py_XDECREF(made);
+    if (!is_line) return refusal(REFUSED_TAG, outcome, variant, tag);
+    PyObject *words = words_of(outcome, variant), *line = words ? PyTuple_GetItem(words, 0) : NULL;
+    Py_XINCREF(line);
+    Py_XDECREF(words);
     return line;
 }
 
@@ -566,14 +622,13 @@ static PyObject *registry_answer_many(PyObject *self, PyObject *arguments) {
 
 /* ---- the module */
 
-/* setup(refuse, tag_type): what the package gives. */
-static PyObject *module_setup(PyObject *module, PyObject *arguments) {
-    PyObject *makes, *type, *all = of_interpreter();
+/* setup(given): a tuple of what the package gives. */
+static PyObject *module_setup(PyObject *module, PyObject *all) {
+    PyObject *kept = PyInterpreterState_GetDict(PyInterpreterState_Get());
     (void)module;
-    if (!PyArg_ParseTuple(arguments, "OO", &makes, &type)) return NULL;
-    if (!all) return PyErr_NoMemory();
-    if (PyDict_SetItemString(all, REFUSE, makes) || PyDict_SetItemString(all, TAG_TYPE, type)) return NULL;
-    Py_RETURN_NONE;
+    if (!PyTuple_Check(all) || PyTuple_Size(all) != COUNT) return PyErr_Format(PyExc_TypeError, "it is a tuple of %d", COUNT);
+    if (!kept) return PyErr_NoMemory();
+    return PyDict_SetItemString(kept, GIVEN, all) ? NULL : same(Py_None);
 }
 
 /* names(number): a status and what it means, a fault and what it means, and a kind of step. */
@@ -592,6 +647,8 @@ static PyMethodDef registry_methods[] = {
      "extlang($self, tag, /)\n--\n\nThe canonical text of a tag with its extlang prefix. Raises RefusedTag."},
     {"validate", registry_validate, METH_O,
      "validate($self, tag, /)\n--\n\nReturns where a tag is valid (RFC 5646, 2.2.9). Raises RefusedTag where it is not."},
+    {"is_valid", registry_is_valid, METH_O,
+     "is_valid($self, tag, /)\n--\n\nWhether a text is a tag that is valid (RFC 5646, 2.2.9)."},
     {"equivalent", registry_equivalent, METH_VARARGS,
      "equivalent($self, first, second, /)\n--\n\nWhether two tags are equivalent. Raises RefusedTag for the first tag, or else "
      "for the second."},
@@ -622,23 +679,25 @@ static PyType_Spec registry_spec = {
 };
 
 static PyMethodDef module_methods[] = {
-    {"setup", module_setup, METH_VARARGS, NULL},   {"open", module_open, METH_VARARGS, NULL},
+    {"setup", module_setup, METH_O, NULL},         {"open", module_open, METH_VARARGS, NULL},
     {"classify", module_classify, METH_O, NULL},   {"names", module_names, METH_O, NULL},
-    {"parts", module_parts, METH_O, NULL},
-    {NULL, NULL, 0, NULL},
+    {"parts", module_parts, METH_O, NULL},         {NULL, NULL, 0, NULL},
 };
 
-/* It has no state: each interpreter makes a module, and a type of registries, of its own. */
-static struct PyModuleDef module = {PyModuleDef_HEAD_INIT, "_bcp47", NULL, 0, module_methods, NULL, NULL, NULL, NULL};
+/* Makes what a module of an interpreter has. It has no state of its own. */
+static int fill(PyObject *module) {
+    PyObject *type = PyType_FromSpec(&registry_spec);
+    int is_added = type && !PyModule_AddObject(module, "Registry", type);
+    if (!is_added) Py_XDECREF(type);
+    return is_added ? PyModule_AddStringConstant(module, "version", bcp47_version()) : -1;
+}
+
+/* From 3.12 on, Python asks whether a module serves interpreters with a lock of their own; it would not know the slot before. */
+static PyModuleDef_Slot slots[] = {{Py_mod_exec, fill}, {0, NULL}}, slots_of_312[] = {{Py_mod_exec, fill}, {3, (void *)2}, {0, NULL}};
+static struct PyModuleDef module = {PyModuleDef_HEAD_INIT, "_bcp47", NULL, 0, module_methods, slots, NULL, NULL, NULL};
+static struct PyModuleDef module_of_312 = {PyModuleDef_HEAD_INIT, "_bcp47", NULL, 0, module_methods, slots_of_312, NULL, NULL, NULL};
 
 PyMODINIT_FUNC PyInit__bcp47(void) {
-    PyObject *made = PyModule_Create(&module);
-    PyObject *type = made ? PyType_FromSpec(&registry_spec) : NULL;
-    if (type && !PyModule_AddObject(made, "Registry", type)) {
-        if (!PyModule_AddStringConstant(made, "version", bcp47_version())) return made;
-        type = NULL;
-    }
-    Py_XDECREF(type);
-    Py_XDECREF(made);
-    return NULL;
+    int minor = atoi(Py_GetVersion() + 2);
+    return PyModuleDef_Init(minor < 12 ? &module : &module_of_312);
 }

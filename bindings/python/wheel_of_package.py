@@ -10,6 +10,7 @@ import gzip
 import hashlib
 import io
 import os
+import re
 import shlex
 import struct
 import subprocess
@@ -91,27 +92,56 @@ def sources():
     return [path for path in sorted((HERE / NAME).iterdir()) if path.suffix in (".py", ".pyi") or path.name == "py.typed"]
 
 
-def build_wheel(wheel_directory, config_settings=None, metadata_directory=None):
-    module = extension()
+def write_wheel(folder, module, files):
+    """Writes a wheel of files for the processor of the extension module."""
     processor = PROCESSORS[struct.unpack_from("<H", module, 18)[0]]
-    tag = f"cp39-abi3-{'manylinux2014' if LIBRARY else 'linux'}_{processor}"
-    files = [(f"{NAME}/{path.name}", path.read_bytes()) for path in sources()]
-    files.append((f"{NAME}/_bcp47.abi3.so", module))
-    files += [(f"{INFO}/licenses/{path.name}", path.read_bytes()) for path in LICENSES]
-    wheel_words = f"Wheel-Version: 1.0\nGenerator: wheel_of_package\nRoot-Is-Purelib: false\nTag: {tag}\n"
-    files += [(f"{INFO}/METADATA", METADATA.encode()), (f"{INFO}/WHEEL", wheel_words.encode())]
+    return write_tagged(folder, f"cp39-abi3-{'manylinux2014' if LIBRARY else 'linux'}_{processor}", METADATA, files)
+
+
+def write_tagged(folder, tag, metadata, files):
+    """Writes a wheel of files and of what says so of it, and gives its name."""
+    name, version = (re.search(rf"^{field}: (.*)$", metadata, re.M)[1].replace("-", "_") for field in ("Name", "Version"))
+    info = f"{name}-{version}.dist-info"
+    files += [(f"{info}/licenses/{path.name}", path.read_bytes()) for path in LICENSES]
+    pure = "true" if tag.endswith("any") else "false"
+    wheel_words = f"Wheel-Version: 1.0\nGenerator: wheel_of_package\nRoot-Is-Purelib: {pure}\nTag: {tag}\n"
+    files += [(f"{info}/METADATA", metadata.encode()), (f"{info}/WHEEL", wheel_words.encode())]
     record = []
     for path, content in files:
         digest = base64.urlsafe_b64encode(hashlib.sha256(content).digest()).rstrip(b"=").decode()
         record.append(f"{path},sha256={digest},{len(content)}\n")
-    files.append((f"{INFO}/RECORD", "".join([*record, f"{INFO}/RECORD,,\n"]).encode()))
-    name = f"{NAME}-{VERSION}-{tag}.whl"
-    with zipfile.ZipFile(Path(wheel_directory) / name, "w") as wheel:
+    files.append((f"{info}/RECORD", "".join([*record, f"{info}/RECORD,,\n"]).encode()))
+    name = f"{name}-{version}-{tag}.whl"
+    with zipfile.ZipFile(Path(folder) / name, "w") as wheel:
         for path, content in files:
             entry = zipfile.ZipInfo(path, time.gmtime(TIME)[:6])
             entry.external_attr = (0o100755 if path.endswith(".so") else 0o100644) << 16
             wheel.writestr(entry, content, zipfile.ZIP_DEFLATED)
     return name
+
+
+def build_registry(wheel_directory):
+    """A wheel of IANA's registry, whose version is its day: Registry.bundled reads it."""
+    content = (HERE.parent.parent / "examples" / "iana-2025-05-15.txt").read_bytes()
+    day = content.split()[1].decode()
+    version = ".".join(str(int(number)) for number in day.split("-"))
+    metadata = (f"Metadata-Version: 2.1\nName: bcp47-registry\nVersion: {version}\nLicense: MIT OR Apache-2.0\n"
+                f"Summary: IANA's Language Subtag Registry of {day}, for the package bcp47\n")
+    files = [("bcp47_registry/__init__.py", f'FILE_DATE = "{day}"\n'.encode()), ("bcp47_registry/registry.txt", content)]
+    return write_tagged(wheel_directory, "py3-none-any", metadata, files)
+
+
+def build_wheel(wheel_directory, config_settings=None, metadata_directory=None):
+    module = extension()
+    files = [(f"{NAME}/{path.name}", path.read_bytes()) for path in sources()]
+    return write_wheel(wheel_directory, module, [*files, (f"{NAME}/_bcp47.abi3.so", module)])
+
+
+def build_editable(wheel_directory, config_settings=None, metadata_directory=None):
+    """A wheel that names this folder, for pip install -e: the extension module is then beside the sources."""
+    path = HERE / NAME / "_bcp47.abi3.so"
+    build_extension(path)
+    return write_wheel(wheel_directory, path.read_bytes(), [(f"{NAME}.pth", f"{HERE}\n".encode())])
 
 
 def build_sdist(sdist_directory, config_settings=None):
@@ -133,3 +163,6 @@ def build_sdist(sdist_directory, config_settings=None):
 
 def get_requires_for_build_wheel(config_settings=None):
     return []
+
+
+get_requires_for_build_editable = get_requires_for_build_wheel

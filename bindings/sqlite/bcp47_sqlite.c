@@ -7,13 +7,14 @@
 #include <stdio.h>
 #include <stdlib.h>
 #include <string.h>
+#include <sys/stat.h>
 SQLITE_EXTENSION_INIT1
 
 /* Room for any canonical text, and more. */
 enum { BUFFER = 4096 };
 
-/* The most steps that are told, and the most bytes of a registry, of which IANA's has some 730,000. */
-enum { STEPS = 100000, LONGEST = 64 << 20 };
+/* The most steps that are told, so that a call ends soon, and the most bytes of a registry, of which IANA's has some 730,000. */
+enum { STEPS = 20000, LONGEST = 64 << 20 };
 
 /* ---- registries of the process */
 
@@ -78,7 +79,8 @@ typedef struct {
     sqlite3 *database;
     shared *held;
     bcp47_info info;
-    int users; /* functions and collations that have it */
+    int users;  /* functions and collations that have it */
+    int orders; /* collations that it has */
 } connection;
 
 static void release(void *data) {
@@ -86,12 +88,6 @@ static void release(void *data) {
     if (--c->users) return;
     leave(c->held);
     free(c);
-}
-
-static int is_ready(sqlite3_context *context, connection *c) {
-    if (c->held) return 1;
-    sqlite3_result_error(context, "bcp47: no registry is loaded: call bcp47_load(path) first", -1);
-    return 0;
 }
 
 static void say(sqlite3_context *context, const char *text, const char *more) {
@@ -115,22 +111,14 @@ static int is_named(connection *c, sqlite3_value *value) {
     return length && !strcmp(name, c->info.file_date);
 }
 
-/* The bytes of a file, for free(); NULL where it can't be read, or is too long. */
+/* The bytes of a file, for free(); NULL where it is none, can't be read, or is too long. */
 static void *read_file(const char *path, size_t *length) {
-    FILE *file = fopen(path, "rb");
-    char *bytes = NULL;
-    size_t room = 0, got = 1;
-    *length = 0;
-    while (file && got && *length <= LONGEST) {
-        if (*length == room) {
-            char *more = realloc(bytes, room = 2 * room + 65536);
-            if (!more) break;
-            bytes = more;
-        }
-        got = fread(bytes + *length, 1, room - *length, file);
-        *length += got;
-    }
-    int is_read = file && !got && !ferror(file) && *length <= LONGEST;
+    struct stat about;
+    int is_file = path && !stat(path, &about) && (about.st_mode & S_IFMT) == S_IFREG && about.st_size <= LONGEST;
+    FILE *file = is_file ? fopen(path, "rb") : NULL;
+    void *bytes = file ? malloc((size_t)about.st_size + 1) : NULL;
+    *length = bytes ? fread(bytes, 1, (size_t)about.st_size, file) : 0;
+    int is_read = bytes && *length == (size_t)about.st_size;
     if (file) fclose(file);
     if (is_read) return bytes;
     free(bytes);
@@ -149,37 +137,44 @@ static void *bytes_of(sqlite3_value *value, size_t *length) {
 
 static int collate(void *, int, const void *, int, const void *);
 
-/* bcp47_load(path or blob [, 'replace']) */
+/* Makes the orders by the connection's registry: BCP47, and for tables and indexes those that name it, by its digest and its date.
+   That is not before it is loaded: without it they could not compare, and can't tell an error. Whether all are made. */
+static int make_orders(connection *c) {
+    char names[3][20] = {"BCP47"}, hex[65];
+    const char *date = c->info.file_date;
+    write_digest(&c->info, hex);
+    snprintf(names[1], sizeof *names, "BCP47_%.8s", hex);
+    if (*date) snprintf(names[2], sizeof *names, "BCP47_%.4s%.2s%.2s", date, date + 5, date + 8);
+    for (; c->orders < 3 && *names[c->orders]; c->orders++, c->users++)
+        if (sqlite3_create_collation_v2(c->database, names[c->orders], SQLITE_UTF8, c, collate, release) != SQLITE_OK) return 0;
+    return 1;
+}
+
+/* bcp47_load(path or blob) */
 static void load(sqlite3_context *context, int count, sqlite3_value **values) {
     connection *c = sqlite3_user_data(context);
     char line[BCP47_LINE] = "";
     size_t length;
     int type = sqlite3_value_type(values[0]);
+    (void)count;
     if (type == SQLITE_NULL) return;
     if (type != SQLITE_TEXT && type != SQLITE_BLOB) return say(context, "bcp47_load takes a path or a blob", "");
-    const char *word = count == 2 ? (const char *)sqlite3_value_text(values[1]) : NULL;
-    if (count == 2 && (!word || strcmp(word, "replace"))) return say(context, "the second word of bcp47_load is 'replace'", "");
     void *bytes = bytes_of(values[0], &length);
     if (!bytes) return say(context, "the file can't be read, or is too long", "");
     shared *it = join(bytes, length, line);
     if (!it) return say(context, line, "");
-    if (c->held && it != c->held && !word) {
+    if (c->held && it != c->held) {
         leave(it);
-        return say(context, "another registry is loaded: open a connection of its own, or say bcp47_load(path, 'replace') and then REINDEX", "");
+        return say(context, "another registry is loaded: open a connection of its own for this one", "");
     }
-    if (!c->held) {
-        /* From the first registry on: without one it could not compare, and no error can be told. */
-        c->users++;
-        if (sqlite3_create_collation_v2(c->database, "BCP47", SQLITE_UTF8, c, collate, release) != SQLITE_OK) {
-            c->users--;
-            leave(it);
-            return say(context, "the collation can't be made: ", sqlite3_errmsg(c->database));
-        }
-    }
-    leave(c->held);
+    if (c->held) leave(it);
+    else bcp47_registry_info(it->registry, &c->info);
     c->held = it;
-    bcp47_registry_info(it->registry, &c->info);
-    sqlite3_result_int(context, 1);
+    if (make_orders(c)) return sqlite3_result_int(context, 1);
+    say(context, "the collation can't be made: ", sqlite3_errmsg(c->database));
+    if (c->orders) return;
+    c->held = NULL;
+    leave(it);
 }
 
 /* bcp47_registry(): File-Date, number of entries, SHA-256 */
@@ -197,32 +192,53 @@ static void registry(sqlite3_context *context, int count, sqlite3_value **values
 
 /* Answers an outcome that no tag is refused with, and tells whether it did. */
 static int is_error(sqlite3_context *context, bcp47_outcome outcome) {
-    if (outcome.status == BCP47_OUT_OF_MEMORY) sqlite3_result_error_nomem(context);
+    if (outcome.status == BCP47_OUT_OF_MEMORY || outcome.status == BCP47_BUSY) sqlite3_result_error_nomem(context);
     else if (outcome.status >= BCP47_NOT_OPEN) say(context, bcp47_status_name(outcome.status), "");
     else return 0;
     return 1;
 }
 
-/* bcp47_canonical(tag [, name of the registry]) */
-static void canonical(sqlite3_context *context, int count, sqlite3_value **values) {
+/* A text that a function is asked for. */
+typedef struct {
+    const char *bytes;
+    size_t length;
+} text;
+
+static text text_of(sqlite3_value *value) {
+    const char *bytes = (const char *)sqlite3_value_text(value);
+    return (text){bytes, (size_t)sqlite3_value_bytes(value)};
+}
+
+/* The registry that a function asks for so many texts, after which there may be its name; NULL where one of the texts is, or where
+   there is no such registry, which is then answered. */
+static const bcp47_registry *asked(sqlite3_context *context, int count, sqlite3_value **values, int texts) {
     connection *c = sqlite3_user_data(context);
+    for (int i = 0; i < texts; i++)
+        if (sqlite3_value_type(values[i]) == SQLITE_NULL) return NULL;
+    if (!c->held) say(context, "no registry is loaded: call bcp47_load(path) first", "");
+    else if (count > texts && !is_named(c, values[texts])) say(context, "the registry that is loaded has another name", "");
+    else return c->held->registry;
+    return NULL;
+}
+
+/* bcp47_canonical(tag [, name]) */
+static void canonical(sqlite3_context *context, int count, sqlite3_value **values) {
+    const bcp47_registry *registry = asked(context, count, values, 1);
     char buffer[BUFFER];
-    if (sqlite3_value_type(values[0]) == SQLITE_NULL || !is_ready(context, c)) return;
-    if (count == 2 && !is_named(c, values[1])) return say(context, "the registry that is loaded has another name", "");
-    const char *text = (const char *)sqlite3_value_text(values[0]);
-    bcp47_outcome outcome = bcp47_canonical(c->held->registry, text, (size_t)sqlite3_value_bytes(values[0]), buffer, BUFFER);
+    if (!registry) return;
+    text tag = text_of(values[0]);
+    bcp47_outcome outcome = bcp47_canonical(registry, tag.bytes, tag.length, buffer, BUFFER);
     if (is_error(context, outcome) || outcome.status != BCP47_DONE) return;
     sqlite3_result_text(context, buffer, (int)outcome.length, SQLITE_TRANSIENT);
 }
 
-/* The line that the program prints for a refusal, without `! `. */
+/* bcp47_fault(tag [, name]): the line that the program prints for a refusal, without `! ` */
 static void fault(sqlite3_context *context, int count, sqlite3_value **values) {
-    connection *c = sqlite3_user_data(context);
+    const bcp47_registry *registry = asked(context, count, values, 1);
     char buffer[BUFFER], line[2 * BCP47_LINE];
-    (void)count;
-    if (sqlite3_value_type(values[0]) == SQLITE_NULL || !is_ready(context, c)) return;
-    const char *text = (const char *)sqlite3_value_text(values[0]);
-    bcp47_outcome outcome = bcp47_canonical(c->held->registry, text, (size_t)sqlite3_value_bytes(values[0]), buffer, BUFFER);
+    if (!registry) return;
+    text tag = text_of(values[0]);
+    bcp47_outcome outcome = bcp47_canonical(registry, tag.bytes, tag.length, buffer, BUFFER);
     if (is_error(context, outcome) || outcome.status == BCP47_DONE) return;
     if (outcome.status == BCP47_REPLACEMENT_REPEATS)
         snprintf(line, sizeof line, "ReplacementRepeats %.*s", (int)outcome.length, buffer);
@@ -241,49 +257,49 @@ static int kind_of(const char *name) {
 /* bcp47_part(tag, kind): the parts of that kind, with hyphens between them */
 static void part(sqlite3_context *context, int count, sqlite3_value **values) {
     bcp47_part parts[BCP47_PARTS];
-    char text[BCP47_TEXT], found[BCP47_TEXT + 1];
+    char shown[BCP47_TEXT], found[BCP47_TEXT + 1];
     size_t length = 0;
     (void)count;
     if (sqlite3_value_type(values[0]) == SQLITE_NULL || sqlite3_value_type(values[1]) == SQLITE_NULL) return;
     int kind = kind_of((const char *)sqlite3_value_text(values[1]));
     if (!kind) return say(context, "there is no such kind of part", "");
-    const char *tag = (const char *)sqlite3_value_text(values[0]);
-    bcp47_outcome outcome = bcp47_parts(tag, (size_t)sqlite3_value_bytes(values[0]), text, sizeof text, parts, BCP47_PARTS);
+    text tag = text_of(values[0]);
+    bcp47_outcome outcome = bcp47_parts(tag.bytes, tag.length, shown, sizeof shown, parts, BCP47_PARTS);
     if (is_error(context, outcome) || outcome.status != BCP47_DONE) return;
     for (size_t i = 0; i < outcome.place; i++) {
         if (parts[i].kind != kind) continue;
-        memcpy(found + length, text + parts[i].start, parts[i].length);
+        memcpy(found + length, shown + parts[i].start, parts[i].length);
         length += parts[i].length;
         found[length++] = '-';
     }
     if (length) sqlite3_result_text(context, found, (int)length - 1, SQLITE_TRANSIENT);
 }
 
-/* bcp47_show(tag [, name of the registry]): what the registry says of a tag, as JSON */
-static void show(sqlite3_context *context, int count, sqlite3_value **values) {
-    connection *c = sqlite3_user_data(context);
-    char *rows;
-    if (sqlite3_value_type(values[0]) == SQLITE_NULL || !is_ready(context, c)) return;
-    if (count == 2 && !is_named(c, values[1])) return say(context, "the registry that is loaded has another name", "");
-    const char *text = (const char *)sqlite3_value_text(values[0]);
-    bcp47_outcome outcome = bcp47_show(c->held->registry, text, (size_t)sqlite3_value_bytes(values[0]), &rows);
+/* Answers the front of a text that a call gave. */
+static void answer(sqlite3_context *context, bcp47_outcome outcome, char *given, size_t length) {
     if (is_error(context, outcome) || outcome.status != BCP47_DONE) return;
-    if (outcome.length > INT_MAX) sqlite3_result_error_toobig(context), bcp47_free(rows);
-    else sqlite3_result_text(context, rows, (int)outcome.length, bcp47_free);
+    if (length > INT_MAX) sqlite3_result_error_toobig(context), bcp47_free(given);
+    else sqlite3_result_text(context, given, (int)length, bcp47_free);
 }
 
+/* bcp47_show(tag [, name]): what the registry says of a tag, as JSON */
+static void show(sqlite3_context *context, int count, sqlite3_value **values) {
+    const bcp47_registry *registry = asked(context, count, values, 1);
+    char *rows;
+    if (!registry) return;
+    text tag = text_of(values[0]);
+    bcp47_outcome outcome = bcp47_show(registry, tag.bytes, tag.length, &rows);
+    answer(context, outcome, rows, outcome.length);
+}
+
+/* bcp47_explain(tag [, name]): the lines that the program prints, without the line feed of the last */
 static void explain(sqlite3_context *context, int count, sqlite3_value **values) {
-    connection *c = sqlite3_user_data(context);
+    const bcp47_registry *registry = asked(context, count, values, 1);
     char *lines;
-    (void)count;
-    if (sqlite3_value_type(values[0]) == SQLITE_NULL || !is_ready(context, c)) return;
-    const char *text = (const char *)sqlite3_value_text(values[0]);
-    bcp47_outcome outcome =
-        bcp47_explanation(c->held->registry, text, (size_t)sqlite3_value_bytes(values[0]), STEPS, &lines);
-    if (is_error(context, outcome) || outcome.status != BCP47_DONE) return;
-    if (outcome.length > INT_MAX) sqlite3_result_error_toobig(context), bcp47_free(lines);
-    /* without the line feed of the last line */
-    else sqlite3_result_text(context, lines, (int)outcome.length - 1, bcp47_free);
+    if (!registry) return;
+    text tag = text_of(values[0]);
+    bcp47_outcome outcome = bcp47_explanation(registry, tag.bytes, tag.length, STEPS, &lines);
+    answer(context, outcome, lines, outcome.length - 1);
 }
 
 /* 1 or 0, whether two texts go together; NULL where one of them is refused. */
@@ -293,31 +309,24 @@ static void tell_of_two(sqlite3_context *context, bcp47_outcome outcome) {
         sqlite3_result_int(context, outcome.status == BCP47_DONE);
 }
 
-static void equal(sqlite3_context *context, int count, sqlite3_value **values) {
-    connection *c = sqlite3_user_data(context);
-    (void)count;
-    if (sqlite3_value_type(values[0]) == SQLITE_NULL || sqlite3_value_type(values[1]) == SQLITE_NULL) return;
-    if (!is_ready(context, c)) return;
-    const char *first = (const char *)sqlite3_value_text(values[0]), *second = (const char *)sqlite3_value_text(values[1]);
-    bcp47_outcome outcome = bcp47_equal(c->held->registry, first, (size_t)sqlite3_value_bytes(values[0]), second,
-                                        (size_t)sqlite3_value_bytes(values[1]), NULL, 0);
-    tell_of_two(context, outcome);
+/* bcp47_equivalent(tag, tag [, name]) */
+static void equivalent(sqlite3_context *context, int count, sqlite3_value **values) {
+    const bcp47_registry *registry = asked(context, count, values, 2);
+    if (!registry) return;
+    text first = text_of(values[0]), second = text_of(values[1]);
+    tell_of_two(context, bcp47_equivalent(registry, first.bytes, first.length, second.bytes, second.length, NULL, 0));
 }
 
-/* bcp47_match(tag, range), by extended filtering */
+/* bcp47_match(range, tag [, name]), by extended filtering */
 static void match(sqlite3_context *context, int count, sqlite3_value **values) {
-    connection *c = sqlite3_user_data(context);
-    (void)count;
-    if (sqlite3_value_type(values[0]) == SQLITE_NULL || sqlite3_value_type(values[1]) == SQLITE_NULL) return;
-    if (!is_ready(context, c)) return;
-    const char *tag = (const char *)sqlite3_value_text(values[0]), *range = (const char *)sqlite3_value_text(values[1]);
-    bcp47_outcome outcome = bcp47_match(c->held->registry, BCP47_EXTENDED, range, (size_t)sqlite3_value_bytes(values[1]), tag,
-                                        (size_t)sqlite3_value_bytes(values[0]), NULL, 0);
-    tell_of_two(context, outcome);
+    const bcp47_registry *registry = asked(context, count, values, 2);
+    if (!registry) return;
+    text range = text_of(values[0]), tag = text_of(values[1]);
+    tell_of_two(context, bcp47_match(registry, BCP47_EXTENDED, range.bytes, range.length, tag.bytes, tag.length, NULL, 0));
 }
 
 /* The canonical text of a text to compare. A collation can't answer an error, and a statement may write by a wrong order before
-   it is interrupted: where memory runs out, or too many calls are under way, it asks until there is an answer. */
+   it is interrupted: where memory runs out, it asks until there is an answer. */
 static bcp47_outcome canonical_to_compare(connection *c, const void *text, size_t length, char *buffer) {
     bcp47_outcome outcome = bcp47_canonical(c->held->registry, text, length, buffer, BUFFER);
     while (outcome.status == BCP47_OUT_OF_MEMORY || outcome.status == BCP47_BUSY) {
@@ -353,26 +362,34 @@ __declspec(dllexport)
 __attribute__((visibility("default")))
 #endif
 int sqlite3_extension_init(sqlite3 *database, char **error, const sqlite3_api_routines *api) {
-    enum { PURE = SQLITE_UTF8 | SQLITE_DETERMINISTIC | SQLITE_INNOCUOUS, OWN = SQLITE_UTF8 | SQLITE_DIRECTONLY };
+    /* What asks the connection's registry without its name answers otherwise by another one: it serves in no index. */
+    enum { PURE = SQLITE_UTF8 | SQLITE_INNOCUOUS | SQLITE_DETERMINISTIC, LOADED = SQLITE_UTF8 | SQLITE_INNOCUOUS };
     static const struct {
         const char *name;
         int words, flags;
         void (*does)(sqlite3_context *, int, sqlite3_value **);
     } functions[] = {
-        {"bcp47_load", 1, OWN, load},         {"bcp47_load", 2, OWN, load},   {"bcp47_registry", 0, SQLITE_UTF8, registry},
-        {"bcp47_canonical", 1, PURE, canonical}, {"bcp47_canonical", 2, PURE, canonical},
-        {"bcp47_equal", 2, PURE, equal},      {"bcp47_fault", 1, PURE, fault}, {"bcp47_explain", 1, PURE, explain},
-        {"bcp47_part", 2, PURE, part},        {"bcp47_match", 2, PURE, match},
-        {"bcp47_show", 1, PURE, show},        {"bcp47_show", 2, PURE, show},
+        {"bcp47_load", 1, SQLITE_UTF8 | SQLITE_DIRECTONLY, load},
+        {"bcp47_canonical", 1, LOADED, canonical},   {"bcp47_canonical", 2, PURE, canonical},
+        {"bcp47_fault", 1, LOADED, fault},           {"bcp47_fault", 2, PURE, fault},
+        {"bcp47_explain", 1, LOADED, explain},       {"bcp47_explain", 2, PURE, explain},
+        {"bcp47_show", 1, LOADED, show},             {"bcp47_show", 2, PURE, show},
+        {"bcp47_equivalent", 2, LOADED, equivalent}, {"bcp47_equivalent", 3, PURE, equivalent},
+        {"bcp47_match", 2, LOADED, match},           {"bcp47_match", 3, PURE, match},
+        {"bcp47_part", 2, PURE, part},               {"bcp47_registry", 0, SQLITE_UTF8, registry},
     };
     (void)error;
     SQLITE_EXTENSION_INIT2(api);
+    /* Where the connection has the functions, of which this is the last, it goes on as it was. */
+    sqlite3_stmt *before = NULL;
+    int result = sqlite3_prepare_v2(database, "SELECT bcp47_registry()", -1, &before, NULL);
+    sqlite3_finalize(before);
+    if (result != SQLITE_ERROR) return result;
     connection *c = calloc(1, sizeof *c);
     if (!c) return SQLITE_NOMEM;
     c->database = database;
     c->users = 1;
-    /* Where the extension was loaded before, its order goes with its functions, and not while a statement runs. */
-    int result = sqlite3_create_collation_v2(database, "BCP47", SQLITE_UTF8, NULL, NULL, NULL);
+    result = SQLITE_OK;
     for (size_t i = 0; i < sizeof functions / sizeof *functions && result == SQLITE_OK; i++) {
         c->users++;
         result = sqlite3_create_function_v2(database, functions[i].name, functions[i].words, functions[i].flags, c,

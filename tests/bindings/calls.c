@@ -16,7 +16,7 @@ static int is_ended(bcp47_outcome o, int status) {
 }
 
 #define ASK(call, text) call(registry, text, strlen(text), buffer, sizeof buffer)
-#define EQUAL(first, second) bcp47_equal(registry, first, strlen(first), second, strlen(second), buffer, sizeof buffer)
+#define EQUAL(first, second) bcp47_equivalent(registry, first, strlen(first), second, strlen(second), buffer, sizeof buffer)
 #define MATCH(scheme, range, tag) bcp47_match(registry, scheme, range, strlen(range), tag, strlen(tag), buffer, sizeof buffer)
 
 static void refused_registry(const char *bytes, int status, size_t place, const char *line) {
@@ -132,7 +132,7 @@ static int is_refused(bcp47_outcome o, int status, int text, size_t place) {
 static void equal(void) {
     CHECK(is_ended(EQUAL("zh-yue", "YUE"), BCP47_DONE));
     CHECK(is_ended(EQUAL("zh-yue", "zh"), BCP47_DIFFERENT));
-    CHECK(is_ended(bcp47_equal(registry, "zh", 2, "yue", 3, NULL, 0), BCP47_DIFFERENT));
+    CHECK(is_ended(bcp47_equivalent(registry, "zh", 2, "yue", 3, NULL, 0), BCP47_DIFFERENT));
     CHECK(is_refused(EQUAL("zh", "xx"), BCP47_INVALID, 2, 1));
     CHECK(is_refused(EQUAL("xx", "zh"), BCP47_INVALID, 1, 1));
     CHECK(is_refused(EQUAL("", "xx"), BCP47_NOT_A_TAG, 1, 1));
@@ -148,9 +148,9 @@ static void equal(void) {
     o = EQUAL("xx", REPEATS);
     CHECK(is_refused(o, BCP47_INVALID, 1, 1) && o.length == 0);
     memset(buffer, '#', sizeof buffer);
-    o = bcp47_equal(registry, "en", 2, REPEATS, strlen(REPEATS), buffer, 6);
+    o = bcp47_equivalent(registry, "en", 2, REPEATS, strlen(REPEATS), buffer, 6);
     CHECK(is_refused(o, BCP47_REPLACEMENT_REPEATS, 2, 0) && o.length == 7 && buffer[0] == '#');
-    o = bcp47_equal(registry, "en", 2, REPEATS, strlen(REPEATS), buffer, 7);
+    o = bcp47_equivalent(registry, "en", 2, REPEATS, strlen(REPEATS), buffer, 7);
     CHECK(o.length == 7 && !memcmp(buffer, "alalc97#", 8));
 }
 
@@ -369,41 +369,6 @@ static void verify(void) {
     CHECK(is_judged("xx", steps, 2, "gsg", BCP47_INVALID, 1, 1));
 }
 
-static void many(void) {
-    const char *texts = "zh-yueen_USiw";
-    size_t ends[4] = {6, 11, 13, 13};
-    bcp47_outcome outcomes[4];
-    CHECK(bcp47_canonical_many(registry, texts, ends, 0, 3, outcomes, buffer, 4) == 2);
-    CHECK(outcomes[2].status == BCP47_BUFFER_TOO_SMALL && outcomes[2].length == 2);
-    /* It goes on where it stopped. */
-    CHECK(bcp47_canonical_many(registry, texts, ends + 2, ends[1], 2, outcomes + 2, buffer + 3, 4) == 2);
-    CHECK(!memcmp(buffer, "yuehe", 5) && outcomes[0].status == BCP47_DONE && outcomes[1].status == BCP47_NOT_A_TAG);
-    CHECK(outcomes[2].status == BCP47_DONE && outcomes[2].length == 2 && outcomes[3].status == BCP47_NOT_A_TAG);
-    memset(buffer, '#', sizeof buffer);
-    CHECK(bcp47_canonical_many(registry, texts, ends, 0, 4, outcomes, buffer, sizeof buffer) == 4);
-    CHECK(!memcmp(buffer, "yuehe#", 6));
-    /* Lengths in place of ends: those that fall are told. */
-    size_t lengths[3] = {6, 5, 2};
-    CHECK(bcp47_canonical_many(registry, texts, lengths, 0, 3, outcomes, buffer, sizeof buffer) == 3);
-    CHECK(outcomes[0].status == BCP47_DONE && is_ended(outcomes[1], BCP47_BAD_CALL) && is_ended(outcomes[2], BCP47_BAD_CALL));
-    size_t nothing[2] = {0, 0}, far = SIZE_MAX;
-    CHECK(bcp47_canonical_many(registry, NULL, nothing, 0, 2, outcomes, NULL, 0) == 2);
-    CHECK(outcomes[0].status == BCP47_NOT_A_TAG && outcomes[1].status == BCP47_NOT_A_TAG);
-    CHECK(bcp47_canonical_many(registry, NULL, ends, 0, 1, outcomes, buffer, sizeof buffer) == 1 && is_ended(outcomes[0], BCP47_BAD_CALL));
-    CHECK(bcp47_canonical_many(registry, texts, &far, 0, 1, outcomes, buffer, sizeof buffer) == 1 && is_ended(outcomes[0], BCP47_BAD_CALL));
-    CHECK(bcp47_canonical_many(registry, texts, NULL, 0, 2, outcomes, buffer, sizeof buffer) == 2);
-    CHECK(is_ended(outcomes[0], BCP47_BAD_CALL) && is_ended(outcomes[1], BCP47_BAD_CALL));
-    /* A buffer over a later text, which an answer would be written over. */
-    char both[] = "iwen";
-    size_t of_both[2] = {2, 4};
-    CHECK(bcp47_canonical_many(registry, both, of_both, 0, 2, outcomes, both + 2, sizeof both - 2) == 2);
-    CHECK(outcomes[0].status == BCP47_DONE && is_ended(outcomes[1], BCP47_BAD_CALL));
-    CHECK(bcp47_canonical_many(registry, texts, ends, 0, 1, outcomes, NULL, 4) == 1 && is_ended(outcomes[0], BCP47_BAD_CALL));
-    CHECK(bcp47_canonical_many(NULL, texts, ends, 0, 2, outcomes, buffer, sizeof buffer) == 2 && is_ended(outcomes[1], BCP47_NOT_OPEN));
-    CHECK(bcp47_canonical_many(registry, texts, ends, 0, 2, NULL, buffer, sizeof buffer) == 0);
-    CHECK(bcp47_canonical_many(registry, NULL, NULL, 0, 0, outcomes, NULL, 0) == 0);
-}
-
 /* Each call on what is no registry that is open. */
 static void not_open(const bcp47_registry *none) {
     bcp47_info info;
@@ -414,7 +379,7 @@ static void not_open(const bcp47_registry *none) {
     CHECK(is_ended(bcp47_explain(none, "en", 2, buffer, sizeof buffer), BCP47_NOT_OPEN));
     CHECK(is_ended(bcp47_show(none, "en", 2, &rows), BCP47_NOT_OPEN) && !rows);
     CHECK(is_ended(bcp47_validate(none, "en", 2), BCP47_NOT_OPEN));
-    CHECK(is_ended(bcp47_equal(none, "en", 2, "en", 2, buffer, sizeof buffer), BCP47_NOT_OPEN));
+    CHECK(is_ended(bcp47_equivalent(none, "en", 2, "en", 2, buffer, sizeof buffer), BCP47_NOT_OPEN));
     CHECK(is_ended(bcp47_match(none, BCP47_BASIC, "en", 2, "en", 2, buffer, sizeof buffer), BCP47_NOT_OPEN));
     CHECK(is_ended(bcp47_verify(none, "en", 2, &step, 1, "en", 2), BCP47_NOT_OPEN));
     CHECK(is_ended(bcp47_upgrade_check(none, registry), BCP47_NOT_OPEN));
@@ -450,10 +415,10 @@ static void bad_calls(void) {
     CHECK(is_ended(bcp47_classify(NULL, over, 6, over, 6), BCP47_BAD_CALL));
     CHECK(is_ended(bcp47_validate(registry, NULL, 1), BCP47_BAD_CALL));
     CHECK(is_ended(bcp47_validate(registry, "en", SIZE_MAX), BCP47_BAD_CALL));
-    CHECK(is_ended(bcp47_equal(registry, NULL, 1, "en", 2, buffer, 9), BCP47_BAD_CALL));
-    CHECK(is_ended(bcp47_equal(registry, "en", 2, "en", SIZE_MAX, buffer, 9), BCP47_BAD_CALL));
-    CHECK(is_ended(bcp47_equal(registry, "en", 2, over, 6, over, 9), BCP47_BAD_CALL));
-    CHECK(is_ended(bcp47_equal(registry, over, 6, over, 6, NULL, 0), BCP47_DONE));
+    CHECK(is_ended(bcp47_equivalent(registry, NULL, 1, "en", 2, buffer, 9), BCP47_BAD_CALL));
+    CHECK(is_ended(bcp47_equivalent(registry, "en", 2, "en", SIZE_MAX, buffer, 9), BCP47_BAD_CALL));
+    CHECK(is_ended(bcp47_equivalent(registry, "en", 2, over, 6, over, 9), BCP47_BAD_CALL));
+    CHECK(is_ended(bcp47_equivalent(registry, over, 6, over, 6, NULL, 0), BCP47_DONE));
     CHECK(is_ended(bcp47_match(registry, BCP47_BASIC, NULL, 1, "en", 2, buffer, 9), BCP47_BAD_CALL));
     CHECK(is_ended(bcp47_match(registry, BCP47_BASIC, "en", 2, "en", SIZE_MAX, buffer, 9), BCP47_BAD_CALL));
     CHECK(is_ended(bcp47_match(registry, BCP47_BASIC, "en", 2, over, 6, over, 9), BCP47_BAD_CALL));
@@ -473,7 +438,7 @@ static void bad_calls(void) {
 
 static void names(void) {
     CHECK(!strcmp(bcp47_version(), BCP47_VERSION));
-    CHECK(!strcmp(bcp47_status_name(BCP47_INVALID), "Invalid") && !strcmp(bcp47_status_name(BCP47_TOO_MANY_STEPS), "TooManySteps"));
+    CHECK(!strcmp(bcp47_status_name(BCP47_INVALID), "Invalid") && !strcmp(bcp47_status_name(BCP47_NO_ENTRIES), "NoEntries"));
     CHECK(!strcmp(bcp47_fault_name(1), "TooLong") && !strcmp(bcp47_fault_name(52), "U6") && !strcmp(bcp47_fault_name(53), "BadFirst"));
     CHECK(!strcmp(bcp47_kind_name(BCP47_EXTLANG), "Extlang") && !strcmp(bcp47_kind_name(BCP47_SWAP_FIELDS), "SwapFields"));
     CHECK(!strcmp(bcp47_fault_help(9), "The registry lacks the extlang: correct it, or get a newer registry."));
@@ -482,7 +447,7 @@ static void names(void) {
     for (size_t i = 0; i < sizeof none / sizeof *none; i++)
         CHECK(!*bcp47_status_name(none[i]) && !*bcp47_fault_name(none[i]) && !*bcp47_kind_name(none[i]) &&
               !*bcp47_status_help(none[i]) && !*bcp47_fault_help(none[i]));
-    CHECK(!*bcp47_status_name(17) && !*bcp47_status_help(17) && !*bcp47_fault_name(54) && !*bcp47_fault_help(54));
+    CHECK(!*bcp47_status_name(18) && !*bcp47_status_help(18) && !*bcp47_fault_name(54) && !*bcp47_fault_help(54));
     CHECK(!*bcp47_kind_name(0) && !*bcp47_kind_name(15));
     CHECK(!*bcp47_part_kind_name(-1) && !*bcp47_part_kind_name(0) && !*bcp47_part_kind_name(21));
     CHECK(!strcmp(bcp47_part_kind_name(BCP47_PART_GRANDFATHERED), "Grandfathered"));
@@ -505,55 +470,47 @@ static int has_digest(bcp47_info info, const char *hexadecimal) {
     return !strcmp(shown, hexadecimal);
 }
 
+/* Before a record, and alone: that is no registry. */
 static void info(const char *bytes, size_t length, char **wanted) {
     static const struct {
-        const char *bytes, *date;
-        size_t entries;
+        const char *header, *date;
     } rows[] = {
-        {"", "", 0},
-        {"File-Date: 2000-01-01\n", "2000-01-01", 0},
-        {"File-Date: 2000-01-01", "2000-01-01", 0},
-        {"File-Date: 2000-01-01\n%%\nType: language\nSubtag: en\n", "2000-01-01", 1},
-        {"Type: language\nSubtag: en\n%%\nType: language\nSubtag: de", "", 2},
-        {"File-Date: 1 May\n", "", 0},
-        {"File-Date: 2000-1-001\n", "", 0},
-        {"File-Date: 2000-01-0\n", "", 0},
-        {"File-Date: 2000/01-01\n", "", 0},
-        {"File-Date: 2000-01/01\n", "", 0},
-        {"File-Date: 2OOO-01-01\n", "", 0},
-        {"File-Date: 2000-O1-01\n", "", 0},
-        {"File-Date: 2000-01-O1\n", "", 0},
-        {"File-Date: 2000-01-01\r\n", "2000-01-01", 0},
-        {"File-Date: 2000-01-011\n", "", 0},
-        {"File-Date: 0000-01-01\n", "", 0},
-        {"File-Date: 2000-00-01\n", "", 0},
-        {"File-Date: 2000-13-01\n", "", 0},
-        {"File-Date: 2000-01-00\n", "", 0},
-        {"File-Date: 2000-04-31\n", "", 0},
-        {"File-Date: 2000-02-29\n", "2000-02-29", 0},
-        {"File-Date: 2024-02-29\n", "2024-02-29", 0},
-        {"File-Date: 2023-02-29\n", "", 0},
-        {"File-Date: 1900-02-29\n", "", 0},
-        {"Type: language\nSubtag: en\nFile-Date: 2000-01-01\n", "", 1},
+        {"File-Date: 2000-01-01\n", "2000-01-01"},   {"File-Date: 1 May\n", ""},           {"File-Date: 2000-1-001\n", ""},
+        {"File-Date: 2000-01-0\n", ""},              {"File-Date: 2000/01-01\n", ""},      {"File-Date: 2000-01/01\n", ""},
+        {"File-Date: 2OOO-01-01\n", ""},             {"File-Date: 2000-O1-01\n", ""},      {"File-Date: 2000-01-O1\n", ""},
+        {"File-Date: 2000-01-01\r\n", "2000-01-01"}, {"File-Date: 2000-01-011\n", ""},     {"File-Date: 0000-01-01\n", ""},
+        {"File-Date: 2000-00-01\n", ""},             {"File-Date: 2000-13-01\n", ""},      {"File-Date: 2000-01-00\n", ""},
+        {"File-Date: 2000-04-31\n", ""},             {"File-Date: 2000-02-29\n", "2000-02-29"}, {"File-Date: 2000-01-31\n", "2000-01-31"},
+        {"File-Date: 2024-02-29\n", "2024-02-29"},   {"File-Date: 2023-02-29\n", ""},      {"File-Date: 1900-02-29\n", ""},
     };
     for (size_t i = 0; i < sizeof rows / sizeof *rows; i++) {
-        bcp47_info got = info_of(rows[i].bytes, strlen(rows[i].bytes));
-        if (strcmp(got.file_date, rows[i].date) || got.entries != rows[i].entries) fprintf(stderr, "row %zu: %s %zu\n", i, got.file_date, got.entries);
-        CHECK(!strcmp(got.file_date, rows[i].date) && got.entries == rows[i].entries);
+        char whole[99];
+        refused_registry(rows[i].header, BCP47_NO_ENTRIES, 0, "NoEntries");
+        bcp47_info got = info_of(whole, (size_t)sprintf(whole, "%s%%%%\nType: language\nSubtag: en\n", rows[i].header));
+        if (strcmp(got.file_date, rows[i].date)) fprintf(stderr, "row %zu: %s\n", i, got.file_date);
+        CHECK(!strcmp(got.file_date, rows[i].date) && got.entries == 1);
     }
-    CHECK(has_digest(info_of(NULL, 0), "e3b0c44298fc1c149afbf4c8996fb92427ae41e4649b934ca495991b7852b855"));
+    refused_registry("", BCP47_NO_ENTRIES, 0, "NoEntries");
+    refused_registry("File-Date: 2000-01-01", BCP47_NO_ENTRIES, 0, "NoEntries");
+    static const char two[] = "Type: language\nSubtag: en\n%%\nType: language\nSubtag: de";
+    static const char late[] = "Type: language\nSubtag: en\nFile-Date: 2000-01-01\n";
+    bcp47_info got = info_of(two, sizeof two - 1);
+    CHECK(!*got.file_date && got.entries == 2);
+    CHECK(has_digest(got, "2699d1e636291cfcdf9d0eb0b69c154e5fa4614fecd582ef747825f2a18db0bb"));
+    CHECK(!*info_of(late, sizeof late - 1).file_date);
     bcp47_info sample = info_of(bytes, length);
     CHECK(has_digest(sample, wanted[0]) && sample.entries == (size_t)atol(wanted[1]) && !strcmp(sample.file_date, wanted[2]));
 }
 
 static void upgrades(void) {
-    bcp47_registry *empty;
+    static const char bytes[] = "File-Date: 2000-01-01\n%%\nType: language\nSubtag: en\n";
+    bcp47_registry *other;
     CHECK(is_ended(bcp47_upgrade_check(registry, registry), BCP47_DONE));
-    CHECK(!bcp47_open(&empty, "File-Date: 2000-01-01\n", 22, buffer, sizeof buffer).status);
-    bcp47_outcome o = bcp47_upgrade_check(registry, empty);
+    CHECK(!bcp47_open(&other, bytes, sizeof bytes - 1, buffer, sizeof buffer).status);
+    bcp47_outcome o = bcp47_upgrade_check(registry, other);
     CHECK(o.status == BCP47_NO_UPGRADE && o.detail == 47 && o.place > 0);
-    CHECK(is_ended(bcp47_upgrade_check(empty, registry), BCP47_DONE));
-    bcp47_close(empty);
+    CHECK(is_ended(bcp47_upgrade_check(other, registry), BCP47_DONE));
+    bcp47_close(other);
 }
 
 int main(int count, char **words) {
@@ -582,7 +539,6 @@ int main(int count, char **words) {
     explanations();
     longer();
     verify();
-    many();
     not_open(NULL);
     not_open((const bcp47_registry *)(const void *)&zero);
     bad_calls();

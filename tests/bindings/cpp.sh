@@ -17,6 +17,9 @@ for cc in g++ clang++; do
         passes "compile objects by $cc, $standard" $cc -std=$standard -O0 -Wall -Wextra -Werror -pedantic-errors -pthread \
             -Ibindings/c -o "$folder/objects" tests/bindings/objects.cpp build/libbcp47.a
         passes "objects by $cc, $standard" "$folder/objects" "$sample" "$date"
+        passes "compile objects without exceptions by $cc, $standard" $cc -std=$standard -O0 -fno-exceptions -Wall -Wextra -Werror -pthread \
+            -Ibindings/c -o "$folder/objects-without" tests/bindings/objects.cpp build/libbcp47.a
+        passes "objects without exceptions by $cc, $standard" "$folder/objects-without" "$sample" "$date"
     done
 done
 writes "C++ answers as the program" "$shared/wanted" "$folder/objects" "$registry" canonical "$shared/tags"

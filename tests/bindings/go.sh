@@ -8,20 +8,36 @@ folder=$1/go
 
 if command -v go > /dev/null; then
     mkdir "$folder/page"
+    module=$(sed -n 's/^module //p' bindings/go/go.mod)
     export GOCACHE=$folder/cache GOFLAGS=-mod=mod GOPROXY=off GOPATH=$folder/path
+    passes "Go: the library beside it" bindings/go/build.sh
     passes "Go: format" test -z "$(gofmt -l bindings/go)"
     passes "Go: vet" env -C bindings/go go vet ./...
     passes "Go: tests and examples" env -C bindings/go go test ./...
-    passes "Go: tests with the race detector" env -C bindings/go go test -race .
+    passes "Go: tests with the race detector" env -C bindings/go go test -race ./...
     # without its habit of keeping what was freed
     passes "Go: tests under the address sanitizer" env -C bindings/go ASAN_OPTIONS=quarantine_size_mb=1 go test -asan .
     passes "Go: a program" env -C bindings/go go build -o "$folder/canon" ./cmd/canon
     writes "Go answers as the program" "$shared/wanted" sh -c '"$1/canon" "$2" < "$3"' - "$folder" "$registry" "$shared/tags"
     writes "Go explains as the program" "$shared/explained" sh -c '"$1/canon" -explain "$2" < "$3"' - "$folder" "$registry" "$shared/explained-tags"
+    # a new library is seen: here one that tells another version
+    cp -r bindings/go bindings/c "$folder"
+    tells() {
+        env -C "$folder/go" go build -o "$folder/version" ./version && "$folder/version" | grep -qx "$1"
+    }
+    mkdir "$folder/go/version"
+    printf 'package main\n\nimport (\n\t"fmt"\n\n\t"%s"\n)\n\nfunc main() { fmt.Println(bcp47.Version()) }\n' "$module" > "$folder/go/version/main.go"
+    printf 'package main\n\nimport (\n\t"testing"\n\n\t"%s"\n)\n\nfunc TestVersion(t *testing.T) {\n\tif bcp47.Version() == "9.9.9" {\n\t\tt.Fail()\n\t}\n}\n' \
+        "$module" > "$folder/go/version/main_test.go"
+    passes "Go: its version" tells "$(cat VERSION)"
+    passes "Go: a test of it" env -C "$folder/go" go test ./version
+    sed -i "s/$(cat VERSION | sed 's/\./\\./g')/9.9.9/" "$folder/go/bcp47_linux_amd64.syso"
+    passes "Go: go build sees a new library" tells 9.9.9
+    passes "Go: go test sees a new library" sh -c 'cd "$1" && ! go test ./version' - "$folder/go"
     sed -n '/^```go$/,/^```$/{/^```/!p}' docs/GO.md > "$folder/page/main.go"
     cp "$sample" "$folder/page/registry.txt"
-    printf 'module page\n\ngo 1.19\n\nrequire bcp47 v0.0.0\n\nreplace bcp47 => %s/bindings/go\n' "$root" > "$folder/page/go.mod"
-    printf '%s\n' yue true true 'BadByte 1 BadByte 1' 'zh-Hant-TW 3' > "$folder/page/wanted"
+    printf 'module page\n\ngo 1.19\n\nrequire %s v0.0.0\n\nreplace %s => %s/bindings/go\n' "$module" "$module" "$root" > "$folder/page/go.mod"
+    printf '%s\n' yue true true 'BadByte 1 true' 'BadByte 1 en_US' 'zh-Hant-TW Hant TW' > "$folder/page/wanted"
     writes "Go: docs/GO.md's program" "$folder/page/wanted" env -C "$folder/page" go run .
     chmod -R u+w "$folder"
 else

@@ -58,7 +58,7 @@ static void ask(const bcp47_registry *registry, int is_first, size_t at, const c
     before = growths;
     kept(is_first, at + 3, bcp47_explain(registry, text, n, buffer, sizeof buffer), buffer, before);
     before = growths;
-    kept(is_first, at + 4, bcp47_equal(registry, text, n, "yue", 3, buffer, sizeof buffer), buffer, before);
+    kept(is_first, at + 4, bcp47_equivalent(registry, text, n, "yue", 3, buffer, sizeof buffer), buffer, before);
     before = growths;
     kept(is_first, at + 5, bcp47_validate(registry, text, n), buffer, before);
     before = growths;

@@ -6,14 +6,23 @@ folder=$1/java
 # shellcheck source=tests/bindings/counting.sh
 . "$(dirname "$0")/counting.sh"
 
+# says TEXT JAVA..: what Java tells of a library that it can't start.
+says() {
+    local text=$1
+    shift
+    "$@" -cp "$jar:$folder/tests" bcp47.Calls "$sample" 2>&1 | grep -q -e "UnsatisfiedLinkError.*$text"
+}
+
 if command -v javac > /dev/null; then
     mkdir "$folder/tests" "$folder/page"
     passes "Java: build" env TARGET="$folder/target" bindings/java/build.sh
     cat "$folder/err"
-    jar=$(ls "$folder"/target/bcp47-[0-9]*.jar)
+    jar=$folder/target/bcp47-$(cat VERSION).jar
+    bundled=$(ls "$folder"/target/bcp47-registry-*.jar)
     passes "Java: compile the tests" javac --release 17 -Xlint:all -Werror -cp "$jar" -d "$folder/tests" bindings/java/src/test/java/bcp47/*.java
     printf 'ok\n' > "$folder/ok"
     writes "Java: calls" "$folder/ok" java -Xcheck:jni -cp "$jar:$folder/tests" bcp47.Calls "$sample"
+    writes "Java: calls beside the registry of its jar" "$folder/ok" java -cp "$jar:$bundled:$folder/tests" bcp47.Calls "$sample" bundled
     # the library of java.library.path, under the address sanitizer; the virtual machine has signals of its own
     passes "Java: compile for sanitizers" env CFLAGS="-O1 -fsanitize=address,undefined -fno-sanitize-recover=all" TARGET="$folder/checked" \
         bindings/java/build.sh native
@@ -22,17 +31,25 @@ if command -v javac > /dev/null; then
         -Djava.library.path="$folder/checked/native/bcp47/linux-amd64" -cp "$jar:$folder/tests" bcp47.Calls "$sample"
     writes "Java answers as the program" "$shared/wanted" java -cp "$jar:$folder/tests" bcp47.Answers "$registry" "$shared/tags"
     writes "Java explains as the program" "$shared/explained" java -cp "$jar:$folder/tests" bcp47.Answers "$registry" "$shared/explained-tags" explain
-    passes "Java: documentation" javadoc -quiet -Xdoclint:all -Werror -d "$folder/documentation" bindings/java/src/main/java/bcp47/*.java
     sed -n '/^```java$/,/^```$/{/^```/!p}' docs/JAVA.md > "$folder/page/Page.java"
     cp "$sample" "$folder/page/registry.txt"
-    printf '%s\n' yue true true 'BadByte 1 BadByte 1' 'zh-Hant-TW Hant' > "$folder/page/wanted"
+    printf '%s\n' yue true true 'BadByte 1 BAD_BYTE 1' '[he, ! BadByte 1]' 'zh-Hant-TW Hant' > "$folder/page/wanted"
     writes "Java: docs/JAVA.md's program" "$folder/page/wanted" env -C "$folder/page" java -cp "$jar" Page.java
     # Each other Java that is here, from 17 on.
     for other in /usr/lib/jvm/*/bin/java; do
         number=$("$other" -version 2>&1 | sed -nE '1s/.*"([0-9]+).*/\1/p')
-        [ -L "$(dirname "$(dirname "$other")")" ] || [ "$number" -le 17 ] ||
-            writes "Java $number: calls" "$folder/ok" "$other" --enable-native-access=ALL-UNNAMED -cp "$jar:$folder/tests" bcp47.Calls "$sample"
+        { [ -L "$(dirname "$(dirname "$other")")" ] || [ "$number" -le 17 ]; } && continue
+        writes "Java $number: calls" "$folder/ok" "$other" --enable-native-access=ALL-UNNAMED -cp "$jar:$folder/tests" bcp47.Calls "$sample"
+        writes "Java $number: as a module" "$folder/page/wanted" env -C "$folder/page" "$other" --enable-native-access=bcp47 -p "$jar" --add-modules bcp47 Page.java
+        [ "$number" -lt 24 ] || passes "Java $number: what is to be allowed is told" says "--enable-native-access=ALL-UNNAMED" "$other" --illegal-native-access=deny
     done
+    passes "Java: its module has a name" sh -c 'unzip -p "$1" META-INF/MANIFEST.MF | grep -q "^Automatic-Module-Name: bcp47"' - "$jar"
+    passes "Java: no temporary folder" says "-Djava.io.tmpdir.*-Djava.library.path" java -Djava.io.tmpdir=/no/such/folder
+    mkdir "$folder/noexec"
+    if mount -t tmpfs -o noexec none "$folder/noexec" 2> /dev/null; then
+        passes "Java: a temporary folder where nothing runs" says "-Djava.io.tmpdir.*-Djava.library.path" java -Djava.io.tmpdir="$folder/noexec"
+        umount "$folder/noexec"
+    fi
     if command -v mvn > /dev/null && [ -d /usr/share/maven-repo/org/apache/maven/plugins/maven-jar-plugin/3.3.0 ]; then
         # Debian's repository, which Maven would write to
         cp -rs /usr/share/maven-repo "$folder/repository"
@@ -46,14 +63,6 @@ if command -v javac > /dev/null; then
         writes "Java: Maven's jar answers" "$folder/page/wanted" env -C "$folder/page" java -cp "$(ls "$maven"/target/bcp47-*.jar)" Page.java
     else
         echo "no Maven with Debian's plugins here: the package for Java is not built by it"
-    fi
-    lucene=$(ls /usr/share/java/lucene-core-[89]*.jar /usr/share/java/lucene-analyzers-common-[89]*.jar 2> /dev/null | paste -s -d :)
-    if [ -n "$lucene" ]; then
-        path=$jar:$(ls "$folder"/target/bcp47-lucene-*.jar):$lucene:$folder/lucene
-        passes "Lucene: compile the tests" javac --release 17 -cp "$path" -d "$folder/lucene" bindings/java/lucene/test/Search.java
-        writes "Lucene: a search" "$folder/ok" java -cp "$path" Search "$sample"
-    else
-        missing Lucene
     fi
     for made in "$folder"/target/*.jar "$folder"/maven/bindings/java/target/*.jar; do
         [ ! -e "$made" ] || passes "Java: $(basename "$made") has the licences" test "$(jar -tf "$made" | grep -c '^META-INF/LICENSE')" = 3

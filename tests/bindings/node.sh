@@ -24,7 +24,7 @@ if command -v node > /dev/null && command -v npm > /dev/null && [ -e "${NODE_HEA
     passes "Node.js: npm install" env -C "$folder/page" npm install --silent --offline --no-audit --no-fund "$folder"/page/bcp47-*.tgz
     sed -n '/^```js$/,/^```$/{/^```/!p}' docs/NODE.md > "$folder/page/page.mjs"
     cp "$sample" "$folder/page/registry.txt"
-    printf '%s\n' yue true "[ 'he', null ]" true 'BadByte 1 BadByte 1' '2 gsg zh-Hant-TW' > "$folder/page/wanted"
+    printf "%s\n" yue true true "BadByte 1 BadByte 1" he null "A byte" "Tag 'zh-Hant-TW' Hant" "2 gsg" > "$folder/page/wanted"
     writes "Node.js: docs/NODE.md's program" "$folder/page/wanted" env -C "$folder/page" node page.mjs
     passes "Node.js: its licence" cmp LICENSE-MIT "$folder/page/node_modules/bcp47/LICENSE-MIT"
     passes "Node.js: by require" env -C "$folder/page" node -e 'process.exit(`${new (require("bcp47").Tag)("EN")}` === "en" ? 0 : 1)'

@@ -7,7 +7,7 @@
 #include <valgrind/helgrind.h>
 #define IGNORE_FLAG(flag) VALGRIND_HG_DISABLE_CHECKING(&(flag), sizeof(flag))
 #endif
-#define BCP47_SHOWN(shown) IGNORE_FLAG(*(shown))
+#define BCP47_SHARED(place) IGNORE_FLAG(*(place))
 #define BCP47_TAKEN(slot) ANNOTATE_HAPPENS_AFTER(slot)
 #define BCP47_GIVEN(slot)              \
     do {                               \

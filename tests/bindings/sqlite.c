@@ -1,5 +1,5 @@
-/* Refuses each growth of memory in turn, of the extension's and of SQLite's, while statements ask; then answers as where too
-   many calls are under way. Linked with bindings/sqlite/bcp47_sqlite.c, which is compiled with -DSQLITE_CORE, and with
+/* Refuses each growth of memory in turn, of the extension's and of SQLite's, while statements ask; then answers as where no memory
+   is left for a call among many. Linked with bindings/sqlite/bcp47_sqlite.c, which is compiled with -DSQLITE_CORE, and with
    -Wl,--wrap=malloc and so on. Argument: the sample registry. */
 #include "support.h"
 #include <sqlite3.h>
@@ -10,7 +10,7 @@ void *__wrap_malloc(size_t), *__wrap_calloc(size_t, size_t), *__wrap_realloc(voi
 bcp47_outcome __real_bcp47_canonical(const bcp47_registry *, const char *, size_t, char *, size_t);
 bcp47_outcome __wrap_bcp47_canonical(const bcp47_registry *, const char *, size_t, char *, size_t);
 static long refused_at = 0, growths = 0;
-/* how many further calls find too many others under way */
+/* how many further calls are busy */
 static int busy_calls = 0;
 static sqlite3_mem_methods methods;
 
@@ -67,32 +67,31 @@ static const struct {
     {"SELECT json_extract(bcp47_show('zh-yue', '2024-01-01'), '$[1].fields[0].body')", "yue"},
     {"SELECT bcp47_show('en', 'none')", NULL},
     {"SELECT bcp47_show('e_n') IS NULL AND bcp47_show(NULL) IS NULL AND length(bcp47_show('x' || replace(hex(zeroblob(250)), '00', '-a-a'))) > 9999", "1"},
-    {"SELECT bcp47_equal('en-u-ca-buddhist-nu-latn', 'en-u-nu-latn-ca-buddhist')", "1"},
-    {"SELECT bcp47_match('yue-GB', 'zh-yue')", "1"},
-    {"SELECT bcp47_match('en-u-ca-buddhist-nu-latn', 'de')", "0"},
+    {"SELECT bcp47_equivalent('en-u-ca-buddhist-nu-latn', 'en-u-nu-latn-ca-buddhist')", "1"},
+    {"SELECT bcp47_match('zh-yue', 'yue-GB')", "1"},
+    {"SELECT bcp47_match('de', 'en-u-ca-buddhist-nu-latn', '2024-01-01')", "0"},
     {"SELECT bcp47_match('en', 'e_n') IS NULL AND bcp47_match('e_n', 'en') IS NULL AND bcp47_match(NULL, 'en') IS NULL AND "
      "bcp47_match('en', NULL) IS NULL", "1"},
     {"SELECT bcp47_part('zh-hant-hk', 'script')", "Hant"},
     {"SELECT substr(bcp47_registry(), 1, 10)", "2024-01-01"},
-    {"SELECT bcp47_canonical(NULL) IS NULL AND bcp47_fault(NULL) IS NULL AND bcp47_explain(NULL) IS NULL AND bcp47_equal(NULL, 'en') "
-     "IS NULL AND bcp47_equal('en', NULL) IS NULL AND bcp47_part(NULL, 'key') IS NULL AND bcp47_part('en', NULL) IS NULL", "1"},
-    {"SELECT bcp47_canonical('e_n') IS NULL AND bcp47_fault('en') IS NULL AND bcp47_explain('e_n') IS NULL AND bcp47_equal('en', 'e_n') "
-     "IS NULL AND bcp47_part('e_n', 'key') IS NULL AND bcp47_part('en', 'key') IS NULL AND bcp47_equal('en', 'de') = 0", "1"},
+    {"SELECT bcp47_canonical(NULL) IS NULL AND bcp47_fault(NULL) IS NULL AND bcp47_explain(NULL) IS NULL AND bcp47_equivalent(NULL, 'en') "
+     "IS NULL AND bcp47_equivalent('en', NULL) IS NULL AND bcp47_part(NULL, 'key') IS NULL AND bcp47_part('en', NULL) IS NULL", "1"},
+    {"SELECT bcp47_canonical('e_n') IS NULL AND bcp47_fault('en') IS NULL AND bcp47_explain('e_n') IS NULL AND bcp47_equivalent('en', 'e_n') "
+     "IS NULL AND bcp47_part('e_n', 'key') IS NULL AND bcp47_part('en', 'key') IS NULL AND bcp47_equivalent('en', 'de') = 0", "1"},
     {"SELECT bcp47_part('en', 'regions')", NULL},
     {"SELECT bcp47_canonical('en', '0123456789' || hex(zeroblob(32)))", NULL},
     {"SELECT bcp47_load(NULL)", "NULL"},
     {"SELECT bcp47_load(7)", NULL},
-    {"SELECT bcp47_load(?, 'again')", NULL},
-    {"SELECT bcp47_load(?, NULL)", NULL},
     {"SELECT bcp47_load('/no/such/file')", NULL},
     {"SELECT bcp47_load('/')", NULL},
     {"SELECT bcp47_load(x'')", NULL},
+    {"SELECT bcp47_load(cast('Type: language' || char(10) || 'Subtag: en' AS blob))", NULL},
     {"SELECT bcp47_canonical('en', 'none')", NULL},
     {"SELECT bcp47_canonical('en', '0123456789')", NULL},
     {"SELECT bcp47_canonical('en', NULL)", NULL},
     {"SELECT group_concat(column1, ' ') FROM (SELECT column1 FROM (VALUES ('yue'), ('en-u-nu-latn-ca-buddhist'), ('iw'), ('e_n'), "
      "('en-u-ca-buddhist-nu-latn')) ORDER BY column1 COLLATE BCP47)", "en-u-nu-latn-ca-buddhist en-u-ca-buddhist-nu-latn iw yue e_n"},
-    {"SELECT bcp47_load(x'', 'replace')", "1"},
+    {"SELECT 'iw' < 'yue' COLLATE BCP47_20240101", "1"},
 };
 
 /* The first value of a statement: it is what is wanted, or else a growth was refused. */
@@ -104,7 +103,7 @@ static void ask(sqlite3 *database, const char *statement, const char *wanted) {
     if (!status) status = sqlite3_step(prepared);
     const char *text = status == SQLITE_ROW ? (const char *)sqlite3_column_text(prepared, 0) : NULL;
     int is_same = status == SQLITE_ROW && wanted && !strcmp(text ? text : "NULL", wanted);
-    if (!is_same && !(status == SQLITE_ERROR && !wanted) && !(before < refused_at && refused_at <= growths)) {
+    if (!is_same && !((status == SQLITE_ERROR || status == SQLITE_NOMEM) && !wanted) && !(before < refused_at && refused_at <= growths)) {
         fprintf(stderr, "%s: %d %s\n", statement, status, text ? text : sqlite3_errmsg(database));
         failures++;
     }

@@ -59,7 +59,7 @@ static void ask_explanation(void) {
 static void ask_others(void) {
     bcp47_step step = {BCP47_REGION, 2, 1};
     bcp47_validate(registry, text, strlen(text));
-    bcp47_equal(registry, text, strlen(text), "sgn-DD", 6, NULL, 0);
+    bcp47_equivalent(registry, text, strlen(text), "sgn-DD", 6, NULL, 0);
     for (int scheme = BCP47_BASIC; scheme <= BCP47_LOOKUP; scheme++)
         bcp47_match(registry, scheme, text, strlen(text), text, strlen(text), NULL, 0);
     bcp47_verify(registry, text, strlen(text), &step, 1, text, strlen(text));
@@ -68,12 +68,6 @@ static void ask_others(void) {
 static void ask_parts(void) {
     static bcp47_part parts[600];
     bcp47_parts(text, strlen(text), buffer, room, parts, sizeof parts / sizeof *parts);
-}
-
-static void ask_many(void) {
-    static bcp47_outcome outcomes[2];
-    size_t ends[2] = {strlen(text), strlen(text)};
-    CHECK(bcp47_canonical_many(registry, text, ends, 0, 2, outcomes, buffer, room) == 2);
 }
 
 static void ask_info(void) {
@@ -124,7 +118,7 @@ int main(int count, char **words) {
                    {"registry_info", ask_info}},
       of_text[] = {{"canonical", ask_canonical}, {"extlang", ask_extlang},         {"classify", ask_classify},
                    {"explain", ask_explain},     {"explanation", ask_explanation}, {"others", ask_others},
-                   {"show", ask_show},           {"parts", ask_parts},             {"canonical_many", ask_many}};
+                   {"show", ask_show},           {"parts", ask_parts}};
     for (size_t i = 0; i < sizeof of_none / sizeof *of_none; i++) {
         size_t bytes_touched = touched(of_none[i].call);
         if (bytes_touched > most) most = bytes_touched;

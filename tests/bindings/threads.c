@@ -38,7 +38,7 @@ static void ask(size_t i, answers *got) {
     got->o[2] = bcp47_classify(registry, text, n, got->text[2], ROOM);
     got->o[3] = bcp47_explain(registry, text, n, got->text[3], ROOM);
     got->o[4] = bcp47_validate(registry, text, n);
-    got->o[5] = bcp47_equal(registry, text, n, other, m, NULL, 0);
+    got->o[5] = bcp47_equivalent(registry, text, n, other, m, NULL, 0);
     got->o[6] = bcp47_show(registry, text, n, &got->rows);
     calls += CALLS;
 }

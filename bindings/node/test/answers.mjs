@@ -11,9 +11,9 @@ function explained(tag) {
     const { steps, canonical } = registry.explain(tag);
     return [...steps.map(({ kind, place, number, tag: after }) => `${kind} ${place} ${number} ${after}`), `= ${canonical}`].join('\n');
   } catch (refused) {
-    return refused;
+    return `! ${refused.message}`;
   }
 }
 
 const answers = explains ? tags.map(explained) : registry.canonicalMany(tags);
-process.stdout.write(answers.map((answer) => (typeof answer === 'string' ? answer : `! ${answer.message}`) + '\n').join(''));
+process.stdout.write(answers.map((answer) => `${answer}\n`).join(''));

@@ -4,8 +4,9 @@ import { createHash } from 'node:crypto';
 import { readFileSync } from 'node:fs';
 import { createRequire } from 'node:module';
 import { test } from 'node:test';
+import { inspect } from 'node:util';
 import { Worker } from 'node:worker_threads';
-import { Refused, RefusedRegistry, RefusedTag, RefusedTrace, RefusedUpgrade, Registry, Tag, version } from '../index.mjs';
+import { Refusal, Refused, RefusedRegistry, RefusedTag, Registry, Tag, version } from '../index.mjs';
 
 const sample = new URL('../../../examples/sample-registry.txt', import.meta.url);
 const registry = Registry.fromFile(sample);
@@ -40,6 +41,25 @@ test('ranges match', () => {
   assert.throws(() => registry.matches(undefined, 'en'), TypeError);
 });
 
+test('refusals in a list are answers', () => {
+  const repeats = 'ja-Latn-hepburn-alalc97-heploc';
+  const [bad, repeated] = registry.canonicalMany(['en_US', repeats]);
+  assert.ok(bad instanceof Refusal && !(bad instanceof Error) && bad.stack === undefined);
+  assert.deepEqual({ ...bad }, { status: 'NotATag', fault: 'BadByte', place: 1, tag: 'en_US' });
+  assert.deepEqual([`${bad}`, bad.message, repeated.message, repeated.variant], ['! BadByte 1', 'BadByte 1', 'ReplacementRepeats alalc97', 'alalc97']);
+  assert.ok(bad.help.includes('hyphen') && repeated.help.includes('repeat the variant'));
+});
+
+test('a refusal crosses to another thread by its cause', () => {
+  const sent = structuredClone(new RefusedTag(registry.canonicalMany(['en_US'])[0]));
+  assert.deepEqual([sent.message, { ...sent.cause }], ['BadByte 1', { status: 'NotATag', fault: 'BadByte', place: 1, tag: 'en_US' }]);
+});
+
+test('a refusal keeps no more of a text than a tag can have', () => {
+  assert.throws(() => registry.canonical('a'.repeat(100_000_000)), ({ tag }) => tag === 'a'.repeat(1024));
+  assert.equal(registry.canonicalMany(['a'.repeat(1025)])[0].tag.length, 1024);
+});
+
 test('the longest text has room', () => {
   const numbers = Array.from({ length: 204 }, (_, n) => String(n).padStart(3, '0'));
   const records = numbers.map((n) => `%%\nType: variant\nSubtag: 1${n}\nPreferred-Value: value${n}\n%%\nType: variant\nSubtag: value${n}\n`);
@@ -64,6 +84,8 @@ test('refusals say why', () => {
   for (const wrong of [null, undefined, 7, {}, ['en']]) assert.throws(() => registry.canonical(wrong), TypeError);
   assert.throws(() => new Registry(Buffer.from('no registry\n')), (error) =>
     error instanceof RefusedRegistry && error.message === 'jar BadLine line 1');
+  for (const empty of ['', 'File-Date: 2000-01-01\n'])
+    assert.throws(() => new Registry(Buffer.from(empty)), { name: 'RefusedRegistry', message: 'NoEntries', fault: 'NoEntries', place: 0 });
   assert.throws(() => new Registry('text'), TypeError);
   assert.throws(() => new Registry(new Uint16Array(8)), TypeError);
   assert.throws(() => Registry.fromFile('/no/such/file'), { code: 'ENOENT' });
@@ -82,46 +104,14 @@ test('explanations', () => {
   for (const wrong of [NaN, 'a', null]) assert.throws(() => registry.explain('sgn-dd', wrong), TypeError);
 });
 
-test('explanations are verified', () => {
-  const { steps, canonical } = registry.explain('sgn-dd');
-  const [first, second] = steps;
-  registry.verify('sgn-dd', steps, canonical);
-  registry.verify(new Tag('sgn-dd'), steps, new Tag('GSG'));
-  registry.verify('sgn-dd', new Set([first]));
-  registry.verify('en', []);
-  const judged = (tag, all, last) => {
-    try {
-      registry.verify(tag, all, last);
-    } catch (refused) {
-      return `${refused.name} ${refused.message}/${refused.status} ${refused.fault} ${refused.place} ${refused.tag}`;
-    }
-    return 'ok';
-  };
-  for (const wrong of [{ number: 43 }, { place: 2 }, { place: -1 }, { place: 2 ** 32 + 1 }, { place: '1' }, { number: 44.5 }, { number: NaN },
-    { kind: 'Region' }, { kind: 'whole' }, { kind: '' }, { kind: undefined }])
-    assert.equal(judged('sgn-dd', [first, { ...second, ...wrong }]), 'RefusedTrace NoSuchStep 2/NoSuchStep NoSuchStep 2 undefined');
-  assert.equal(judged('sgn-dd', [second]), 'RefusedTrace NoSuchStep 1/NoSuchStep NoSuchStep 1 undefined');
-  assert.equal(judged('sgn-dd', [first, second, second]), 'RefusedTrace NoSuchStep 3/NoSuchStep NoSuchStep 3 undefined');
-  assert.equal(judged('sgn-dd', [first], 'gsg'), 'RefusedTrace WrongEnd/WrongEnd WrongEnd 0 undefined');
-  assert.equal(judged('en', [], 'de'), 'RefusedTrace WrongEnd/WrongEnd WrongEnd 0 undefined');
-  assert.equal(judged('xx', steps), 'RefusedTag UnknownLanguage 1/Invalid UnknownLanguage 1 xx');
-  assert.equal(judged('e_n', [], 'e_n'), 'RefusedTag BadByte 1/NotATag BadByte 1 e_n');
-  assert.equal(judged('sgn-dd', steps, 'gsg-'), 'RefusedTag EmptySubtag 2/NotATag EmptySubtag 2 gsg-');
-  assert.equal(judged('en', Array(100000).fill(first)), 'RefusedTrace NoSuchStep 1/NoSuchStep NoSuchStep 1 undefined');
-  assert.throws(() => registry.verify('en', [], 'de'), (error) =>
-    error instanceof RefusedTrace && error instanceof Refused && error.help.length > 10);
-  for (const wrong of [null, undefined, 7, registry.explain('sgn-dd'), [null], [{ kind: 'Region', place: 2, number: 27 }]])
-    assert.throws(() => registry.verify('sgn-dd', wrong), TypeError);
-  assert.throws(() => registry.verify(7, steps), TypeError);
-  assert.throws(() => registry.verify('en', [], 7), TypeError);
-});
-
-test('a long explanation', () => {
-  const tag = `en-u-${Array.from({ length: 60 }, (_, i) => `z${String(60 - i).padStart(2, '0')}`).join('-')}`;
-  const { steps, canonical } = registry.explain(tag);
-  assert.equal(steps.length, (60 * 59) / 2);
-  assert.equal(canonical, registry.canonical(tag));
-  registry.verify(tag, steps, canonical);
+test('what records say', () => {
+  const own = new Registry(Buffer.from('File-Date: 2000-01-01\n%%\nType: language\nSubtag: nb\nDescription: Norsk bokmål\nAdded: 2005-10-16\n'));
+  assert.deepEqual(own.show('nb-Zzyx'), [
+    { place: 1, kind: 'Language', text: 'nb', listing: 'Record', record: 2, fields: [{ name: 'Description', body: 'Norsk bokmål' }] },
+    { place: 2, kind: 'Script', text: 'Zzyx', listing: 'Unregistered', record: null, fields: [] },
+  ]);
+  assert.throws(() => own.show('en_US'), { message: 'BadByte 1' });
+  own.close();
 });
 
 test('tags', () => {
@@ -134,11 +124,31 @@ test('tags', () => {
   assert.throws(() => new Tag('e'), RefusedTag);
 });
 
-test('upgrades, and which registry it is', () => {
-  const other = new Registry(Buffer.from('File-Date: 2000-01-01\n'));
-  registry.upgradeCheck(registry);
-  assert.throws(() => registry.upgradeCheck(other), (error) => error instanceof RefusedUpgrade && error.fault === 'U1' && error.message === 'U1 2');
-  assert.throws(() => registry.upgradeCheck('registry'), TypeError);
+test('tags are seen, compared and sent by their texts', () => {
+  const tag = new Tag('zh-hant');
+  assert.throws(() => assert.deepStrictEqual(new Tag('en'), new Tag('de')));
+  assert.deepStrictEqual(new Tag('EN'), new Tag('en'));
+  assert.equal(inspect({ tag }), "{ tag: Tag 'zh-Hant' }");
+  assert.deepEqual(structuredClone(tag), { text: 'zh-Hant' });
+  assert.throws(() => { tag.text = 'en'; }, TypeError);
+  assert.throws(() => { tag.parts[0].text = 'en'; }, TypeError);
+});
+
+test('parts by their kinds', () => {
+  const { language, extlangs, script, region, variants, privateUse } = new Tag('zh-yue-hant-hk-1994-x-own-1');
+  assert.deepEqual([language, extlangs, script, region, variants, privateUse], ['zh', ['yue'], 'Hant', 'HK', ['1994'], ['own', '1']]);
+  const none = new Tag('i-klingon');
+  assert.deepEqual([none.language, none.script, none.region, none.variants], [undefined, undefined, undefined, []]);
+});
+
+test('locales, in and out', () => {
+  assert.equal(registry.canonical(new Intl.Locale('iw')), 'he');
+  assert.equal(new Tag(new Intl.Locale('ZH-hant')).text, 'zh-Hant');
+  assert.equal(new Tag('zh-Hant-TW').toLocale().region, 'TW');
+  assert.throws(() => new Tag('x-own').toLocale(), RangeError);
+});
+
+test('which registry it is', () => {
   const content = readFileSync(sample);
   assert.deepEqual(registry.info, {
     fileDate: '2024-01-01', entries: content.toString().split('%%').length - 1,
@@ -151,8 +161,11 @@ test('a registry that is closed', () => {
   const own = Registry.fromFile(sample);
   own.close();
   own.close();
-  for (const ask of [() => own.canonical('en'), () => own.explain('en'), () => own.verify('en', []), () => own.info, () => registry.upgradeCheck(own)])
+  for (const ask of [() => own.canonical('en'), () => own.canonicalMany(['en']), () => own.explain('en'), () => own.show('en'), () => own.matches('en', 'en'), () => own.info])
     assert.throws(ask, { name: 'TypeError', message: 'the registry is closed' });
+  const closing = Registry.fromFile(sample);
+  const tags = function* () { yield 'en'; closing.close(); yield 'de'; };
+  assert.throws(() => closing.canonicalMany(tags()), { name: 'TypeError', message: 'the registry is closed' });
 });
 
 test('registries that nobody holds are collected before they are many', async () => {
@@ -168,12 +181,11 @@ test('registries that nobody holds are collected before they are many', async ()
 });
 
 test('memory that runs out is no answer', () => {
-  const native = createRequire(import.meta.url)('../bcp47.node');
+  const native = createRequire(import.meta.url)('../native.js');
   const calls = { ...native };
-  const tag = new Tag('en');
-  for (const call of ['canonical', 'validate', 'parts']) native[call] = () => [4, 0, 0, '', 0];
+  for (const call of ['canonical', 'validate', 'parts']) native[call] = () => 4;
   try {
-    for (const call of [() => registry.canonicalMany(['en']), () => registry.isValid('en'), () => tag.parts])
+    for (const call of [() => registry.canonicalMany(['en']), () => registry.isValid('en'), () => new Tag('en')])
       assert.throws(call, RangeError);
   } finally {
     Object.assign(native, calls);

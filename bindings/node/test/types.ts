@@ -1,22 +1,26 @@
 // The types of the package, by the compiler of TypeScript: each use has to compile, but those that are told to fail.
-import { Info, Refused, RefusedTag, RefusedTrace, Registry, Step, Tag, version } from 'bcp47';
+import { load } from 'bcp47/load';
+import { Fault, Info, Refusal, Refused, RefusedTag, Registry, Step, Tag, version } from 'bcp47';
 
 const registry: Registry = Registry.fromFile(new URL('file:///registry.txt'));
+const loaded: Promise<Registry> = load(fetch('bcp47.wasm')).then(({ Registry: Loaded }) => new Loaded(new Uint8Array()));
 const text: string = registry.canonical(new Tag('zh-yue'));
-const many: (string | RefusedTag | null)[] = registry.canonicalMany(new Set(['iw', null, undefined, new Tag(text)]));
-const { steps, canonical } = registry.explain('sgn-dd', 100);
+const many: (string | Refusal | null)[] = registry.canonicalMany(new Set(['iw', null, undefined, new Tag(text)]));
+const refusals: Refusal[] = many.filter((answer): answer is Refusal => answer instanceof Refusal);
+const bytes: boolean = refusals.some(({ fault }) => fault === 'BadByte');
+const { steps } = registry.explain('sgn-dd', 100);
+const names: string[] = registry.show('sgn-dd').flatMap(({ fields }) => fields.map(({ body }) => body));
 const step: Step | undefined = steps[0];
-registry.verify('sgn-dd', steps);
-registry.verify(new Tag('sgn-dd'), new Set(steps), canonical);
 const kinds: ('langtag' | 'privateuse' | 'grandfathered')[] = [new Tag('en').kind];
+const scripts: (string | undefined)[] = [new Tag('en').script, new Tag(new Intl.Locale('en')).toLocale().region];
 const info: Info = registry.info;
 const isOne: boolean = registry.isValid('en') || registry.equivalent('iw', new Tag('he'));
 const matched: boolean[] = [registry.matches('en', 'en'), registry.matches(new Tag('en'), new Tag('de'), 'lookup')];
 const parts: string[] = new Tag('en').parts.map(({ kind, text }) => kind + text);
 try {
-  new Registry(new Uint8Array(3)).upgradeCheck(registry);
+  new Registry(new Uint8Array(3));
 } catch (refused) {
-  if (refused instanceof RefusedTrace) throw refused as Refused;
+  if (refused instanceof Refused) console.log(refused.cause.help);
   if (refused instanceof RefusedTag) console.log(refused.place + 1, refused.fault.length, refused.variant?.length, version.length);
 }
 // @ts-expect-error
@@ -24,11 +28,12 @@ registry.canonical(7);
 // @ts-expect-error
 registry.matches('en', 'en', 'exact');
 // @ts-expect-error
-registry.verify('en');
-// @ts-expect-error
-registry.verify('en', registry.explain('en'));
-// @ts-expect-error
 info.entries = 3;
 // @ts-expect-error
+new Tag('en').text = 'de';
+// @ts-expect-error
 new Registry('text');
-export { isOne, kinds, many, matched, parts, step };
+// @ts-expect-error
+const wrong: Fault = 'BadBytes';
+export { loaded, names };
+export { bytes, isOne, kinds, matched, parts, scripts, step, wrong };

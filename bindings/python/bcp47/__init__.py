@@ -10,9 +10,11 @@ from __future__ import annotations
 
 import datetime
 import functools
+import importlib.resources
 import json
 import os
-from typing import Any, Dict, Iterable, List, Literal, NamedTuple, NoReturn, Optional, Tuple, Type, TypeVar, Union, overload
+from typing import (TYPE_CHECKING, Any, Dict, Iterable, List, Literal, NamedTuple, NoReturn, Optional, Tuple, Type, TypeVar, Union,
+                    overload)
 
 from . import _bcp47
 
@@ -22,12 +24,15 @@ __all__ = ["Explanation", "Info", "Part", "Refused", "RefusedRegistry", "Refused
 __version__: str = _bcp47.version
 
 _CLASSES = {1: "langtag", 2: "privateuse", 3: "grandfathered"}
-_REPEATS = 3
 _OF_EXTENSIONS = ("ExtensionSubtag", "Attribute", "Key", "Type", "SourceLanguage", "SourceExtlang", "SourceScript", "SourceRegion",
                   "SourceVariant", "Separator", "Value")
 _SCHEMES = {"basic": 1, "extended": 2, "lookup": 3}
+# What a Tag keeps of its parts, and the kinds of these.
+_ONE = (("language", "Language"), ("script", "Script"), ("region", "Region"))
+_MANY = (("extlangs", "Extlang"), ("variants", "Variant"), ("attributes", "Attribute"), ("private", "PrivateUse"))
 Missing = TypeVar("Missing")
 AnyTag = TypeVar("AnyTag", bound="Union[str, Tag]")
+AnyRegistry = TypeVar("AnyRegistry", bound="Registry")
 
 
 class Refused(ValueError):
@@ -57,13 +62,24 @@ class Refused(ValueError):
     def __str__(self) -> str:
         return str(self.args[0])
 
+    if not TYPE_CHECKING:
+        @property
+        def __notes__(self) -> List[str]:
+            """What Python from 3.11 on prints below the line of an exception that nobody caught."""
+            front = "".join(f"{tag[:80]!r}: " for tag in self.args[5:])
+            return self.__dict__.setdefault("_notes", [front + self.help])
+
 
 class RefusedTag(Refused):
     """A text is no tag or no language range, a tag is not valid, its replacements can repeat a variant, which `variant` names, or its
-    explanation has too many steps. `tag` is the text."""
+    explanation has too many steps. `tag` is the text, and the last of `args`."""
 
-    tag: Optional[str] = None
     variant: Optional[str] = None
+
+    @property
+    def tag(self) -> str:
+        """The text that is refused."""
+        return str(self.args[5])
 
 
 class RefusedRegistry(Refused):
@@ -76,9 +92,6 @@ class RefusedUpgrade(Refused):
 
 class RefusedTrace(Refused):
     """Steps do not lead from a tag to another: NoSuchStep, with the number of a step as the place, or WrongEnd."""
-
-
-_KINDS_OF_REFUSAL: Dict[str, Type[Refused]] = {it.__name__: it for it in (RefusedTag, RefusedRegistry, RefusedUpgrade, RefusedTrace)}
 
 
 class Step(NamedTuple):
@@ -127,27 +140,6 @@ class Info(NamedTuple):
     sha256: str
 
 
-# The names of statuses and of faults, with what to do.
-_STATUSES = tuple(_bcp47.names(number)[0:2] for number in range(17))
-_FAULTS = tuple(_bcp47.names(number)[2:4] for number in range(54))
-
-
-def _refusal(name: str, status: int, fault: int, place: int, text: Optional[str], tag: object) -> Refused:
-    """The exception for what the library answered."""
-    status_name, status_help = _STATUSES[status]
-    if fault:
-        fault_name, help = _FAULTS[fault]
-        refused = _KINDS_OF_REFUSAL[name](text or f"{fault_name} {place}", status_name, fault_name, place, help)
-    else:
-        line = f"{status_name} {text if status == _REPEATS else place or ''}".rstrip()
-        refused = _KINDS_OF_REFUSAL[name](line, status_name, status_name, place, status_help)
-    if isinstance(refused, RefusedTag):
-        refused.tag = str(tag)
-        if status == _REPEATS:
-            refused.variant = text
-    return refused
-
-
 # The number of each kind of step.
 _KINDS = {_bcp47.names(number)[4]: number for number in range(1, 15)}
 
@@ -165,14 +157,52 @@ class Tag:
     """A tag in conventional case, by no registry. It does not change. Two are equal exactly if their texts are, and in the
     order of these: `Registry.equivalent` compares meanings. Raises RefusedTag."""
 
-    __slots__ = ("kind", "_text")
+    __slots__ = {
+        "kind": "What it is: langtag, privateuse or grandfathered.",
+        "text": "Its text, which `str` gives too.",
+        "parts": "The parts, one for each subtag, in their order: joined by hyphens they are the text. A grandfathered tag is one part.",
+        "language": "The primary language (RFC 5646, 2.2.1); None for private use alone and for a grandfathered tag.",
+        "extlangs": "The extended languages (RFC 5646, 2.2.2).",
+        "script": "The script (RFC 5646, 2.2.3).",
+        "region": "The region (RFC 5646, 2.2.4).",
+        "variants": "The variants (RFC 5646, 2.2.5).",
+        "attributes": "The attributes of the `u` extension (RFC 6067, 2.1).",
+        "private": "The subtags of private use (RFC 5646, 2.2.7).",
+        "__weakref__": "For weakref.",
+    }
+    __match_args__ = ("text",)
     kind: str
-    _text: str
+    text: str
+    parts: Tuple[Part, ...]
+    language: Optional[str]
+    extlangs: Tuple[str, ...]
+    script: Optional[str]
+    region: Optional[str]
+    variants: Tuple[str, ...]
+    attributes: Tuple[str, ...]
+    private: Tuple[str, ...]
 
     def __init__(self, text: Union[str, Tag]) -> None:
         number, shown = _bcp47.classify(text)
         object.__setattr__(self, "kind", _CLASSES[number])
-        object.__setattr__(self, "_text", shown)
+        object.__setattr__(self, "text", shown)
+
+    if not TYPE_CHECKING:
+        def __getattr__(self, name: str) -> object:
+            """The parts are read when the first of them is asked for, and kept."""
+            if name in ("kind", "text") or name not in Tag.__slots__:
+                raise AttributeError(f"a Tag has no {name!r}")
+            parts = _bcp47.parts(self.text)
+            kept = {}
+            for kind, text in parts:
+                kept.setdefault(kind, []).append(text)
+            keep = object.__setattr__
+            keep(self, "parts", tuple(map(Part._make, parts)))
+            for slot, kind in _ONE:
+                keep(self, slot, kept.get(kind, (None,))[0])
+            for slot, kind in _MANY:
+                keep(self, slot, tuple(kept.get(kind, ())))
+            return object.__getattribute__(self, name)
 
     def __setattr__(self, name: str, value: object) -> NoReturn:
         raise AttributeError("a Tag does not change")
@@ -181,18 +211,7 @@ class Tag:
         raise AttributeError("a Tag does not change")
 
     def __reduce__(self) -> Tuple[Type[Tag], Tuple[str]]:
-        return Tag, (self._text,)
-
-    @property
-    def parts(self) -> Tuple[Part, ...]:
-        """The parts, one for each subtag, in their order: joined by hyphens they are the text. A grandfathered tag is one part."""
-        return tuple(Part(kind, text) for kind, text in _bcp47.parts(self._text))
-
-    def _all(self, kind: str) -> Tuple[str, ...]:
-        return tuple(part.text for part in self.parts if part.kind == kind)
-
-    def _one(self, kind: str) -> Optional[str]:
-        return next(iter(self._all(kind)), None)
+        return Tag, (self.text,)
 
     def _groups(self, begins: str, goes_on: Tuple[str, ...]) -> Dict[str, Tuple[str, ...]]:
         """The texts that follow each part of a kind. Of two that are alike the first counts."""
@@ -209,66 +228,31 @@ class Tag:
         return groups
 
     @property
-    def language(self) -> Optional[str]:
-        """The primary language (RFC 5646, 2.2.1); None for private use alone and for a grandfathered tag."""
-        return self._one("Language")
-
-    @property
-    def extlangs(self) -> Tuple[str, ...]:
-        """The extended languages (RFC 5646, 2.2.2)."""
-        return self._all("Extlang")
-
-    @property
-    def script(self) -> Optional[str]:
-        """The script (RFC 5646, 2.2.3)."""
-        return self._one("Script")
-
-    @property
-    def region(self) -> Optional[str]:
-        """The region (RFC 5646, 2.2.4)."""
-        return self._one("Region")
-
-    @property
-    def variants(self) -> Tuple[str, ...]:
-        """The variants (RFC 5646, 2.2.5)."""
-        return self._all("Variant")
-
-    @property
     def extensions(self) -> Dict[str, Tuple[str, ...]]:
         """The subtags of each extension, by its singleton (RFC 5646, 2.2.6)."""
         return self._groups("Singleton", _OF_EXTENSIONS)
-
-    @property
-    def attributes(self) -> Tuple[str, ...]:
-        """The attributes of the `u` extension (RFC 6067, 2.1)."""
-        return self._all("Attribute")
 
     @property
     def keywords(self) -> Dict[str, Tuple[str, ...]]:
         """The types of each key of the `u` extension (RFC 6067, 2.1). Of a key that occurs twice the first counts."""
         return self._groups("Key", ("Type",))
 
-    @property
-    def private(self) -> Tuple[str, ...]:
-        """The subtags of private use (RFC 5646, 2.2.7)."""
-        return self._all("PrivateUse")
-
     def __str__(self) -> str:
-        return self._text
+        return self.text
 
     def __repr__(self) -> str:
-        return f"Tag({self._text!r})"
+        return f"Tag({self.text!r})"
 
     def __eq__(self, other: object) -> bool:
-        return isinstance(other, Tag) and self._text == other._text
+        return isinstance(other, Tag) and self.text == other.text
 
     def __lt__(self, other: Tag) -> bool:
         if not isinstance(other, Tag):
             return NotImplemented
-        return self._text < other._text
+        return self.text < other.text
 
     def __hash__(self) -> int:
-        return hash(self._text)
+        return hash(self.text)
 
 
 def _listed(tags: Iterable[Missing]) -> Iterable[Missing]:
@@ -280,22 +264,27 @@ def _listed(tags: Iterable[Missing]) -> Iterable[Missing]:
 class Registry(_bcp47.Registry):
     """A registry that passes the check. Any number of threads may ask it at once. Raises RefusedTag where a tag is refused."""
 
-    __slots__ = ()
+    __slots__ = ("__weakref__",)
 
     @classmethod
-    def from_bytes(cls, content: Union[bytes, bytearray, memoryview]) -> Registry:
+    def from_bytes(cls: Type[AnyRegistry], content: Union[bytes, bytearray, memoryview]) -> AnyRegistry:
         """The registry whose text the bytes are. Raises RefusedRegistry where they are none."""
         if not isinstance(content, (bytes, bytearray, memoryview)):
             raise TypeError(f"a registry is read from bytes, not from {type(content).__name__}")
         return _bcp47.open(cls, bytes(content))
 
     @classmethod
-    def from_file(cls, path: Union[str, os.PathLike[str]]) -> Registry:
+    def from_file(cls: Type[AnyRegistry], path: Union[str, os.PathLike[str]]) -> AnyRegistry:
         """The registry of a file. Raises OSError where it can't be read, and RefusedRegistry."""
         with open(path, "rb") as file:
             return cls.from_bytes(file.read())
 
-    def __enter__(self) -> Registry:
+    @classmethod
+    def bundled(cls: Type[AnyRegistry]) -> AnyRegistry:
+        """The registry of IANA's that the package bcp47-registry has. Raises ModuleNotFoundError where that is not installed."""
+        return cls.from_bytes(importlib.resources.files("bcp47_registry").joinpath("registry.txt").read_bytes())
+
+    def __enter__(self: AnyRegistry) -> AnyRegistry:
         if self.closed:
             raise ValueError("the registry is closed")
         return self
@@ -335,14 +324,6 @@ class Registry(_bcp47.Registry):
         "BadByte 1", with None where there is no fault."""
         columns: Tuple[List[Optional[str]], List[Optional[str]]] = self._answer_many(_listed(tags), missing, True)
         return columns
-
-    def is_valid(self, tag: Union[str, Tag]) -> bool:
-        """Whether a text is a tag that is valid (RFC 5646, 2.2.9)."""
-        try:
-            self.validate(tag)
-        except RefusedTag:
-            return False
-        return True
 
     def matches(self, range: Union[str, Tag], tag: Union[str, Tag],
                 scheme: Literal["basic", "extended", "lookup"] = "extended") -> bool:
@@ -408,9 +389,7 @@ class Registry(_bcp47.Registry):
 
     def upgrade_check(self, newer: Registry) -> None:
         """Returns where a newer registry keeps what this one promised. Raises RefusedUpgrade where it does not."""
-        if not isinstance(newer, Registry):
-            raise TypeError(f"a registry is a Registry, not {type(newer).__name__}")
         self._upgrade_to(newer)
 
 
-_bcp47.setup(_refusal, Tag)
+_bcp47.setup((RefusedTag, RefusedRegistry, RefusedUpgrade, RefusedTrace, Tag, _bcp47.Registry, {}))

@@ -70,4 +70,5 @@ def main() -> None:
         words.command.error(str(error))
 
 
-main()
+if __name__ == "__main__":
+    main()

@@ -7,10 +7,11 @@ import operator
 import re
 from typing import Callable, Dict, List, NamedTuple, Optional, Sequence, TypeVar
 
-from . import _FAULTS, _STATUSES, Registry
+from . import Registry, _bcp47
 
 LONGEST = 200
-HELPS = {**dict(_STATUSES + _FAULTS), "NoColumn": "The row has too few fields: name another column, or mend the row."}
+HELPS = {name: help for number in range(64) for name, help in (_bcp47.names(number)[:2], _bcp47.names(number)[2:4])}
+HELPS = {**HELPS, "NoColumn": "The row has too few fields: name another column, or mend the row."}
 STYLE = """
 :root {--ink: #1a1a1a; --page: #fff; --line: #999; --bar: #2b6cb0}
 @media screen {:root {color-scheme: light dark}}

@@ -197,7 +197,7 @@ class Calls(unittest.TestCase):
         self.assertIsNone(self.registry.upgrade_check(self.registry))
         self.assertIsNone(self.registry.upgrade_check(bcp47.Registry.from_file(SAMPLE)))
         with self.assertRaises(bcp47.RefusedUpgrade) as raised:
-            self.registry.upgrade_check(bcp47.Registry.from_bytes(b"File-Date: 2000-01-01\n"))
+            self.registry.upgrade_check(bcp47.Registry.from_bytes(b"File-Date: 2000-01-01\n%%\nType: language\nSubtag: en\n"))
         self.assertEqual((str(raised.exception), raised.exception.fault, raised.exception.status), ("U1 2", "U1", "NoUpgrade"))
 
     def test_threads(self):

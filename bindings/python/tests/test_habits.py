@@ -2,6 +2,7 @@
 and names of tests, if not all are wanted."""
 import concurrent.futures
 import copy
+import decimal
 import gc
 import importlib
 import math
@@ -12,13 +13,14 @@ import signal
 import sys
 import threading
 import time
+import traceback
 import unittest
 import warnings
+import weakref
 
 import bcp47
 
-# (from 3.12 on a module of this kind is for the first interpreter alone)
-interpreters = importlib.import_module("_xxsubinterpreters") if sys.version_info < (3, 12) else None
+interpreters = importlib.import_module("_xxsubinterpreters" if sys.version_info < (3, 13) else "_interpreters")
 
 SAMPLE = sys.argv[1]
 registry = bcp47.Registry.from_file(SAMPLE)
@@ -54,7 +56,7 @@ class Copies(unittest.TestCase):
     def test_each_exception_is_copied(self):
         raised = []
         for call in (lambda: registry.canonical("en_US"), lambda: bcp47.Registry.from_bytes(b"\xff"),
-                     lambda: registry.upgrade_check(bcp47.Registry.from_bytes(b"File-Date: 2000-01-01\n")),
+                     lambda: registry.upgrade_check(bcp47.Registry.from_bytes(b"File-Date: 2000-01-01\n%%\nType: language\nSubtag: en\n")),
                      lambda: registry.verify("sgn-dd", [bcp47.Step("Whole", 1, 44, "gsg")])):
             with self.assertRaises(bcp47.Refused) as caught:
                 call()
@@ -109,6 +111,64 @@ class Parts(unittest.TestCase):
         for wrong in ("e", "en_US"):
             self.assertRaises(bcp47.RefusedTag, bcp47._bcp47.parts, wrong)
         self.assertRaises(TypeError, bcp47._bcp47.parts, 7)
+        self.assertIs(tag.parts, tag.parts)
+        for name in ("regions", "_text", "__wrapped__"):
+            self.assertFalse(hasattr(tag, name))
+        self.assertFalse(hasattr(bcp47.Tag.__new__(bcp47.Tag), "text"))
+
+    def test_in_a_pattern_and_by_a_weak_reference(self):
+        tag = bcp47.Tag("en-us")
+        if sys.version_info >= (3, 10):
+            told = {}
+            exec("match tag:\n    case bcp47.Tag('en-US'): found = True", {"tag": tag, "bcp47": bcp47}, told)
+            self.assertEqual(told, {"found": True})
+        for it in (tag, bcp47.Registry.from_file(SAMPLE)):
+            self.assertIs(weakref.ref(it)(), it)
+
+
+class Refusals(unittest.TestCase):
+    def test_what_a_log_has(self):
+        with self.assertRaises(bcp47.RefusedTag) as caught:
+            registry.canonical("en_US")
+        help = caught.exception.help
+        self.assertEqual(caught.exception.__notes__, [f"'en_US': {help}"])
+        if sys.version_info >= (3, 11):
+            caught.exception.add_note("row 7")
+            self.assertEqual(traceback.format_exception_only(caught.exception), ["bcp47.RefusedTag: BadByte 1\n", f"'en_US': {help}\n", "row 7\n"])
+        with self.assertRaises(bcp47.RefusedRegistry) as caught:
+            bcp47.Registry.from_bytes(b"")
+        self.assertEqual((str(caught.exception), caught.exception.status), ("NoEntries", "NoEntries"))
+        self.assertEqual(caught.exception.__notes__, [caught.exception.help])
+
+    def test_in_a_list_they_have_no_trace(self):
+        one, other = registry.canonical_many(["en_US", "de_DE"])
+        self.assertEqual((one.__traceback__, one.tag, other.tag, one.args[:5]), (None, "en_US", "de_DE", other.args[:5]))
+        self.assertEqual(one.args[:4], ("BadByte 1", "NotATag", "BadByte", 1))
+        for tag in (bcp47.Tag("xx"), type("Text", (str,), {})("xx")):
+            self.assertEqual([(type(it.tag), it.tag) for it in registry.canonical_many([tag])], [(str, "xx")])
+
+    def test_what_only_says_that_it_is_a_registry(self):
+        class Proxy:
+            __slots__ = ("one", "other")
+            __class__ = property(lambda self: bcp47.Registry)
+
+        proxy = Proxy()
+        proxy.one = proxy.other = registry
+        self.assertIsInstance(proxy, bcp47.Registry)
+        for wrong in (proxy, None, bcp47.Registry):
+            self.assertRaises(TypeError, registry.upgrade_check, wrong)
+        self.assertIs(proxy.other, registry)
+        for kind in (int, proxy, bcp47.Tag):
+            self.assertRaises(TypeError, bcp47._bcp47.open, kind, b"")
+        self.assertRaises(TypeError, bcp47._bcp47.setup, (1,))
+
+    def test_a_registry_of_a_class_of_its_own(self):
+        class Mine(bcp47.Registry):
+            pass
+
+        with Mine.from_file(SAMPLE) as mine:
+            self.assertEqual((type(mine), mine.canonical("iw")), (Mine, "he"))
+            mine.upgrade_check(registry)
 
 
 class Processes(unittest.TestCase):
@@ -149,11 +209,12 @@ class Processes(unittest.TestCase):
 
 
 class Interpreters(unittest.TestCase):
-    @unittest.skipUnless(interpreters, "this Python makes no further interpreters")
+    """From 3.12 on they have a lock of their own."""
+
     def test_another_has_a_package_of_its_own(self):
         other = interpreters.create()
         lines = f"import sys; sys.path[:] = {sys.path!r}; import bcp47; r = bcp47.Registry.from_file({SAMPLE!r}); "
-        interpreters.run_string(other, lines + "assert not r.is_valid('xx') and r.canonical(bcp47.Tag('iw')) == 'he'")
+        self.assertIsNone(interpreters.run_string(other, lines + "assert not r.is_valid('xx') and r.canonical(bcp47.Tag('iw')) == 'he'"))
         self.assertFalse(registry.is_valid("xx"))
         self.assertEqual(registry.canonical(bcp47.Tag("iw")), "he")
         interpreters.destroy(other)
@@ -260,6 +321,10 @@ class Columns(unittest.TestCase):
             self.assertRaises(TypeError, call, "en", 7)
             self.assertRaises(TypeError, call, 7, "en")
         self.assertEqual(registry.canonical_columns(iter([])), ([], []))
+        NAType = type("NAType", (), {"__ne__": lambda self, other: self, "__bool__": lambda self: [][self]})
+        self.assertEqual(registry.canonical_many([NAType(), decimal.Decimal("nan")]), [None, None])
+        self.assertRaises(TypeError, registry.canonical_many, [type("Other", (NAType,), {})()])
+        self.assertRaises(ZeroDivisionError, registry.canonical_many, [type("Wrong", (), {"__ne__": lambda self, other: 1 // 0})()])
         for wrong in (1, b"en", 1.5, ["en"]):
             self.assertRaises(TypeError, registry.canonical_many, [wrong])
         for wrong in ("zh-yue", b"zh", bcp47.Tag("zh"), 7, None):
@@ -292,6 +357,9 @@ class Columns(unittest.TestCase):
             import pandas
         except ImportError:
             self.skipTest("there is no pandas")
+        import numpy
+
+        self.assertEqual(registry.canonical_many([numpy.float32("nan"), numpy.datetime64("NaT"), pandas.NA, pandas.NaT]), [None] * 4)
         frame = pandas.DataFrame({"tag": ["zh-yue", None, pandas.NA, pandas.NaT, "en_US"] * 200_000})
         frame["canonical"], frame["fault"] = registry.canonical_columns(frame["tag"])
         self.assertEqual(frame["canonical"][:5].tolist(), ["yue", None, None, None, None])
@@ -357,7 +425,8 @@ class Growths(unittest.TestCase):
             (lambda: registry.canonical_many(["iw", None, tag]), ["he", None, "yue"]),
             (lambda: registry.canonical_columns(["e_n", "iw"]), ([None, "he"], ["BadByte 1", None])),
             (lambda: registry._show_rows("x-a"), registry._show_rows("x-a")),
-            (lambda: bcp47.Registry.from_bytes(b"").info.entries, 0),
+            (lambda: bcp47.Registry.from_bytes(b"Type: language\nSubtag: en").info.entries, 1), (lambda: tag.region, None),
+            (lambda: str(registry.canonical_many(["e_n", "xx"])[1]), "UnknownLanguage 1"),
         ]
         refused = 0
         for place, (call, wanted) in enumerate(calls):
@@ -383,14 +452,14 @@ class Facts(unittest.TestCase):
         self.assertEqual(info.entries, content.count(b"%%"))
         self.assertEqual(f"File-Date: {info.file_date}\n", content.decode().splitlines(True)[0])
         self.assertIn(str(info.file_date), repr(registry))
-        empty = bcp47.Registry.from_bytes(b"")
-        self.assertEqual((empty.info.entries, empty.info.file_date), (0, None))
+        undated = bcp47.Registry.from_bytes(b"Type: language\nSubtag: en")
+        self.assertEqual((undated.info.entries, undated.info.file_date), (1, None))
         for day in ("2025-02-30", "0000-00-00", "2025-05-151"):
-            other = bcp47.Registry.from_bytes(f"File-Date: {day}\n".encode())
-            self.assertEqual((other.info.file_date, repr(other)), (None, "<bcp47.Registry of None, 0 entries>"))
-        empty.close()
-        self.assertRaises(ValueError, lambda: empty.info)
-        self.assertIn("closed", repr(empty))
+            other = bcp47.Registry.from_bytes(f"File-Date: {day}\n%%\nType: language\nSubtag: en\n".encode())
+            self.assertEqual((other.info.file_date, repr(other)), (None, "<bcp47.Registry of None, 1 entries>"))
+        undated.close()
+        self.assertRaises(ValueError, lambda: undated.info)
+        self.assertIn("closed", repr(undated))
 
     def test_replacements_that_repeat(self):
         records = ("Type: language\nSubtag: ja", "Type: variant\nSubtag: alalc97", "Type: variant\nSubtag: heploc\nPreferred-Value: alalc97")

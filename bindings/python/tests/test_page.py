@@ -4,6 +4,7 @@ import contextlib
 import hashlib
 import html.parser
 import http.client
+import importlib
 import io
 import re
 import shutil
@@ -127,6 +128,12 @@ class Seen:
         self.facts = [[(it.tag, it.text) for it in those] for those in self.root.iter("dl")]
         self.tables = {table.find("caption").text: [["".join(cell.itertext()) for cell in row] for row in table.iter("tr")]
                        for table in self.root.iter("table")}
+
+
+class Imported(unittest.TestCase):
+    def test_the_command_is_imported(self):
+        """Tools that look for modules import each: nothing runs then."""
+        self.assertTrue(callable(importlib.import_module("bcp47.__main__").main))
 
 
 class Fields(unittest.TestCase):

@@ -44,6 +44,34 @@ class Wheels(unittest.TestCase):
         package.build_wheel(self.path)
         self.assertEqual((self.path / name).read_bytes(), content)
 
+    def test_the_registry(self):
+        names = [package.build_wheel(self.path), package.build_registry(self.path)]
+        self.assertEqual(names[1], "bcp47_registry-2025.5.15-py3-none-any.whl")
+        place = self.path / "packages"
+        pip = [sys.executable, "-m", "pip", "install", "-q", "--no-index", "--root-user-action=ignore", "--target", str(place)]
+        ask = [sys.executable, "-c", "import bcp47; print(bcp47.Registry.bundled().canonical('zh-yue'))"]
+        surroundings = {**os.environ, "PYTHONPATH": str(place)}
+        subprocess.run([*pip, names[0]], check=True, cwd=self.path)
+        none = subprocess.run(ask, env=surroundings, cwd=self.path, capture_output=True, text=True)
+        self.assertIn("ModuleNotFoundError: No module named 'bcp47_registry'", none.stderr)
+        subprocess.run([*pip, "--upgrade", names[1]], check=True, cwd=self.path)
+        self.assertEqual(subprocess.run(ask, env=surroundings, cwd=self.path, check=True, capture_output=True, text=True).stdout, "yue\n")
+
+    def test_editable(self):
+        """What is imported are the sources, beside which the extension module is."""
+        made = Path(package.HERE) / "bcp47" / "_bcp47.abi3.so"
+        self.addCleanup(made.unlink, missing_ok=True)
+        name = package.build_editable(self.path)
+        with zipfile.ZipFile(self.path / name) as wheel:
+            self.assertEqual(wheel.read("bcp47.pth").decode(), f"{package.HERE}\n")
+            self.assertNotIn("bcp47/__init__.py", wheel.namelist())
+        words = [sys.executable, "-m", "pip", "install", "-q", "--no-index", "--no-deps", "--root-user-action=ignore", "--target", str(self.path / "to"),
+                 "-e", str(package.HERE)]
+        subprocess.run(words, check=True)
+        lines = f"import site; site.addsitedir({str(self.path / 'to')!r}); import bcp47, bcp47.__main__; print(bcp47.__file__)"
+        told = subprocess.run([sys.executable, "-S", "-c", lines], check=True, text=True, stdout=subprocess.PIPE, env={"PATH": os.environ["PATH"]}).stdout
+        self.assertEqual(Path(told.strip()).resolve(), package.HERE / "bcp47" / "__init__.py")
+
     def test_sources(self):
         name = package.build_sdist(self.path)
         content = (self.path / name).read_bytes()

@@ -1,35 +1,58 @@
-//! Finds libbcp47: in the folder that BCP47_LIB_DIR names, in the repository's build/, or by the linker's own search.
+//! Finds libbcp47: in the folder that BCP47_LIB_DIR names, in this crate, in the repository's build/, by pkg-config, or by the linker's
+//! own search.
 use std::env;
 use std::path::{Path, PathBuf};
+use std::process::{self, Command};
 
 fn main() {
     println!("cargo:rerun-if-env-changed=BCP47_LIB_DIR");
     let here = PathBuf::from(env::var_os("CARGO_MANIFEST_DIR").expect("cargo sets it"));
-    let built = here.join("../../../build");
-    if here.join("../../c").is_dir() {
-        // in the repository: a library that is built there after this ran is looked for again
-        println!(
-            "cargo:rerun-if-changed={}",
-            built.join("libbcp47.a").display()
-        );
+    let target = env::var("TARGET").expect("cargo sets it");
+    if let Some(named) = env::var_os("BCP47_LIB_DIR").map(PathBuf::from) {
+        if !links(&named) {
+            eprintln!(
+                "BCP47_LIB_DIR is {}, which has no libbcp47.a and no libbcp47.so",
+                named.display()
+            );
+            process::exit(1);
+        }
+        return;
     }
-    let named = env::var_os("BCP47_LIB_DIR").map(PathBuf::from);
-    let folder = named.or_else(|| has_library(&built).then_some(built));
-    if let Some(folder) = &folder {
-        println!(
-            "cargo:rerun-if-changed={}",
-            folder.join("libbcp47.a").display()
-        );
-        println!("cargo:rustc-link-search=native={}", folder.display());
-    }
-    let kind = if folder.as_deref().is_some_and(has_library) {
-        "static"
-    } else {
-        "dylib"
+    let built = match target.as_str() {
+        "aarch64-unknown-linux-gnu" => "../../../build/aarch64",
+        _ => "../../../build",
     };
-    println!("cargo:rustc-link-lib={kind}=bcp47");
+    if links(&here.join("lib").join(&target))
+        || here.join("../../c").is_dir() && links(&here.join(built))
+    {
+        return;
+    }
+    println!("cargo:rustc-link-lib=dylib=bcp47");
+    let asked = Command::new("pkg-config")
+        .args(["--atleast-version=1.1.0", "--variable=libdir", "bcp47"])
+        .output();
+    match asked {
+        Ok(answer) if answer.status.success() => {
+            println!("cargo:rustc-link-search=native={}", String::from_utf8_lossy(&answer.stdout).trim());
+        }
+        _ => println!(
+            "cargo:warning=libbcp47 is neither here nor known to pkg-config: unless the linker finds it, name its folder by BCP47_LIB_DIR"
+        ),
+    }
 }
 
-fn has_library(folder: &Path) -> bool {
-    folder.join("libbcp47.a").exists()
+/// Links the library of a folder, if there is one, and looks again when it changes.
+fn links(folder: &Path) -> bool {
+    println!(
+        "cargo:rerun-if-changed={}",
+        folder.join("libbcp47.a").display()
+    );
+    let kind = match ["libbcp47.a", "libbcp47.so"].map(|file| folder.join(file).exists()) {
+        [true, _] => "static",
+        [_, true] => "dylib",
+        _ => return false,
+    };
+    println!("cargo:rustc-link-search=native={}", folder.display());
+    println!("cargo:rustc-link-lib={kind}=bcp47");
+    true
 }

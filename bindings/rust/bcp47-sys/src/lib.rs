@@ -1,17 +1,16 @@
 // SPDX-License-Identifier: MIT OR Apache-2.0
 //! The calls of `bcp47.h`, which says what each does. The crate `bcp47` is the safe way to them.
+// Written by tools/describe.py of bindings/c/bcp47.h.
 #![no_std]
 #![allow(non_camel_case_types)]
 
 use core::ffi::{c_char, c_int, c_void};
 
-/// A registry that is open.
 #[repr(C)]
 pub struct bcp47_registry {
     _opaque: [u8; 0],
 }
 
-/// What a call answers beside the text that it writes.
 #[repr(C)]
 #[derive(Clone, Copy, Debug, Default, PartialEq, Eq)]
 pub struct bcp47_outcome {
@@ -23,27 +22,24 @@ pub struct bcp47_outcome {
     pub reserved: c_int,
 }
 
-/// A step of an explanation.
 #[repr(C)]
-#[derive(Clone, Copy, Debug, PartialEq, Eq)]
+#[derive(Clone, Copy, Debug, Default, PartialEq, Eq)]
 pub struct bcp47_step {
     pub kind: u8,
     pub place: u32,
     pub number: u32,
 }
 
-/// A part of a tag, and where it is in the text.
 #[repr(C)]
-#[derive(Clone, Copy, Debug, PartialEq, Eq)]
+#[derive(Clone, Copy, Debug, Default, PartialEq, Eq)]
 pub struct bcp47_part {
     pub kind: u8,
     pub start: usize,
     pub length: usize,
 }
 
-/// What a registry is.
 #[repr(C)]
-#[derive(Clone, Copy, Debug)]
+#[derive(Clone, Copy, Debug, Default, PartialEq, Eq)]
 pub struct bcp47_info {
     pub entries: usize,
     pub sha256: [u8; 32],
@@ -67,9 +63,49 @@ pub const BCP47_NOT_OPEN: c_int = 13;
 pub const BCP47_BAD_CALL: c_int = 14;
 pub const BCP47_BUSY: c_int = 15;
 pub const BCP47_TOO_MANY_STEPS: c_int = 16;
-/// Room for the parts of any tag.
+pub const BCP47_NO_ENTRIES: c_int = 17;
+pub const BCP47_LANGTAG: c_int = 1;
+pub const BCP47_PRIVATE_USE: c_int = 2;
+pub const BCP47_GRANDFATHERED: c_int = 3;
+pub const BCP47_BASIC: c_int = 1;
+pub const BCP47_EXTENDED: c_int = 2;
+pub const BCP47_LOOKUP: c_int = 3;
+pub const BCP47_EXTLANG: c_int = 1;
+pub const BCP47_LANGUAGE: c_int = 2;
+pub const BCP47_SCRIPT: c_int = 3;
+pub const BCP47_REGION: c_int = 4;
+pub const BCP47_VARIANT: c_int = 5;
+pub const BCP47_VARIANT_LANGUAGE: c_int = 6;
+pub const BCP47_WHOLE: c_int = 7;
+pub const BCP47_SWAP_EXTENSIONS: c_int = 8;
+pub const BCP47_DROP_ATTRIBUTE: c_int = 9;
+pub const BCP47_SWAP_ATTRIBUTES: c_int = 10;
+pub const BCP47_DROP_KEYWORD: c_int = 11;
+pub const BCP47_SWAP_KEYWORDS: c_int = 12;
+pub const BCP47_DROP_TRUE: c_int = 13;
+pub const BCP47_SWAP_FIELDS: c_int = 14;
+pub const BCP47_PART_LANGUAGE: c_int = 1;
+pub const BCP47_PART_EXTLANG: c_int = 2;
+pub const BCP47_PART_SCRIPT: c_int = 3;
+pub const BCP47_PART_REGION: c_int = 4;
+pub const BCP47_PART_VARIANT: c_int = 5;
+pub const BCP47_PART_SINGLETON: c_int = 6;
+pub const BCP47_PART_EXTENSION_SUBTAG: c_int = 7;
+pub const BCP47_PART_ATTRIBUTE: c_int = 8;
+pub const BCP47_PART_KEY: c_int = 9;
+pub const BCP47_PART_TYPE: c_int = 10;
+pub const BCP47_PART_SOURCE_LANGUAGE: c_int = 11;
+pub const BCP47_PART_SOURCE_EXTLANG: c_int = 12;
+pub const BCP47_PART_SOURCE_SCRIPT: c_int = 13;
+pub const BCP47_PART_SOURCE_REGION: c_int = 14;
+pub const BCP47_PART_SOURCE_VARIANT: c_int = 15;
+pub const BCP47_PART_SEPARATOR: c_int = 16;
+pub const BCP47_PART_VALUE: c_int = 17;
+pub const BCP47_PART_PRIVATE_USE_SINGLETON: c_int = 18;
+pub const BCP47_PART_PRIVATE_USE: c_int = 19;
+pub const BCP47_PART_GRANDFATHERED: c_int = 20;
 pub const BCP47_PARTS: usize = 512;
-/// Room for the line of any registry that is refused.
+pub const BCP47_TEXT: usize = 1025;
 pub const BCP47_LINE: usize = 80;
 
 extern "C" {
@@ -115,13 +151,12 @@ extern "C" {
         parts: *mut bcp47_part,
         count: usize,
     ) -> bcp47_outcome;
-    pub fn bcp47_part_kind_name(kind: c_int) -> *const c_char;
     pub fn bcp47_validate(
         registry: *const bcp47_registry,
         text: *const c_char,
         length: usize,
     ) -> bcp47_outcome;
-    pub fn bcp47_equal(
+    pub fn bcp47_equivalent(
         registry: *const bcp47_registry,
         first: *const c_char,
         first_length: usize,
@@ -170,23 +205,14 @@ extern "C" {
         last: *const c_char,
         last_length: usize,
     ) -> bcp47_outcome;
-    pub fn bcp47_canonical_many(
-        registry: *const bcp47_registry,
-        texts: *const c_char,
-        ends: *const usize,
-        begin: usize,
-        count: usize,
-        outcomes: *mut bcp47_outcome,
-        buffer: *mut c_char,
-        room: usize,
-    ) -> usize;
     pub fn bcp47_upgrade_check(
         older: *const bcp47_registry,
         newer: *const bcp47_registry,
     ) -> bcp47_outcome;
     pub fn bcp47_status_name(status: c_int) -> *const c_char;
-    pub fn bcp47_status_help(status: c_int) -> *const c_char;
     pub fn bcp47_fault_name(fault: c_int) -> *const c_char;
-    pub fn bcp47_fault_help(fault: c_int) -> *const c_char;
     pub fn bcp47_kind_name(kind: c_int) -> *const c_char;
+    pub fn bcp47_part_kind_name(kind: c_int) -> *const c_char;
+    pub fn bcp47_status_help(status: c_int) -> *const c_char;
+    pub fn bcp47_fault_help(fault: c_int) -> *const c_char;
 }

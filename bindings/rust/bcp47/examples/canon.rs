@@ -1,5 +1,4 @@
-//! Answers each line of the input as `langtag canon` does. Arguments: a registry; and `many`, to ask for all lines at once, or
-//! `explain`, to answer as that does.
+//! Answers each line of the input as `langtag canon` does. Arguments: a registry; and `explain`, to answer as that does.
 use std::fmt::Display;
 use std::io::{self, BufRead, Write};
 
@@ -16,11 +15,6 @@ fn main() -> Result<(), Box<dyn std::error::Error>> {
     let mut lines = io::stdin().lock().split(b'\n');
     let mut output = io::BufWriter::new(io::stdout().lock());
     match words.next().as_deref() {
-        Some("many") => {
-            for answer in registry.canonical_many(lines.collect::<Result<Vec<_>, _>>()?) {
-                tell(&mut output, answer)?;
-            }
-        }
         Some("explain") => {
             lines.try_for_each(|line| tell(&mut output, registry.explain(line?, usize::MAX)))?;
         }

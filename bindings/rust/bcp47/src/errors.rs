@@ -1,45 +1,34 @@
 //! Why something is refused.
-use crate::name;
+use crate::{constant, Fault};
 use bcp47_sys as sys;
 use std::ffi::c_int;
+use std::path::PathBuf;
 use std::{error, fmt, io};
 
-/// The cause of a refusal: the name of a fault, as the program `langtag` prints it, and its place. Where memory ran out that is
-/// `OutOfMemory`.
+/// The cause of a refusal: a fault, and its place. It is shown as the program shows it, for example `BadByte 1`.
 #[derive(Clone, Copy, Debug, PartialEq, Eq, Hash)]
 pub struct Cause {
-    fault: &'static str,
-    help: &'static str,
+    fault: Fault,
     place: usize,
 }
 
 impl Cause {
-    pub(crate) fn of(outcome: &sys::bcp47_outcome) -> Cause {
-        // SAFETY: the calls answer each number.
-        let (fault, help) = unsafe {
-            match outcome.detail {
-                0 => (
-                    sys::bcp47_status_name(outcome.status),
-                    sys::bcp47_status_help(outcome.status),
-                ),
-                fault => (sys::bcp47_fault_name(fault), sys::bcp47_fault_help(fault)),
-            }
-        };
-        Cause {
-            fault: name(fault),
-            help: name(help),
-            place: outcome.place,
-        }
+    /// That of an outcome that names a fault.
+    pub(crate) fn of(outcome: &sys::bcp47_outcome) -> Option<Cause> {
+        let fault = *Fault::ALL.get((outcome.detail as usize).wrapping_sub(1))?;
+        let place = outcome.place;
+        Some(Cause { fault, place })
     }
 
-    /// The name of the fault, as `BadByte`.
-    pub fn fault(&self) -> &'static str {
+    /// What is wrong.
+    pub fn fault(&self) -> Fault {
         self.fault
     }
 
     /// What the fault means, and what to do.
     pub fn help(&self) -> &'static str {
-        self.help
+        // SAFETY: the call answers each number.
+        constant(unsafe { sys::bcp47_fault_help(self.fault as c_int) })
     }
 
     /// The number of the subtag, the line or the record at fault, counted from 1; 0 for a text that is too long.
@@ -57,7 +46,7 @@ impl fmt::Display for Cause {
 /// What a status means, and what to do.
 fn help_of(status: c_int) -> &'static str {
     // SAFETY: the call answers each number.
-    name(unsafe { sys::bcp47_status_help(status) })
+    constant(unsafe { sys::bcp47_status_help(status) })
 }
 
 /// Why a tag is refused. It is shown as the program shows it, without `! `.
@@ -73,12 +62,24 @@ pub enum TagError {
     /// The explanation has more steps than were asked for.
     TooManySteps,
     /// Memory ran out.
-    Unavailable,
-    /// More threads than the library serves asked at once.
+    OutOfMemory,
+    /// Many calls are under way, and no memory was left for one more: it may be made again.
     Busy,
 }
 
 impl TagError {
+    /// That of an outcome; the variant is asked for where that is why.
+    pub(crate) fn of(outcome: &sys::bcp47_outcome, variant: impl FnOnce() -> String) -> TagError {
+        match (outcome.status, Cause::of(outcome)) {
+            (sys::BCP47_NOT_A_TAG, Some(cause)) => TagError::NotATag(cause),
+            (sys::BCP47_INVALID, Some(cause)) => TagError::Invalid(cause),
+            (sys::BCP47_REPLACEMENT_REPEATS, _) => TagError::ReplacementRepeats(variant()),
+            (sys::BCP47_TOO_MANY_STEPS, _) => TagError::TooManySteps,
+            (sys::BCP47_BUSY, _) => TagError::Busy,
+            _ => TagError::OutOfMemory,
+        }
+    }
+
     /// The cause, where it is a fault with a place.
     pub fn cause(&self) -> Option<&Cause> {
         match self {
@@ -93,7 +94,7 @@ impl TagError {
             TagError::NotATag(cause) | TagError::Invalid(cause) => cause.help(),
             TagError::ReplacementRepeats(_) => help_of(sys::BCP47_REPLACEMENT_REPEATS),
             TagError::TooManySteps => help_of(sys::BCP47_TOO_MANY_STEPS),
-            TagError::Unavailable => help_of(sys::BCP47_OUT_OF_MEMORY),
+            TagError::OutOfMemory => help_of(sys::BCP47_OUT_OF_MEMORY),
             TagError::Busy => help_of(sys::BCP47_BUSY),
         }
     }
@@ -105,7 +106,7 @@ impl fmt::Display for TagError {
             TagError::NotATag(cause) | TagError::Invalid(cause) => cause.fmt(f),
             TagError::ReplacementRepeats(variant) => write!(f, "ReplacementRepeats {variant}"),
             TagError::TooManySteps => f.write_str("TooManySteps"),
-            TagError::Unavailable => f.write_str("OutOfMemory"),
+            TagError::OutOfMemory => f.write_str("OutOfMemory"),
             TagError::Busy => f.write_str("Busy"),
         }
     }
@@ -113,17 +114,23 @@ impl fmt::Display for TagError {
 
 impl error::Error for TagError {}
 
-/// Why bytes are no registry that passes the check: the line that the program prints, as `jar BadLine line 1`.
-#[derive(Clone, Debug, PartialEq, Eq, Hash)]
+/// Why bytes are no registry that passes the check: the line that the program prints, for example `jar BadLine line 1`.
+#[derive(Clone, Debug, PartialEq, Eq)]
 pub struct RegistryError {
     pub(crate) line: String,
-    pub(crate) cause: Cause,
+    pub(crate) outcome: sys::bcp47_outcome,
 }
 
 impl RegistryError {
-    /// The fault, and the line or the record of it.
-    pub fn cause(&self) -> &Cause {
-        &self.cause
+    /// The fault, and the line or the record of it; none of a registry without entries, and where memory ran out.
+    pub fn cause(&self) -> Option<Cause> {
+        Cause::of(&self.outcome)
+    }
+
+    /// What it means, and what to do.
+    pub fn help(&self) -> &'static str {
+        self.cause()
+            .map_or(help_of(self.outcome.status), |cause| cause.help())
     }
 }
 
@@ -135,46 +142,41 @@ impl fmt::Display for RegistryError {
 
 impl error::Error for RegistryError {}
 
-/// Why a file gives no registry.
+/// Why a file gives no registry. It is shown with the path, for example `new.txt: jar BadLine line 1`.
 #[derive(Debug)]
 pub enum OpenError {
     /// The file can't be read.
-    Io(io::Error),
+    Io(PathBuf, io::Error),
     /// It is no registry that passes the check.
-    Refused(RegistryError),
+    Refused(PathBuf, RegistryError),
 }
 
 impl fmt::Display for OpenError {
     fn fmt(&self, f: &mut fmt::Formatter<'_>) -> fmt::Result {
         match self {
-            OpenError::Io(error) => error.fmt(f),
-            OpenError::Refused(error) => error.fmt(f),
+            OpenError::Io(path, error) => write!(f, "{}: {error}", path.display()),
+            OpenError::Refused(path, error) => write!(f, "{}: {error}", path.display()),
         }
     }
 }
 
-impl error::Error for OpenError {
-    fn source(&self) -> Option<&(dyn error::Error + 'static)> {
-        Some(match self {
-            OpenError::Io(error) => error,
-            OpenError::Refused(error) => error,
-        })
-    }
-}
+// There is no source: what is shown tells the whole.
+impl error::Error for OpenError {}
 
-/// Why a newer registry is no upgrade: the condition, as `U1`, and the number of the record at fault.
-#[derive(Clone, Debug, PartialEq, Eq, Hash)]
-pub struct UpgradeError(pub(crate) Cause);
+/// Why a newer registry is no upgrade: the condition, for example `U1`, and the number of the record at fault.
+#[derive(Clone, Debug, PartialEq, Eq)]
+pub struct UpgradeError(pub(crate) sys::bcp47_outcome);
 
 impl UpgradeError {
-    /// The condition and the record; none where memory ran out, or more threads than the library serves asked at once.
-    pub fn cause(&self) -> Option<&Cause> {
-        Some(&self.0).filter(|cause| cause.place > 0)
+    /// The condition and the record; none where memory ran out.
+    pub fn cause(&self) -> Option<Cause> {
+        Cause::of(&self.0)
     }
 
     /// What it means, and what to do.
     pub fn help(&self) -> &'static str {
-        self.0.help
+        self.cause()
+            .map_or(help_of(self.0.status), |cause| cause.help())
     }
 }
 
@@ -182,7 +184,8 @@ impl fmt::Display for UpgradeError {
     fn fmt(&self, f: &mut fmt::Formatter<'_>) -> fmt::Result {
         match self.cause() {
             Some(cause) => cause.fmt(f),
-            None => f.write_str(self.0.fault),
+            // SAFETY: the call answers each number.
+            None => f.write_str(constant(unsafe { sys::bcp47_status_name(self.0.status) })),
         }
     }
 }
@@ -226,32 +229,33 @@ impl error::Error for TraceError {}
 #[cfg(test)]
 mod tests {
     use super::*;
-    use crate::registry::{refusal, Buffer};
 
     #[test]
-    fn memory_that_ran_out_is_named() {
-        let cause = Cause::of(&sys::bcp47_outcome {
-            status: sys::BCP47_OUT_OF_MEMORY,
-            ..Default::default()
-        });
-        assert_eq!(cause.fault(), "OutOfMemory");
-        assert_eq!(cause.help(), help_of(sys::BCP47_OUT_OF_MEMORY));
-    }
-
-    #[test]
-    fn a_registry_that_too_many_ask_is_named() {
-        let busy = sys::bcp47_outcome {
-            status: sys::BCP47_BUSY,
-            ..Default::default()
-        };
-        let refused = refusal(&busy, &Buffer::new());
-        assert_eq!(refused, TagError::Busy);
-        assert_eq!(refused.to_string(), "Busy");
-        let upgrade = UpgradeError(Cause::of(&busy));
-        assert_eq!(upgrade.cause(), None);
-        assert_eq!(upgrade.to_string(), "Busy");
-        for help in [refused.help(), upgrade.help()] {
-            assert!(help.contains("call again"), "{help}");
+    fn want_of_memory_is_named() {
+        for (status, named, told) in [
+            (
+                sys::BCP47_OUT_OF_MEMORY,
+                TagError::OutOfMemory,
+                "OutOfMemory",
+            ),
+            (sys::BCP47_BUSY, TagError::Busy, "Busy"),
+        ] {
+            let outcome = sys::bcp47_outcome {
+                status,
+                ..Default::default()
+            };
+            let refused = TagError::of(&outcome, String::new);
+            assert_eq!((&refused, refused.to_string().as_str()), (&named, told));
+            let upgrade = UpgradeError(outcome);
+            assert_eq!(
+                (upgrade.cause(), upgrade.to_string().as_str()),
+                (None, told)
+            );
+            assert_eq!(
+                (refused.help(), upgrade.help()),
+                (help_of(status), help_of(status))
+            );
+            assert!(!refused.help().is_empty());
         }
     }
 }

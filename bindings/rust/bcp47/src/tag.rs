@@ -1,27 +1,27 @@
 //! Tags by no registry.
-use crate::registry::{refusal, Buffer};
-use crate::{name, TagError};
+use crate::registry::Buffer;
+use crate::{PartKind, TagError};
 use bcp47_sys as sys;
 use std::fmt;
-use std::ptr;
+use std::mem::MaybeUninit;
 use std::str::FromStr;
 
 /// The class of a tag (RFC 5646, 2.1).
 #[derive(Clone, Copy, Debug, PartialEq, Eq, PartialOrd, Ord, Hash)]
 pub enum Class {
-    /// A langtag, as `zh-Hant`.
+    /// A langtag, for example `zh-Hant`.
     Langtag,
-    /// Private use alone, as `x-own`.
+    /// Private use, for example `x-own`.
     PrivateUse,
-    /// One of the 26 grandfathered tags, as `i-klingon`.
+    /// One of the 26 grandfathered tags, for example `i-klingon`.
     Grandfathered,
 }
 
-/// A part of a tag: its kind, as `Script`, and its text, as `Hant`.
-#[derive(Clone, Debug, PartialEq, Eq, Hash)]
+/// A part of a tag: its kind, for example `Script`, and its text, for example `Hant`.
+#[derive(Clone, Copy, Debug, PartialEq, Eq, Hash)]
 pub struct Part<'a> {
     /// The kind.
-    pub kind: &'static str,
+    pub kind: PartKind,
     /// The text.
     pub text: &'a str,
 }
@@ -31,7 +31,7 @@ pub struct Part<'a> {
 #[derive(Clone, Debug, PartialEq, Eq, PartialOrd, Ord, Hash)]
 pub struct Tag {
     text: String,
-    class: Class,
+    kinds: Box<[PartKind]>,
 }
 
 impl Tag {
@@ -41,37 +41,58 @@ impl Tag {
     }
 
     /// Its parts, one for each subtag, in their order; a grandfathered tag is one part.
-    pub fn parts(&self) -> Vec<Part<'_>> {
-        let mut buffer = Buffer::new();
-        let none = sys::bcp47_part {
-            kind: 0,
-            start: 0,
-            length: 0,
-        };
-        let mut parts = [none; sys::BCP47_PARTS];
-        // SAFETY: the pointers and lengths are those of a text, of a buffer and of an array.
-        let outcome = unsafe {
-            sys::bcp47_parts(
-                self.text.as_ptr().cast(),
-                self.text.len(),
-                buffer.as_mut_ptr(),
-                buffer.room(),
-                parts.as_mut_ptr(),
-                parts.len(),
-            )
-        };
-        assert_eq!(outcome.status, sys::BCP47_DONE, "no parts of a tag");
-        let part_of = |part: &sys::bcp47_part| Part {
-            // SAFETY: the call answers each number.
-            kind: name(unsafe { sys::bcp47_part_kind_name(part.kind.into()) }),
-            text: &self.text[part.start..part.start + part.length],
-        };
-        parts[..outcome.place].iter().map(part_of).collect()
+    pub fn parts(&self) -> impl Iterator<Item = Part<'_>> {
+        // a grandfathered tag, which is one part, is left whole
+        let texts = self.text.splitn(self.kinds.len(), '-');
+        self.kinds
+            .iter()
+            .zip(texts)
+            .map(|(&kind, text)| Part { kind, text })
     }
 
     /// Its class.
     pub fn class(&self) -> Class {
-        self.class
+        match self.kinds.first() {
+            Some(PartKind::PrivateUseSingleton) => Class::PrivateUse,
+            Some(PartKind::Grandfathered) => Class::Grandfathered,
+            _ => Class::Langtag,
+        }
+    }
+
+    fn all(&self, kind: PartKind) -> impl Iterator<Item = &str> {
+        self.parts()
+            .filter(move |part| part.kind == kind)
+            .map(|part| part.text)
+    }
+
+    /// The primary language (RFC 5646, 2.2.1); none of private use and of a grandfathered tag.
+    pub fn language(&self) -> Option<&str> {
+        self.all(PartKind::Language).next()
+    }
+
+    /// The extended languages (RFC 5646, 2.2.2).
+    pub fn extlangs(&self) -> impl Iterator<Item = &str> {
+        self.all(PartKind::Extlang)
+    }
+
+    /// The script (RFC 5646, 2.2.3).
+    pub fn script(&self) -> Option<&str> {
+        self.all(PartKind::Script).next()
+    }
+
+    /// The region (RFC 5646, 2.2.4).
+    pub fn region(&self) -> Option<&str> {
+        self.all(PartKind::Region).next()
+    }
+
+    /// The variants (RFC 5646, 2.2.5).
+    pub fn variants(&self) -> impl Iterator<Item = &str> {
+        self.all(PartKind::Variant)
+    }
+
+    /// The subtags after `x` (RFC 5646, 2.2.7).
+    pub fn private_use(&self) -> impl Iterator<Item = &str> {
+        self.all(PartKind::PrivateUse)
     }
 }
 
@@ -80,26 +101,47 @@ impl FromStr for Tag {
 
     fn from_str(text: &str) -> Result<Tag, TagError> {
         let mut buffer = Buffer::new();
-        // SAFETY: the pointers and lengths are those of a text and of a buffer; the registry may be null.
+        let mut parts = [MaybeUninit::<sys::bcp47_part>::uninit(); sys::BCP47_PARTS];
+        let (at, room) = buffer.place();
+        let (front, length) = (text.as_ptr().cast(), text.len());
+        // SAFETY: the pointers and lengths are those of a text, of a buffer and of an array.
         let outcome = unsafe {
-            sys::bcp47_classify(
-                ptr::null(),
-                text.as_ptr().cast(),
-                text.len(),
-                buffer.as_mut_ptr(),
-                buffer.room(),
+            sys::bcp47_parts(
+                front,
+                length,
+                at,
+                room,
+                parts.as_mut_ptr().cast(),
+                parts.len(),
             )
         };
-        let class = match (outcome.status, outcome.detail) {
-            (sys::BCP47_DONE, 1) => Class::Langtag,
-            (sys::BCP47_DONE, 2) => Class::PrivateUse,
-            (sys::BCP47_DONE, _) => Class::Grandfathered,
-            _ => return Err(refusal(&outcome, &buffer)),
-        };
+        if outcome.status != sys::BCP47_DONE {
+            return Err(TagError::of(&outcome, String::new));
+        }
+        // SAFETY: the call has written so many parts.
+        let kinds = parts[..outcome.place]
+            .iter()
+            .map(|part| unsafe { part.assume_init() }.kind);
         Ok(Tag {
+            kinds: kinds
+                .map(|kind| PartKind::ALL[usize::from(kind) - 1])
+                .collect(),
             text: buffer.text(outcome.length).to_owned(),
-            class,
         })
+    }
+}
+
+impl TryFrom<&str> for Tag {
+    type Error = TagError;
+
+    fn try_from(text: &str) -> Result<Tag, TagError> {
+        text.parse()
+    }
+}
+
+impl From<Tag> for String {
+    fn from(tag: Tag) -> String {
+        tag.text
     }
 }
 
@@ -118,5 +160,34 @@ impl AsRef<str> for Tag {
 impl AsRef<[u8]> for Tag {
     fn as_ref(&self) -> &[u8] {
         self.text.as_bytes()
+    }
+}
+
+#[cfg(feature = "serde")]
+impl serde::Serialize for Tag {
+    fn serialize<S: serde::Serializer>(&self, serializer: S) -> Result<S::Ok, S::Error> {
+        serializer.serialize_str(&self.text)
+    }
+}
+
+#[cfg(feature = "serde")]
+impl<'de> serde::Deserialize<'de> for Tag {
+    fn deserialize<D: serde::Deserializer<'de>>(deserializer: D) -> Result<Tag, D::Error> {
+        struct Text;
+
+        impl serde::de::Visitor<'_> for Text {
+            type Value = Tag;
+
+            fn expecting(&self, f: &mut fmt::Formatter<'_>) -> fmt::Result {
+                f.write_str("a language tag")
+            }
+
+            fn visit_str<E: serde::de::Error>(self, text: &str) -> Result<Tag, E> {
+                text.parse()
+                    .map_err(|error| E::custom(format_args!("{text:.100}: {error}")))
+            }
+        }
+
+        deserializer.deserialize_str(Text)
     }
 }

@@ -1,9 +1,7 @@
 /* SPDX-License-Identifier: MIT OR Apache-2.0 */
-/* The calls of bcp47.h for Java: Native.java has their signatures. A call answers what it gives, or an Outcome where it
-   is refused. */
+/* The calls of bcp47.h for Java: Native.java has their signatures. A call answers what it gives, or a Refusal where it is refused. */
 #include <bcp47.h>
 #include <jni.h>
-#include <stdlib.h>
 #include <string.h>
 
 /* Room for the text of any tag and for its canonical text; a longer one is no tag, as the library says of its front. A range
@@ -12,8 +10,8 @@ enum { ROOM = 4096 };
 
 #define NATIVE(kind, name) JNIEXPORT kind JNICALL Java_bcp47_Native_##name
 
-static jclass outcome_class, long_class;
-static jmethodID outcome_made, long_made;
+static jclass refusal_class, long_class;
+static jmethodID refusal_made, long_made;
 
 /* A class by a reference that does not keep its loader: while a call of the library runs, that is there. */
 static jclass kept_class(JNIEnv *env, const char *name) {
@@ -25,12 +23,12 @@ JNIEXPORT jint JNICALL JNI_OnLoad(JavaVM *machine, void *reserved) {
     JNIEnv *env;
     (void)reserved;
     if ((*machine)->GetEnv(machine, (void **)&env, JNI_VERSION_10)) return JNI_ERR;
-    outcome_class = kept_class(env, "bcp47/Outcome");
-    long_class = outcome_class ? kept_class(env, "java/lang/Long") : NULL;
+    refusal_class = kept_class(env, "bcp47/Refusal");
+    long_class = refusal_class ? kept_class(env, "java/lang/Long") : NULL;
     if (!long_class) return JNI_ERR;
-    outcome_made = (*env)->GetMethodID(env, outcome_class, "<init>", "(IIJLjava/lang/String;I)V");
+    refusal_made = (*env)->GetMethodID(env, refusal_class, "<init>", "(IIJLjava/lang/String;I)V");
     long_made = (*env)->GetMethodID(env, long_class, "<init>", "(J)V");
-    return outcome_made && long_made ? JNI_VERSION_10 : JNI_ERR;
+    return refusal_made && long_made ? JNI_VERSION_10 : JNI_ERR;
 }
 
 static const bcp47_registry *registry_of(jlong registry) {
@@ -45,10 +43,11 @@ static size_t text_of(JNIEnv *env, jbyteArray bytes, char text[ROOM]) {
     return (size_t)length;
 }
 
-/* An Outcome; the text ends with a zero, and is NULL where there is none. */
+/* A Refusal, or null where nothing is refused; the text ends with a zero, and is NULL where there is none. */
 static jobject refusal(JNIEnv *env, bcp47_outcome outcome, const char *text) {
+    if (outcome.status == BCP47_DONE) return NULL;
     jstring told = text && outcome.length ? (*env)->NewStringUTF(env, text) : NULL;
-    return (*env)->NewObject(env, outcome_class, outcome_made, (jint)outcome.status, (jint)outcome.detail,
+    return (*env)->NewObject(env, refusal_class, refusal_made, (jint)outcome.status, (jint)outcome.detail,
                              (jlong)outcome.place, told, (jint)outcome.text);
 }
 
@@ -58,8 +57,8 @@ NATIVE(jstring, version)(JNIEnv *env, jclass self) {
 }
 
 NATIVE(jstring, name)(JNIEnv *env, jclass self, jint which, jint number) {
-    static const char *(*const names[])(int) = {bcp47_status_name, bcp47_fault_name, bcp47_status_help,
-                                                bcp47_fault_help,  bcp47_kind_name,  bcp47_part_kind_name};
+    static const char *(*const names[])(int) = {bcp47_status_name, bcp47_status_help, bcp47_fault_name, bcp47_fault_help,
+                                                bcp47_part_kind_name};
     (void)self;
     return (*env)->NewStringUTF(env, names[which](number));
 }
@@ -83,25 +82,14 @@ NATIVE(void, close)(JNIEnv *env, jclass self, jlong registry) {
     bcp47_close((bcp47_registry *)(intptr_t)registry);
 }
 
-typedef bcp47_outcome writer(const bcp47_registry *, const char *, size_t, char *, size_t);
-
-/* The text that a call writes; null where it is the text of the tag. */
-static jobject text_by(JNIEnv *env, jlong registry, jbyteArray tag, writer *writes) {
+/* The canonical text, or the same with its extlang prefix; null where it is the text of the tag. */
+NATIVE(jobject, text)(JNIEnv *env, jclass self, jlong registry, jbyteArray tag, jboolean extlang) {
     char text[ROOM], buffer[ROOM];
     size_t length = text_of(env, tag, text);
-    bcp47_outcome outcome = writes(registry_of(registry), text, length, buffer, sizeof buffer);
+    (void)self;
+    bcp47_outcome outcome = (extlang ? bcp47_extlang : bcp47_canonical)(registry_of(registry), text, length, buffer, sizeof buffer);
     if (outcome.status != BCP47_DONE) return refusal(env, outcome, buffer);
     return outcome.length == length && !memcmp(text, buffer, length) ? NULL : (*env)->NewStringUTF(env, buffer);
-}
-
-NATIVE(jobject, canonical)(JNIEnv *env, jclass self, jlong registry, jbyteArray tag) {
-    (void)self;
-    return text_by(env, registry, tag, bcp47_canonical);
-}
-
-NATIVE(jobject, extlang)(JNIEnv *env, jclass self, jlong registry, jbyteArray tag) {
-    (void)self;
-    return text_by(env, registry, tag, bcp47_extlang);
 }
 
 /* The text of a tag, a point, and a character for each part: the number of its kind and 64. */
@@ -123,27 +111,21 @@ NATIVE(jobject, validate)(JNIEnv *env, jclass self, jlong registry, jbyteArray t
     char text[ROOM];
     size_t length = text_of(env, tag, text);
     (void)self;
-    bcp47_outcome outcome = bcp47_validate(registry_of(registry), text, length);
-    return outcome.status == BCP47_DONE ? NULL : refusal(env, outcome, NULL);
+    return refusal(env, bcp47_validate(registry_of(registry), text, length), NULL);
 }
 
-NATIVE(jobject, equal)(JNIEnv *env, jclass self, jlong registry, jbyteArray first, jbyteArray second) {
-    char text[ROOM], other[ROOM], variant[BCP47_LINE];
-    size_t length = text_of(env, first, text), other_length = text_of(env, second, other);
-    (void)self;
-    bcp47_outcome outcome =
-        bcp47_equal(registry_of(registry), text, length, other, other_length, variant, sizeof variant);
-    return refusal(env, outcome, variant);
-}
-
+/* Whether a range matches a tag; by the scheme 0, whether two tags are equivalent. */
 NATIVE(jobject, match)(JNIEnv *env, jclass self, jlong registry, jint scheme, jbyteArray range, jbyteArray tag) {
     char other[ROOM], variant[BCP47_LINE];
     size_t other_length = text_of(env, tag, other);
     jbyte *whole = (*env)->GetByteArrayElements(env, range, NULL);
     (void)self;
     if (!whole) return NULL;
-    bcp47_outcome outcome = bcp47_match(registry_of(registry), scheme, (const char *)whole, (size_t)(*env)->GetArrayLength(env, range),
-                                        other, other_length, variant, sizeof variant);
+    const char *text = (const char *)whole;
+    size_t length = (size_t)(*env)->GetArrayLength(env, range);
+    bcp47_outcome outcome =
+        scheme ? bcp47_match(registry_of(registry), scheme, text, length, other, other_length, variant, sizeof variant)
+               : bcp47_equivalent(registry_of(registry), text, length, other, other_length, variant, sizeof variant);
     (*env)->ReleaseByteArrayElements(env, range, whole, JNI_ABORT);
     return refusal(env, outcome, variant);
 }
@@ -157,32 +139,6 @@ NATIVE(jobject, explain)(JNIEnv *env, jclass self, jlong registry, jbyteArray ta
     jstring made = (*env)->NewStringUTF(env, lines);
     bcp47_free(lines);
     return made;
-}
-
-/* The steps are kind, place and number of each, one after another. */
-NATIVE(jobject, verify)(JNIEnv *env, jclass self, jlong registry, jbyteArray tag, jintArray numbers, jbyteArray last) {
-    char text[ROOM], end[ROOM];
-    size_t length = text_of(env, tag, text), end_length = text_of(env, last, end);
-    size_t count = (size_t)(*env)->GetArrayLength(env, numbers) / 3;
-    bcp47_outcome outcome = {BCP47_OUT_OF_MEMORY, 0, 0, 0, 0, 0};
-    bcp47_step *steps = calloc(count + 1, sizeof *steps);
-    jint *of = steps ? (*env)->GetIntArrayElements(env, numbers, NULL) : NULL;
-    (void)self;
-    if (of) {
-        for (size_t i = 0; i < count; i++)
-            steps[i] = (bcp47_step){(uint8_t)of[3 * i], (uint32_t)of[3 * i + 1], (uint32_t)of[3 * i + 2]};
-        (*env)->ReleaseIntArrayElements(env, numbers, of, JNI_ABORT);
-        outcome = bcp47_verify(registry_of(registry), text, length, steps, count, end, end_length);
-    }
-    free(steps);
-    if ((*env)->ExceptionCheck(env) || outcome.status == BCP47_DONE) return NULL;
-    return refusal(env, outcome, NULL);
-}
-
-NATIVE(jobject, upgrade)(JNIEnv *env, jclass self, jlong older, jlong newer) {
-    (void)self;
-    bcp47_outcome outcome = bcp47_upgrade_check(registry_of(older), registry_of(newer));
-    return outcome.status == BCP47_DONE ? NULL : refusal(env, outcome, NULL);
 }
 
 /* The File-Date goes to the first array of bytes, and the digest to the other; the entries are what is answered. */

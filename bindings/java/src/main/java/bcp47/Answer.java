@@ -2,12 +2,12 @@
 package bcp47;
 
 /**
- * What {@link Registry#canonicalMany} answers to a tag.
+ * What {@link Registry#answer} gives for a tag.
  *
  * @param canonical the canonical text, or null where the tag is refused
- * @param refusal why it is refused, as the message of a {@link RefusedTag}, <code>BadByte 1</code>; null where it is not
+ * @param refusal why it is refused, or null where it is not
  */
-public record Answer(String canonical, String refusal) {
+public record Answer(String canonical, Refusal refusal) {
     /** @return the line that the program prints: the canonical text, or <code>! </code> and the refusal */
     @Override
     public String toString() {

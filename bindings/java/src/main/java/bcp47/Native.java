@@ -3,15 +3,14 @@ package bcp47;
 
 import java.io.IOException;
 import java.io.InputStream;
-import java.io.OutputStream;
-import java.io.UncheckedIOException;
 import java.nio.charset.StandardCharsets;
 import java.nio.file.Files;
 import java.nio.file.Path;
+import java.nio.file.StandardCopyOption;
 
-/** The calls of the library. A tag is its bytes; what is answered is what a call gives, or an {@link Outcome}. */
+/** The calls of the library. A tag is its bytes; what is answered is what a call gives, or a {@link Refusal}. */
 final class Native {
-    static final int STATUS = 0, FAULT = 1, STATUS_HELP = 2, FAULT_HELP = 3, STEP_KIND = 4, PART_KIND = 5;
+    static final int STATUS = 0, STATUS_HELP = 1, FAULT = 2, FAULT_HELP = 3, PART_KIND = 4;
 
     static {
         load();
@@ -27,24 +26,17 @@ final class Native {
 
     static native void close(long registry);
 
-    /** Null where the text is that of the tag, and so below. */
-    static native Object canonical(long registry, byte[] tag);
-
-    static native Object extlang(long registry, byte[] tag);
+    /** Null where the text is that of the tag. */
+    static native Object text(long registry, byte[] tag, boolean extlang);
 
     static native Object parts(byte[] tag);
 
-    static native Outcome validate(long registry, byte[] tag);
+    static native Refusal validate(long registry, byte[] tag);
 
-    static native Outcome equal(long registry, byte[] first, byte[] second);
-
-    static native Outcome match(long registry, int scheme, byte[] range, byte[] tag);
+    /** Null where they match, and so does the scheme 0 for two tags that are equivalent. */
+    static native Refusal match(long registry, int scheme, byte[] range, byte[] tag);
 
     static native Object explain(long registry, byte[] tag, long most);
-
-    static native Outcome verify(long registry, byte[] tag, int[] steps, byte[] last);
-
-    static native Outcome upgrade(long older, long newer);
 
     static native long info(long registry, byte[] date, byte[] sha256);
 
@@ -55,28 +47,39 @@ final class Native {
     /** Loads the library of java.library.path, or else that of the jar, by a file that nobody else can write. */
     private static void load() {
         try {
-            System.loadLibrary("bcp47jni");
-            return;
-        } catch (UnsatisfiedLinkError notThere) {
-            // that of the jar
+            try {
+                System.loadLibrary("bcp47jni");
+            } catch (UnsatisfiedLinkError notThere) {
+                loadOfJar();
+            }
+        } catch (IOException | UnsatisfiedLinkError failed) {
+            throw because("bcp47: its library can't be written to a temporary file and run there: name a folder where it can by"
+                    + " -Djava.io.tmpdir, or put libbcp47jni.so of the jar in a folder that -Djava.library.path names", failed);
+        } catch (RuntimeException denied) {
+            throw because("bcp47: Java does not let it call its library: allow it by --enable-native-access=ALL-UNNAMED,"
+                    + " or by --enable-native-access=bcp47 where the jar is on the module path", denied);
         }
+    }
+
+    private static UnsatisfiedLinkError because(String message, Throwable cause) {
+        UnsatisfiedLinkError error = new UnsatisfiedLinkError(message + ": " + cause.getMessage());
+        error.initCause(cause);
+        return error;
+    }
+
+    private static void loadOfJar() throws IOException {
         String system = System.getProperty("os.name").toLowerCase() + "-" + System.getProperty("os.arch");
-        String name = "/bcp47/" + system + "/libbcp47jni.so";
-        try (InputStream inside = Native.class.getResourceAsStream(name)) {
+        try (InputStream inside = Native.class.getResourceAsStream("/bcp47/" + system + "/libbcp47jni.so")) {
             if (inside == null) {
-                throw new UnsatisfiedLinkError("no libbcp47jni in java.library.path, and no " + name + " in the jar");
+                throw new UnsatisfiedLinkError("the jar has no library for " + system);
             }
             Path file = Files.createTempFile("libbcp47jni", ".so");
             try {
-                try (OutputStream out = Files.newOutputStream(file)) {
-                    inside.transferTo(out);
-                }
+                Files.copy(inside, file, StandardCopyOption.REPLACE_EXISTING);
                 System.load(file.toString());
             } finally {
                 Files.delete(file);
             }
-        } catch (IOException failed) {
-            throw new UncheckedIOException(failed);
         }
     }
 }

@@ -4,7 +4,7 @@ package bcp47;
 /**
  * A part of a tag.
  *
- * @param kind its kind, as <code>Script</code>
- * @param text its text, as <code>Hant</code>
+ * @param kind its kind, for example <code>Script</code>
+ * @param text its text, for example <code>Hant</code>
  */
 public record Part(String kind, String text) {}

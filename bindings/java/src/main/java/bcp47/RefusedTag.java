@@ -7,25 +7,23 @@ package bcp47;
  */
 public final class RefusedTag extends Refused {
     private static final long serialVersionUID = 1;
+    private static final int LONGEST = 1024;
 
-    /** The tag. */
+    /** The front of the text. */
     private final String tag;
-    /** The variant, or null. */
-    private final String variant;
 
-    RefusedTag(Outcome outcome, CharSequence tag) {
-        super(outcome);
-        this.tag = tag.toString();
-        variant = outcome.status() == Outcome.REPLACEMENT_REPEATS ? outcome.text() : null;
+    RefusedTag(Refusal refusal, CharSequence tag) {
+        super(refusal);
+        this.tag = tag.subSequence(0, Math.min(tag.length(), LONGEST)).toString();
     }
 
-    /** @return the text that is refused */
+    /** @return the text that is refused: no more than its first 1,024 characters */
     public String tag() {
         return tag;
     }
 
     /** @return the variant that replacements can repeat, or null where that is not why */
     public String variant() {
-        return variant;
+        return refusal().variant();
     }
 }

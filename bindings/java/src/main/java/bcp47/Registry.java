@@ -2,19 +2,21 @@
 package bcp47;
 
 import java.io.IOException;
+import java.io.InputStream;
+import java.io.UncheckedIOException;
 import java.lang.ref.Cleaner;
 import java.nio.charset.StandardCharsets;
 import java.nio.file.Files;
 import java.nio.file.Path;
-import java.util.ArrayList;
 import java.util.HexFormat;
-import java.util.List;
 import java.util.Objects;
 
 /**
  * A registry of language subtags that passes the check. Any number of threads may ask it at once. It is freed by
  * {@link #close}, or when it is collected; asked after that, each call throws IllegalStateException. Each throws
- * NullPointerException for null, and OutOfMemoryError where memory ran out.
+ * NullPointerException for null, OutOfMemoryError where memory ran out, and {@link BusyException}.
+ *
+ * <p>It has some 2 MB that the heap does not show: open one, and keep it.
  */
 public final class Registry implements AutoCloseable {
     private static final Cleaner CLEANER = Cleaner.create();
@@ -27,7 +29,7 @@ public final class Registry implements AutoCloseable {
     private Registry(byte[] content) {
         Object answer = Native.open(Objects.requireNonNull(content));
         if (!(answer instanceof Long registry)) {
-            throw new RefusedRegistry(((Outcome) answer).checked());
+            throw new RefusedRegistry(((Refusal) answer).checked());
         }
         held = new Held(registry);
         cleanable = CLEANER.register(this, held);
@@ -61,6 +63,23 @@ public final class Registry implements AutoCloseable {
         return new Registry(Files.readAllBytes(file));
     }
 
+    /**
+     * Reads the registry that <code>bcp47-registry</code> has, which is of IANA's and has a day of its own.
+     *
+     * @return the registry
+     * @throws IllegalStateException where that jar is not on the class path
+     */
+    public static Registry bundled() {
+        try (InputStream file = Registry.class.getResourceAsStream("/META-INF/bcp47/registry.txt")) {
+            if (file == null) {
+                throw new IllegalStateException("bcp47-registry is not on the class path");
+            }
+            return of(file.readAllBytes());
+        } catch (IOException failed) {
+            throw new UncheckedIOException(failed);
+        }
+    }
+
     /** Closes it: calls that are under way end as they would. */
     @Override
     public void close() {
@@ -74,14 +93,14 @@ public final class Registry implements AutoCloseable {
         if (answer instanceof String text) {
             return text;
         }
-        throw new RefusedTag(((Outcome) answer).checked(), tag);
+        throw new RefusedTag(((Refusal) answer).checked(), tag);
     }
 
-    private Object asked(CharSequence tag) {
+    private Object asked(CharSequence tag, boolean extlang) {
         byte[] bytes = Native.bytes(tag);
         long registry = held.take();
         try {
-            return Native.canonical(registry, bytes);
+            return Native.text(registry, bytes, extlang);
         } finally {
             held.give();
         }
@@ -90,35 +109,24 @@ public final class Registry implements AutoCloseable {
     /**
      * The canonical text of a tag (RFC 5646, 4.5).
      *
-     * @param tag a tag in any letter case
-     * @return its canonical text: <code>yue</code> for <code>zh-yue</code>
+     * @param tag a tag
+     * @return the text: <code>yue</code> for <code>zh-yue</code>
      * @throws RefusedTag where there is none
      */
     public String canonical(CharSequence tag) {
-        return text(asked(tag), tag);
+        return text(asked(tag, false), tag);
     }
 
     /**
-     * The canonical texts of many tags.
+     * The canonical text of a tag, or why there is none: nothing is thrown for a tag that is refused, which takes a third
+     * of the time of an exception.
      *
-     * @param tags the tags; null for one that is missing
-     * @return an answer to each, and null for null
+     * @param tag a tag
+     * @return the answer
      */
-    public List<Answer> canonicalMany(Iterable<? extends CharSequence> tags) {
-        List<Answer> answers = new ArrayList<>();
-        for (CharSequence tag : tags) {
-            if (tag == null) {
-                answers.add(null);
-                continue;
-            }
-            Object answer = asked(tag);
-            if (answer instanceof Outcome refusal) {
-                answers.add(new Answer(null, refusal.checked().line()));
-            } else {
-                answers.add(new Answer(text(answer, tag), null));
-            }
-        }
-        return answers;
+    public Answer answer(CharSequence tag) {
+        Object answer = asked(tag, false);
+        return answer instanceof Refusal refusal ? new Answer(null, refusal.checked()) : new Answer(text(answer, tag), null);
     }
 
     /**
@@ -129,20 +137,15 @@ public final class Registry implements AutoCloseable {
      * @throws RefusedTag where there is none
      */
     public String extlang(CharSequence tag) {
-        byte[] bytes = Native.bytes(tag);
-        long registry = held.take();
-        try {
-            return text(Native.extlang(registry, bytes), tag);
-        } finally {
-            held.give();
-        }
+        return text(asked(tag, true), tag);
     }
 
-    private Outcome validated(CharSequence tag) {
+    private Refusal validated(CharSequence tag) {
         byte[] bytes = Native.bytes(tag);
         long registry = held.take();
         try {
-            return Native.validate(registry, bytes);
+            Refusal refusal = Native.validate(registry, bytes);
+            return refusal == null ? null : refusal.checked();
         } finally {
             held.give();
         }
@@ -155,9 +158,9 @@ public final class Registry implements AutoCloseable {
      * @throws RefusedTag where it is not
      */
     public void validate(CharSequence tag) {
-        Outcome refusal = validated(tag);
+        Refusal refusal = validated(tag);
         if (refusal != null) {
-            throw new RefusedTag(refusal.checked(), tag);
+            throw new RefusedTag(refusal, tag);
         }
     }
 
@@ -168,11 +171,22 @@ public final class Registry implements AutoCloseable {
      * @return whether it is
      */
     public boolean isValid(CharSequence tag) {
-        Outcome refusal = validated(tag);
-        if (refusal != null) {
-            refusal.checked();
+        return validated(tag) == null;
+    }
+
+    private boolean agree(int scheme, CharSequence first, CharSequence second) {
+        byte[] one = Native.bytes(first);
+        byte[] other = Native.bytes(second);
+        long registry = held.take();
+        try {
+            Refusal refusal = Native.match(registry, scheme, one, other);
+            if (refusal == null || refusal.isDifferent()) {
+                return refusal == null;
+            }
+            throw new RefusedTag(refusal.checked(), refusal.isOfSecond() ? second : first);
+        } finally {
+            held.give();
         }
-        return refusal == null;
     }
 
     /**
@@ -184,26 +198,12 @@ public final class Registry implements AutoCloseable {
      * @throws RefusedTag where the first is refused, or else the second
      */
     public boolean equivalent(CharSequence first, CharSequence second) {
-        byte[] one = Native.bytes(first);
-        byte[] other = Native.bytes(second);
-        long registry = held.take();
-        try {
-            return agree(Native.equal(registry, one, other), first, second);
-        } finally {
-            held.give();
-        }
-    }
-
-    private static boolean agree(Outcome outcome, CharSequence first, CharSequence second) {
-        if (outcome.status() == Outcome.DONE || outcome.status() == Outcome.DIFFERENT) {
-            return outcome.status() == Outcome.DONE;
-        }
-        throw new RefusedTag(outcome.checked(), outcome.which() == 2 ? second : first);
+        return agree(0, first, second);
     }
 
     /**
      * Tells whether a language range matches a tag (RFC 4647, 3.3 and 3.4), both by their canonical forms: <code>zh-yue</code>
-     * matches <code>yue-HK</code>. A range that is no valid tag, as <code>zh-*</code>, is taken as it is written.
+     * matches <code>yue-HK</code>. A range that is no valid tag, for example <code>zh-*</code>, is taken as it is written.
      *
      * @param range a language range
      * @param tag a tag
@@ -212,15 +212,7 @@ public final class Registry implements AutoCloseable {
      * @throws RefusedTag where the range is neither a valid tag nor a range, or else the tag is refused
      */
     public boolean matches(CharSequence range, CharSequence tag, Scheme scheme) {
-        byte[] one = Native.bytes(range);
-        byte[] other = Native.bytes(tag);
-        int number = scheme.ordinal() + 1;
-        long registry = held.take();
-        try {
-            return agree(Native.match(registry, number, one, other), range, tag);
-        } finally {
-            held.give();
-        }
+        return agree(scheme.ordinal() + 1, range, tag);
     }
 
     /**
@@ -240,76 +232,18 @@ public final class Registry implements AutoCloseable {
      * @param tag a tag
      * @param most the most steps that are wanted
      * @return the steps, and the canonical form
-     * @throws RefusedTag where the tag is refused, or, as <code>TooManySteps</code>, where there are more steps
+     * @throws RefusedTag where the tag is refused, or, by {@link Fault#TOO_MANY_STEPS}, where there are more steps
      */
     public Explanation explain(CharSequence tag, int most) {
         byte[] bytes = Native.bytes(tag);
         long registry = held.take();
         try {
             Object answer = Native.explain(registry, bytes, Math.max(most, 0));
-            if (answer instanceof Outcome outcome && outcome.status() == Outcome.REPLACEMENT_REPEATS) {
+            if (answer instanceof Refusal refusal && refusal.isVariant()) {
                 // which names the variant
-                answer = Native.canonical(registry, bytes);
+                answer = Native.text(registry, bytes, false);
             }
             return Explanation.ofLines(text(answer, tag));
-        } finally {
-            held.give();
-        }
-    }
-
-    /**
-     * Judges whether steps lead from a valid tag, one after another, to another tag, which is then equivalent to it.
-     * They are judged by kind, place and number, not by the tags between.
-     *
-     * @param tag the valid tag
-     * @param steps the steps
-     * @param last the tag to which they should lead
-     * @throws RefusedTag where the tag is refused, or else the last
-     * @throws RefusedTrace where the steps do not lead there
-     */
-    public void verify(CharSequence tag, List<Step> steps, CharSequence last) {
-        byte[] bytes = Native.bytes(tag);
-        byte[] end = Native.bytes(last);
-        int[] numbers = new int[3 * steps.size()];
-        int at = 0;
-        for (Step step : steps) {
-            numbers[at++] = step.kindNumber();
-            numbers[at++] = step.place();
-            numbers[at++] = step.number();
-        }
-        long registry = held.take();
-        try {
-            Outcome refusal = Native.verify(registry, bytes, numbers, end);
-            if (refusal == null) {
-                return;
-            }
-            if (refusal.status() == Outcome.NO_SUCH_STEP || refusal.status() == Outcome.WRONG_END) {
-                throw new RefusedTrace(refusal);
-            }
-            throw new RefusedTag(refusal.checked(), refusal.which() == 2 ? last : tag);
-        } finally {
-            held.give();
-        }
-    }
-
-    /**
-     * Judges whether a newer registry keeps what this one promised.
-     *
-     * @param newer the newer registry
-     * @throws RefusedUpgrade where it does not
-     */
-    public void upgradeCheck(Registry newer) {
-        long registry = held.take();
-        try {
-            long other = newer.held.take();
-            try {
-                Outcome refusal = Native.upgrade(registry, other);
-                if (refusal != null) {
-                    throw new RefusedUpgrade(refusal.checked());
-                }
-            } finally {
-                newer.held.give();
-            }
         } finally {
             held.give();
         }

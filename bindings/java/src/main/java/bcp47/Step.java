@@ -4,26 +4,16 @@ package bcp47;
 /**
  * A step of an explanation.
  *
- * @param kind its kind, as <code>Region</code>
+ * @param kind its kind, for example <code>Region</code>
  * @param place the subtag that changes, counted from 1
  * @param number the record that the step uses, counted from 1; 0 where it uses none
  * @param tag the tag to which it leads
  */
 public record Step(String kind, int place, int number, String tag) {
-    /** The step of a line, as <code>Region 2 27 sgn-DE</code>. */
+    /** The step of a line, for example <code>Region 2 27 sgn-DE</code>. */
     static Step ofLine(String line) {
         String[] words = line.split(" ");
         return new Step(words[0], Integer.parseInt(words[1]), Integer.parseInt(words[2]), words[3]);
-    }
-
-    /** The number of a kind; 0, which leads nowhere, where there is no such kind. */
-    int kindNumber() {
-        for (int number = 1; ; number++) {
-            String name = Native.name(Native.STEP_KIND, number);
-            if (name.isEmpty() || name.equals(kind)) {
-                return name.isEmpty() ? 0 : number;
-            }
-        }
     }
 
     /** @return the step, as the program prints it */

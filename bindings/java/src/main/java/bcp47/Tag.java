@@ -1,17 +1,21 @@
 // SPDX-License-Identifier: MIT OR Apache-2.0
 package bcp47;
 
+import java.io.Serializable;
 import java.util.ArrayList;
 import java.util.Collections;
 import java.util.LinkedHashMap;
 import java.util.List;
+import java.util.Locale;
 import java.util.Map;
 
 /**
  * A tag in conventional case (RFC 5646, 2.1.1), by no registry. It does not change. Tags are equal, and in order, as
  * their texts are: {@link Registry#equivalent} compares what they mean.
  */
-public final class Tag implements CharSequence, Comparable<Tag> {
+public final class Tag implements CharSequence, Comparable<Tag>, Serializable {
+    private static final long serialVersionUID = 1;
+
     /** The class of a tag (RFC 5646, 2.1). */
     public enum Kind {
         /** A langtag, as <code>zh-Hant</code>. */
@@ -30,8 +34,9 @@ public final class Tag implements CharSequence, Comparable<Tag> {
         }
     }
 
+    /** In conventional case. */
     private final String text;
-    private final List<Part> parts;
+    private final transient List<Part> parts;
 
     private Tag(String text, List<Part> parts) {
         this.text = text;
@@ -48,7 +53,7 @@ public final class Tag implements CharSequence, Comparable<Tag> {
     public static Tag of(CharSequence text) {
         Object answer = Native.parts(Native.bytes(text));
         if (!(answer instanceof String shown)) {
-            throw new RefusedTag(((Outcome) answer).checked(), text);
+            throw new RefusedTag(((Refusal) answer).checked(), text);
         }
         int point = shown.indexOf('.');
         String tag = shown.substring(0, point);
@@ -60,6 +65,26 @@ public final class Tag implements CharSequence, Comparable<Tag> {
             parts.add(new Part(KINDS[kinds.charAt(i) - 64], texts[i]));
         }
         return new Tag(tag, List.copyOf(parts));
+    }
+
+    /**
+     * Reads the tag of a locale.
+     *
+     * @param locale a locale
+     * @return the tag that it writes
+     */
+    public static Tag of(Locale locale) {
+        return of(locale.toLanguageTag());
+    }
+
+    /** @return the locale of this tag; what Java's locales have no place for is left out */
+    public Locale toLocale() {
+        return Locale.forLanguageTag(text);
+    }
+
+    /** @return the tag of the text that was written, which is read anew */
+    private Object readResolve() {
+        return of(text);
     }
 
     /** @return its class */

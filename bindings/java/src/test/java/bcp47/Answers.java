@@ -13,7 +13,6 @@ final class Answers {
     private static String explained(Registry registry, String tag) {
         try {
             Explanation explanation = registry.explain(tag);
-            registry.verify(tag, explanation.steps(), explanation.canonical());
             return explanation.toString();
         } catch (RefusedTag refused) {
             return "! " + refused.getMessage();
@@ -27,7 +26,7 @@ final class Answers {
             if (words.length > 2) {
                 tags.forEach(tag -> out.print(explained(registry, tag) + "\n"));
             } else {
-                registry.canonicalMany(tags).forEach(answer -> out.print(answer + "\n"));
+                tags.forEach(tag -> out.print(registry.answer(tag) + "\n"));
             }
         }
     }

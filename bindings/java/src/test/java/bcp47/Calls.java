@@ -2,7 +2,11 @@ package bcp47;
 
 import static java.util.stream.Collectors.joining;
 
+import java.io.ByteArrayInputStream;
+import java.io.ByteArrayOutputStream;
 import java.io.IOException;
+import java.io.ObjectInputStream;
+import java.io.ObjectOutputStream;
 import java.lang.ref.WeakReference;
 import java.net.URL;
 import java.net.URLClassLoader;
@@ -15,6 +19,7 @@ import java.util.ArrayList;
 import java.util.Arrays;
 import java.util.HexFormat;
 import java.util.List;
+import java.util.Locale;
 import java.util.Map;
 import java.util.TreeSet;
 import java.util.concurrent.Callable;
@@ -24,7 +29,7 @@ import java.util.concurrent.atomic.AtomicBoolean;
 import java.util.concurrent.atomic.AtomicInteger;
 import java.util.stream.IntStream;
 
-/** Each call of the package. Argument: examples/sample-registry.txt. */
+/** Each call of the package. Arguments: examples/sample-registry.txt, and `bundled` where bcp47-registry is on the class path. */
 final class Calls {
     private static final AtomicInteger CHECKS = new AtomicInteger();
 
@@ -60,9 +65,10 @@ final class Calls {
         is("zh-yue", registry.extlang("yue"));
         is(true, registry.equivalent("I-KLINGON", Tag.of("tlh")));
         is(false, registry.equivalent("zh", "yue"));
-        List<Answer> answers = registry.canonicalMany(Arrays.asList("iw", null, "en_US", Tag.of("YUE")));
-        is("[he, null, ! BadByte 1, yue]", answers.toString());
-        is("BadByte 1", answers.get(2).refusal());
+        List<Answer> answers = List.of(registry.answer("iw"), registry.answer("en_US"), registry.answer(Tag.of("YUE")));
+        is("[he, ! BadByte 1, yue]", answers.toString());
+        is("NotATag BAD_BYTE 1 null", answers.get(1).refusal().status() + " " + answers.get(1).refusal().fault().name() + " "
+                + answers.get(1).refusal().place() + " " + answers.get(1).refusal().variant());
     }
 
     private static void ranges(Registry registry) {
@@ -106,13 +112,15 @@ final class Calls {
     private static void refusals(Registry registry) {
         RefusedTag refused = thrown(RefusedTag.class, () -> registry.canonical("en_US"));
         is("BadByte 1", refused.getMessage());
-        is("NotATag BadByte 1 en_US", refused.status() + " " + refused.fault() + " " + refused.place() + " " + refused.tag());
+        is(Fault.BAD_BYTE, refused.fault());
+        is("NotATag BadByte 1 en_US", refused.refusal().status() + " " + refused.fault() + " " + refused.place() + " " + refused.tag());
         is(true, refused.help().contains("hyphen"));
         is(true, refused.variant() == null);
         is("UnknownLanguage 1", thrown(RefusedTag.class, nothing(() -> registry.validate("xx"))).getMessage());
-        is("Invalid", thrown(RefusedTag.class, nothing(() -> registry.validate("xx"))).status());
+        is("Invalid", thrown(RefusedTag.class, nothing(() -> registry.validate("xx"))).refusal().status());
         is("e_n", thrown(RefusedTag.class, () -> registry.equivalent("en", "e_n")).tag());
         is("TooLong 0", thrown(RefusedTag.class, () -> registry.canonical("a".repeat(100_000))).getMessage());
+        is(1024, thrown(RefusedTag.class, () -> registry.canonical("a".repeat(100_000_000))).tag().length());
         is("TooLong 0", thrown(RefusedTag.class, () -> registry.canonical("é".repeat(513))).getMessage());
         is("BadByte 1", thrown(RefusedTag.class, () -> registry.canonical("é".repeat(512))).getMessage());
         for (String text : List.of("en\ud800", "en\0", "é", "en\n")) {
@@ -122,12 +130,15 @@ final class Calls {
         is(true, registry.isValid("zh-yue"));
         is(false, registry.isValid("xx"));
         thrown(NullPointerException.class, () -> registry.canonical(null));
-        thrown(NullPointerException.class, () -> Tag.of(null));
+        thrown(NullPointerException.class, () -> Tag.of((CharSequence) null));
         thrown(NullPointerException.class, () -> Registry.of(null));
-        thrown(NullPointerException.class, nothing(() -> registry.verify("en", null, "en")));
-        thrown(NullPointerException.class, nothing(() -> registry.upgradeCheck(null)));
+        thrown(NullPointerException.class, () -> registry.answer(null));
         RefusedRegistry none = thrown(RefusedRegistry.class, () -> Registry.of("no registry\n".getBytes(StandardCharsets.UTF_8)));
-        is("jar BadLine line 1/BadFile/BadLine/1", none.getMessage() + "/" + none.status() + "/" + none.fault() + "/" + none.place());
+        is("jar BadLine line 1/BadFile/BadLine/1", none.getMessage() + "/" + none.refusal().status() + "/" + none.fault() + "/" + none.place());
+        for (String empty : List.of("", "File-Date: 2000-01-01\n")) {
+            none = thrown(RefusedRegistry.class, () -> Registry.of(empty.getBytes(StandardCharsets.UTF_8)));
+            is("NoEntries NO_ENTRIES", none.getMessage() + " " + none.fault().name());
+        }
         thrown(NoSuchFileException.class, () -> Registry.open(Path.of("/no/such/file")));
         String repeats = "ja-Latn-hepburn-alalc97-heploc";
         List<Callable<?>> calls = List.of(() -> registry.canonical(repeats), () -> registry.explain(repeats), () -> registry.equivalent("ja", repeats));
@@ -135,7 +146,7 @@ final class Calls {
             RefusedTag repeated = thrown(RefusedTag.class, call);
             is("ReplacementRepeats alalc97/alalc97/0", repeated.getMessage() + "/" + repeated.variant() + "/" + repeated.place());
         }
-        is("ReplacementRepeats alalc97", registry.canonicalMany(List.of(repeats)).get(0).refusal());
+        is("ReplacementRepeats alalc97", registry.answer(repeats).refusal().toString());
     }
 
     private static void explanations(Registry registry) {
@@ -146,19 +157,10 @@ final class Calls {
         String many = IntStream.range(0, 210).mapToObj(i -> "-" + (char) ('z' - i / 26) + (char) ('z' - i % 26))
                 .collect(joining("", "en-u", ""));
         is("TooManySteps", thrown(RefusedTag.class, () -> registry.explain(many)).getMessage());
-        registry.verify("sgn-dd", explanation.steps(), "gsg");
-        registry.verify("en", List.of(), "en");
-        is("WrongEnd", thrown(RefusedTrace.class, nothing(() -> registry.verify("sgn-dd", explanation.steps().subList(0, 1), "gsg"))).getMessage());
-        Step wrong = new Step("region", 2, 27, "sgn-DE");
-        RefusedTrace trace = thrown(RefusedTrace.class, nothing(() -> registry.verify("sgn-dd", List.of(wrong), "gsg")));
-        is("NoSuchStep 1", trace.fault() + " " + trace.place());
-        RefusedTag refused = thrown(RefusedTag.class, nothing(() -> registry.verify("e_n", List.of(), "e_n")));
-        is("BadByte 1 e_n", refused.getMessage() + " " + refused.tag());
-        refused = thrown(RefusedTag.class, nothing(() -> registry.verify("en", List.of(), "en-")));
-        is("EmptySubtag 2 en-", refused.getMessage() + " " + refused.tag());
+        is(Fault.TOO_MANY_STEPS, thrown(RefusedTag.class, () -> registry.explain("sgn-dd", 1)).fault());
     }
 
-    private static void tags() {
+    private static void tags() throws Exception {
         Tag tag = Tag.of("ZH-yue-hANT-hk-1996-U-co-phonebk-T-de-X-own-1");
         is("zh-yue-Hant-HK-1996-u-co-phonebk-t-de-x-own-1", tag.toString());
         is("zh [yue] Hant HK [1996] {u=[co, phonebk], t=[de]} [own, 1] LANGTAG", tag.language() + " " + tag.extlangs() + " " + tag.script() + " "
@@ -173,30 +175,50 @@ final class Calls {
         thrown(UnsupportedOperationException.class, () -> tag.parts().remove(0));
         thrown(UnsupportedOperationException.class, () -> tag.extensions().put("a", List.of()));
         is(Map.of(), Tag.of("x-a-b").extensions());
+        is("he-IL", Tag.of(new Locale("iw", "IL")).toString());
+        is("TW", Tag.of("zh-Hant-TW").toLocale().getCountry());
+        is("x-own", Tag.of("x-own").toLocale().toLanguageTag());
+        is(List.of(tag, tag.parts()), List.of(copied(tag), copied(tag).parts()));
     }
 
-    private static void upgrades(Registry registry, byte[] content) throws Exception {
-        registry.upgradeCheck(registry);
-        try (Registry other = Registry.of("File-Date: 2000-01-01\n".getBytes(StandardCharsets.UTF_8))) {
-            RefusedUpgrade refused = thrown(RefusedUpgrade.class, nothing(() -> registry.upgradeCheck(other)));
-            is("U1/U1 2", refused.fault() + "/" + refused.getMessage());
-            is("NoUpgrade", refused.status());
-            is(0L, other.info().entries());
+    /** What Java writes and reads of an object. */
+    @SuppressWarnings("unchecked")
+    private static <T> T copied(T object) throws Exception {
+        ByteArrayOutputStream bytes = new ByteArrayOutputStream();
+        new ObjectOutputStream(bytes).writeObject(object);
+        return (T) new ObjectInputStream(new ByteArrayInputStream(bytes.toByteArray())).readObject();
+    }
+
+    /** What a refusal has is there after it was written and read, as logs and remote calls do. */
+    private static void travels(Registry registry) throws Exception {
+        RefusedTag refused = copied(thrown(RefusedTag.class, () -> registry.canonical("en_US")));
+        is("BadByte 1 BAD_BYTE 1 en_US", refused.getMessage() + " " + refused.fault().name() + " " + refused.place() + " " + refused.tag());
+    }
+
+    /** The registry of the jar bcp47-registry, or that there is none. */
+    private static void bundled(String jar) {
+        if (jar.isEmpty()) {
+            thrown(IllegalStateException.class, Registry::bundled);
+        } else {
+            try (Registry registry = Registry.bundled()) {
+                is("2025-05-15 yue", registry.info().fileDate() + " " + registry.canonical("zh-yue"));
+            }
         }
+    }
+
+    private static void info(Registry registry, byte[] content) throws Exception {
         String sha256 = HexFormat.of().formatHex(MessageDigest.getInstance("SHA-256").digest(content));
         is(new Info("2024-01-01", new String(content, StandardCharsets.UTF_8).split("%%", -1).length - 1, sha256), registry.info());
         is(true, Registry.version().matches("\\d+\\.\\d+\\.\\d+"));
     }
 
-    private static void closed(Registry registry, byte[] content) {
+    private static void closed(byte[] content) {
         Registry own = Registry.of(content);
         own.close();
         own.close();
-        List<Callable<?>> calls = List.of(() -> own.canonical("en"), () -> own.canonicalMany(List.of("en")), () -> own.extlang("en"),
+        List<Callable<?>> calls = List.of(() -> own.canonical("en"), () -> own.answer("en"), () -> own.extlang("en"),
                 () -> own.isValid("en"), () -> own.equivalent("en", "en"), () -> own.explain("en"), own::info,
-                () -> own.matches("en", "en", Scheme.BASIC),
-                nothing(() -> own.verify("en", List.of(), "en")), nothing(() -> registry.upgradeCheck(own)),
-                nothing(() -> own.upgradeCheck(registry)));
+                () -> own.matches("en", "en", Scheme.BASIC));
         calls.forEach(call -> is("the registry is closed", thrown(IllegalStateException.class, call).getMessage()));
     }
 
@@ -221,7 +243,7 @@ final class Calls {
                     try {
                         while (true) {
                             own.explain("sgn-dd");
-                            own.upgradeCheck(shared);
+                            own.equivalent("zh-yue", "yue");
                             begun.set(true);
                         }
                     } catch (IllegalStateException closed) {
@@ -269,9 +291,10 @@ final class Calls {
         is("collected", of300 > 10_000_000 && grown < 3 * of300 ? "collected" : "grown by " + grown + ", where 300 take " + of300);
     }
 
-    /** Too many calls at once are no fault of a tag. */
+    /** That memory runs out, or is too little for many calls at once, is no fault of a tag. */
     private static void busy() {
-        thrown(IllegalStateException.class, () -> new Outcome(Outcome.BUSY, 0, 0, null, 0).checked());
+        thrown(BusyException.class, () -> new Refusal(15, 0, 0, null, 0).checked());
+        thrown(OutOfMemoryError.class, () -> new Refusal(4, 0, 0, null, 0).checked());
     }
 
     /** A class loader goes, with the classes that it loaded. */
@@ -299,11 +322,13 @@ final class Calls {
             refusals(registry);
             explanations(registry);
             tags();
-            upgrades(registry, content);
-            closed(registry, content);
+            info(registry, content);
+            travels(registry);
+            closed(content);
             threads(registry, content);
             collected(content);
         }
+        bundled(words.length > 1 ? words[1] : "");
         busy();
         loaders();
         System.out.println(CHECKS.get() > 140_000 ? "ok" : "too few: " + CHECKS);
