@@ -17,12 +17,12 @@ DESTDIR=${DESTDIR:-}
 files() {
     case $1 in
         program)
-            for page in "$root"/docs/*.md; do
+            for page in "$root"/docs/*.md "$root"/docs/*.png; do
                 echo "644 docs/${page##*/} $PREFIX/share/doc/langtag/docs/${page##*/}"
             done
             cat << END
 755 build/langtag $PREFIX/bin/langtag
-644 docs/langtag.1 $PREFIX/share/man/man1/langtag.1
+fill docs/langtag.1 $PREFIX/share/man/man1/langtag.1
 644 completions/langtag.bash $PREFIX/share/bash-completion/completions/langtag
 644 completions/langtag.fish $PREFIX/share/fish/vendor_completions.d/langtag.fish
 644 completions/_langtag $PREFIX/share/zsh/site-functions/_langtag
@@ -32,6 +32,7 @@ fill packaging/langtag-registry.service $PREFIX/lib/systemd/system/langtag-regis
 fill packaging/langtag-registry.timer $PREFIX/lib/systemd/system/langtag-registry.timer
 fill packaging/langtag-registry.cron $PREFIX/share/doc/langtag/langtag-registry.cron
 644 README.md $PREFIX/share/doc/langtag/README.md
+644 CONTRIBUTING.md $PREFIX/share/doc/langtag/CONTRIBUTING.md
 644 CHANGELOG.md $PREFIX/share/doc/langtag/CHANGELOG.md
 644 LICENSE $PREFIX/share/doc/langtag/LICENSE
 644 LICENSE-MIT $PREFIX/share/doc/langtag/LICENSE-MIT
@@ -73,7 +74,7 @@ install_file() {
                 "$PREFIX"/*) library="\${prefix}${LIBDIR#"$PREFIX"}" ;;
                 *) library=$LIBDIR ;;
             esac
-            sed "s#@PREFIX@#$PREFIX#g; s#@LIBDIR@#$library#g" "$root/$2" > "$DESTDIR$3"
+            sed "s#@PREFIX@#$PREFIX#g; s#@LIBDIR@#$library#g; s#/usr/local/share/#$PREFIX/share/#g" "$root/$2" > "$DESTDIR$3"
             chmod 644 "$DESTDIR$3"
             ;;
         *) install -m "$1" "$root/$2" "$DESTDIR$3" ;;

@@ -3,15 +3,17 @@
 
 Usage: packaging/parts.py FOLDER
 
-The files of the folder are listed with their SHA-256. The crates of the Rattle kit, which are in what is built, are those
-that crates.txt names below the program and below the library for C; the kit is that of the program's version. Times are
-those of SOURCE_DATE_EPOCH, and the serial number is made of the files: the same files give the same list.
+The files of the folder are listed with their SHA-256, and with what is inside of each, as INSIDE says: a file that it does not
+name ends this. The crates of the Rattle kit are those that crates.txt names below the program and below the library for C, and the
+kit's standard libraries; they are ports of the Rust crates of these names, whose versions the kit does not tell, so their version is
+the kit's. Times are those of SOURCE_DATE_EPOCH, and the serial number is made of the files: the same files give the same list.
 """
 
 import hashlib
 import json
 import os
 import re
+import subprocess
 import sys
 import uuid
 from datetime import datetime, timezone
@@ -19,6 +21,22 @@ from pathlib import Path
 
 ROOT = Path(__file__).resolve().parent.parent
 OURS = "MIT OR Apache-2.0"
+# The files, and what is inside of them.
+INSIDE = [
+    (r"langtag-.*-linux\.tar\.gz", ["program", "registry", "glibc"]),
+    (r"langtag-.*-windows\.zip", ["program", "registry", "mingw-w64"]),
+    (r"langtag-.*-objects\.tar\.gz", ["program"]),
+    (r"langtag_.*", ["program", "registry"]),
+    (r"bcp47[-_]registry-.*(jar|tgz|crate|whl)", ["registry"]),
+    (r"libbcp47-.*-windows\.zip", ["library", "mingw-w64"]),
+    (r"libbcp47.*|bcp47-wasm-.*|.*\.whl|\w+(-15)?-bcp47_.*\.deb|bcp47-[\d.]+\.(jar|tgz)|bcp47-sys-.*\.crate", ["library"]),
+    (r"bcp47-go-.*|langtag\.html", ["library", "registry"]),
+    (r"bcp47-[\d.]+(-sources\.jar|-javadoc\.jar|\.tar\.gz|\.crate)|.*\.pom|INSTALL\.md", []),
+]
+# What is linked beside the crates that crates.txt names.
+STANDARD = {"program": {"core", "std", "std_alloc", "std_heap", "std_io", "liblibc_c"}, "library": {"core", "std", "std_alloc", "std_heap", "liblibc_c"}}
+# What others wrote, by its package of Debian: it is linked as it is there.
+OTHERS = {"glibc": ("libc6-dev", "LGPL-2.1-or-later"), "mingw-w64": ("mingw-w64-x86-64-dev", "ZPL-2.1")}
 # Of the kit's crates those that have a licence of their own; for its standard libraries the kit names none.
 LICENCES = {
     "arrayvec": OURS,
@@ -48,11 +66,27 @@ def licence(expression):
     return [{"expression": expression}]
 
 
+def inside_of(name):
+    """What is inside of the file of a name."""
+    for pattern, inside in INSIDE:
+        if re.fullmatch(pattern, name):
+            return inside
+    sys.exit(f"INSIDE of packaging/parts.py doesn't say what {name} has inside")
+
+
 def kit_component(name, kit):
-    component = {"type": "library", "bom-ref": f"kit:{name}", "name": name, "version": kit, "group": "rattle-kit"}
+    component = {"type": "library", "bom-ref": f"kit:{name}", "name": name, "version": kit, "group": "rattle-kit",
+                 "purl": f"pkg:generic/rattle-kit/{name}@{kit}"}
     if name in LICENCES:
         component["licenses"] = licence(LICENCES[name])
     return component
+
+
+def other_component(name):
+    package, expression = OTHERS[name]
+    version = subprocess.run(["dpkg-query", "-W", "-f", "${Version}", package], stdout=subprocess.PIPE, text=True, check=True).stdout
+    return {"type": "library", "bom-ref": name, "name": name, "version": version, "licenses": licence(expression),
+            "purl": f"pkg:deb/debian/{package}@{version}"}
 
 
 def file_component(path):
@@ -71,14 +105,17 @@ def main(folder):
     words = (ROOT / "crates" / "lt_words" / "src" / "program.rt").read_text(encoding="utf-8")
     kit = re.search(r'VERSION: &str = "\S+ \((\S+) logic', words).group(1)
     found = uses()
-    program, library = kit_below("langtag", found), kit_below("bcp47_c", found)
+    kits = {"program": kit_below("langtag", found) | STANDARD["program"], "library": kit_below("bcp47_c", found) | STANDARD["library"]}
+    day = re.match(r"File-Date: (\S+)", (ROOT / "examples/iana-2025-05-15.txt").read_text(encoding="utf-8"))[1]
+    registry = {"type": "data", "bom-ref": "registry", "name": "IANA Language Subtag Registry", "version": day}
     files = [file_component(path) for path in sorted(folder.iterdir())]
     serial = uuid.uuid5(uuid.NAMESPACE_URL, "".join(file["hashes"][0]["content"] for file in files))
     time = datetime.fromtimestamp(int(os.environ["SOURCE_DATE_EPOCH"]), timezone.utc)
     dependencies = [{"ref": "langtag", "dependsOn": [file["bom-ref"] for file in files]}]
     for file in files:
-        inside = program if file["name"].startswith("langtag") else library
-        dependencies.append({"ref": file["bom-ref"], "dependsOn": [f"kit:{name}" for name in sorted(inside)]})
+        inside = inside_of(file["name"])
+        of = sorted({f"kit:{name}" for part in inside for name in kits.get(part, [])} | {"registry", *OTHERS} & set(inside))
+        dependencies.append({"ref": file["bom-ref"], "dependsOn": of})
     print(json.dumps({
         "bomFormat": "CycloneDX",
         "specVersion": "1.5",
@@ -90,7 +127,8 @@ def main(folder):
                 "type": "application", "bom-ref": "langtag", "name": "langtag", "version": version, "licenses": licence(OURS),
             },
         },
-        "components": files + [kit_component(name, kit) for name in sorted(program | library)],
+        "components": files + [kit_component(name, kit) for name in sorted(kits["program"] | kits["library"])] + [registry]
+        + [other_component(name) for name in OTHERS if any(name in dependency["dependsOn"] for dependency in dependencies)],
         "dependencies": dependencies,
     }, indent=2))
 

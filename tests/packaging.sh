@@ -71,9 +71,13 @@ passes "it wrote nothing" test ! -e "$folder/none"
 passes "make dist" packaging/dist.sh "$folder/dist"
 left_out=$(cat "$folder/err")
 [ -z "$left_out" ] || echo "$left_out"
-# at another time, and for a user with other habits
+# at another time, from a copy in another folder, and for a user with other habits
+mkdir -p "$folder/copy/build"
+git ls-files -z | tar --null -T - -cf - | tar -xf - -C "$folder/copy"
+# what is built, but for the Debian of make fresh-debian
+find build -mindepth 1 -maxdepth 1 ! -name debian -exec cp -r {} "$folder/copy/build" \;
 umask 077
-TZ=Asia/Tokyo LC_ALL=C.UTF-8 passes "make dist, again" packaging/dist.sh "$folder/again"
+TZ=Asia/Tokyo LC_ALL=C.UTF-8 passes "make dist, again" "$folder/copy/packaging/dist.sh" "$folder/again"
 umask 022
 passes "two runs give the same bytes" diff -r "$folder/dist" "$folder/again"
 passes "SHA256SUMS" env -C "$folder/dist" sha256sum --check --strict SHA256SUMS
@@ -100,7 +104,7 @@ for made in "bcp47-$version-cp39-abi3-manylinux2014_x86_64.whl" "bcp47-$version.
     rm -rf "$folder/site"
 done
 passes "the list of parts" /usr/bin/python3 - "$folder/dist" << 'END'
-import hashlib, json, pathlib, sys
+import hashlib, json, pathlib, re, sys
 
 folder = pathlib.Path(sys.argv[1])
 (path,) = folder.glob("*.cdx.json")
@@ -113,7 +117,18 @@ names = [part["bom-ref"] for part in parts["components"]]
 assert len(names) == len(set(names))
 for dependency in parts["dependencies"]:
     assert set(dependency["dependsOn"]) <= set(names)
-assert {"kit:arrayvec", "kit:clap"} <= set(names)
+inside = {of["ref"].removeprefix("file:"): set(of["dependsOn"]) for of in parts["dependencies"] if of["ref"].startswith("file:")}
+of_library = {"kit:arrayvec", "kit:sha2", "kit:core", "kit:std_heap"}
+for name, found in inside.items():
+    if re.match("langtag[-_]", name):
+        assert {"kit:clap", "kit:memchr", "kit:std_io"} <= found and "kit:sha2" not in found, name
+        assert ("registry" in found) == ("objects" not in name), name
+    elif "registry" in name and not name.endswith(".pom"):
+        assert found == {"registry"}, name
+    elif re.search(r"^bcp47-[0-9.]+(-sources\.jar|-javadoc\.jar|\.tar\.gz|\.crate)$|\.pom$|INSTALL", name):
+        assert not found, name
+    else:
+        assert of_library <= found and "kit:clap" not in found, name
 END
 
 # ---- Packages of Debian
@@ -185,24 +200,115 @@ else
     echo "skipped: the library for aarch64, which make lib-aarch64 builds"
 fi
 
-# ---- The packages for Java and Go, by the programs of their pages
-if command -v go > /dev/null && command -v java > /dev/null; then
-    mkdir "$folder/page" "$folder/module"
-    cp examples/sample-registry.txt "$folder/page/registry.txt"
-    sed -n '/^```java$/,/^```$/{/^```/!p}' docs/JAVA.md > "$folder/page/Page.java"
-    passes "the jar" env -C "$folder/page" java -cp "$folder/dist/bcp47-$version.jar" Page.java
-    is "the jar answers" 'yue true true BadByte 1 BadByte 1 zh-Hant-TW Hant' "$(echo $(cat "$folder/out"))"
-    passes "the module for Go" tar -xzf "$folder/dist/bcp47-go-$version-x86_64-linux.tar.gz" -C "$folder/module" --strip-components=1
-    sed -n '/^```go$/,/^```$/{/^```/!p}' docs/GO.md > "$folder/page/main.go"
-    printf 'module page\n\ngo 1.19\n\nrequire bcp47 v0.0.0\n\nreplace bcp47 => %s/module\n' "$folder" > "$folder/page/go.mod"
-    passes "the module's program" env -C "$folder/page" GOFLAGS=-mod=mod GOPROXY=off GOCACHE="$folder/cache" go run .
-    is "the module answers" 'yue true true BadByte 1 BadByte 1 zh-Hant-TW 3' "$(echo $(cat "$folder/out"))"
-    passes "the module, copied into its user's" env -C "$folder/page" GOPROXY=off go mod vendor
-    rm -r "$folder/module"
-    passes "the copy's program" env -C "$folder/page" GOPROXY=off GOCACHE="$folder/cache" go run -mod=vendor .
-    is "the copy answers" 'yue true true BadByte 1 BadByte 1 zh-Hant-TW 3' "$(echo $(cat "$folder/out"))"
+# ---- Each package as docs/INSTALL.md uses it, in a folder with nothing but the release; by what is here, without a network
+export npm_config_offline=true PIP_NO_INDEX=1 PIP_ROOT_USER_ACTION=ignore GOPROXY=off GOFLAGS=-mod=mod GOCACHE=$folder/cache
+export CARGO_NET_OFFLINE=true CARGO_HOME=$folder/cargo
+mkdir -p "$CARGO_HOME"
+printf '[source.crates-io]\nreplace-with = "debian"\n[source.debian]\ndirectory = "/usr/share/cargo/registry"\n' > "$CARGO_HOME/config.toml"
+ran=0
+while IFS= read -r heading; do
+    use=$folder/use/$heading
+    mkdir -p "$use"
+    awk -v heading="## $heading" '/^## / { is_it = $0 == heading } is_it && /^    / { print substr($0, 5) }' docs/INSTALL.md > "$use/commands"
+    [ -s "$use/commands" ] || continue
+    ran=$((ran + 1))
+    cp "$folder"/dist/*.{crate,tgz,jar,whl,tar.gz} "$use"
+    passes "$heading, as INSTALL.md has it" env -C "$use" bash -e commands
+    is "$heading answers" yue "$(tail -n 1 "$folder/out")"
+done < <(sed -n 's/^## //p' docs/INSTALL.md)
+is "each package is used" 7 "$ran"
+is "INSTALL.md names files of this version" '' "$(grep -oE '[0-9]+\.[0-9]+\.[0-9]+' docs/INSTALL.md | grep -vxF "$version" | grep -vxE '2025\.0?5\.15|0\.0\.0|1\.0\.0' | sort -u)"
+passes "the module for Go, copied into its user's" env -C "$folder/use/Go/page" go mod vendor
+rm -r "$folder/use/Go"/bcp47-go-*
+passes "the copy's program" env -C "$folder/use/Go/page" GOFLAGS=-mod=vendor go run .
+is "the copy answers" yue "$(cat "$folder/out")"
+passes "the crates' tests, of what is packed" env -C "$folder/use/Rust/bcp47-$version" cargo test -q --config "patch.crates-io.bcp47-sys.path='../bcp47-sys-$version'" \
+    --config "patch.crates-io.bcp47-registry.path='../bcp47-registry-2025.5.15'" --all-features
+for made in "$folder"/dist/*.{crate,tgz}; do
+    is "$(basename "$made") has its licence and a page" 4 "$(tar -tzf "$made" | grep -cE '^[^/]*/(LICENSE(-MIT|-APACHE)?|README.md|RUST.md)$')"
+done
+
+# ---- Each file as a stranger has it: where the repository and the kit are not
+kit=$(dirname "$(rt doc)")
+# apart FOLDER COMMAND..: runs a command in a folder, without them.
+apart() {
+    unshare --mount --map-root-user sh -c 'for hidden in "$1" "$2"; do mount -t tmpfs none "$hidden"; done; cd "$3" && shift 3 && exec "$@"' - \
+        "$root" "$kit" "$@"
+}
+/usr/bin/python3 bench/make_tags.py examples/iana-2025-05-15.txt mixed > "$folder/many"
+build/langtag canon examples/iana-2025-05-15.txt < "$folder/many" > "$folder/answers"
+cp examples/iana-2025-05-15.txt "$folder/registry.txt"
+passes "200,000 tags" test "$(wc -l < "$folder/answers")" = 200000
+# answered NAME COMMAND..: a command answers the tags as the program.
+answered() {
+    local name=$1
+    shift
+    "$@" < "$folder/many" > "$folder/answered" 2> "$folder/told"
+    passes "$name: the program's answers" cmp "$folder/answers" "$folder/answered" || head -n 20 "$folder/told"
+}
+
+# the program where there is nothing else, and on a processor of 2008 with a kernel of 2012
+mkdir "$folder/nothing"
+cp "$folder/unpacked/bin/langtag" "$folder/registry.txt" "$folder/nothing"
+answered "the program in an empty root" unshare --map-root-user --root="$folder/nothing" /langtag canon /registry.txt
+passes "the program on Linux 3.2" qemu-x86_64 -cpu Nehalem -r 3.2.0 "$folder/nothing/langtag" check "$folder/registry.txt"
+is "the program on Linux 3.2 answers" 'ok 9274' "$(cat "$folder/out")"
+passes "its objects" tar -xzf "$folder/dist/langtag-$version-x86_64-linux-objects.tar.gz" -C "$folder/nothing" --strip-components=1
+passes "they are linked" apart "$folder/nothing" sh link.sh
+passes "that is the program" cmp "$folder/nothing/langtag" "$folder/unpacked/bin/langtag"
+
+# the package for Node.js, with its addon and without
+if [ -e "$folder/dist/bcp47-$version.tgz" ]; then
+    mkdir "$folder/node"
+    cp examples/sample-registry.txt "$folder/node/registry.txt"
+    cp bindings/node/test/answers.mjs "$folder/node"
+    sed -i "s#'../index.mjs'#'bcp47'#" "$folder/node/answers.mjs"
+    sed -n '/^```js$/,/^```$/{/^```/!p}' docs/NODE.md > "$folder/node/page.mjs"
+    passes "npm install" apart "$folder/node" npm install --silent --offline --no-audit --no-fund "$folder/dist/bcp47-$version.tgz"
+    for with in addon WebAssembly; do
+        [ $with = addon ] || rm "$folder/node/node_modules/bcp47/bcp47.node"
+        [ $with = addon ] || [ -e build/wasm/bcp47.wasm ] || break
+        passes "docs/NODE.md's program, by $with" apart "$folder/node" node page.mjs
+        is "docs/NODE.md's program answers, by $with" yue "$(head -n 1 "$folder/out")"
+        answered "Node.js, by $with" apart "$folder/node" node answers.mjs "$folder/registry.txt" "$folder/many"
+    done
+fi
+
+# WebAssembly and Windows: the scripts of each, and what is in the archives
+unzipped() {
+    passes "$1" /usr/bin/python3 -m zipfile -e "$folder/dist/$1.zip" "$folder"
+}
+if [ -e build/wasm/bcp47.wasm ]; then
+    unzipped "bcp47-wasm-$version"
+    cat > "$folder/bcp47-wasm-$version/answers.mjs" << 'END'
+import { readFileSync } from 'node:fs';
+import { load } from './load.mjs';
+
+const { Registry } = await load(readFileSync('bcp47.wasm'));
+const answers = new Registry(readFileSync(process.argv[2])).canonicalMany(readFileSync(0, 'utf8').split('\n').slice(0, -1));
+process.stdout.write(`${answers.join('\n')}\n`);
+END
+    answered "load.mjs" apart "$folder/bcp47-wasm-$version" node answers.mjs "$folder/registry.txt"
+    passes "WebAssembly" tests/wasm.sh
+    tail -n 1 "$folder/out"
+    passes "the page" tests/packaging/page.py "$folder/dist/langtag.html" build/langtag examples/iana-2025-05-15.txt
+    cat "$folder/out"
 else
-    echo "no JDK or no Go here: their packages are not used"
+    echo "skipped: WebAssembly and the page langtag.html, which make lib-wasm builds"
+fi
+if [ -e build/windows/langtag.exe ] && command -v wine > /dev/null; then
+    unzipped "langtag-$version-x86_64-windows"
+    unzipped "libbcp47-$version-x86_64-windows"
+    export WINEPREFIX=$folder/wine WINEDEBUG=-all
+    answered "langtag.exe" apart "$folder/langtag-$version-x86_64-windows" wine langtag.exe canon registry.txt
+    passes "docs/C.md's example for Windows" apart "$folder/libbcp47-$version-x86_64-windows" x86_64-w64-mingw32-gcc "$folder/example.c" -I. libbcp47.dll.a -o example.exe
+    passes "it runs by wine" apart "$folder/libbcp47-$version-x86_64-windows" wine example.exe "$folder/registry.txt" zh-yue I-KLINGON en_US
+    is "it answers by wine" "$answers" "$(tr -d '\r' < "$folder/out")"
+    wineserver -k
+    passes "Windows" tests/windows.sh
+    tail -n 1 "$folder/out"
+else
+    echo "skipped: Windows, which make windows builds, and which wine runs"
 fi
 
 # ---- The registry's update
