@@ -1,0 +1,137 @@
+#!/usr/bin/env python3
+"""Goes through the commands of pages to the letter, and compares what they print with what the pages show. Then through their
+links, in the repository and where the program is installed.
+
+Usage: tests/pages.py [--write] [PAGE..]
+
+A command is a line, indented by four spaces, that begins with `$ `; lines that begin with `> ` continue it, and the indented
+lines below are what it prints, on both outputs. In the manual it stands between .nf and .fi. The commands are run one
+after another in a fresh folder that has what git has and build/langtag. The program is installed from there, below another
+folder: its langtag is on the path, its registry is registry.txt, and a path below /usr/local is one below that folder. `make`
+does nothing, since all is built. Empty lines are not compared. --write puts what was printed into the pages.
+
+Without a PAGE it goes through all of them. Prints `N passed, M failed`, and ends with status 1 unless all pass.
+"""
+
+import os
+import re
+import shutil
+import subprocess
+import sys
+import tempfile
+from pathlib import Path
+
+ROOT = Path(__file__).resolve().parent.parent
+PAGES = ["README.md", "docs/GUIDE.md", "docs/FAQ.md", "docs/INSTALL.md", "docs/updates.md", "docs/langtag.1"]
+INDENT = "    "
+
+
+def blocks(lines, is_manual):
+    """The commands of a page: each with the first and last line of what is printed below it, and its text."""
+    indent, at, inside = "" if is_manual else INDENT, 0, not is_manual
+    while at < len(lines):
+        if is_manual and lines[at] in (".nf", ".fi"):
+            inside = lines[at] == ".nf"
+        if inside and lines[at].startswith(indent + "$ "):
+            words, at = [lines[at][len(indent) + 2 :]], at + 1
+            while at < len(lines) and lines[at].startswith(indent + "> "):
+                words, at = [*words, lines[at][len(indent) + 2 :]], at + 1
+            first = at
+            while at < len(lines) and ends_not(lines[at], indent, is_manual):
+                at += 1
+            yield first, at, "\n".join(words)
+        else:
+            at += 1
+
+
+def ends_not(line, indent, is_manual):
+    """Whether a line is of what a command prints."""
+    return not line.startswith(indent + "$ ") and (not line.startswith(".") if is_manual else line.startswith(indent))
+
+
+def roff(text):
+    """A text of a program as the manual's source has it."""
+    text = text.replace("\\", "\\e").replace("-", "\\-")
+    return re.sub(r"^([.'])", r"\\&\1", text, flags=re.M)
+
+
+def plain(text):
+    """What the manual's source shows."""
+    return text.replace("\\&", "").replace("\\-", "-").replace("\\e", "\\")
+
+
+def run(command, folder):
+    """What a command prints in a prepared folder."""
+    path = f"{folder}/bin:{folder}/tree/usr/local/bin:{os.environ['PATH']}"
+    ran = subprocess.run(["bash", "-c", command.replace("/usr/local/", f"{folder}/tree/usr/local/")], cwd=folder / "repository",
+                         stdin=subprocess.DEVNULL, stdout=subprocess.PIPE, stderr=subprocess.STDOUT,
+                         env={**os.environ, "PATH": path, "LC_ALL": "C.UTF-8"}, timeout=120)
+    return ran.stdout.decode(errors="replace")
+
+
+def prepare(folder):
+    """Copies what git has, and installs the program from there."""
+    copy = folder / "repository"
+    for it in (copy / "build", folder / "bin"):
+        it.mkdir(parents=True)
+    files = subprocess.run(["git", "ls-files", "-z"], cwd=ROOT, check=True, stdout=subprocess.PIPE).stdout
+    subprocess.run(f"tar -c --null -T - | tar -x -C '{copy}'", shell=True, cwd=ROOT, input=files, check=True)
+    shutil.copy2(ROOT / "build" / "langtag", copy / "build")
+    (folder / "bin" / "make").write_text("#!/bin/sh\n")
+    (folder / "bin" / "make").chmod(0o755)
+    place = {**os.environ, "DESTDIR": str(folder / "tree"), "PREFIX": "/usr/local", "LIBDIR": "/usr/local/lib"}
+    subprocess.run(["packaging/install.sh", "install", "program"], cwd=copy, env=place, check=True)
+    shutil.copy2(folder / "tree/usr/local/share/langtag/registry.txt", copy)
+
+
+def anchors(text):
+    """The names by which a page's headings are linked to."""
+    heads = re.findall(r"^#+ (.*)$", re.sub(r"^```.*?^```", "", text, flags=re.M | re.S), flags=re.M)
+    return {re.sub(r"[^\w\- ]", "", re.sub(r"\]\([^)]*\)", "", it)).strip().lower().replace(" ", "-") for it in heads}
+
+
+def lost_links(top):
+    """The links of the pages below a folder that lead nowhere."""
+    for page in sorted(top.rglob("*.md")):
+        for target in re.findall(r"\]\(([^)\s]+)\)", page.read_text(encoding="utf-8")):
+            name, _, anchor = target.partition("#")
+            to = page.parent / name if name else page
+            if "://" not in target and (not to.exists() or anchor and anchor not in anchors(to.read_text(encoding="utf-8"))):
+                yield f"{page.relative_to(top)}: {target} leads nowhere"
+
+
+def main():
+    write = sys.argv[1:2] == ["--write"]
+    pages = sys.argv[1 + write :] or [it for it in PAGES if (ROOT / it).exists()]
+    passed = failed = 0
+    with tempfile.TemporaryDirectory() as folder:
+        prepare(Path(folder))
+        for top in ("repository", "tree"):
+            lost = [*lost_links(Path(folder) / top)]
+            passed, failed = passed + (not lost), failed + len(lost)
+            print("".join(f"{top}: {it}\n" for it in lost), end="")
+        for page in pages:
+            is_manual, path = page.endswith(".1"), ROOT / page
+            lines = path.read_text(encoding="utf-8").split("\n")
+            found = []
+            for first, last, command in blocks(lines, is_manual):
+                printed = run(plain(command) if is_manual else command, Path(folder))
+                indent = "" if is_manual else INDENT
+                told = [indent + it for it in (roff(printed) if is_manual else printed).split("\n") if it]
+                shown = lines[first:last]
+                if told == shown:
+                    passed += 1
+                else:
+                    failed += 1
+                    print(f"{page}:{first + 1}: $ {command}\n  shown:   {shown}\n  printed: {told}")
+                found.append((first, last, told))
+            if write:
+                for first, last, told in reversed(found):
+                    lines[first:last] = told
+                path.write_text("\n".join(lines), encoding="utf-8")
+    print(f"{passed} passed, {failed} failed")
+    return 1 if failed or not passed else 0
+
+
+if __name__ == "__main__":
+    sys.exit(main())
