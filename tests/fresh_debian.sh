@@ -122,7 +122,7 @@ gives yue "python3 -c \"import bcp47; print(bcp47.Registry.from_file('/usr/share
 
 runs 'apt-get install -y ./sqlite3-bcp47_*.deb'
 gives "$(printf '%s\n' 1 'yue|1|BadByte 1')" "sqlite3 -cmd '.load /usr/lib/$(uname -m)-linux-gnu/sqlite3/bcp47_sqlite' :memory: \\
-    \"SELECT bcp47_load('/usr/share/langtag/registry.txt'); SELECT bcp47_canonical('zh-yue'), bcp47_equal('zh-yue', 'YUE'), bcp47_fault('en_US')\""
+    \"SELECT bcp47_load('/usr/share/langtag/registry.txt'); SELECT bcp47_canonical('zh-yue'), bcp47_equivalent('zh-yue', 'YUE'), bcp47_fault('en_US')\""
 
 runs 'apt-get install -y ./postgresql-15-bcp47_*.deb'
 server_tools=/usr/lib/postgresql/15/bin
@@ -130,7 +130,7 @@ runs "install -d -o postgres /new/server && setpriv --reuid postgres --regid pos
     $server_tools/pg_ctl -D /new/server/data -l /new/server/log -w start \\
     -o \"-k /new/server -c listen_addresses= -c fsync=off -c dynamic_shared_memory_type=mmap -c shared_preload_libraries=bcp47 -c bcp47.registry=/usr/share/langtag/registry.txt\"'"
 gives "$(printf '%s\n' 'CREATE EXTENSION' 'yue|t|BadByte 1' 1.1)" "psql -h /new/server -U postgres -At -c 'CREATE EXTENSION bcp47' \\
-    -c \"SELECT bcp47_canonical('zh-yue'), bcp47_equal('zh-yue', 'YUE'), bcp47_fault('en_US')\" \\
+    -c \"SELECT bcp47_canonical('zh-yue'), bcp47_equivalent('zh-yue', 'YUE'), bcp47_fault('en_US')\" \\
     -c \"SELECT extversion FROM pg_extension WHERE extname = 'bcp47'\""
 runs "setpriv --reuid postgres --regid postgres --clear-groups $server_tools/pg_ctl -D /new/server/data -m immediate stop"
 

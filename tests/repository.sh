@@ -1,5 +1,5 @@
 #!/bin/bash
-# Compares what stands in several places of the repository: the version with VERSION, the licence with LICENSE, the picture
+# Compares what stands in several places of the repository: what tools/describe.py writes, the licence with LICENSE, the picture
 # of the layers with crates.txt, the examples of docs/LIBRARY.md with the code. It needs no toolchain. The last line counts;
 # the status is 1 if any of them differs.
 cd "$(dirname "$0")/.." || exit 1
@@ -25,18 +25,9 @@ says() {
 
 version=$(cat VERSION)
 passes "VERSION has three numbers" grep -qxE '[0-9]+\.[0-9]+\.[0-9]+' VERSION
-says crates/lt_words/src/program.rt "$version" 'const VERSION: &str = "([0-9.]+) \(.*\)";'
-says docs/langtag.1 "$version" '\.TH LANGTAG 1 [0-9-]+ "langtag ([0-9.]+)" "User Commands"'
-says bindings/c/bcp47.pc.in "$version" 'Version: ([0-9.]+)'
-says bindings/c/bcp47.h "$version" '#define BCP47_VERSION "([0-9.]+)"'
-says bindings/python/wheel_of_package.py "$version" 'NAME, VERSION = "bcp47", "([0-9.]+)"'
-says bindings/python/pyproject.toml "$version" 'version = "([0-9.]+)"'
-says bindings/rust/Cargo.toml "$version" 'version = "([0-9.]+)"'
-says bindings/rust/bcp47/Cargo.toml "$version" 'bcp47-sys = \{ .*version = "([0-9.]+)" \}'
-says bindings/node/package.json "$version" '  "version": "([0-9.]+)",'
-says bindings/java/pom.xml "$version" '  <version>([0-9.]+)<.version>'
+passes "what tools/describe.py writes" tools/describe.py --check
 says CHANGELOG.md "$version" "## ($version)"
-[ -e packaging/debian/changelog ] && says packaging/debian/changelog "$version" "langtag \\(($version)-[0-9]+\\) .*"
+says packaging/debian/changelog "$version" "langtag \\(($version)-[0-9]+\\) .*"
 
 # The extension of PostgreSQL has a version of its own, which changes where its functions do: each script leads to one.
 says bindings/postgresql/bcp47.control "${version%.*}" "default_version = '([0-9.]+)'"
@@ -61,7 +52,7 @@ import parts
 
 found = parts.uses()
 inside = parts.kit_below("langtag", found) | parts.kit_below("bcp47_c", found)
-inside -= {"core", "std", "std_alloc", "std_collections", "std_heap", "std_io"}
+inside -= {"std_collections"} | parts.STANDARD["program"]
 named = re.findall(r"^  (\w+) +((?:MIT|Apache).*?)  ", Path("LICENSE").read_text(), re.M)
 copyright = Path("packaging/debian/copyright").read_text()
 packaged = {name for line in re.findall(r"^Files: (\w.*)", copyright, re.M) for name in line.split()}

@@ -108,7 +108,7 @@ class Statement(unittest.TestCase):
     def test_counts_what_is_reached_and_no_more(self):
         status, printed = self.run_it("--list", "--docs")
         self.assertEqual(status, 0, printed)
-        self.assertTrue(printed.endswith("6 lines of 3 definitions in 3 files\n"), printed)
+        self.assertTrue(printed.endswith("6 lines, 68 tokens, of 3 definitions in 3 files\n"), printed)
         self.assertIn("IsShort", printed)
         for name in ("IsLong", "IsOwed", "Refusal"):
             self.assertNotIn(name, printed)
