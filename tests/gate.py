@@ -66,10 +66,10 @@ class Kept:
         def run(crate, flags, tests):
             key, out, status = (crate.name, "tests" if tests else "proof"), os.path.join(crate.folder, "out"), 0
             place, own = self.places[key], os.path.join(ROOT, "crates", crate.name, "out")
-            parts = [crate.name + "_tests"] if tests else ["rlib", crate.name, crate.name + ".by-rattle", "checked"]
+            made = [crate.name + "_tests"] if tests else ["rlib", crate.name, crate.name + ".o", crate.name + ".by-rattle"]
             if key in self.taken:
                 os.utime(place)
-                linked(place, out, parts)
+                linked(place, out, [*made, "checked"])
             elif crate.is_static and not tests:
                 status = crate.prove(["check", *crate.words(flags, keeps=False), "-o", "out/checked"])
             else:
@@ -79,10 +79,10 @@ class Kept:
                 return status
             if key not in self.taken:
                 room = "%s.%d" % (place, os.getpid())
-                linked(out, room, parts)
+                linked(out, room, [*made, "checked"])
                 shutil.rmtree(place, ignore_errors=True)
                 os.rename(room, place)
-            linked(out, own, parts[:3])
+            linked(out, own, made)
             if crate.is_static:
                 edits.unpack(crate, os.path.join(out, "checked"), os.path.join(own, "incremental"))
             return 0
