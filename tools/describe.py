@@ -47,6 +47,7 @@ LINES = [
     ("bench/bindings/go/main.go", "go_module", r'\t"(.*bcp47)"'),
     ("docs/GO.md", "go_module", GO_MODULE),
     ("docs/GO.md", "version", r"~bcp47-go-({})"),
+    ("docs/PYTHON.md", "version", r"~bcp47-({})-cp39"),
     ("docs/INSTALL.md", "go_module", GO_MODULE),
     ("docs/INSTALL.md", "version", r"~(?:langtag|bcp47)(?:-sys|-go)?[-_]({})"),
     ("packaging/debian/control", "maintainer", r"Maintainer: (.*) <.*>"),

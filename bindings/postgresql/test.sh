@@ -60,7 +60,6 @@ t' ask -c "CREATE FUNCTION private_kilobytes() RETURNS int LANGUAGE sql AS \$\$ 
 # docs/SQL.md's example
 page=$here/../../docs/SQL.md
 ask -c 'CREATE DATABASE example' || exit 1
-ask -d example -c 'CREATE TABLE books (tag text)' || exit 1
 sed -n '/^## PostgreSQL/,$s/^    postgres=# //p' "$page" | ask -d example -F ' | ' > answers 2>&1
 diff <(sed -n '/^## PostgreSQL/,${/^    postgres=#/!s/^     *//p}' "$page") answers || exit 1
 

@@ -1,14 +1,14 @@
 #!/bin/bash
 # Tests of the functions in SQLite, and docs/SQL.md's first example. Arguments: the folder of bcp47_sqlite.so, the sample registry.
-page=$(dirname "$(realpath "$0")")/../../docs/SQL.md
+here=$(dirname "$(realpath "$0")")
+page=$here/../../docs/SQL.md
 books=$1/books
 rm -rf "$books"
 mkdir "$books"
 cp "$1/bcp47_sqlite.so" "$books"
-cp "$2" "$books/registry.txt"
+cp "$here/../../examples/iana-2025-05-15.txt" "$books/registry.txt"
 sed -n '/^## SQLite/,/^## PostgreSQL/s/^    sqlite> //p' "$page" > "$books/example"
 sed -n '/^## SQLite/,/^## PostgreSQL/{/^    \(sqlite>\|\$\) /!s/^    //p}' "$page" > "$books/wanted"
-sqlite3 "$books/books.db" 'CREATE TABLE books (tag TEXT)'
 (cd "$books" && sqlite3 books.db < example > got 2>&1)
 diff "$books/wanted" "$books/got" || exit 1
 got=$(sqlite3 :memory: ".load $1/bcp47_sqlite" "SELECT bcp47_canonical('en');" 2>&1)
