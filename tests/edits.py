@@ -75,12 +75,13 @@ class Edit:
 
     def symbols(self, told):
         """Those of a check's names that can be of its functions, and of closures in them."""
-        return [it for it in told if {f.name for f in self.functions} & {*it.split("::")}]
+        # (a module may have the name of a function of another)
+        found = "|".join("%s::%s" % (f.owner + "[^:]*" if f.owner else f.file[4:-3].replace("/", "::"), f.name) for f in self.functions)
+        return [it for it in told if found and re.search("(^|::)(%s)(::|$)" % re.sub(r"\b(lib|main)::", "", found), it)]
 
     def clashes(self, other):
         """Whether one check cannot tell the two apart."""
-        is_alone = any(it.is_of_others or len(it.functions) != 1 for it in (self, other))
-        return is_alone or self.functions[0].name == other.functions[0].name
+        return any(it.is_of_others or len(it.functions) != 1 for it in (self, other)) or self.functions[0].name == other.functions[0].name
 
 
 class Said:
@@ -126,8 +127,7 @@ class Said:
                 return kind, found[0][2]
         if words and not is_alone:
             return None
-        unproved = [it for it in words if UNPROVED.search(it)]
-        if unproved:
+        if unproved := [it for it in words if UNPROVED.search(it)]:
             return CLAUSE, unproved[0]
         return NOT_REFUSED, "no clause of its own fails: " + words[0] if words else "it is proved with this edit"
 
@@ -266,8 +266,7 @@ class Ledger:
         lines = {} if self.is_whole else {name: it for name, it in self.held.items() if name.partition("/")[0] not in self.crates}
         for it, edit in ((it, edit) for it in self.crates.values() for edit in it.edits):
             holds, (kind, why) = self.holds(self.held, it, edit), it.told.get(edit, ("", ""))
-            kind = kind or (self.held[edit.name][1] if holds else "")
-            kinds.append(kind)
+            kinds.append(kind := kind or (self.held[edit.name][1] if holds else ""))
             if kind in (CLAUSE, LIMIT, PROOF, NAME, UNREAD):
                 lines[edit.name] = it.sums[edit], kind
             if kind not in ("", CLAUSE, LIMIT):
@@ -292,8 +291,7 @@ def main():
     due = {name: it for name, it in found.due(anew).items() if it}
     if due and subprocess.run([os.path.join(ROOT, "tools", "build.py"), *due]).returncode:
         return 1
-    tasks = {(name, "edits"): found.crates[name].task([], edits) for name, edits in due.items()}
-    build.Lanes(rt, tasks).run()
+    build.Lanes(rt, {(name, "edits"): found.crates[name].task([], edits) for name, edits in due.items()}).run()
     return int(found.close(is_release=True) > 0)
 
 

@@ -128,8 +128,7 @@ def reached(items, names):
     """The texts of all items to which these names lead."""
     texts, done, todo = set(), set(), {"(any)", *names} & items.keys()
     while todo:
-        name = todo.pop()
-        done.add(name)
+        done.add(name := todo.pop())
         for text, named in items[name]:
             texts.add(text)
             todo |= named - done
