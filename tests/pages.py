@@ -1,6 +1,6 @@
 #!/usr/bin/env python3
 """Goes through the commands of pages to the letter, and compares what they print with what the pages show. Then through their
-links, in the repository and where the program is installed.
+links, in the repository and where the program is installed, and through sentences: on a page none has 40 words or more.
 
 Usage: tests/pages.py [--write] [PAGE..]
 
@@ -22,8 +22,10 @@ import tempfile
 from pathlib import Path
 
 ROOT = Path(__file__).resolve().parent.parent
-PAGES = ["README.md", "docs/GUIDE.md", "docs/FAQ.md", "docs/INSTALL.md", "docs/updates.md", "docs/langtag.1"]
+PAGES = ["README.md", "docs/GUIDE.md", "docs/FAQ.md", "docs/INSTALL.md", "docs/updates.md", "docs/PROVED.md",
+         "docs/langtag.1"]
 INDENT = "    "
+MOST_WORDS = 39
 
 
 def blocks(lines, is_manual):
@@ -100,6 +102,43 @@ def lost_links(top):
                 yield f"{page.relative_to(top)}: {target} leads nowhere"
 
 
+def sentences(lines, is_manual):
+    """The sentences of a page, of its paragraphs, list items and cells, without code."""
+    text, is_code = [], False
+    for line in lines:
+        if line in (".nf", ".fi") or line.startswith("```"):
+            is_code = not is_code
+        if is_manual and re.match(r"\.([BI]|[BIR]{2}) ", line):
+            text.append(line.split(" ", 1)[1].replace('"', ""))
+        elif is_code or line.startswith((".", "#", "```") if is_manual else (INDENT, "#", "```")):
+            text.append("")
+        else:
+            line = re.sub(r"^ *([-*]|\d+\.) ", "\n\n", line)
+            text.append(line.replace("|", "\n\n") if line.lstrip().startswith("|") else line)
+    # a row of names counts as one word
+    for paragraph in re.split(r"\n\s*\n", re.sub(r"(`[^`\n]+`,\s)+", "", "\n".join(text))):
+        yield from re.split(r"(?<=[.?!])[)\"'*]* ", " ".join(re.sub(r"\]\([^)]*\)", "]", paragraph).split()))
+
+
+def compare(page, lines, folder):
+    """Runs the commands of a page. Gives how many printed what is shown, how many did not, and the lines as they would be right."""
+    is_manual = page.endswith(".1")
+    indent = "" if is_manual else INDENT
+    passed, found = 0, []
+    for first, last, command in blocks(lines, is_manual):
+        printed = run(plain(command) if is_manual else command, folder)
+        told = [indent + it for it in (roff(printed) if is_manual else printed).split("\n") if it]
+        shown = lines[first:last]
+        passed += told == shown
+        if told != shown:
+            print(f"{page}:{first + 1}: $ {command}\n  shown:   {shown}\n  printed: {told}")
+        found.append((first, last, told))
+    right = lines[:]
+    for first, last, told in reversed(found):
+        right[first:last] = told
+    return passed, len(found) - passed, right
+
+
 def main():
     write = sys.argv[1:2] == ["--write"]
     pages = sys.argv[1 + write :] or [it for it in PAGES if (ROOT / it).exists()]
@@ -111,24 +150,13 @@ def main():
             passed, failed = passed + (not lost), failed + len(lost)
             print("".join(f"{top}: {it}\n" for it in lost), end="")
         for page in pages:
-            is_manual, path = page.endswith(".1"), ROOT / page
-            lines = path.read_text(encoding="utf-8").split("\n")
-            found = []
-            for first, last, command in blocks(lines, is_manual):
-                printed = run(plain(command) if is_manual else command, Path(folder))
-                indent = "" if is_manual else INDENT
-                told = [indent + it for it in (roff(printed) if is_manual else printed).split("\n") if it]
-                shown = lines[first:last]
-                if told == shown:
-                    passed += 1
-                else:
-                    failed += 1
-                    print(f"{page}:{first + 1}: $ {command}\n  shown:   {shown}\n  printed: {told}")
-                found.append((first, last, told))
+            lines = (ROOT / page).read_text(encoding="utf-8").split("\n")
+            long = [it for it in sentences(lines, page.endswith(".1")) if len(it.split()) > MOST_WORDS]
+            print("".join(f"{page}: {len(it.split())} words: {it}\n" for it in long), end="")
+            right, wrong, lines = compare(page, lines, Path(folder))
+            passed, failed = passed + right + (not long), failed + wrong + len(long)
             if write:
-                for first, last, told in reversed(found):
-                    lines[first:last] = told
-                path.write_text("\n".join(lines), encoding="utf-8")
+                (ROOT / page).write_text("\n".join(lines), encoding="utf-8")
     print(f"{passed} passed, {failed} failed")
     return 1 if failed or not passed else 0
 
