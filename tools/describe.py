@@ -107,7 +107,7 @@ class Header:
             answer = "" if kind == "void " else f" -> {self.kind(kind)}"
             given = [] if parameters == "void" else [self.parameter(one) for one in parameters.split(",")]
             line = f"    pub fn {name}({', '.join(given)}){answer};"
-            lines += [line] if len(line) <= 100 else [f"    pub fn {name}(", *(f"        {one}," for one in given), f"    ){answer};"]
+            lines += [line] if len(line) <= 120 else [f"    pub fn {name}(", *(f"        {one}," for one in given), f"    ){answer};"]
         return "\n".join([*lines, "}", ""])
 
 

@@ -414,19 +414,72 @@ static bcp47_outcome write_lines(slot *s, const uint8_t *text, size_t length, si
     return write_whole(bcp47_handle_explain, s, text, length, (steps + 1) * (length + 64), lines);
 }
 
-bcp47_outcome bcp47_explanation(const bcp47_registry *registry, const char *text, size_t length, size_t most, char **lines) {
-    uint8_t variant[8];
-    if (!lines) return ended(BCP47_BAD_CALL);
-    *lines = NULL;
+/* The lines of at most so many steps; the number of steps goes to *count, and the variant that would be repeated to 8 bytes. */
+static bcp47_outcome explain(const bcp47_registry *registry, const char *text, size_t length, size_t most, char **lines, size_t *count,
+                             uint8_t *variant) {
     if (!is_open(registry)) return ended(BCP47_NOT_OPEN);
     if (!is_text(text, length)) return ended(BCP47_BAD_CALL);
     slot *s = take(registry);
     if (!s) return ended(BCP47_BUSY);
-    bcp47_outcome outcome = bcp47_handle_count_steps(&s->handle, bytes_of(text), length, variant, sizeof variant);
-    outcome.length = 0;
+    bcp47_outcome outcome = bcp47_handle_count_steps(&s->handle, bytes_of(text), length, variant, 8);
+    *count = outcome.place;
     if (outcome.status == BCP47_DONE)
-        outcome = outcome.place > most ? ended(BCP47_TOO_MANY_STEPS) : write_lines(s, bytes_of(text), length, outcome.place, lines);
+        outcome = *count > most ? ended(BCP47_TOO_MANY_STEPS) : write_lines(s, bytes_of(text), length, *count, lines);
     give(s);
+    return outcome;
+}
+
+bcp47_outcome bcp47_explanation(const bcp47_registry *registry, const char *text, size_t length, size_t most, char **lines) {
+    uint8_t variant[8];
+    size_t count;
+    if (!lines) return ended(BCP47_BAD_CALL);
+    *lines = NULL;
+    bcp47_outcome outcome = explain(registry, text, length, most, lines, &count, variant);
+    if (outcome.status == BCP47_REPLACEMENT_REPEATS) outcome.length = 0;
+    return outcome;
+}
+
+/* The number of the kind of step whose name begins a text: of two that begin alike, the shorter comes first. */
+static uint8_t kind_at(const char *text, size_t length) {
+    uint8_t kind = BCP47_EXTLANG;
+    while (strncmp(bcp47_kind_name(kind), text, length)) kind++;
+    return kind;
+}
+
+/* Takes so many lines of an explanation, and the last, apart: the tags go to memory for as many bytes as the lines have. */
+static void read_lines(const char *lines, bcp47_step *steps, size_t count, char *tags) {
+    for (size_t i = 0; i <= count; i++) {
+        char *at = (char *)(uintptr_t)strchr(lines, ' ');
+        if (i < count) {
+            steps[i].kind = kind_at(lines, (size_t)(at - lines));
+            steps[i].place = (uint32_t)strtoul(at, &at, 10);
+            steps[i].number = (uint32_t)strtoul(at, &at, 10);
+        }
+        size_t length = strcspn(++at, "\n");
+        memcpy(tags, at, length);
+        tags[length] = 0;
+        tags += length + 1;
+        lines = at + length + 1;
+    }
+}
+
+bcp47_outcome bcp47_steps(const bcp47_registry *registry, const char *text, size_t length, size_t most, bcp47_step **steps,
+                          const char **tags) {
+    uint8_t variant[8];
+    size_t count = 0;
+    char *lines = NULL;
+    if (!steps || !tags) return ended(BCP47_BAD_CALL);
+    *steps = NULL, *tags = NULL;
+    bcp47_outcome outcome = explain(registry, text, length, most, &lines, &count, variant);
+    if (outcome.status != BCP47_DONE && outcome.status != BCP47_REPLACEMENT_REPEATS) return outcome;
+    bcp47_step *made = malloc(count * sizeof *made + outcome.length + 1);
+    char *behind = made ? (char *)(made + count) : NULL;
+    if (!made) outcome = ended(BCP47_OUT_OF_MEMORY);
+    else if (lines) read_lines(lines, made, count, behind);
+    else memcpy(behind, variant, outcome.length), behind[outcome.length] = 0;
+    free(lines);
+    *steps = made, *tags = behind;
+    if (outcome.status == BCP47_DONE) outcome.place = count, outcome.length = 0;
     return outcome;
 }
 

@@ -44,7 +44,7 @@ enum {
     BCP47_NOT_OPEN = 13,           /* the registry is NULL, or no registry that is open */
     BCP47_BAD_CALL = 14,           /* NULL where something is needed, a length that no text has, a buffer over a text, or no scheme */
     BCP47_BUSY = 15,               /* 64 calls and more are under way, and no memory was left for this one: call again */
-    BCP47_TOO_MANY_STEPS = 16,     /* of bcp47_explanation: more than the steps that were allowed */
+    BCP47_TOO_MANY_STEPS = 16,     /* of bcp47_explanation and bcp47_steps: more than the steps that were allowed */
     BCP47_NO_ENTRIES = 17          /* of bcp47_open: the bytes have no record but a header, so that each tag would be refused */
 };
 
@@ -54,7 +54,7 @@ enum { BCP47_LANGTAG = 1, BCP47_PRIVATE_USE = 2, BCP47_GRANDFATHERED = 3 };
 /* The schemes of matching, as bcp47_match takes them (RFC 4647, 3.3.1, 3.3.2 and 3.4). */
 enum { BCP47_BASIC = 1, BCP47_EXTENDED = 2, BCP47_LOOKUP = 3 };
 
-/* A step, as bcp47_verify takes it. The lines of bcp47_explain have its kind by name, its place and its number. */
+/* A step, as bcp47_steps gives it and bcp47_verify takes it. */
 typedef struct {
     uint8_t kind;    /* BCP47_EXTLANG and so on, which bcp47_kind_name names */
     uint32_t place;  /* the subtag that changes, counted from 1 */
@@ -181,7 +181,14 @@ bcp47_outcome bcp47_explanation(const bcp47_registry *registry, const char *text
    the registry is closed, some MB for a registry of IANA's size. */
 bcp47_outcome bcp47_show(const bcp47_registry *registry, const char *text, size_t length, char **rows);
 
-/* Lets go of what bcp47_explanation or bcp47_show gave. NULL does nothing. */
+/* The steps that lead from a tag to its canonical tag: *steps points to them then, in memory that bcp47_free lets go of, and `place`
+   is how many there are. *tags, in the same memory, points to the tag to which each of them leads, and last to the canonical tag, with
+   a zero after each. Where there are more than `most` steps, the status is BCP47_TOO_MANY_STEPS. With BCP47_REPLACEMENT_REPEATS there
+   are no steps, and *tags points to the variant, in memory to which *steps points. Else both are NULL. */
+bcp47_outcome bcp47_steps(const bcp47_registry *registry, const char *text, size_t length, size_t most, bcp47_step **steps,
+                          const char **tags);
+
+/* Lets go of what bcp47_explanation, bcp47_steps or bcp47_show gave. NULL does nothing. */
 void bcp47_free(void *text);
 
 /* Whether steps lead from a valid tag, one after another, to another tag, which is then equivalent to it. */

@@ -5,7 +5,6 @@
 
 #include "bcp47.h"
 #include <cerrno>
-#include <charconv>
 #include <cstddef>
 #include <cstdio>
 #include <cstdlib>
@@ -213,32 +212,6 @@ inline result<void> nothing_of(bcp47_outcome outcome) {
     return refused(refusal{outcome, {}});
 }
 
-/* The number of the kind of step that has a name. */
-inline std::uint8_t kind_of(std::string_view name) {
-    std::uint8_t kind = BCP47_EXTLANG;
-    while (kind < BCP47_SWAP_FIELDS && name != bcp47_kind_name(kind)) kind++;
-    return kind;
-}
-
-/* The words of the lines of bcp47_explanation. */
-inline explanation read_lines(std::string_view lines) {
-    explanation read;
-    while (lines[0] != '=') {
-        std::string_view words[4];
-        for (int i = 0; i < 4; i++) {
-            words[i] = lines.substr(0, lines.find(i < 3 ? ' ' : '\n'));
-            lines.remove_prefix(words[i].size() + 1);
-        }
-        bcp47_step step{kind_of(words[0]), 0, 0};
-        std::from_chars(words[1].data(), words[2].data(), step.place);
-        std::from_chars(words[2].data(), words[3].data(), step.number);
-        read.steps.push_back(step);
-        read.tags.emplace_back(words[3]);
-    }
-    read.canonical = lines.substr(2, lines.size() - 3);
-    return read;
-}
-
 } // namespace detail
 
 /* The tag of a text, which needs no registry. */
@@ -320,13 +293,15 @@ class registry {
 
     /* The steps to the canonical tag: BCP47_TOO_MANY_STEPS where there are more than `most`. */
     result<explanation> explain(std::string_view tag, std::size_t most = 20000) const {
-        char *lines;
-        bcp47_outcome outcome = bcp47_explanation(opened_.get(), tag.data(), tag.size(), most, &lines);
-        std::unique_ptr<char, void (*)(void *)> freed(lines, &bcp47_free);
-        if (outcome.status == BCP47_DONE) return detail::read_lines({lines, outcome.length});
-        /* the variant that would be repeated is told by another call */
-        if (outcome.status == BCP47_REPLACEMENT_REPEATS) return detail::refused(canonical(tag).error());
-        return detail::refused(refusal{outcome, {}});
+        bcp47_step *steps;
+        const char *at;
+        bcp47_outcome outcome = bcp47_steps(opened_.get(), tag.data(), tag.size(), most, &steps, &at);
+        std::unique_ptr<bcp47_step, void (*)(void *)> freed(steps, &bcp47_free);
+        if (outcome.status != BCP47_DONE) return detail::refused(refusal{outcome, at ? at : ""});
+        explanation read{{steps, steps + outcome.place}, {}, {}};
+        for (; read.tags.size() < outcome.place; at += read.tags.back().size() + 1) read.tags.emplace_back(at);
+        read.canonical = at;
+        return read;
     }
 
     /* What the registry says of a tag: the array of JSON that bcp47_show gives. */

@@ -26,23 +26,11 @@ package bcp47
 //     return scheme ? bcp47_match(of, scheme, text, length, other, other_length, buffer, room)
 //                   : bcp47_equivalent(of, text, length, other, other_length, buffer, room);
 // }
-// static bcp47_outcome explanation(uintptr_t registry, _GoString_ tag, size_t most, char **lines) {
-//     return bcp47_explanation((bcp47_registry *)registry, _GoStringPtr(tag), _GoStringLen(tag), most, lines);
+// static bcp47_outcome steps(uintptr_t registry, _GoString_ tag, size_t most, bcp47_step **steps, const char **tags) {
+//     return bcp47_steps((bcp47_registry *)registry, _GoStringPtr(tag), _GoStringLen(tag), most, steps, tags);
 // }
 // static bcp47_outcome registry_info(uintptr_t registry, bcp47_info *info) {
 //     return bcp47_registry_info((bcp47_registry *)registry, info);
-// }
-// // Answers texts that follow one another and end where `ends` has it, until the buffer is full; gives how many.
-// static size_t canonical_many(uintptr_t registry, _GoString_ texts, const size_t *ends, size_t begin, size_t count,
-//                              bcp47_outcome *outcomes, char *buffer, size_t room) {
-//     size_t i;
-//     for (i = 0; i < count; begin = ends[i++]) {
-//         outcomes[i] = bcp47_canonical((bcp47_registry *)registry, _GoStringPtr(texts) + begin, ends[i] - begin, buffer, room);
-//         if (outcomes[i].status == BCP47_BUFFER_TOO_SMALL) break;
-//         buffer += outcomes[i].length;
-//         room -= outcomes[i].length;
-//     }
-//     return i;
 // }
 // static uintptr_t opened(const void *content, size_t length, char *line, size_t room, bcp47_outcome *outcome) {
 //     bcp47_registry *registry;
@@ -56,7 +44,6 @@ import (
 	"encoding/hex"
 	"os"
 	"runtime"
-	"strings"
 	"sync"
 	"unsafe"
 )
@@ -204,17 +191,25 @@ func (r *Registry) Explain(tag string, most int) (explanation Explanation, err e
 	if most < 0 {
 		most = 0
 	}
-	err = r.ask(func(raw C.uintptr_t, buffer *[room]byte) error {
-		var lines *C.char
-		outcome := C.explanation(raw, tag, C.size_t(most), &lines)
-		if outcome.status == C.BCP47_REPLACEMENT_REPEATS {
-			outcome = C.text_by(0, raw, tag, chars(buffer), room) // which names the variant
+	err = r.ask(func(raw C.uintptr_t, _ *[room]byte) error {
+		var steps *C.bcp47_step
+		var at *C.char
+		outcome := C.steps(raw, tag, C.size_t(most), &steps, &at)
+		defer C.bcp47_free(unsafe.Pointer(steps))
+		next := func() string { // the text that is next: the variant, or the tag of a step, or the canonical one
+			text := C.GoString(at)
+			at = (*C.char)(unsafe.Add(unsafe.Pointer(at), len(text)+1))
+			return text
 		}
 		if outcome.status != C.BCP47_DONE {
-			return refusedTag(outcome, buffer[:], tag)
+			return refusedTag(outcome, []byte(C.GoString(at)), tag)
 		}
-		defer C.bcp47_free(unsafe.Pointer(lines))
-		explanation = explanationOf(C.GoStringN(lines, C.int(outcome.length)))
+		explanation.Steps = make([]Step, outcome.place)
+		for i, step := range unsafe.Slice(steps, len(explanation.Steps)) {
+			kind := C.GoString(C.bcp47_kind_name(C.int(step.kind)))
+			explanation.Steps[i] = Step{kind, uint32(step.place), uint32(step.number), next()}
+		}
+		explanation.Canonical = next()
 		return nil
 	})
 	return explanation, err
@@ -237,50 +232,4 @@ func (r *Registry) Info() (of Info, err error) {
 		return nil
 	})
 	return of, err
-}
-
-// An Answer of CanonicalMany: the canonical text of a tag, or why there is none.
-type Answer struct {
-	Text string
-	Err  error
-}
-
-// As many tags go to the library by one call, which has room for each answer to many.
-const chunk, bytesOfChunk = 1024, 64 * 1024
-
-// CanonicalMany gives an answer for each tag, as Canonical does.
-func (r *Registry) CanonicalMany(tags []string) (answers []Answer, err error) {
-	err = r.ask(func(raw C.uintptr_t, _ *[room]byte) error {
-		answers = make([]Answer, 0, len(tags))
-		outcomes, ends := make([]C.bcp47_outcome, chunk), make([]C.size_t, 0, chunk)
-		buffer := make([]byte, bytesOfChunk)
-		for len(answers) < len(tags) {
-			var texts strings.Builder
-			ends = ends[:0]
-			for _, tag := range tags[len(answers):] {
-				texts.WriteString(tag)
-				ends = append(ends, C.size_t(texts.Len()))
-				if len(ends) == chunk || texts.Len() >= bytesOfChunk {
-					break
-				}
-			}
-			done := C.canonical_many(raw, texts.String(), &ends[0], 0, C.size_t(len(ends)), &outcomes[0],
-				(*C.char)(unsafe.Pointer(&buffer[0])), bytesOfChunk)
-			length := C.size_t(0)
-			for _, outcome := range outcomes[:done] {
-				length += outcome.length
-			}
-			written := string(buffer[:length])
-			for _, outcome := range outcomes[:done] {
-				answer := Answer{Text: written[:outcome.length]}
-				if outcome.status != C.BCP47_DONE {
-					answer = Answer{Err: refusedTag(outcome, buffer[length-C.size_t(len(written)):], tags[len(answers)])}
-				}
-				answers = append(answers, answer)
-				written = written[outcome.length:]
-			}
-		}
-		return nil
-	})
-	return answers, err
 }

@@ -72,24 +72,6 @@ func TestTheLongestTextHasRoom(t *testing.T) {
 	is(t, canonical, said(registry.Canonical(tag)))
 }
 
-func TestMany(t *testing.T) {
-	registry := opened(t)
-	defer registry.Close()
-	long := "en-x-" + strings.Repeat("abcdefgh-", 112) + "end"
-	tags := []string{"iw", "en_US", "", "YUE"}
-	for len(tags) < 5000 {
-		tags = append(tags, long, "zh-yue")
-	}
-	for _, few := range [][]string{tags, tags[:4], nil} {
-		answers, err := registry.CanonicalMany(few)
-		is(t, nil, err)
-		is(t, len(few), len(answers))
-		for i, answer := range answers {
-			is(t, said(registry.Canonical(few[i])), said(answer.Text, answer.Err))
-		}
-	}
-}
-
 func TestRefusals(t *testing.T) {
 	registry := opened(t)
 	defer registry.Close()
@@ -132,13 +114,11 @@ func TestRefusals(t *testing.T) {
 	_, canonical := registry.Canonical(repeats)
 	_, explain := registry.Explain(repeats, 9)
 	_, equal := registry.Equivalent("ja", repeats)
-	answers, _ := registry.CanonicalMany([]string{"de", repeats, "DE"})
-	for _, err := range []error{canonical, explain, equal, answers[1].Err} {
+	for _, err := range []error{canonical, explain, equal} {
 		is(t, true, errors.As(err, &refused))
 		is(t, "ReplacementRepeats alalc97/alalc97", err.Error()+"/"+refused.Variant)
 		is(t, true, errors.Is(err, ErrReplacementRepeats) && strings.Contains(refused.Help(), "repeat the variant"))
 	}
-	is(t, "{de <nil>} {de <nil>}", fmt.Sprint(answers[0], answers[2]))
 }
 
 // That memory runs out, or is too little for many calls at once, is no fault of a tag, and is told apart.
@@ -255,9 +235,8 @@ func TestClosed(t *testing.T) {
 	_, equal := own.Equivalent("en", "en")
 	_, match := own.Matches("en", "en", Basic)
 	_, explain := own.Explain("en", 1)
-	_, many := own.CanonicalMany([]string{"en"})
 	_, info := own.Info()
-	for _, err := range []error{canonical, extlang, equal, match, explain, many, info, own.Validate("en")} {
+	for _, err := range []error{canonical, extlang, equal, match, explain, info, own.Validate("en")} {
 		is(t, ErrClosed, err)
 	}
 }

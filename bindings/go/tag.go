@@ -159,17 +159,3 @@ func (e Explanation) String() string {
 	}
 	return text.String() + "= " + e.Canonical
 }
-
-// The explanation of the lines that the library wrote.
-func explanationOf(lines string) Explanation {
-	all := strings.Split(strings.TrimSuffix(lines, "\n"), "\n")
-	last := len(all) - 1
-	steps := make([]Step, 0, last)
-	for _, line := range all[:last] {
-		words := strings.Split(line, " ")
-		place, _ := strconv.ParseUint(words[1], 10, 32)
-		number, _ := strconv.ParseUint(words[2], 10, 32)
-		steps = append(steps, Step{words[0], uint32(place), uint32(number), words[3]})
-	}
-	return Explanation{steps, strings.TrimPrefix(all[last], "= ")}
-}

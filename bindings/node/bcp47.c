@@ -5,6 +5,7 @@
 #include <bcp47.h>
 #include <node_api.h>
 #include <stdlib.h>
+#include <string.h>
 
 /* Room for the text of any tag, and for its canonical text; a longer one is no tag, which the library says of its front. A range
    may have any length. A registry takes about BYTES_OF_ONE bytes for one of its file. */
@@ -167,20 +168,41 @@ static napi_value parts(napi_env env, napi_callback_info info) {
     return string_of(env, buffer, outcome.length);
 }
 
-/* explain(registry, tag, most): the lines that the program prints */
+static void set(napi_env env, napi_value object, const char *name, napi_value value) {
+    napi_set_named_property(env, object, name, value);
+}
+
+/* explain(registry, tag, most): an array of the steps, each with kind, place, number and tag, and last the canonical text */
 static napi_value explain(napi_env env, napi_callback_info info) {
-    napi_value values[3];
-    char text[ROOM], *lines;
-    size_t length;
+    napi_value values[3], made, step;
+    char text[ROOM];
+    size_t length, i = 0;
     uint32_t most = 0;
+    bcp47_step *steps;
+    const char *at;
     if (!takes(env, info, 3, values)) return NULL;
     holder *it = held(env, values[0]);
     if (!it || !text_of(env, values[1], text, &length)) return NULL;
     napi_get_value_uint32(env, values[2], &most);
-    bcp47_outcome outcome = bcp47_explanation(it->registry, text, length, most, &lines);
-    if (outcome.status != BCP47_DONE) return refusal(env, outcome);
-    napi_value made = string_of(env, lines, outcome.length);
-    bcp47_free(lines);
+    bcp47_outcome outcome = bcp47_steps(it->registry, text, length, most, &steps, &at);
+    if (outcome.status != BCP47_DONE) {
+        bcp47_free(steps);
+        return refusal(env, outcome);
+    }
+    napi_create_array_with_length(env, outcome.place + 1, &made);
+    for (; i < outcome.place; i++, at += strlen(at) + 1) {
+        napi_handle_scope scope;
+        napi_open_handle_scope(env, &scope);
+        napi_create_object(env, &step);
+        set(env, step, "kind", string_of(env, bcp47_kind_name(steps[i].kind), NAPI_AUTO_LENGTH));
+        set(env, step, "place", number_of(env, steps[i].place));
+        set(env, step, "number", number_of(env, steps[i].number));
+        set(env, step, "tag", string_of(env, at, NAPI_AUTO_LENGTH));
+        napi_set_element(env, made, (uint32_t)i, step);
+        napi_close_handle_scope(env, scope);
+    }
+    napi_set_element(env, made, (uint32_t)i, string_of(env, at, NAPI_AUTO_LENGTH));
+    bcp47_free(steps);
     return made;
 }
 
@@ -245,9 +267,9 @@ static napi_value facts(napi_env env, napi_callback_info info) {
     if (outcome.status != BCP47_DONE) return refusal(env, outcome);
     for (int i = 0; i < 32; i++) hex[2 * i] = digits[of.sha256[i] >> 4], hex[2 * i + 1] = digits[of.sha256[i] & 15];
     napi_create_object(env, &made);
-    napi_set_named_property(env, made, "fileDate", string_of(env, of.file_date, NAPI_AUTO_LENGTH));
-    napi_set_named_property(env, made, "entries", number_of(env, (double)of.entries));
-    napi_set_named_property(env, made, "sha256", string_of(env, hex, sizeof hex));
+    set(env, made, "fileDate", string_of(env, of.file_date, NAPI_AUTO_LENGTH));
+    set(env, made, "entries", number_of(env, (double)of.entries));
+    set(env, made, "sha256", string_of(env, hex, sizeof hex));
     return made;
 }
 

@@ -4,8 +4,8 @@
 
 // Room for the text of any tag, for its canonical text and for its parts. What is longer is no tag, which the library says of its front.
 const ROOM = 4096, PARTS = 512;
-// What a part takes, in numbers of 32 bits.
-const PART = 6;
+// What a part takes, in numbers of 32 bits, and a step, in bytes.
+const [PART, STEP] = [6, 12];
 const [DONE, REPEATS, DIFFERENT] = [0, 3, 6];
 
 function callsOf(wasm) {
@@ -112,7 +112,24 @@ function callsOf(wasm) {
       const kinds = Array.from({ length: words[outcome + 2] }, (_, i) => 64 + bytes[parts + 4 * PART * i]);
       return `${text}.${String.fromCharCode(...kinds)}`;
     },
-    explain: (held, tag, most) => taken(wasm.bcp47_explanation(placeOf(held), input, write(tag, input), most)),
+    explain(held, tag, most) {
+      const place = wasm.bcp47_steps(placeOf(held), input, write(tag, input), most);
+      look();
+      const [status, , count] = words.subarray(outcome);
+      let at = place + STEP * count;
+      const next = () => {
+        const text = zeroEnded(at);
+        at += text.length + 1;
+        return text;
+      };
+      const step = (_, i) => {
+        const [, where, number] = words.subarray((place + STEP * i) / 4);
+        return { kind: zeroEnded(wasm.bcp47_kind_name(bytes[place + STEP * i])), place: where, number, tag: next() };
+      };
+      const made = status === DONE ? [...Array.from({ length: count }, step), next()] : refusal();
+      wasm.bcp47_free(place);
+      return made;
+    },
     show: (held, tag) => taken(wasm.bcp47_show(placeOf(held), input, write(tag, input))),
     validate(held, tag) {
       const status = wasm.bcp47_validate(placeOf(held), input, write(tag, input));

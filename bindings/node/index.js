@@ -207,13 +207,8 @@ class Registry {
   explain(tag, most = 20_000) {
     if (typeof most !== 'number' || Number.isNaN(most)) throw new TypeError('the most steps are a number');
     const answer = native.explain(this.#open, textOf(tag), Math.min(Math.max(most, 0), 0xffffffff));
-    const lines = answered(this.#open, answer, tag).trimEnd().split('\n');
-    const canonical = lines.pop().slice(2);
-    const steps = lines.map((line) => {
-      const [kind, place, number, after] = line.split(' ');
-      return { kind, place: Number(place), number: Number(number), tag: after };
-    });
-    return { steps, canonical };
+    const steps = answered(this.#open, answer, tag);
+    return { canonical: steps.pop(), steps };
   }
 
   show(tag) {

@@ -292,15 +292,17 @@ static PyObject *module_classify(PyObject *module, PyObject *tag) {
     return made;
 }
 
+/* Puts an object into a list, which takes the reference. */
+static int put(PyObject *list, Py_ssize_t index, PyObject *object) {
+    return object && !PyList_SetItem(list, index, object);
+}
+
 /* A list of the parts of a tag, each its kind and its text. */
 static PyObject *listed(const bcp47_part *parts, size_t count, const char *text) {
     PyObject *list = PyList_New((Py_ssize_t)count);
-    for (size_t i = 0; list && i < count; i++) {
-        PyObject *part = Py_BuildValue("ss#", bcp47_part_kind_name(parts[i].kind), text + parts[i].start,
-                                       (Py_ssize_t)parts[i].length);
-        if (part && !PyList_SetItem(list, (Py_ssize_t)i, part)) continue;
-        Py_DECREF(list);
-        list = NULL;
+    for (size_t i = 0; list && i < count; i++, parts++) {
+        PyObject *part = Py_BuildValue("ss#", bcp47_part_kind_name(parts->kind), text + parts->start, (Py_ssize_t)parts->length);
+        if (!put(list, (Py_ssize_t)i, part)) Py_CLEAR(list);
     }
     return list;
 }
@@ -343,9 +345,36 @@ static PyObject *registry_is_valid(PyObject *self, PyObject *tag) {
     return outcome.status == BCP47_OUT_OF_MEMORY || outcome.status == BCP47_BUSY ? PyErr_NoMemory() : PyBool_FromLong(outcome.status == BCP47_DONE);
 }
 
-/* A whole text that a call gives for a tag, as a str: what is shown of it, or the lines of an explanation of at most so many steps. */
-static PyObject *whole_text(PyObject *self, PyObject *tag, int is_shown, size_t most) {
-    char *given = NULL, variant[BCP47_LINE];
+/* explain_steps(tag, most): a list of the steps, each its kind, place and number and the tag to which it leads, and the canonical text. */
+static PyObject *registry_explain_steps(PyObject *self, PyObject *arguments) {
+    PyObject *tag, *list = NULL, *made = NULL;
+    Py_ssize_t most;
+    text it;
+    if (!PyArg_ParseTuple(arguments, "On", &tag, &most) || !has_text(tag, &it)) return NULL;
+    registry_object *registry = opened(self);
+    if (registry) {
+        bcp47_outcome outcome;
+        bcp47_step *steps;
+        const char *at;
+        registry->calls++;
+        Py_BEGIN_ALLOW_THREADS
+        outcome = bcp47_steps(registry->registry, it.bytes, it.length, most < 0 ? 0 : (size_t)most, &steps, &at);
+        Py_END_ALLOW_THREADS
+        end_call(registry);
+        if (outcome.status != BCP47_DONE) raise_refusal(REFUSED_TAG, outcome, at, it.str);
+        else list = PyList_New((Py_ssize_t)outcome.place);
+        for (size_t i = 0; list && i < outcome.place; i++, at += strlen(at) + 1)
+            if (!put(list, (Py_ssize_t)i, Py_BuildValue("sIIs", bcp47_kind_name(steps[i].kind), steps[i].place, steps[i].number, at))) Py_CLEAR(list);
+        if (list) made = Py_BuildValue("Ns", list, at);
+        bcp47_free(steps);
+    }
+    end_text(&it);
+    return made;
+}
+
+/* show_rows(tag): as JSON. The first call reads the records. */
+static PyObject *registry_show_rows(PyObject *self, PyObject *tag) {
+    char *rows = NULL;
     PyObject *made = NULL;
     text it;
     if (!has_text(tag, &it)) return NULL;
@@ -354,31 +383,15 @@ static PyObject *whole_text(PyObject *self, PyObject *tag, int is_shown, size_t 
         bcp47_outcome outcome;
         registry->calls++;
         Py_BEGIN_ALLOW_THREADS
-        outcome = is_shown ? bcp47_show(registry->registry, it.bytes, it.length, &given)
-                           : bcp47_explanation(registry->registry, it.bytes, it.length, most, &given);
-        /* the variant that would be repeated */
-        if (outcome.status == BCP47_REPLACEMENT_REPEATS)
-            outcome = bcp47_canonical(registry->registry, it.bytes, it.length, variant, sizeof variant);
+        outcome = bcp47_show(registry->registry, it.bytes, it.length, &rows);
         Py_END_ALLOW_THREADS
         end_call(registry);
-        made = outcome.status == BCP47_DONE ? PyUnicode_FromStringAndSize(given, (Py_ssize_t)outcome.length)
-                                            : raise_refusal(REFUSED_TAG, outcome, variant, it.str);
-        bcp47_free(given);
+        made = outcome.status == BCP47_DONE ? PyUnicode_FromStringAndSize(rows, (Py_ssize_t)outcome.length)
+                                            : raise_refusal(REFUSED_TAG, outcome, NULL, it.str);
+        bcp47_free(rows);
     }
     end_text(&it);
     return made;
-}
-
-/* explain_lines(tag, most) */
-static PyObject *registry_explain_lines(PyObject *self, PyObject *arguments) {
-    PyObject *tag;
-    Py_ssize_t most;
-    return PyArg_ParseTuple(arguments, "On", &tag, &most) ? whole_text(self, tag, 0, most < 0 ? 0 : (size_t)most) : NULL;
-}
-
-/* show_rows(tag): as JSON. The first call reads the records. */
-static PyObject *registry_show_rows(PyObject *self, PyObject *tag) {
-    return whole_text(self, tag, 1, 0);
 }
 
 /* ---- two texts */
@@ -552,11 +565,6 @@ static PyObject *told(bcp47_outcome outcome, const char *variant, PyObject *tag,
     return line;
 }
 
-/* Puts an object into a list, which takes the reference. */
-static int put(PyObject *list, Py_ssize_t index, PyObject *object) {
-    return object && !PyList_SetItem(list, index, object);
-}
-
 /* Puts what was answered into the lists: the second, if there is one, gets the lines of the refusals. */
 static int put_all(const chunk *it, Py_ssize_t first, PyObject *missing, PyObject *texts, PyObject *faults) {
     const char *answer = it->buffer;
@@ -655,7 +663,7 @@ static PyMethodDef registry_methods[] = {
     {"close", registry_close, METH_NOARGS,
      "close($self, /)\n--\n\nFrees the registry, once the calls of other threads have ended. No call but this one may follow."},
     {"_match", registry_match, METH_VARARGS, NULL},
-    {"_explain_lines", registry_explain_lines, METH_VARARGS, NULL},
+    {"_explain_steps", registry_explain_steps, METH_VARARGS, NULL},
     {"_show_rows", registry_show_rows, METH_O, NULL},
     {"_verify_steps", registry_verify_steps, METH_VARARGS, NULL},
     {"_upgrade_to", registry_upgrade_to, METH_O, NULL},

@@ -94,6 +94,14 @@ CALL(at, explanation, (at registry, TEXT(text), uint32_t most), (registry, BOTH(
     return OF(lines);
 }
 
+/* Where the steps are; the tags to which they lead stand behind as many as the outcome tells. */
+CALL(at, steps, (at registry, TEXT(text), uint32_t most), (registry, BOTH(text), most)) {
+    bcp47_step *steps;
+    const char *tags;
+    told(bcp47_steps(TO(bcp47_registry, registry), CHARS(text), most, &steps, &tags));
+    return OF(steps);
+}
+
 CALL(at, show, (at registry, TEXT(text)), (registry, BOTH(text))) {
     char *rows;
     told(bcp47_show(TO(bcp47_registry, registry), CHARS(text), &rows));

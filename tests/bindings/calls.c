@@ -324,6 +324,51 @@ static void explanations(void) {
     bcp47_free(NULL);
 }
 
+/* The steps of a tag in one text, as the lines of its explanation have them. */
+static int has_steps(const char *tag, size_t most, const char *wanted) {
+    bcp47_step *steps;
+    const char *tags;
+    static char told[4096];
+    bcp47_outcome o = bcp47_steps(registry, tag, strlen(tag), most, &steps, &tags);
+    if (o.status || o.detail || o.length || o.text || o.reserved) return 0;
+    told[0] = 0;
+    for (size_t i = 0; i < o.place; i++, tags += strlen(tags) + 1)
+        sprintf(told + strlen(told), "%s %u %u %s\n", bcp47_kind_name(steps[i].kind), steps[i].place, steps[i].number, tags);
+    sprintf(told + strlen(told), "= %s\n", tags);
+    bcp47_free(steps);
+    return !strcmp(told, wanted);
+}
+
+static int has_no_steps(bcp47_outcome o, int status, const bcp47_step *steps, const char *tags) {
+    return is_ended(o, status) && !steps && !tags;
+}
+
+static void steps(void) {
+    bcp47_step step, *none = &step;
+    const char *tags = buffer;
+    CHECK(has_steps("sgn-dd", 2, "Region 2 27 sgn-DE\nWhole 1 44 gsg\n= gsg\n"));
+    CHECK(has_steps("EN", 0, "= en\n"));
+    CHECK(has_steps("en-u-nn-co", 9, "SwapKeywords 3 0 en-u-co-nn\n= en-u-co-nn\n"));
+    bcp47_outcome o = bcp47_steps(registry, "sgn-dd", 6, 1, &none, &tags);
+    CHECK(has_no_steps(o, BCP47_TOO_MANY_STEPS, none, tags));
+    none = &step, tags = buffer;
+    o = bcp47_steps(registry, "en_US", 5, 0, &none, &tags);
+    CHECK(o.status == BCP47_NOT_A_TAG && o.place == 1 && !none && !tags);
+    o = bcp47_steps(registry, REPEATS, strlen(REPEATS), 9, &none, &tags);
+    CHECK(o.status == BCP47_REPLACEMENT_REPEATS && !o.place && o.length == 7 && none && !strcmp(tags, "alalc97"));
+    bcp47_free(none);
+    o = bcp47_steps(registry, NULL, 1, 9, &none, &tags);
+    CHECK(has_no_steps(o, BCP47_BAD_CALL, none, tags));
+    o = bcp47_steps(NULL, "en", 2, 9, &none, &tags);
+    CHECK(has_no_steps(o, BCP47_NOT_OPEN, none, tags));
+    CHECK(is_ended(bcp47_steps(registry, "en", 2, 9, NULL, &tags), BCP47_BAD_CALL));
+    CHECK(is_ended(bcp47_steps(registry, "en", 2, 9, &none, NULL), BCP47_BAD_CALL));
+    /* They are those that bcp47_verify takes. */
+    o = bcp47_steps(registry, "sgn-dd", 6, 9, &none, &tags);
+    CHECK(o.place == 2 && is_ended(bcp47_verify(registry, "sgn-dd", 6, none, o.place, "gsg", 3), BCP47_DONE));
+    bcp47_free(none);
+}
+
 /* Replacements that make a tag longer: each of 40 variants of 4 bytes becomes one of 8. */
 static void longer(void) {
     static char bytes[8000] = "Type: language\nSubtag: de\n", text[400] = "de", canonical[400] = "de";
@@ -537,6 +582,7 @@ int main(int count, char **words) {
     others();
     shown();
     explanations();
+    steps();
     longer();
     verify();
     not_open(NULL);

@@ -58,7 +58,6 @@ func main() {
 				registry.Canonical(tag)
 			}
 		})
-		measure("Registry.CanonicalMany, "+name+" tags", len(some), func() { registry.CanonicalMany(some) })
 	}
 	measure("ParseTag and Parts, valid tags", len(valid), func() {
 		for _, tag := range valid {

@@ -363,9 +363,8 @@ class Registry(_bcp47.Registry):
 
     def explain(self, tag: Union[str, Tag], most: int = 20_000) -> Explanation:
         """The steps from a tag to its canonical form. Raises RefusedTag, also where there are more than `most`."""
-        *lines, last = self._explain_lines(tag, most).splitlines()
-        steps = (line.split(" ") for line in lines)
-        return Explanation(tuple(Step(kind, int(place), int(number), after) for kind, place, number, after in steps), last[2:])
+        steps, canonical = self._explain_steps(tag, most)
+        return Explanation(tuple(map(Step._make, steps)), canonical)
 
     def show(self, tag: Union[str, Tag]) -> List[Row]:
         """What the registry has for the parts of a tag, in order, with the fields of their records (RFC 5646, 3.1.2): Description,

@@ -10,10 +10,7 @@ fn main() {
     let target = env::var("TARGET").expect("cargo sets it");
     if let Some(named) = env::var_os("BCP47_LIB_DIR").map(PathBuf::from) {
         if !links(&named) {
-            eprintln!(
-                "BCP47_LIB_DIR is {}, which has no libbcp47.a and no libbcp47.so",
-                named.display()
-            );
+            eprintln!("BCP47_LIB_DIR is {}, which has no libbcp47.a and no libbcp47.so", named.display());
             process::exit(1);
         }
         return;
@@ -22,15 +19,11 @@ fn main() {
         "aarch64-unknown-linux-gnu" => "../../../build/aarch64",
         _ => "../../../build",
     };
-    if links(&here.join("lib").join(&target))
-        || here.join("../../c").is_dir() && links(&here.join(built))
-    {
+    if links(&here.join("lib").join(&target)) || here.join("../../c").is_dir() && links(&here.join(built)) {
         return;
     }
     println!("cargo:rustc-link-lib=dylib=bcp47");
-    let asked = Command::new("pkg-config")
-        .args(["--atleast-version=1.1.0", "--variable=libdir", "bcp47"])
-        .output();
+    let asked = Command::new("pkg-config").args(["--atleast-version=1.1.0", "--variable=libdir", "bcp47"]).output();
     match asked {
         Ok(answer) if answer.status.success() => {
             println!("cargo:rustc-link-search=native={}", String::from_utf8_lossy(&answer.stdout).trim());
@@ -43,10 +36,7 @@ fn main() {
 
 /// Links the library of a folder, if there is one, and looks again when it changes.
 fn links(folder: &Path) -> bool {
-    println!(
-        "cargo:rerun-if-changed={}",
-        folder.join("libbcp47.a").display()
-    );
+    println!("cargo:rerun-if-changed={}", folder.join("libbcp47.a").display());
     let kind = match ["libbcp47.a", "libbcp47.so"].map(|file| folder.join(file).exists()) {
         [true, _] => "static",
         [_, true] => "dylib",

@@ -28,19 +28,14 @@ func main() {
 	output := bufio.NewWriter(os.Stdout)
 	defer output.Flush()
 	tags := strings.Split(strings.TrimSuffix(string(input), "\n"), "\n")
-	if *explain {
-		for _, tag := range tags {
+	for _, tag := range tags {
+		if *explain {
 			explanation, err := registry.Explain(tag, 1_000_000)
 			write(output, explanation.String(), err)
+		} else {
+			text, err := registry.Canonical(tag)
+			write(output, text, err)
 		}
-		return
-	}
-	answers, err := registry.CanonicalMany(tags)
-	if err != nil {
-		log.Fatal(err)
-	}
-	for _, answer := range answers {
-		write(output, answer.Text, answer.Err)
 	}
 }
 

@@ -118,10 +118,7 @@ extern "C" {
         room: usize,
     ) -> bcp47_outcome;
     pub fn bcp47_close(registry: *mut bcp47_registry);
-    pub fn bcp47_registry_info(
-        registry: *const bcp47_registry,
-        info: *mut bcp47_info,
-    ) -> bcp47_outcome;
+    pub fn bcp47_registry_info(registry: *const bcp47_registry, info: *mut bcp47_info) -> bcp47_outcome;
     pub fn bcp47_canonical(
         registry: *const bcp47_registry,
         text: *const c_char,
@@ -151,11 +148,7 @@ extern "C" {
         parts: *mut bcp47_part,
         count: usize,
     ) -> bcp47_outcome;
-    pub fn bcp47_validate(
-        registry: *const bcp47_registry,
-        text: *const c_char,
-        length: usize,
-    ) -> bcp47_outcome;
+    pub fn bcp47_validate(registry: *const bcp47_registry, text: *const c_char, length: usize) -> bcp47_outcome;
     pub fn bcp47_equivalent(
         registry: *const bcp47_registry,
         first: *const c_char,
@@ -195,6 +188,14 @@ extern "C" {
         length: usize,
         rows: *mut *mut c_char,
     ) -> bcp47_outcome;
+    pub fn bcp47_steps(
+        registry: *const bcp47_registry,
+        text: *const c_char,
+        length: usize,
+        most: usize,
+        steps: *mut *mut bcp47_step,
+        tags: *mut *const c_char,
+    ) -> bcp47_outcome;
     pub fn bcp47_free(text: *mut c_void);
     pub fn bcp47_verify(
         registry: *const bcp47_registry,
@@ -205,10 +206,7 @@ extern "C" {
         last: *const c_char,
         last_length: usize,
     ) -> bcp47_outcome;
-    pub fn bcp47_upgrade_check(
-        older: *const bcp47_registry,
-        newer: *const bcp47_registry,
-    ) -> bcp47_outcome;
+    pub fn bcp47_upgrade_check(older: *const bcp47_registry, newer: *const bcp47_registry) -> bcp47_outcome;
     pub fn bcp47_status_name(status: c_int) -> *const c_char;
     pub fn bcp47_fault_name(fault: c_int) -> *const c_char;
     pub fn bcp47_kind_name(kind: c_int) -> *const c_char;

@@ -129,8 +129,7 @@ impl RegistryError {
 
     /// What it means, and what to do.
     pub fn help(&self) -> &'static str {
-        self.cause()
-            .map_or(help_of(self.outcome.status), |cause| cause.help())
+        self.cause().map_or(help_of(self.outcome.status), |cause| cause.help())
     }
 }
 
@@ -175,8 +174,7 @@ impl UpgradeError {
 
     /// What it means, and what to do.
     pub fn help(&self) -> &'static str {
-        self.cause()
-            .map_or(help_of(self.0.status), |cause| cause.help())
+        self.cause().map_or(help_of(self.0.status), |cause| cause.help())
     }
 }
 
@@ -233,28 +231,15 @@ mod tests {
     #[test]
     fn want_of_memory_is_named() {
         for (status, named, told) in [
-            (
-                sys::BCP47_OUT_OF_MEMORY,
-                TagError::OutOfMemory,
-                "OutOfMemory",
-            ),
+            (sys::BCP47_OUT_OF_MEMORY, TagError::OutOfMemory, "OutOfMemory"),
             (sys::BCP47_BUSY, TagError::Busy, "Busy"),
         ] {
-            let outcome = sys::bcp47_outcome {
-                status,
-                ..Default::default()
-            };
+            let outcome = sys::bcp47_outcome { status, ..Default::default() };
             let refused = TagError::of(&outcome, String::new);
             assert_eq!((&refused, refused.to_string().as_str()), (&named, told));
             let upgrade = UpgradeError(outcome);
-            assert_eq!(
-                (upgrade.cause(), upgrade.to_string().as_str()),
-                (None, told)
-            );
-            assert_eq!(
-                (refused.help(), upgrade.help()),
-                (help_of(status), help_of(status))
-            );
+            assert_eq!((upgrade.cause(), upgrade.to_string().as_str()), (None, told));
+            assert_eq!((refused.help(), upgrade.help()), (help_of(status), help_of(status)));
             assert!(!refused.help().is_empty());
         }
     }

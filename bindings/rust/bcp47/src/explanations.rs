@@ -15,28 +15,9 @@ pub struct Step {
     pub tag: String,
 }
 
-impl Step {
-    /// The step that a line shows.
-    pub(crate) fn of_line(line: &str) -> Option<Step> {
-        let mut words = line.split(' ');
-        let mut next = || words.next();
-        let name = next()?;
-        Some(Step {
-            kind: *StepKind::ALL.iter().find(|kind| kind.to_string() == name)?,
-            place: next()?.parse().ok()?,
-            number: next()?.parse().ok()?,
-            tag: next()?.to_owned(),
-        })
-    }
-}
-
 impl fmt::Display for Step {
     fn fmt(&self, f: &mut fmt::Formatter<'_>) -> fmt::Result {
-        write!(
-            f,
-            "{} {} {} {}",
-            self.kind, self.place, self.number, self.tag
-        )
+        write!(f, "{} {} {} {}", self.kind, self.place, self.number, self.tag)
     }
 }
 
@@ -51,9 +32,7 @@ pub struct Explanation {
 
 impl fmt::Display for Explanation {
     fn fmt(&self, f: &mut fmt::Formatter<'_>) -> fmt::Result {
-        self.steps
-            .iter()
-            .try_for_each(|step| writeln!(f, "{step}"))?;
+        self.steps.iter().try_for_each(|step| writeln!(f, "{step}"))?;
         write!(f, "= {}", self.canonical)
     }
 }

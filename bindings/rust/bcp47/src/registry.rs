@@ -1,6 +1,7 @@
 //! Registries that are open.
 use crate::errors::{OpenError, RegistryError, TagError, TraceError, UpgradeError};
 use crate::explanations::{Explanation, Step};
+use crate::StepKind;
 use bcp47_sys as sys;
 use std::ffi::{c_char, c_int, CStr};
 use std::fmt;
@@ -83,13 +84,8 @@ pub struct Registry {
 unsafe impl Send for Registry {}
 unsafe impl Sync for Registry {}
 
-type Writer = unsafe extern "C" fn(
-    *const sys::bcp47_registry,
-    *const c_char,
-    usize,
-    *mut c_char,
-    usize,
-) -> sys::bcp47_outcome;
+type Writer =
+    unsafe extern "C" fn(*const sys::bcp47_registry, *const c_char, usize, *mut c_char, usize) -> sys::bcp47_outcome;
 
 impl Registry {
     /// The registry whose text the bytes are, if it passes the check and has entries.
@@ -97,8 +93,7 @@ impl Registry {
         let (mut raw, mut line) = (ptr::null_mut(), Buffer::new());
         let (at, room) = line.place();
         // SAFETY: the pointers and lengths are those of the bytes and of a buffer.
-        let outcome =
-            unsafe { sys::bcp47_open(&mut raw, bytes.as_ptr().cast(), bytes.len(), at, room) };
+        let outcome = unsafe { sys::bcp47_open(&mut raw, bytes.as_ptr().cast(), bytes.len(), at, room) };
         match NonNull::new(raw) {
             Some(raw) if outcome.status == sys::BCP47_DONE => Ok(Registry { raw }),
             _ => {
@@ -151,11 +146,7 @@ impl Registry {
     }
 
     /// Appends the canonical text of a tag to a text, which is as it was where the tag is refused.
-    pub fn append_canonical(
-        &self,
-        tag: impl AsRef<[u8]>,
-        text: &mut String,
-    ) -> Result<(), TagError> {
+    pub fn append_canonical(&self, tag: impl AsRef<[u8]>, text: &mut String) -> Result<(), TagError> {
         self.append(sys::bcp47_canonical, tag.as_ref(), text)
     }
 
@@ -176,97 +167,66 @@ impl Registry {
     }
 
     /// Whether two tags are equivalent: their canonical texts are equal. Refused for the first tag, or else for the second.
-    pub fn equivalent(
-        &self,
-        first: impl AsRef<[u8]>,
-        second: impl AsRef<[u8]>,
-    ) -> Result<bool, TagError> {
+    pub fn equivalent(&self, first: impl AsRef<[u8]>, second: impl AsRef<[u8]>) -> Result<bool, TagError> {
         let mut buffer = Buffer::new();
         let (at, room) = buffer.place();
-        let ((one, length), (other, other_length)) =
-            (place_of(first.as_ref()), place_of(second.as_ref()));
+        let ((one, length), (other, other_length)) = (place_of(first.as_ref()), place_of(second.as_ref()));
         // SAFETY: as in `append`.
-        let outcome = unsafe {
-            sys::bcp47_equivalent(
-                self.raw.as_ptr(),
-                one,
-                length,
-                other,
-                other_length,
-                at,
-                room,
-            )
-        };
+        let outcome = unsafe { sys::bcp47_equivalent(self.raw.as_ptr(), one, length, other, other_length, at, room) };
         agrees(&outcome, &buffer)
     }
 
     /// Whether a language range matches a tag by a scheme (RFC 4647, 3.3 and 3.4), both by their canonical forms: `zh-yue`
     /// matches `yue-HK`. A range that is no valid tag, for example `zh-*`, is taken as it is written. Refused for the range,
     /// where it is neither a valid tag nor a range, or else for the tag.
-    pub fn matches(
-        &self,
-        range: impl AsRef<[u8]>,
-        tag: impl AsRef<[u8]>,
-        scheme: Scheme,
-    ) -> Result<bool, TagError> {
+    pub fn matches(&self, range: impl AsRef<[u8]>, tag: impl AsRef<[u8]>, scheme: Scheme) -> Result<bool, TagError> {
         let (mut buffer, raw, scheme) = (Buffer::new(), self.raw.as_ptr(), scheme as c_int);
         let (at, room) = buffer.place();
-        let ((one, length), (other, other_length)) =
-            (place_of(range.as_ref()), place_of(tag.as_ref()));
+        let ((one, length), (other, other_length)) = (place_of(range.as_ref()), place_of(tag.as_ref()));
         // SAFETY: as in `append`.
-        let outcome =
-            unsafe { sys::bcp47_match(raw, scheme, one, length, other, other_length, at, room) };
+        let outcome = unsafe { sys::bcp47_match(raw, scheme, one, length, other, other_length, at, room) };
         agrees(&outcome, &buffer)
     }
 
     /// The steps from a tag to its canonical form, at most so many.
     pub fn explain(&self, tag: impl AsRef<[u8]>, most: usize) -> Result<Explanation, TagError> {
-        let tag = tag.as_ref();
-        let ((front, length), mut lines) = (place_of(tag), ptr::null_mut());
-        // SAFETY: as in `append`; `lines` is what bcp47_free lets go of.
-        let outcome =
-            unsafe { sys::bcp47_explanation(self.raw.as_ptr(), front, length, most, &mut lines) };
-        if outcome.status != sys::BCP47_DONE {
-            let variant = || match self.canonical(tag) {
-                Err(TagError::ReplacementRepeats(variant)) => variant,
-                _ => String::new(),
+        let ((front, length), mut steps, mut at) = (place_of(tag.as_ref()), ptr::null_mut(), ptr::null());
+        // SAFETY: as in `append`; `steps` is what bcp47_free lets go of.
+        let outcome = unsafe { sys::bcp47_steps(self.raw.as_ptr(), front, length, most, &mut steps, &mut at) };
+        // SAFETY: `at` is at the variant, or at the tag of a step or the last tag: a text in ASCII with a zero after it.
+        let mut next = || unsafe {
+            let text = CStr::from_ptr(at).to_string_lossy().into_owned();
+            at = at.add(text.len() + 1);
+            text
+        };
+        let answer = if outcome.status == sys::BCP47_DONE {
+            // SAFETY: the call gave so many.
+            let numbers = unsafe { std::slice::from_raw_parts(steps, outcome.place) };
+            let step = |step: &sys::bcp47_step| Step {
+                kind: StepKind::ALL[usize::from(step.kind) - 1],
+                place: step.place,
+                number: step.number,
+                tag: next(),
             };
-            return Err(TagError::of(&outcome, variant));
-        }
-        // SAFETY: a zero follows the text, which is in ASCII.
-        let text = unsafe { CStr::from_ptr(lines) }
-            .to_string_lossy()
-            .into_owned();
+            let steps = numbers.iter().map(step).collect();
+            Ok(Explanation { steps, canonical: next() })
+        } else {
+            Err(TagError::of(&outcome, next))
+        };
         // SAFETY: the call gave it, and nothing borrows it.
-        unsafe { sys::bcp47_free(lines.cast()) };
-        let text = text.trim_end();
-        let (steps, last) = text.rsplit_once('\n').unwrap_or(("", text));
-        Ok(Explanation {
-            steps: steps.lines().filter_map(Step::of_line).collect(),
-            canonical: last.trim_start_matches("= ").to_owned(),
-        })
+        unsafe { sys::bcp47_free(steps.cast()) };
+        answer
     }
 
     /// Whether steps lead from a valid tag, one after another, to another tag, which is then equivalent to it.
-    pub fn verify(
-        &self,
-        tag: impl AsRef<[u8]>,
-        steps: &[Step],
-        last: impl AsRef<[u8]>,
-    ) -> Result<(), TraceError> {
+    pub fn verify(&self, tag: impl AsRef<[u8]>, steps: &[Step], last: impl AsRef<[u8]>) -> Result<(), TraceError> {
         let (front, length) = place_of(tag.as_ref());
         let (end, end_length) = place_of(last.as_ref());
-        let numbers = |step: &Step| sys::bcp47_step {
-            kind: step.kind as u8,
-            place: step.place,
-            number: step.number,
-        };
+        let numbers = |step: &Step| sys::bcp47_step { kind: step.kind as u8, place: step.place, number: step.number };
         let steps: Vec<_> = steps.iter().map(numbers).collect();
         let (of, count) = (steps.as_ptr(), steps.len());
         // SAFETY: as in `append`.
-        let outcome = unsafe {
-            sys::bcp47_verify(self.raw.as_ptr(), front, length, of, count, end, end_length)
-        };
+        let outcome = unsafe { sys::bcp47_verify(self.raw.as_ptr(), front, length, of, count, end, end_length) };
         match outcome.status {
             sys::BCP47_DONE => Ok(()),
             sys::BCP47_NO_SUCH_STEP => Err(TraceError::NoSuchStep(outcome.place)),
@@ -292,11 +252,7 @@ impl Registry {
         unsafe { sys::bcp47_registry_info(self.raw.as_ptr(), &mut info) };
         // SAFETY: a zero ends it within its 11 bytes.
         let file_date = unsafe { CStr::from_ptr(info.file_date.as_ptr()) };
-        Info {
-            file_date: file_date.to_string_lossy().into_owned(),
-            entries: info.entries,
-            sha256: info.sha256,
-        }
+        Info { file_date: file_date.to_string_lossy().into_owned(), entries: info.entries, sha256: info.sha256 }
     }
 }
 

@@ -44,10 +44,7 @@ impl Tag {
     pub fn parts(&self) -> impl Iterator<Item = Part<'_>> {
         // a grandfathered tag, which is one part, is left whole
         let texts = self.text.splitn(self.kinds.len(), '-');
-        self.kinds
-            .iter()
-            .zip(texts)
-            .map(|(&kind, text)| Part { kind, text })
+        self.kinds.iter().zip(texts).map(|(&kind, text)| Part { kind, text })
     }
 
     /// Its class.
@@ -60,9 +57,7 @@ impl Tag {
     }
 
     fn all(&self, kind: PartKind) -> impl Iterator<Item = &str> {
-        self.parts()
-            .filter(move |part| part.kind == kind)
-            .map(|part| part.text)
+        self.parts().filter(move |part| part.kind == kind).map(|part| part.text)
     }
 
     /// The primary language (RFC 5646, 2.2.1); none of private use and of a grandfathered tag.
@@ -105,27 +100,14 @@ impl FromStr for Tag {
         let (at, room) = buffer.place();
         let (front, length) = (text.as_ptr().cast(), text.len());
         // SAFETY: the pointers and lengths are those of a text, of a buffer and of an array.
-        let outcome = unsafe {
-            sys::bcp47_parts(
-                front,
-                length,
-                at,
-                room,
-                parts.as_mut_ptr().cast(),
-                parts.len(),
-            )
-        };
+        let outcome = unsafe { sys::bcp47_parts(front, length, at, room, parts.as_mut_ptr().cast(), parts.len()) };
         if outcome.status != sys::BCP47_DONE {
             return Err(TagError::of(&outcome, String::new));
         }
         // SAFETY: the call has written so many parts.
-        let kinds = parts[..outcome.place]
-            .iter()
-            .map(|part| unsafe { part.assume_init() }.kind);
+        let kinds = parts[..outcome.place].iter().map(|part| unsafe { part.assume_init() }.kind);
         Ok(Tag {
-            kinds: kinds
-                .map(|kind| PartKind::ALL[usize::from(kind) - 1])
-                .collect(),
+            kinds: kinds.map(|kind| PartKind::ALL[usize::from(kind) - 1]).collect(),
             text: buffer.text(outcome.length).to_owned(),
         })
     }
@@ -183,8 +165,7 @@ impl<'de> serde::Deserialize<'de> for Tag {
             }
 
             fn visit_str<E: serde::de::Error>(self, text: &str) -> Result<Tag, E> {
-                text.parse()
-                    .map_err(|error| E::custom(format_args!("{text:.100}: {error}")))
+                text.parse().map_err(|error| E::custom(format_args!("{text:.100}: {error}")))
             }
         }
 

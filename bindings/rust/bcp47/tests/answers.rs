@@ -1,7 +1,5 @@
 //! What the registry of examples/ answers, as the program does.
-use bcp47::{
-    Class, Fault, OpenError, PartKind, Registry, Scheme, Step, StepKind, Tag, TagError, TraceError,
-};
+use bcp47::{Class, Fault, OpenError, PartKind, Registry, Scheme, Step, StepKind, Tag, TagError, TraceError};
 use std::collections::HashSet;
 use std::error::Error;
 use std::thread;
@@ -17,11 +15,7 @@ fn sample() -> Registry {
 #[test]
 fn texts_are_made_canonical() {
     let registry = sample();
-    for (tag, canonical) in [
-        ("zh-yue", "yue"),
-        ("I-KLINGON", "tlh"),
-        ("en-t-iw-t0-und", "en-t-he-t0-und"),
-    ] {
+    for (tag, canonical) in [("zh-yue", "yue"), ("I-KLINGON", "tlh"), ("en-t-iw-t0-und", "en-t-he-t0-und")] {
         assert_eq!(registry.canonical(tag).as_deref(), Ok(canonical));
         assert!(registry.equivalent(tag, canonical).unwrap());
     }
@@ -52,11 +46,7 @@ fn ranges_match() {
         ("e_n", "e_n", "BadByte 0"),
         ("en", "e_n", "BadByte 1"),
         ("en", "xx", "UnknownLanguage 1"),
-        (
-            "*",
-            "ja-Latn-hepburn-alalc97-heploc",
-            "ReplacementRepeats alalc97",
-        ),
+        ("*", "ja-Latn-hepburn-alalc97-heploc", "ReplacementRepeats alalc97"),
     ] {
         let error = registry.matches(range, tag, Scheme::Basic).unwrap_err();
         assert_eq!(error.to_string(), said);
@@ -83,52 +73,26 @@ fn the_longest_text_has_room() {
 fn refusals_say_why() {
     let registry = sample();
     let error = registry.canonical("en_US").unwrap_err();
-    assert_eq!(
-        (error.to_string().as_str(), error.cause().unwrap().place()),
-        ("BadByte 1", 1)
-    );
+    assert_eq!((error.to_string().as_str(), error.cause().unwrap().place()), ("BadByte 1", 1));
     assert!(error.help().contains("hyphen") && error.help() == error.cause().unwrap().help());
     let repeats = registry.canonical("ja-Latn-hepburn-alalc97-heploc");
     assert!(repeats.unwrap_err().help().contains("repeat the variant"));
     assert!(
         matches!(registry.validate("xx"), Err(TagError::Invalid(cause)) if cause.fault() == Fault::UnknownLanguage)
     );
-    assert_eq!(
-        registry
-            .canonical("a".repeat(100_000))
-            .unwrap_err()
-            .to_string(),
-        "TooLong 0"
-    );
+    assert_eq!(registry.canonical("a".repeat(100_000)).unwrap_err().to_string(), "TooLong 0");
     assert_eq!(registry.validate("zh-yue"), Ok(()));
-    assert_eq!(
-        registry.equivalent("en", "").unwrap_err().to_string(),
-        "EmptySubtag 1"
-    );
-    assert_eq!(
-        registry.canonical(b"\xff").unwrap_err().to_string(),
-        "BadByte 1"
-    );
-    assert_eq!(
-        registry.canonical("é").unwrap_err().to_string(),
-        "BadByte 1"
-    );
-    assert_eq!(
-        Registry::from_bytes(b"no registry\n")
-            .unwrap_err()
-            .to_string(),
-        "jar BadLine line 1"
-    );
+    assert_eq!(registry.equivalent("en", "").unwrap_err().to_string(), "EmptySubtag 1");
+    assert_eq!(registry.canonical(b"\xff").unwrap_err().to_string(), "BadByte 1");
+    assert_eq!(registry.canonical("é").unwrap_err().to_string(), "BadByte 1");
+    assert_eq!(Registry::from_bytes(b"no registry\n").unwrap_err().to_string(), "jar BadLine line 1");
 }
 
 #[test]
 fn a_registry_has_entries() {
     for bytes in [&b""[..], b"File-Date: 2000-01-01\n"] {
         let error = Registry::from_bytes(bytes).unwrap_err();
-        assert_eq!(
-            (error.to_string().as_str(), error.cause()),
-            ("NoEntries", None)
-        );
+        assert_eq!((error.to_string().as_str(), error.cause()), ("NoEntries", None));
         assert!(error.help().contains("get it again"));
     }
 }
@@ -148,18 +112,10 @@ fn chain(error: &dyn Error) -> Vec<String> {
 fn files_that_give_no_registry_are_named_once() {
     let error = Registry::open("/no/such/file").unwrap_err();
     assert!(matches!(&error, OpenError::Io(path, _) if path.as_os_str() == "/no/such/file"));
-    assert_eq!(
-        chain(&error),
-        ["/no/such/file: No such file or directory (os error 2)"]
-    );
+    assert_eq!(chain(&error), ["/no/such/file: No such file or directory (os error 2)"]);
     let error = Registry::open(concat!(env!("CARGO_MANIFEST_DIR"), "/Cargo.toml")).unwrap_err();
-    assert!(
-        matches!(&error, OpenError::Refused(_, why) if why.cause().unwrap().fault() == Fault::BadLine)
-    );
-    let shown = format!(
-        "{}: jar BadLine line 1",
-        concat!(env!("CARGO_MANIFEST_DIR"), "/Cargo.toml")
-    );
+    assert!(matches!(&error, OpenError::Refused(_, why) if why.cause().unwrap().fault() == Fault::BadLine));
+    let shown = format!("{}: jar BadLine line 1", concat!(env!("CARGO_MANIFEST_DIR"), "/Cargo.toml"));
     assert_eq!(chain(&error), [shown]);
 }
 
@@ -167,10 +123,7 @@ fn files_that_give_no_registry_are_named_once() {
 fn explanations_are_verified() {
     let registry = sample();
     let explanation = registry.explain("sgn-dd", 100).unwrap();
-    assert_eq!(
-        explanation.to_string(),
-        "Region 2 27 sgn-DE\nWhole 1 44 gsg\n= gsg"
-    );
+    assert_eq!(explanation.to_string(), "Region 2 27 sgn-DE\nWhole 1 44 gsg\n= gsg");
     assert_eq!(registry.explain("en", 0).unwrap().to_string(), "= en");
     assert_eq!(registry.explain("sgn-dd", 1), Err(TagError::TooManySteps));
     assert!(TagError::TooManySteps.help().contains("allow more"));
@@ -180,97 +133,45 @@ fn explanations_are_verified() {
     let none = TraceError::Tag(TagError::TooManySteps);
     assert_eq!(none.help(), TagError::TooManySteps.help());
     assert_eq!(registry.verify("sgn-dd", &explanation.steps, "gsg"), Ok(()));
-    assert_eq!(
-        registry.verify("sgn-dd", &explanation.steps[..1], "gsg"),
-        Err(TraceError::WrongEnd)
-    );
-    let wrong = Step {
-        kind: StepKind::Script,
-        ..explanation.steps[0].clone()
-    };
-    assert_eq!(
-        registry.verify("sgn-dd", &[wrong], "gsg"),
-        Err(TraceError::NoSuchStep(1))
-    );
-    assert!(matches!(
-        registry.verify("e_n", &[], "en"),
-        Err(TraceError::Tag(TagError::NotATag(_)))
-    ));
+    assert_eq!(registry.verify("sgn-dd", &explanation.steps[..1], "gsg"), Err(TraceError::WrongEnd));
+    let wrong = Step { kind: StepKind::Script, ..explanation.steps[0].clone() };
+    assert_eq!(registry.verify("sgn-dd", &[wrong], "gsg"), Err(TraceError::NoSuchStep(1)));
+    assert!(matches!(registry.verify("e_n", &[], "en"), Err(TraceError::Tag(TagError::NotATag(_)))));
 }
 
 #[test]
 fn tags_are_in_conventional_case() {
     let tag: Tag = "ZH-yue-hANT-hk".parse().unwrap();
-    assert_eq!(
-        (tag.as_str(), tag.class()),
-        ("zh-yue-Hant-HK", Class::Langtag)
-    );
+    assert_eq!((tag.as_str(), tag.class()), ("zh-yue-Hant-HK", Class::Langtag));
     assert_eq!(format!("{tag:>16}"), "  zh-yue-Hant-HK");
-    let parts: Vec<_> = tag
-        .parts()
-        .map(|part| format!("{} {}", part.kind, part.text))
-        .collect();
-    assert_eq!(
-        parts,
-        ["Language zh", "Extlang yue", "Script Hant", "Region HK"]
-    );
-    let named = (
-        tag.language(),
-        tag.extlangs().next(),
-        tag.script(),
-        tag.region(),
-    );
+    let parts: Vec<_> = tag.parts().map(|part| format!("{} {}", part.kind, part.text)).collect();
+    assert_eq!(parts, ["Language zh", "Extlang yue", "Script Hant", "Region HK"]);
+    let named = (tag.language(), tag.extlangs().next(), tag.script(), tag.region());
     assert_eq!(named, (Some("zh"), Some("yue"), Some("Hant"), Some("HK")));
     let long = Tag::try_from("sl-rozaj-biske-1994-x-own-1").unwrap();
-    assert_eq!(
-        long.variants().collect::<Vec<_>>(),
-        ["rozaj", "biske", "1994"]
-    );
+    assert_eq!(long.variants().collect::<Vec<_>>(), ["rozaj", "biske", "1994"]);
     assert_eq!(long.private_use().collect::<Vec<_>>(), ["own", "1"]);
     let whole: Tag = "I-klingon".parse().unwrap();
     let parts: Vec<_> = whole.parts().map(|part| (part.kind, part.text)).collect();
     assert_eq!(parts, [(PartKind::Grandfathered, "i-klingon")]);
-    assert_eq!(
-        (
-            whole.language(),
-            whole.script(),
-            whole.as_str() == "i-klingon"
-        ),
-        (None, None, true)
-    );
+    assert_eq!((whole.language(), whole.script(), whole.as_str() == "i-klingon"), (None, None, true));
     assert_eq!("X-own".parse::<Tag>().unwrap().class(), Class::PrivateUse);
-    assert_eq!(
-        "i-klingon".parse::<Tag>().unwrap().class(),
-        Class::Grandfathered
-    );
+    assert_eq!("i-klingon".parse::<Tag>().unwrap().class(), Class::Grandfathered);
     assert_eq!("e".parse::<Tag>().unwrap_err().to_string(), "BadLanguage 1");
-    let tags: HashSet<Tag> = ["EN", "en", "de"]
-        .iter()
-        .map(|tag| tag.parse().unwrap())
-        .collect();
+    let tags: HashSet<Tag> = ["EN", "en", "de"].iter().map(|tag| tag.parse().unwrap()).collect();
     assert_eq!(tags.len(), 2);
-    assert_eq!(
-        sample()
-            .canonical("ZH-YUE".parse::<Tag>().unwrap())
-            .unwrap(),
-        "yue"
-    );
+    assert_eq!(sample().canonical("ZH-YUE".parse::<Tag>().unwrap()).unwrap(), "yue");
 }
 
 #[test]
 fn upgrades_are_judged() {
-    let (registry, other) = (
-        sample(),
-        Registry::from_bytes(b"File-Date: 2000-01-01\n%%\nType: language\nSubtag: aa\n").unwrap(),
-    );
+    let (registry, other) =
+        (sample(), Registry::from_bytes(b"File-Date: 2000-01-01\n%%\nType: language\nSubtag: aa\n").unwrap());
     assert_eq!(registry.upgrade_check(&registry), Ok(()));
     let refused = registry.upgrade_check(&other).unwrap_err();
     assert_eq!(refused.cause().unwrap().fault(), Fault::U1);
     assert_eq!(refused.to_string(), "U1 2");
-    assert_eq!(
-        (other.info().file_date.as_str(), other.info().entries),
-        ("2000-01-01", 1)
-    );
+    assert_eq!((other.info().file_date.as_str(), other.info().entries), ("2000-01-01", 1));
     assert_eq!(format!("{registry:?}"), "Registry { .. }");
     assert_eq!(bcp47::version(), env!("CARGO_PKG_VERSION"));
 }

@@ -10,8 +10,8 @@ enum { ROOM = 4096 };
 
 #define NATIVE(kind, name) JNIEXPORT kind JNICALL Java_bcp47_Native_##name
 
-static jclass refusal_class, long_class;
-static jmethodID refusal_made, long_made;
+static jclass refusal_class, long_class, step_class, object_class;
+static jmethodID refusal_made, long_made, step_made;
 
 /* A class by a reference that does not keep its loader: while a call of the library runs, that is there. */
 static jclass kept_class(JNIEnv *env, const char *name) {
@@ -25,10 +25,13 @@ JNIEXPORT jint JNICALL JNI_OnLoad(JavaVM *machine, void *reserved) {
     if ((*machine)->GetEnv(machine, (void **)&env, JNI_VERSION_10)) return JNI_ERR;
     refusal_class = kept_class(env, "bcp47/Refusal");
     long_class = refusal_class ? kept_class(env, "java/lang/Long") : NULL;
-    if (!long_class) return JNI_ERR;
+    step_class = long_class ? kept_class(env, "bcp47/Step") : NULL;
+    object_class = step_class ? kept_class(env, "java/lang/Object") : NULL;
+    if (!object_class) return JNI_ERR;
     refusal_made = (*env)->GetMethodID(env, refusal_class, "<init>", "(IIJLjava/lang/String;I)V");
     long_made = (*env)->GetMethodID(env, long_class, "<init>", "(J)V");
-    return refusal_made && long_made ? JNI_VERSION_10 : JNI_ERR;
+    step_made = (*env)->GetMethodID(env, step_class, "<init>", "(Ljava/lang/String;IILjava/lang/String;)V");
+    return refusal_made && long_made && step_made ? JNI_VERSION_10 : JNI_ERR;
 }
 
 static const bcp47_registry *registry_of(jlong registry) {
@@ -130,14 +133,32 @@ NATIVE(jobject, match)(JNIEnv *env, jclass self, jlong registry, jint scheme, jb
     return refusal(env, outcome, variant);
 }
 
+/* An array of the steps, and last of the canonical text, which follows their tags; null where Java throws. */
+static jobject steps_of(JNIEnv *env, const bcp47_step *steps, size_t count, const char *at) {
+    jobjectArray made = (*env)->NewObjectArray(env, (jsize)count + 1, object_class, NULL);
+    for (size_t i = 0; made && i <= count; i++, at += strlen(at) + 1) {
+        jstring kind = NULL, tag = (*env)->NewStringUTF(env, at);
+        jobject item = tag;
+        if (tag && i < count && (kind = (*env)->NewStringUTF(env, bcp47_kind_name(steps[i].kind))))
+            item = (*env)->NewObject(env, step_class, step_made, kind, (jint)steps[i].place, (jint)steps[i].number, tag);
+        if ((*env)->ExceptionCheck(env)) return NULL;
+        (*env)->SetObjectArrayElement(env, made, (jsize)i, item);
+        if (i < count) (*env)->DeleteLocalRef(env, item), (*env)->DeleteLocalRef(env, kind);
+        (*env)->DeleteLocalRef(env, tag);
+    }
+    return made;
+}
+
+/* An array of the steps, and last of the canonical text. */
 NATIVE(jobject, explain)(JNIEnv *env, jclass self, jlong registry, jbyteArray tag, jlong most) {
-    char text[ROOM], *lines;
+    char text[ROOM];
     size_t length = text_of(env, tag, text);
+    bcp47_step *steps;
+    const char *at;
     (void)self;
-    bcp47_outcome outcome = bcp47_explanation(registry_of(registry), text, length, (size_t)most, &lines);
-    if (outcome.status != BCP47_DONE) return refusal(env, outcome, NULL);
-    jstring made = (*env)->NewStringUTF(env, lines);
-    bcp47_free(lines);
+    bcp47_outcome outcome = bcp47_steps(registry_of(registry), text, length, (size_t)most, &steps, &at);
+    jobject made = outcome.status == BCP47_DONE ? steps_of(env, steps, outcome.place, at) : refusal(env, outcome, at);
+    bcp47_free(steps);
     return made;
 }
 

@@ -10,13 +10,6 @@ import java.util.List;
  * @param canonical the canonical text
  */
 public record Explanation(List<Step> steps, String canonical) {
-    /** The explanation of lines that the library wrote. */
-    static Explanation ofLines(String lines) {
-        List<String> all = lines.lines().toList();
-        int last = all.size() - 1;
-        return new Explanation(all.subList(0, last).stream().map(Step::ofLine).toList(), all.get(last).substring(2));
-    }
-
     /** @return the explanation, as the program prints it, without the last line feed */
     @Override
     public String toString() {

@@ -8,7 +8,9 @@ import java.lang.ref.Cleaner;
 import java.nio.charset.StandardCharsets;
 import java.nio.file.Files;
 import java.nio.file.Path;
+import java.util.Arrays;
 import java.util.HexFormat;
+import java.util.List;
 import java.util.Objects;
 
 /**
@@ -239,11 +241,12 @@ public final class Registry implements AutoCloseable {
         long registry = held.take();
         try {
             Object answer = Native.explain(registry, bytes, Math.max(most, 0));
-            if (answer instanceof Refusal refusal && refusal.isVariant()) {
-                // which names the variant
-                answer = Native.text(registry, bytes, false);
+            if (answer instanceof Refusal refusal) {
+                throw new RefusedTag(refusal.checked(), tag);
             }
-            return Explanation.ofLines(text(answer, tag));
+            List<?> all = Arrays.asList((Object[]) answer);
+            int last = all.size() - 1;
+            return new Explanation(all.subList(0, last).stream().map(Step.class::cast).toList(), (String) all.get(last));
         } finally {
             held.give();
         }

@@ -10,12 +10,6 @@ package bcp47;
  * @param tag the tag to which it leads
  */
 public record Step(String kind, int place, int number, String tag) {
-    /** The step of a line, for example <code>Region 2 27 sgn-DE</code>. */
-    static Step ofLine(String line) {
-        String[] words = line.split(" ");
-        return new Step(words[0], Integer.parseInt(words[1]), Integer.parseInt(words[2]), words[3]);
-    }
-
     /** @return the step, as the program prints it */
     @Override
     public String toString() {
