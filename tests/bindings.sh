@@ -206,16 +206,16 @@ export PYTHONPATH=$folder/python
 passes "docs/PYTHON.md's example" env -C "$folder/examples" $python example.py
 passes "Python's tests" $python bindings/python/tests/test_bcp47.py "$sample" "$registry"
 passes "Python: copies, processes, signals, threads, columns" $python -W error bindings/python/tests/test_habits.py "$sample"
-passes "Python: the report" $python -B -W error bindings/python/tests/test_report.py "$sample"
+passes "Python: the report and commands" $python -B -W error bindings/python/tests/test_report.py "$sample" "$registry"
 passes "Python: the page" $python -B -W error bindings/python/tests/test_page.py "$sample" "$registry"
 # Each line and each branch of what both are made of. What coverage runs ends otherwise, so it is a second run.
 mkdir "$folder/counted"
 export COVERAGE_FILE=$folder/counted/of
-passes "the report for coverage" $python -B bindings/python/tests/test_report.py "$sample"
+passes "the report and commands for coverage" $python -B bindings/python/tests/test_report.py "$sample" "$registry"
 passes "the page for coverage" $python -B -m coverage run --parallel-mode --branch --source=bcp47 \
     bindings/python/tests/test_page.py "$sample" "$registry"
 passes "what was run" $python -m coverage combine "$folder/counted"
-passes "each line and branch of the report and the page is run" $python -m coverage report --fail-under=100 --show-missing \
+passes "each line and branch of the report, the commands and the page is run" $python -m coverage report --fail-under=100 --show-missing \
     --omit='*/__init__.py'
 unset COVERAGE_FILE
 passes "Python: the look of both" $python -B bindings/python/tests/look.py "$registry" "$folder"

@@ -1,13 +1,16 @@
 #!/usr/bin/env python3
-"""Compares the codes of three letters that lt_terminal knows with tools/iso639-2.tsv; with --write it writes them anew.
+"""Compares the codes of three letters that lt_terminal and the package for Python know with tools/iso639-2.tsv; with --write it
+writes them anew.
 With the path of iso_639-2.json of Debian's iso-codes, also the table with that file."""
 import json
 import pathlib
 import sys
+import textwrap
 
 TOP = pathlib.Path(__file__).resolve().parent.parent
 TABLE = TOP / "tools/iso639-2.tsv"
 CODES = TOP / "crates/lt_terminal/src/codes.rt"
+OF_PYTHON = TOP / "bindings/python/bcp47/codes.py"
 
 
 def rows():
@@ -35,6 +38,18 @@ pub(crate) static CODES: [&str; {len(messages)}] = [
 """
 
 
+def code_of_python(pairs):
+    lines = textwrap.fill(" ".join(f"{three}={two}" for three, two in pairs), 120)
+    return f'''# SPDX-License-Identifier: MIT OR Apache-2.0
+"""The codes of three letters of ISO 639-2 that BCP 47 does not register, each with what it registers for the language.
+tools/language_codes.py writes this file."""
+
+CODES = dict(it.split("=") for it in """
+{lines}
+""".split())
+'''
+
+
 def main():
     words = sys.argv[1:]
     if words and words[0] != "--write":
@@ -42,10 +57,11 @@ def main():
             sys.exit(f"{TABLE.name} and {words[0]} differ")
         return
     messages = [f"{three}: BCP 47 writes {two}." for three, two in rows()]
-    if words:
-        CODES.write_text(code(messages))
-    elif CODES.read_text() != code(messages):
-        sys.exit(f"{CODES.relative_to(TOP)} and {TABLE.name} differ")
+    for path, content in ((CODES, code(messages)), (OF_PYTHON, code_of_python(rows()))):
+        if words:
+            path.write_text(content)
+        elif path.read_text() != content:
+            sys.exit(f"{path.relative_to(TOP)} and {TABLE.name} differ")
     print(f"{len(messages)} codes of three letters")
 
 

@@ -2,12 +2,35 @@
 """What the package does at a command line."""
 import argparse
 import functools
+import os
+import sys
 from pathlib import Path
+from typing import BinaryIO, NoReturn
 
-from . import RefusedRegistry, Registry
+from . import RefusedRegistry, Registry, __version__
+from .lines import answer_lines, rewrite_table, table_of
 from .page import Page
-from .report import NoReport, page_of
+from .report import BadTable, NoColumn, page_of
 from .server import serve
+
+_STATUSES = """status:
+  0  all was done
+  1  a tag was refused
+  2  the registry was refused
+  3  the words of the command are wrong
+  4  a file, the input or the output failed"""
+
+
+class _Parser(argparse.ArgumentParser):
+    """A parser whose statuses are those of the program."""
+
+    def error(self, message: str) -> NoReturn:
+        self.end(3, message)
+
+    def end(self, status: int, message: object) -> NoReturn:
+        """Ends with a status and a message."""
+        self.print_usage(sys.stderr)
+        self.exit(status, f"{self.prog}: error: {message}\n")
 
 
 def _delimiter(word: str) -> str:
@@ -26,48 +49,99 @@ def _number(most: int, word: str) -> int:
     return int(word)
 
 
-def _report(words: argparse.Namespace) -> None:
-    """Writes a report."""
-    with Registry.from_file(words.registry) as registry, open(0, "rb", closefd=False) as file:
-        page = page_of(registry, file, words.column, words.delimiter, words.most)
-    with open(1, "w", encoding="utf-8", closefd=False) as output:
+def _opened(name: str) -> BinaryIO:
+    """The file of a name, or the standard input for a hyphen."""
+    return open(0, "rb", closefd=False) if name == "-" else open(name, "rb")
+
+
+def _write(text: str) -> None:
+    """Writes to the standard output what the next read does not wait for."""
+    print(text, end="", flush=True)
+
+
+def _report(words: argparse.Namespace) -> bool:
+    with _opened(words.file) as file:
+        name = "the standard input" if words.file == "-" else os.path.basename(words.file)
+        page = page_of(Path(words.registry).read_bytes(), file, name, words.column, words.delimiter, words.most)
+    with open(words.output or 1, "w", encoding="utf-8", closefd=bool(words.output)) as output:
         output.write(page)
+    return True
 
 
-def _page(words: argparse.Namespace) -> None:
-    """Serves a page until Ctrl-C."""
+def _page(words: argparse.Namespace) -> bool:
     try:
         serve(Page(Path(words.registry).read_bytes()), words.port)
     except KeyboardInterrupt:
         pass
+    return True
+
+
+def _canon(words: argparse.Namespace) -> bool:
+    with Registry.from_file(words.registry) as registry, _opened("-") as file:
+        return answer_lines(registry, file, _write)
+
+
+def _csv(words: argparse.Namespace) -> bool:
+    with Registry.from_file(words.registry) as registry, _opened("-") as file:
+        return rewrite_table(registry, file, _write, words.column, words.delimiter, words.keep)
+
+
+def _show(words: argparse.Namespace) -> bool:
+    refusals = 0
+    with Registry.from_file(words.registry) as registry:
+        for tag in words.tag:
+            table, refused = table_of(registry, tag)
+            _write(table)
+            refusals += refused is not None
+    return not refusals
+
+
+def _parser() -> _Parser:
+    """The words of the command line."""
+    parser = _Parser(prog="python3 -m bcp47", description="Checks language tags (BCP 47) and makes them canonical.",
+                     epilog=_STATUSES, formatter_class=argparse.RawDescriptionHelpFormatter)
+    parser.add_argument("--version", action="version", version=f"bcp47 {__version__}")
+    commands = parser.add_subparsers(required=True, metavar="COMMAND")
+    for name, run, text in (
+            ("canon", _canon, "print the canonical form of each line of the standard input"),
+            ("csv", _csv, "make the tags in one column of CSV canonical"),
+            ("show", _show, "print what the registry says of tags"),
+            ("report", _report, "write a web page about the tags in one column of CSV"),
+            ("page", _page, "serve a web page that answers for a tag or a list of tags, until Ctrl-C")):
+        command = commands.add_parser(name, help=text, description=text.capitalize() + ".", epilog=_STATUSES,
+                                      formatter_class=argparse.RawDescriptionHelpFormatter)
+        command.set_defaults(run=run, command=command)
+        command.add_argument("registry", metavar="REGISTRY", help="a file in the format of the IANA Language Subtag Registry")
+        if name in ("csv", "report"):
+            command.add_argument("column", metavar="COLUMN", help="the name of the column in the heading, or else its number from 1")
+            command.add_argument("--delimiter", metavar="C", type=_delimiter, default=",", help="the byte between fields, or tab; else ,")
+    commands.choices["csv"].add_argument("--keep", action="store_true", help="leave the column, and add the canonical tag as one more")
+    commands.choices["show"].add_argument("tag", metavar="TAG", nargs="+", help="a language tag")
+    report = commands.choices["report"]
+    report.add_argument("file", metavar="FILE", nargs="?", default="-", help="the CSV, in UTF-8 and with a heading; else the standard input")
+    report.add_argument("-o", "--output", metavar="PAGE", help="the file of the page; else the standard output")
+    report.add_argument("--most", metavar="N", type=functools.partial(_number, 9999), default=50,
+                        help="the most rows of a table that are kept; else 50")
+    commands.choices["page"].add_argument("--port", metavar="N", type=functools.partial(_number, 65535), default=0,
+                                          help="the port; else one that is free")
+    return parser
 
 
 def main() -> None:
-    """Does what the words of the command line ask for. The status is 2 where it can't be done."""
-    parser = argparse.ArgumentParser(prog="python3 -m bcp47", description="BCP 47 language tags, for people who look at them")
-    commands = parser.add_subparsers(required=True, metavar="COMMAND")
-    report = commands.add_parser("report", help="write a page in HTML about a column of tags", description=(
-        "Reads CSV with a heading, in UTF-8, from the standard input, and writes a page in HTML about the language tags of a column "
-        "to the standard output."))
-    page = commands.add_parser("page", help="serve a page that answers for a tag or a list of tags", description=(
-        "Serves a page to the browsers of this machine until Ctrl-C: it says what a tag means, what becomes of it, and what is wrong with "
-        "it, and answers a list of tags. Its address is printed."))
-    for command in (report, page):
-        command.add_argument("registry", metavar="REGISTRY", help="a file in the format of the IANA Language Subtag Registry")
-    report.add_argument("column", metavar="COLUMN", help="the name of the column in the heading, or else its number from 1")
-    report.add_argument("--delimiter", metavar="C", type=_delimiter, default=",", help="the byte between fields, or tab; else ,")
-    report.add_argument("--most", metavar="N", type=functools.partial(_number, 9999), default=50,
-                        help="the most rows of a table that are kept; else 50")
-    page.add_argument("--port", metavar="N", type=functools.partial(_number, 65535), default=0, help="the port; else one that is free")
-    report.set_defaults(run=_report, command=report)
-    page.set_defaults(run=_page, command=page)
-    words = parser.parse_args()
+    """Does what the words of the command line ask for."""
+    words = _parser().parse_args()
     try:
-        words.run(words)
+        sys.exit(not words.run(words))
     except RefusedRegistry as refused:
-        words.command.error(f"{words.registry}: {refused}: {refused.help}")
-    except (NoReport, OSError) as error:
-        words.command.error(str(error))
+        words.command.end(2, f"{words.registry}: {refused}: {refused.help}")
+    except NoColumn as error:
+        words.command.end(3, error)
+    except BrokenPipeError:
+        # whoever reads has what it wanted: nothing more is written, also at the end of the interpreter
+        os.dup2(os.open(os.devnull, os.O_WRONLY), 1)
+        sys.exit(4)
+    except (BadTable, OSError) as error:
+        words.command.end(4, error)
 
 
 if __name__ == "__main__":

@@ -102,7 +102,7 @@ def tag_text(markup: str) -> str:
 def shown(text: Text, most: int = LONGEST) -> str:
     """A text that was given. What is longer than most texts is cut."""
     if not text:
-        return "<i>nothing</i>"
+        return "<i>empty</i>"
     return tag_text(escaped(text[:most])) + (f" … ({len(text):,} characters)" if len(text) > most else "")
 
 
@@ -157,6 +157,30 @@ class Tables(NamedTuple):
         more = f"<p>{len(those) - self.most:,} more are not shown.</p>\n" if len(those) > self.most else ""
         return self.heading(title) + table(caption, heads, [body(one) for one in those[:self.most]]) + more
 
+    def verdict(self) -> str:
+        """In a sentence, how many rows changed and how many are refused."""
+        of_all, of_tags = sum(self.rows.values()), sum(tag.rows for tag in self.answers.tags)
+        changed = of_tags - sum(self.rows.get(tag.answer, 0) for tag in self.answers.tags)
+
+        def counted(rows: int) -> str:
+            return f"<strong>{rows:,}</strong> ({rows / max(of_all, 1):.1%})"
+
+        return (f"<p>Of {of_all:,} {self.unit}s, {counted(changed)} changed, and {counted(of_all - of_tags)} need a look, since their "
+                "tag is refused.</p>\n")
+
+    def refused(self, advice: Callable[[str], Optional[str]]) -> str:
+        """Each text that is refused, with what to write for it by this advice, or else what to do about its fault."""
+        def body(text: Text) -> str:
+            why = self.answers.why[text]
+            written = advice(text) if text else None
+            said = shown(written) if written else html.escape(HELPS[why.split()[0]])
+            return (f'<tr><th scope="row" class="text">{shown(text)}</th>{cell(self.rows[text])}{numbered(self.firsts[text])}'
+                    f'<td>{breaking(why)}</td><td class="sentence">{said}</td></tr>')
+
+        heads = ["Text", f"#{self.unit.title()}s", f"#First {self.unit}", "Fault, and the subtag", "What to write"]
+        texts = sorted(self.answers.why, key=lambda text: -self.rows[text])
+        return self.section("Refused texts", f"{self.unit.title()}s that need a look, by their text", heads, texts, body)
+
     def summary(self, caption: str) -> str:
         """What became of the rows. A tag stays where it is canonical."""
         rows, tags, unit = self.rows, self.answers.tags, self.unit
@@ -176,7 +200,7 @@ class Tables(NamedTuple):
             return (f'<tr><th scope="row">{breaking(fault.answer)}</th>{cell(fault.rows)}{numbered(self.firsts[first])}'
                     f'<td class="text">{shown(first)}</td><td class="sentence">{html.escape(HELPS[fault.answer])}</td></tr>')
 
-        heads = ["Fault", f"#{self.unit.title()}s", f"#First {self.unit}", "Its text", "What to do"]
+        heads = ["Fault", f"#{self.unit.title()}s", f"#First {self.unit}", "Example", "What to do"]
         return self.section("Faults", f"{self.unit.title()}s that are refused, by the fault", heads, self.answers.faults, body)
 
     def joined(self, title: str, caption: str, tags: List[Group]) -> str:

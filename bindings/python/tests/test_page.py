@@ -306,7 +306,7 @@ class Pages(unittest.TestCase):
             ["Lines", "How many", "Distinct texts"], ["The tag stays", "1", "1"], ["The tag is made canonical", "3", "2"],
             ["The tag is refused", "5", "5"], ["All lines read", "9", "8"]])
         self.assertEqual([row[:4] for row in seen.tables["Lines that are refused, by the fault"]], [
-            ["Fault", "Lines", "First line", "Its text"], ["BadByte", "2", "5", "en_US"], ["EmptySubtag", "1", "3", "nothing"],
+            ["Fault", "Lines", "First line", "Example"], ["BadByte", "2", "5", "en_US"], ["EmptySubtag", "1", "3", "empty"],
             ["Unfinished", "1", "8", "de-u"], ["ReplacementRepeats", "1", "9", "ja-heploc-alalc97"]])
         self.assertEqual(seen.tables["Canonical tags that two or more texts became"], [
             ["Canonical tag", "Lines", "Text before", "Its lines"], ["yue", "4", "zh-yue", "2"], ["YUE", "1"], ["yue", "1"]])
@@ -605,11 +605,11 @@ class Commands(unittest.TestCase):
         self.addCleanup(ran.kill)
         return ran
 
-    def failed(self, *words, **how):
-        """What the command says at its end with status 2."""
+    def failed(self, status, *words, **how):
+        """What the command says at its end with a status."""
         ran = self.begun(*words, **how)
         said = ran.communicate(timeout=60)[1]
-        self.assertEqual(ran.returncode, 2, said)
+        self.assertEqual(ran.returncode, status, said)
         return said.splitlines()[-1].partition("error: ")[2]
 
     def test_it_serves_until_it_is_interrupted(self):
@@ -626,7 +626,7 @@ class Commands(unittest.TestCase):
             self.assertIn("Canonical tags that two or more texts became", Seen(answer.read().decode()).tables)
             if stalls:
                 self.addCleanup(socket.create_connection(("127.0.0.1", port)).close)
-                self.assertIn("Address already in use", self.failed(str(self.path), "--port", str(port)))
+                self.assertIn("Address already in use", self.failed(4, str(self.path), "--port", str(port)))
             ran.send_signal(signal.SIGINT)
             self.assertEqual((ran.communicate(timeout=60), ran.returncode), (("", ""), 0))
 
@@ -639,14 +639,14 @@ class Commands(unittest.TestCase):
         ran.send_signal(signal.SIGTERM)
         self.assertEqual((ran.communicate(timeout=60), ran.returncode), (("", ""), -signal.SIGTERM))
         for word in ("0", "65536", "-1", "x", "1.5", "080000"):
-            self.assertEqual(self.failed(str(self.path), "--port=" + word), "argument --port: it is a number from 1 to 65535")
+            self.assertEqual(self.failed(3, str(self.path), "--port=" + word), "argument --port: it is a number from 1 to 65535")
 
     def test_files(self):
-        self.assertIn("No such file or directory: '/no/such/file'", self.failed("/no/such/file"))
-        self.assertIn("Is a directory", self.failed(str(self.path.parent)))
-        self.assertRegex(self.failed(__file__), "^" + __file__ + ": jar BadLine line 1: Neither a field, ")
+        self.assertIn("No such file or directory: '/no/such/file'", self.failed(4, "/no/such/file"))
+        self.assertIn("Is a directory", self.failed(4, str(self.path.parent)))
+        self.assertRegex(self.failed(2, __file__), "^" + __file__ + ": jar BadLine line 1: Neither a field, ")
         with open("/dev/full", "wb") as full:
-            self.assertIn("No space left on device", self.failed(str(self.path), stdout=full))
+            self.assertIn("No space left on device", self.failed(4, str(self.path), stdout=full))
 
 
 if __name__ == "__main__":
