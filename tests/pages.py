@@ -1,6 +1,7 @@
 #!/usr/bin/env python3
-"""Goes through the commands of pages to the letter, and compares what they print with what the pages show. Then through their
-links, in the repository and where the program is installed, and through sentences: on a page none has 40 words or more.
+"""Goes through the commands of pages to the letter, and compares what they print with what the pages show; so too each command
+of the program's help. Then through their links, in the repository and where the program is installed, and through sentences:
+on a page none has 40 words or more.
 
 Usage: tests/pages.py [--write] [PAGE..]
 
@@ -10,7 +11,7 @@ after another in a fresh folder that has what git has and build/langtag. The pro
 folder: its langtag is on the path, its registry is registry.txt, and a path below /usr/local is one below that folder. `make`
 does nothing, since all is built. Empty lines are not compared. --write puts what was printed into the pages.
 
-Without a PAGE it goes through all of them. Prints `N passed, M failed`, and ends with status 1 unless all pass.
+Without a PAGE it goes through all of them, and through the help. Prints `N passed, M failed`, and ends with status 1 unless all pass.
 """
 
 import os
@@ -139,6 +140,14 @@ def compare(page, lines, folder):
     return passed, len(found) - passed, right
 
 
+def helps(folder):
+    """The help of the program and of each command, by name. Each has an example."""
+    whole = run("langtag --help", folder)
+    for name in ["", *re.findall(r"^  ([a-z]+) ", re.search(r"^Commands:\n(.*?)\n\n", whole, re.M | re.S)[1], re.M)]:
+        if name != "help":
+            yield f"langtag help {name}".strip(), run(f"langtag help {name}", folder).split("\n")
+
+
 def main():
     write = sys.argv[1:2] == ["--write"]
     pages = sys.argv[1 + write :] or [it for it in PAGES if (ROOT / it).exists()]
@@ -157,6 +166,10 @@ def main():
             passed, failed = passed + right + (not long), failed + wrong + len(long)
             if write:
                 (ROOT / page).write_text("\n".join(lines), encoding="utf-8")
+        for name, lines in helps(Path(folder)) if not sys.argv[1:] else []:
+            right, wrong, _ = compare(name, lines, Path(folder))
+            passed, failed = passed + right, failed + wrong + (right + wrong == 0)
+            print("" if right + wrong else f"{name}: no example\n", end="")
     print(f"{passed} passed, {failed} failed")
     return 1 if failed or not passed else 0
 

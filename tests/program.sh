@@ -375,7 +375,7 @@ run check .; is 'check: a folder' 4 'jar Read line 1\n' ''
 grep '^Usage: ' help > out
 (exit "$ended"); is help 0 'Usage: langtag <COMMAND>\n' ''
 sed -n '/^Status:/,$p' help > out
-(exit "$ended"); is 'help: the statuses' 0 'Status:\n  0  done\n  1  a tag was refused, or the tags are different, or the steps are no explanation, or no line was matched\n  2  a registry, a table or an upgrade was refused\n  3  the words name no command, or a column that is missing or stands twice, or a range that is refused\n  4  a file, the input, the output or memory failed\n' ''
+(exit "$ended"); is 'help: the statuses' 0 'Status:\n  0  all was done\n  1  a tag was refused, two tags are different, steps are wrong, or no line was printed\n  2  a registry, a table or an upgrade was refused\n  3  the words of the command are wrong\n  4  a file, the input, the output or memory failed\n\nlangtag help COMMAND says more of a command. The manual, man langtag, has all of it.\n' ''
 "$program" --version < empty > version 2> err; ended=$?
 cut -d '(' -f 1 version > out
 (exit "$ended"); is version 0 "langtag $number \n" ''

@@ -5,6 +5,7 @@
 mod commands;
 mod faults;
 mod given;
+mod helps;
 mod program;
 mod reading;
 mod subcommands;

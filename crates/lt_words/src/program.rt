@@ -4,6 +4,7 @@ ghost use Rattle.lt_words.specs.CommandLine.{langtag, program, rule_for, subcomm
 ghost use Rattle.clap.specs.declared.builder.command.Command.TheViews.{out-Command as fields_of};
 ghost use Rattle.clap.specs.Words.{app_of, rule_of, with_subcommand};
 
+use crate::helps::{self, Help};
 use clap::{Arg, ArgAction, Command};
 use std::alloc::{AllocError, Global};
 
@@ -48,25 +49,25 @@ pub(crate) static REGISTRY: Argument = Argument {
 pub(crate) static TABLE: Argument = Argument {
     name: "TABLE",
     form: Form::Positional,
-    help: "A table of the codes of ISO 639-2, as the Library of Congress publishes it: lines as ger|deu|de|German|allemand",
+    help: "The table of codes that the Library of Congress publishes, ISO-639-2_utf-8.txt: lines like ger|deu|de|German|allemand",
 };
 
 pub(crate) static CODES: Argument = Argument {
     name: "TABLE",
     form: Form::Option("codes"),
-    help: "Reads a tag with what is registered for its first subtag, where that is a code of this table; see the command codes",
+    help: "Reads the codes of ISO 639-2 in this table too, in the way of the command codes",
 };
 
 pub(crate) static COLUMN: Argument = Argument {
     name: "COLUMN",
     form: Form::Positional,
-    help: "The field that is a tag: its number, counted from 1, or its name in the heading",
+    help: "The field with the tags: its number, counted from 1, or its name in the heading",
 };
 
 pub(crate) static RANGE: Argument = Argument {
     name: "RANGE",
     form: Form::Repeated,
-    help: "A language range of RFC 4647, as de-CH or *, or a tag",
+    help: "A language range (RFC 4647), for example de-CH or *, or a tag",
 };
 
 pub(crate) static OLD: Argument = Argument {
@@ -84,25 +85,25 @@ pub(crate) static NEW: Argument = Argument {
 pub(crate) static DELIMITER: Argument = Argument {
     name: "C",
     form: Form::Option("delimiter"),
-    help: "The byte between fields, or tab for a tab: one of ASCII but no quote, carriage return or line feed; without it a comma",
+    help: "The byte between fields, for example ';', or the word tab; a comma without this option",
 };
 
 pub(crate) static HEADING: Argument = Argument {
     name: "heading",
     form: Form::Flag,
-    help: "Takes the first row for a heading: no tag is looked for in it, and the names of the fields that are added follow it",
+    help: "The first row is a heading: it has no tag, and gets the names of the added fields",
 };
 
 pub(crate) static KEEP: Argument = Argument {
     name: "keep",
     form: Form::Flag,
-    help: "Leaves each row as it is, and adds two fields to it: langtag, the canonical form, and langtag_fault, why the tag is refused",
+    help: "Leaves each row as it is, and adds two fields: langtag, the canonical form, and langtag_fault, the fault of a refused tag",
 };
 
 pub(crate) static EXTENDED: Argument = Argument {
     name: "extended",
     form: Form::Flag,
-    help: "Matches by extended filtering (RFC 4647, 3.3.2), by which de-DE matches de-Latn-DE too",
+    help: "Matches by extended filtering (RFC 4647, 3.3.2): de-DE matches de-Latn-DE too",
 };
 
 pub(crate) static TAGS: Argument = Argument {
@@ -120,23 +121,14 @@ pub(crate) static JSON: Argument = Argument {
 pub(crate) static LOOKUP: Argument = Argument {
     name: "lookup",
     form: Form::Flag,
-    help: "Prints the one line that lookup finds (RFC 4647, 3.4): a tag that a range, cut from its end as little as it takes, is",
+    help: "Prints the one line that lookup finds (RFC 4647, 3.4): ranges in turn, each cut from its end until it equals a tag",
 };
 
 pub(crate) static SUMMARY: Argument = Argument {
     name: "summary",
     form: Form::Flag,
-    help: "Tells on the standard error how many lines each fault refused, the first, and what to do, as at a terminal",
+    help: "Says on the standard error how many lines each fault refused, the first of them, and what to do",
 };
-
-/// What the statuses mean, as each text of help says.
-const STATUSES: &str = "\
-Status:
-  0  done
-  1  a tag was refused, or the tags are different, or the steps are no explanation, or no line was matched
-  2  a registry, a table or an upgrade was refused
-  3  the words name no command, or a column that is missing or stands twice, or a range that is refused
-  4  a file, the input, the output or memory failed";
 
 /// The version, and the kits that prove and build the program, by their logic.
 const VERSION: &str = "1.1.0 (rattle-kit-13 logic dac8208d650f15bf)";
@@ -156,17 +148,19 @@ fn new_argument<'a>(alloc: Global, wanted: &Argument) -> Arg<'a>
     }
 }
 
-/// A subcommand with this name, help (`about`) and arguments.
+/// A subcommand with this name, help and arguments.
 fn new_subcommand<'a>(
     alloc: Global,
     name: &'a str,
-    about: &'a str,
+    help: &'static Help,
     arguments: &[&'static Argument],
 ) -> Result<Command<'a>, AllocError>
     ensures app { IfOk result (λ r. app_of r ≡ subcommand name.entry.now (map (λ a. rule_for a.now.form a.now.name.now) arguments.now)) }
     ensures globals { IfOk result (λ r. (fields_of r).has_globals ≡ false) }
 {
-    let mut command = Command::new(alloc, name).about(about).after_help(STATUSES);
+    let mut command = Command::new(alloc, name)
+        .about(help.about)
+        .after_help(help.after);
     for argument in arguments {
         command = command.arg(new_argument(alloc, argument))?;
     }
@@ -178,24 +172,24 @@ fn new_program<'a>(alloc: Global) -> Command<'a>
     ensures { app_of result ≡ program }
 {
     Command::new(alloc, "langtag")
-        .about("BCP 47 language tags (RFC 5646)")
+        .about(helps::LANGTAG.about)
         .version(VERSION)
-        .after_help(STATUSES)
+        .after_help(helps::LANGTAG.after)
         .subcommand_required(true)
 }
 
-/// The program with a further subcommand, which has this name, help (`about`) and arguments.
+/// The program with a further subcommand, which has this name, help and arguments.
 fn with_new<'a>(
     alloc: Global,
     program: Command<'a>,
     name: &'a str,
-    about: &'a str,
+    help: &'static Help,
     arguments: &[&'static Argument],
 ) -> Result<Command<'a>, AllocError>
     ensures { IfOk result (λ r. app_of r ≡ with_subcommand (app_of program.entry)
         (subcommand name.entry.now (map (λ a. rule_for a.now.form a.now.name.now) arguments.now)).top) }
 {
-    program.subcommand(new_subcommand(alloc, name, about, arguments)?)
+    program.subcommand(new_subcommand(alloc, name, help, arguments)?)
 }
 
 /// The program with all its subcommands, their help and their arguments.
@@ -203,45 +197,28 @@ pub(crate) fn new_langtag<'a>(alloc: Global) -> Result<Command<'a>, AllocError>
     ensures { IfOk result (λ r. app_of r ≡ langtag) }
 {
     let program = new_program(alloc);
-    let about = "Prints the class of a tag and the tag in conventional case";
-    let program = with_new(alloc, program, "classify", about, &[&TAG])?;
-    let about = "Checks a registry, and prints the number of its entries";
-    let program = with_new(alloc, program, "check", about, &[&REGISTRY])?;
-    let about = "Prints the canonical form of each line of the standard input";
-    let program = with_new(alloc, program, "canon", about, &[&REGISTRY, &SUMMARY])?;
-    let about =
-        "Does as canon, but reads a first subtag that is a code of ISO 639-2 as what is registered for it";
+    let program = with_new(alloc, program, "classify", &helps::CLASSIFY, &[&TAG])?;
+    let program = with_new(alloc, program, "check", &helps::CHECK, &[&REGISTRY])?;
+    let arguments = &[&REGISTRY, &SUMMARY];
+    let program = with_new(alloc, program, "canon", &helps::CANON, arguments)?;
     let arguments = &[&TABLE, &REGISTRY, &SUMMARY];
-    let program = with_new(alloc, program, "codes", about, arguments)?;
-    let about =
-        "Replaces a field of each row of the standard input, with tabs between fields, by its canonical form";
+    let program = with_new(alloc, program, "codes", &helps::CODES, arguments)?;
     let arguments = &[&REGISTRY, &COLUMN, &HEADING, &KEEP, &CODES, &SUMMARY];
-    let program = with_new(alloc, program, "tsv", about, arguments)?;
-    let about =
-        "Replaces a field of each record of CSV of the standard input, but for the heading, by its canonical form";
+    let program = with_new(alloc, program, "tsv", &helps::TSV, arguments)?;
     let arguments = &[&REGISTRY, &COLUMN, &DELIMITER, &KEEP, &CODES, &SUMMARY];
-    let program = with_new(alloc, program, "csv", about, arguments)?;
-    let about = "Prints the lines of the standard input, each a tag, that a language range matches";
-    let program = with_new(
-        alloc,
-        program,
-        "match",
-        about,
-        &[&REGISTRY, &RANGE, &EXTENDED, &LOOKUP],
-    )?;
-    let about = "Prints the extlang form of a tag";
-    let program = with_new(alloc, program, "extlang", about, &[&REGISTRY, &TAG])?;
-    let about = "Tells whether two tags are equivalent";
-    let program = with_new(alloc, program, "equal", about, &[&REGISTRY, &TAG, &OTHER])?;
-    let about = "Prints the steps from a tag to its canonical form";
-    let program = with_new(alloc, program, "explain", about, &[&REGISTRY, &TAG])?;
-    let about = "Tells whether the standard input explains a tag, as `explain` prints it";
-    let program = with_new(alloc, program, "verify", about, &[&REGISTRY, &TAG])?;
-    let about = "Tells whether a newer registry upgrades an older one";
-    let program = with_new(alloc, program, "upgrade", about, &[&OLD, &NEW])?;
-    let about = "Prints what a registry says of each subtag of tags, and their canonical forms";
-    let program = with_new(alloc, program, "show", about, &[&REGISTRY, &TAGS, &JSON])?;
-    let about =
-        "Prints an object of JSON for each line of the standard input: the tag, its canonical form and its parts";
-    with_new(alloc, program, "json", about, &[&REGISTRY])
+    let program = with_new(alloc, program, "csv", &helps::CSV, arguments)?;
+    let arguments = &[&REGISTRY, &RANGE, &EXTENDED, &LOOKUP];
+    let program = with_new(alloc, program, "match", &helps::MATCH, arguments)?;
+    let arguments = &[&REGISTRY, &TAG];
+    let program = with_new(alloc, program, "extlang", &helps::EXTLANG, arguments)?;
+    let arguments = &[&REGISTRY, &TAG, &OTHER];
+    let program = with_new(alloc, program, "equal", &helps::EQUAL, arguments)?;
+    let arguments = &[&REGISTRY, &TAG];
+    let program = with_new(alloc, program, "explain", &helps::EXPLAIN, arguments)?;
+    let arguments = &[&REGISTRY, &TAG];
+    let program = with_new(alloc, program, "verify", &helps::VERIFY, arguments)?;
+    let program = with_new(alloc, program, "upgrade", &helps::UPGRADE, &[&OLD, &NEW])?;
+    let arguments = &[&REGISTRY, &TAGS, &JSON];
+    let program = with_new(alloc, program, "show", &helps::SHOW, arguments)?;
+    with_new(alloc, program, "json", &helps::JSON, &[&REGISTRY])
 }
