@@ -1,6 +1,6 @@
 #!/bin/bash
 # Installs what the tests of the bindings and tests/iso_codes.py need of Debian, where it is not there: as root, or by sudo.
-wanted="gcc g++ clang binutils jq valgrind qemu-user libsqlite3-dev sqlite3 python3 python3-dev python3-pip python3-pandas mypy python3-icu
+wanted="gcc g++ clang binutils jq valgrind qemu-user libsqlite3-dev sqlite3 python3 python3-dev python3-pip python3-venv python3-pandas mypy python3-icu
     python3-coverage tidy chromium iso-codes libicu-dev pkg-config postgresql postgresql-server-dev-15"
 # for types of Node.js, and for Java, Go and Dask
 wanted="$wanted node-typescript golang-go libmaven-compiler-plugin-java libmaven-jar-plugin-java libmaven-resources-plugin-java libsurefire-java
