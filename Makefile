@@ -54,8 +54,10 @@ build/%.bc: modules
 	tools/module.sh $* $@ > /dev/null
 modules:
 
-# Builds the extension of SQLite: build/bcp47_sqlite.so. It shows nothing but its entry.
-sqlite: lib
+# Builds the extension of SQLite over build/libbcp47.a, which `make lib` builds where it is not there: build/bcp47_sqlite.so. It
+# shows nothing but its entry.
+sqlite:
+	@test -f build/libbcp47.a || $(MAKE) --no-print-directory lib
 	gcc -O2 -fPIC -shared -fvisibility=hidden -Wl,--exclude-libs,ALL -Wall -Ibindings/c -o build/bcp47_sqlite.so \
 	    bindings/sqlite/bcp47_sqlite.c build/libbcp47.a
 	@echo "Built build/bcp47_sqlite.so. Next, in sqlite3: .load build/bcp47_sqlite; docs/SQL.md has its functions."
