@@ -1,5 +1,6 @@
 """A report about a catalogue of 1,000,000 rows, made the same each time: it takes at most 10 s of a processor, and its numbers are those
-of the program's answers. Arguments: a registry, the program, and a folder for the catalogue."""
+of the program's answers. The commands canon and show beside the program. Arguments: a registry, the program, and a folder for the catalogue."""
+import itertools
 import resource
 import subprocess
 import sys
@@ -75,6 +76,16 @@ class Catalogue(unittest.TestCase):
                          [f"{count:,}" for _, count in canonical.most_common(50)])
         self.assertEqual({(row[0], row[1]) for row in tables["Rows that are refused, by the fault"]},
                          {(name, f"{count:,}") for name, count in faults.items()})
+
+
+    def test_commands(self):
+        """The commands canon and show print what the program prints."""
+        texts = [*itertools.islice(NewTags(*read_registry(REGISTRY)).new(), 5000)]
+        for words, lines in ((["canon", REGISTRY], texts), (["show", REGISTRY, *texts[:300]], [])):
+            given = "".join(text + "\n" for text in lines).encode()
+            printed = [subprocess.run([*command, *words], input=given, stdout=subprocess.PIPE) for command in (COMMAND, [PROGRAM])]
+            self.assertEqual(printed[0].stdout, printed[1].stdout)
+            self.assertEqual([it.returncode for it in printed], [1, 1])
 
 
 REGISTRY, PROGRAM, FOLDER = sys.argv[1:4]
