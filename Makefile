@@ -16,11 +16,13 @@ all:
 
 # The program before any proof, run once with IANA's registry.
 try:
+	@command -v rt > /dev/null || { echo "There is no command rt on the path: docs/INSTALL.md says where a Rattle kit comes from."; exit 1; }
 	@cd crates/langtag && rt try --data registry.txt=../../examples/iana-2025-05-15.txt -- show registry.txt zh-yue
 	@echo "This was the program before any proof, so nothing is proved of it. Next: make, which proves and builds it."
 
 # Runs what `make` built: the program's own runs, its messages beside the manual, and each command of README.
 check:
+	@test -x build/langtag || { echo "build/langtag is not built: run make first."; exit 1; }
 	tests/program.sh
 	tests/messages.sh
 	tests/pages.py README.md
