@@ -204,6 +204,10 @@ passes "meanings" test "$(grep -cvxFf "$folder/messages" "$folder/helps")" = 0 -
 passes "pip install" $python -m pip install -q --no-index --root-user-action=ignore --target "$folder/python" bindings/python
 export PYTHONPATH=$folder/python
 passes "docs/PYTHON.md's example" env -C "$folder/examples" $python example.py
+printf 'id,tag\n1,zh-yue\n2,eng\n' > "$folder/examples/catalogue.csv"
+sed -n '/^## A report about/,/^## A page/s/^    //p' docs/PYTHON.md > "$folder/examples/report"
+passes "docs/PYTHON.md's report" env -C "$folder/examples" bash -e report
+passes "it says what to write" grep -q '>en</bdi>' "$folder/examples/report.html"
 passes "Python's tests" $python bindings/python/tests/test_bcp47.py "$sample" "$registry"
 passes "Python: copies, processes, signals, threads, columns" $python -W error bindings/python/tests/test_habits.py "$sample"
 passes "Python: the report and commands" $python -B -W error bindings/python/tests/test_report.py "$sample" "$registry"
