@@ -439,27 +439,39 @@ bcp47_outcome bcp47_explanation(const bcp47_registry *registry, const char *text
     return outcome;
 }
 
-/* The number of the kind of step whose name begins a text: of two that begin alike, the shorter comes first. */
-static uint8_t kind_at(const char *text, size_t length) {
+/* The next word of a text, which a byte ends, and its length; the text is what follows it then. */
+static const char *next_word(const char **text, char end, size_t *length) {
+    const char *word = *text;
+    for (*length = 0; word[*length] != end;) ++*length;
+    *text = word + *length + 1;
+    return word;
+}
+
+/* The number that the next word of a text is. */
+static uint32_t next_number(const char **text) {
+    size_t length;
+    const char *word = next_word(text, ' ', &length);
+    return (uint32_t)number_of((const uint8_t *)word, length);
+}
+
+/* The number of the kind of step that has a name. */
+static uint8_t kind_of(const char *name, size_t length) {
     uint8_t kind = BCP47_EXTLANG;
-    while (strncmp(bcp47_kind_name(kind), text, length)) kind++;
+    while (strlen(bcp47_kind_name(kind)) != length || memcmp(bcp47_kind_name(kind), name, length)) kind++;
     return kind;
 }
 
 /* Takes so many lines of an explanation, and the last, apart: the tags go to memory for as many bytes as the lines have. */
 static void read_lines(const char *lines, bcp47_step *steps, size_t count, char *tags) {
     for (size_t i = 0; i <= count; i++) {
-        char *at = (char *)(uintptr_t)strchr(lines, ' ');
-        if (i < count) {
-            steps[i].kind = kind_at(lines, (size_t)(at - lines));
-            steps[i].place = (uint32_t)strtoul(at, &at, 10);
-            steps[i].number = (uint32_t)strtoul(at, &at, 10);
-        }
-        size_t length = strcspn(++at, "\n");
-        memcpy(tags, at, length);
+        size_t length;
+        const char *word = next_word(&lines, ' ', &length);
+        if (i < count) steps[i] = (bcp47_step){kind_of(word, length), next_number(&lines), 0};
+        if (i < count) steps[i].number = next_number(&lines);
+        word = next_word(&lines, '\n', &length);
+        memcpy(tags, word, length);
         tags[length] = 0;
         tags += length + 1;
-        lines = at + length + 1;
     }
 }
 
