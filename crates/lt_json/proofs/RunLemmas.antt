@@ -73,7 +73,7 @@ module _ {A B : Type 0} (f : A → B) (Q : Answered A) (P : Answered B) (weaker 
 
   -- if a run ended as `Q` says, it did as the weaker `P` says
   ends_mapped : {I O : Type 0} (remaining : I → Option (List ℕ)) (input input' : Device I) (output output' : Device O) (reads : ℕ) (read written : List ℕ) (a : A) (result : Result (Unit {0}) ToolFault)
-      → EndsAs Q remaining input input' output output' reads read written a result → EndsAs P remaining input input' output output' reads read written (f a) result
+      → EndsAs Q remaining input input' output output' reads read read written a result → EndsAs P remaining input input' output output' reads read read written (f a) result
   ends_mapped remaining input input' output output' reads read written a (Ok done) e = record { end = e.end; answered = weaker a (lines_of read) written e.answered }
   ends_mapped remaining input input' output output' reads read written a (Err faults.Read) e = record { failed = e.failed; owed = feed_mapped read written a e.owed }
   ends_mapped remaining input input' output output' reads read written a (Err faults.TooManyTurns) e =

@@ -1,10 +1,12 @@
 -- The line that lookup finds, of those that were read so far. No public contract cites this.
-use Rattle.std.specs.Prelude.{◌≡◌, ◌<◌, ◌⊎◌, ◌++◌, ◌∷◌, ℕ, List, [], true, length, take, Option, Some, None}
+use Rattle.std.specs.Prelude.{◌≡◌, ◌<◌, ◌⊎◌, ◌++◌, ◌∷◌, ℕ, List, [], true, length, take, Option, Some, None, Result, Err}
 use Rattle.std.specs.Prelude.{slice_index_or}
 use Rattle.lt_registry.specs.Parts.{EntryParts}
 use Rattle.lt_range.specs.Ranges.{RangeParts}
 use Rattle.lt_range.specs.Matching.{FallsBackTo}
 use Rattle.lt_range.specs.Lookup.{Finds, FindsNone, tag_at}
+use Rattle.lt_stream.specs.declared.faults.ToolFault.{ToolFault}
+use Rattle.lt_stream.specs.declared.faults.ToolFault.TheVariants as faults
 use Rattle.lt_select.specs.LookedUp.{LinesHave}
 use Rattle.lt_select.specs.Selection.{longest_kept}
 use Rattle.lt_select.specs.declared.closest.Closest.{Closest}
@@ -64,3 +66,10 @@ abbrev pub TakesSubtags : List RangeParts → (list : List (List ℕ)) → (line
 TakesSubtags ranges list line old new =
     (lines : List (List ℕ)) (lists : List (List (List ℕ))) → length lines ≡ length lists
     → ClosestAmong ranges lines lists old → ClosestAmong ranges (lines ++ line ∷ []) (lists ++ list ∷ []) new
+
+-- ---- the run
+
+-- how a run ends that writes into memory: a write that fails is a lack of it
+abbrev pub in_memory : Result (Unit {0}) ToolFault → Result (Unit {0}) ToolFault
+in_memory (Err faults.Write) = Err faults.OutOfMemory
+in_memory end = end

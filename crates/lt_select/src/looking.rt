@@ -1,6 +1,7 @@
 //! Looking up one of the lines of a reader.
 ghost use Rattle.std.specs.Prelude.{◌≡◌, []};
 ghost use Rattle.std.specs.Option.{option_map};
+ghost use Rattle.lt_select.specs.Closest as spec;
 ghost use Rattle.lt_select.specs.Closest.{Holds};
 ghost use Rattle.lt_select.specs.LookedUp.{LooksUpLine};
 ghost use Rattle.lt_select.specs.Selection.{longest_kept};
@@ -11,7 +12,7 @@ use lt_canon::Checked;
 use lt_jar::Device;
 use lt_match::LanguageRange;
 use lt_registry::Lookup;
-use lt_stream::{Lines, ToolFault, run_lines};
+use lt_stream::{Lines, ToolFault, run_text};
 use lt_tag::OutOfMemory;
 use std::alloc::Global;
 use std::io::Read;
@@ -64,16 +65,27 @@ impl<'a, L: Lookup> LookingUp<'a, L> {
     }
 }
 
+/// How a run ends that writes into memory: a write fails only where that runs out.
+fn in_memory(end: Result<(), ToolFault>) -> Result<(), ToolFault>
+    ensures { result ≡ spec.in_memory end }
+{
+    match end {
+        Err(ToolFault::Write) => Err(ToolFault::OutOfMemory),
+        other => other,
+    }
+}
+
 /// The line of a reader that lookup finds by a language priority list (RFC 4647, 3.4), as it stands. The first range that
 /// finds a line counts, and of its lines the one to which it is cut the least; of equal ones the first. A line is looked up
 /// as the tag that it is, by the subtags of its canonical form (RFC 5646, 4.5): the range of `yue-HK` finds `zh-yue`. No
 /// range finds a line that is no valid tag, or a tag that `canonical` refuses, and a range that begins with `*` finds none.
 /// None if no range finds a line: the caller takes a default then.
 ///
-/// A line feed ends a line, and what follows the last one is a line if it is anything. A carriage return that ends a
-/// line is no part of the tag, and stays with the line. No more than the closest line so far and 1,026 bytes of the
+/// A byte order mark of UTF-8 before the first line is passed over. A line feed ends a line, and what follows the last one
+/// is a line if it is anything. A carriage return that ends a line is no part of the tag, and stays with the line. No more than the closest line so far and 1,026 bytes of the
 /// line that goes on are kept.
 ///
+/// - `Utf16`, if the bytes begin with a byte order mark of UTF-16.
 /// - `Read`, if a read fails.
 /// - `TooManyTurns`, if all 10,000,000 reads were made and the last gave bytes.
 /// - `OutOfMemory`, if memory runs out.
@@ -91,10 +103,7 @@ pub fn look_up_line<L: Lookup, R: Read>(
         closest: None,
     };
     let mut none = Device::new(Vec::new(alloc));
-    match run_lines(alloc, looking, input, &mut none) {
-        (looking, Ok(())) => Ok(looking.into_line()),
-        // What is written is kept in memory, so a write fails only where that runs out.
-        (_, Err(ToolFault::Write)) => Err(ToolFault::OutOfMemory),
-        (_, Err(fault)) => Err(fault),
-    }
+    let (looking, end) = run_text(alloc, looking, input, &mut none);
+    in_memory(end)?;
+    Ok(looking.into_line())
 }

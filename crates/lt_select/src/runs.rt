@@ -9,7 +9,7 @@ use lt_canon::Checked;
 use lt_jar::Device;
 use lt_match::LanguageRange;
 use lt_registry::Lookup;
-use lt_stream::{Lines, ToolFault, run_lines};
+use lt_stream::{Lines, ToolFault, run_text};
 use lt_tag::OutOfMemory;
 use std::alloc::Global;
 use std::io::{Read, Write};
@@ -61,10 +61,12 @@ impl<'a, L: Lookup> Lines for Selecting<'a, L> {
 /// form (RFC 5646, 4.5; RFC 4647, 3.3): the range of `yue` selects `zh-yue-HK`. No range matches a line that is no valid
 /// tag, or a tag that `canonical` refuses.
 ///
-/// A line feed ends a line, and what follows the last one is a line if it is anything. A carriage return that ends a line
-/// is no part of the tag, and is written with the line. What is owed for the lines of the bytes that were read is written
+/// A byte order mark of UTF-8 before the first line is passed over. A line feed ends a line, and what follows the last one
+/// is a line if it is anything. A carriage return that ends a line is no part of the tag, and is written with the line.
+/// What is owed for the lines of the bytes that were read is written
 /// before the next read. Of a line that goes on no more than 1,026 bytes are kept.
 ///
+/// - `Utf16`, if the bytes begin with a byte order mark of UTF-16: nothing has been written.
 /// - `Read`, if a read fails: what is owed for each line whose line feed was read has been written.
 /// - `TooManyTurns`, if all 10,000,000 reads were made and the last gave bytes: the same has been written.
 /// - `Write`, if a write fails or takes none of some bytes, and `OutOfMemory`: a front of what is owed was written.
@@ -84,7 +86,7 @@ pub fn select_lines<L: Lookup, R: Read, W: Write>(
         ranges,
         count: 0,
     };
-    let (selecting, end) = run_lines(alloc, selecting, input, output);
+    let (selecting, end) = run_text(alloc, selecting, input, output);
     end?;
     Ok(selecting.count)
 }

@@ -5,4 +5,6 @@ pub mod PartLemmas
 mod RunLemmas
 mod LinedLemmas
 mod LineRunLemmas
+mod TextLemmas
+mod TextRunLemmas
 pub mod TallyLemmas

@@ -1,5 +1,5 @@
 -- What the turns over a piece of lines keep, and how a run over lines ends.
-use Rattle.std.proofs.Common.{◌≡◌, ◌<◌, ◌+◌, ◌^◌, ◌++◌, ◌∷◌, ◌∙◌, inl, inr, ℕ, List, [], Option, Result, Ok, Err, length, sym, ap, refl, arith, append_assoc, append-nil, length-append}
+use Rattle.std.proofs.Common.{◌≡◌, ◌<◌, ◌+◌, ◌^◌, ◌⊎◌, ◌++◌, ◌∷◌, ◌∙◌, inl, inr, ℕ, List, [], Option, Result, Ok, Err, length, sym, ap, refl, arith, append_assoc, append-nil, length-append}
 use Rattle.std.specs.Io.KnownBytes.{Appends}
 use Rattle.lt_jar.specs.Devices.{failures_of, inner_of}
 use Rattle.lt_jar.specs.Lines.{IsOneLine, lines_of, whole_lines}
@@ -7,7 +7,7 @@ use Rattle.lt_jar.specs.declared.devices.Device.{Device}
 use Rattle.lt_jar.proofs.TurnLemmas.{lines_of-whole}
 use Rattle.lt_stream.specs.Lines.{Answered, EndsAs, HasLine, IsAnsweredToLastFeed, IsBegun, RunsOverLines}
 use Rattle.lt_stream.specs.Lined.{EndsLine, Finishes, IsCutOff, IsDuring, IsTaken, KeepsMore, Stops, WritesOwed}
-use Rattle.lt_stream.specs.Pieces.{HasRoom, IsStoppedByRead, IsStoppedByTurns, IsWithoutMemory, RunsPieces}
+use Rattle.lt_stream.specs.Pieces.{HasRoom, IsFinished, IsStopped, IsStoppedByRead, IsStoppedByTurns, IsWithoutMemory, RunsPieces}
 use Rattle.lt_stream.specs.declared.faults.ToolFault.{ToolFault}
 use Rattle.lt_stream.specs.declared.faults.ToolFault.TheVariants as faults
 use Rattle.lt_stream.specs.declared.lines.Lined.{Lined}
@@ -84,96 +84,118 @@ turn_done Q longest contents piece before now old state t none first start bytes
 
 -- ---- how a run ends
 
--- how a run over lines ends, by the way in which the run over pieces ends; names with ' are of the devices after it
-module _ {A I W : Type 0} (Q : Answered A) (longest : ℕ) (remaining : I → Option (List ℕ)) (contents : W → Option (List ℕ)) (input input' : Device I) (output output' : Device W) (state : Lined A) where
-  -- where the lines of a run are answered, what was written is a front of the answers to the lines of the bytes
-  begun_taken : (read : List ℕ) (t : IsTaken Q longest contents output output' read state) → IsBegun Q read t.during.written
-  begun_taken read t =
-      let d = t.during in
-      record {
-        lines = d.lines;
-        others = lines_of d.last;
-        cut = rw d.cut (lines_of-whole d.lines d.last d.each_one);
-        answers = state.answers;
-        all = d.written;
-        answered = rw (t.emptied, append-nil d.written) at d.answered;
-        rest = [];
-        front = sym (append-nil d.written);
-      }
+-- a run stands between two pieces: what it has written answers the lines of this text up to its last line feed
+pub record IsBetween {A W : Type 0} (Q : Answered A) (contents : W → Option (List ℕ)) (start now : Device W) (text : List ℕ) (answers : A) : Type 0 where
+  pub written : List ℕ
+  pub appends : Appends (contents (inner_of start)) (contents (inner_of now)) written
+  pub same : failures_of now ≡ failures_of start
+  pub begun : IsBegun Q text written
+  pub owed : IsAnsweredToLastFeed Q text written answers
 
-  -- where the lines of a run are answered, what was written answers the lines up to the last line feed
-  to_last_feed : (read : List ℕ) (t : IsTaken Q longest contents output output' read state) → IsAnsweredToLastFeed Q read t.during.written state.answers
-  to_last_feed read t =
-      let d = t.during in
-      record { lines = d.lines; last = d.last; cut = d.cut; each_one = d.each_one; last_one = d.last_one; answered = rw (t.emptied, append-nil d.written) at d.answered }
-
-  -- lemmas on a run over pieces that answered r
-  module _ (r : Result (Unit {0}) ToolFault) (p : RunsPieces (IsTaken Q longest contents) (λ start now read _ end. Stops Q contents start now read end) (Finishes Q contents) remaining input input' output output' state r) where
-    -- a run over lines, from what was written, how that answers them, and when the devices failed
-    run_over : (written : List ℕ) → Appends (contents (inner_of output)) (contents (inner_of output')) written → IsBegun Q p.read written
-        → EndsAs Q remaining input input' output output' p.reads p.read written state.answers r → (failures_of input < failures_of input' → r ≡ Err faults.Read)
-        → (failures_of output < failures_of output' → r ≡ Err faults.Write) → RunsOverLines Q remaining contents input input' output output' state.answers r
-    run_over written appends begun ends read_rises write_rises = record {
-      read = p.read;
-      written = written;
-      reads = p.reads;
-      consumes = p.consumes;
-      appends = appends;
-      begun = begun;
-      calls = p.calls;
-      bounded = p.bounded;
-      ends = ends;
-      read_rises = read_rises;
-      write_rises = write_rises;
+-- between two pieces all lines of the bytes up to the last line feed are answered
+pub between : {A W : Type 0} (Q : Answered A) (longest : ℕ) (contents : W → Option (List ℕ)) (start now : Device W) (text : List ℕ) (state : Lined A) → IsTaken Q longest contents start now text state → IsBetween Q contents start now text state.answers
+between Q longest contents start now text state t =
+    let d = t.during in
+    let answered = rw (t.emptied, append-nil d.written) at d.answered in
+    record {
+      written = d.written;
+      appends = d.appends;
+      same = d.same;
+      begun = record { lines = d.lines; others = lines_of d.last; cut = rw d.cut (lines_of-whole d.lines d.last d.each_one); answers = state.answers; all = d.written; answered = answered; rest = []; front = sym (append-nil d.written) };
+      owed = record { lines = d.lines; last = d.last; cut = d.cut; each_one = d.each_one; last_one = d.last_one; answered = answered };
     }
 
-    -- the run over lines ends where a write failed, or memory ran out as a line was answered
-    run_cut : (f : ToolFault) → r ≡ Err f → failures_of input' ≡ failures_of input → IsCutOff Q contents output output' p.read f → RunsOverLines Q remaining contents input input' output output' state.answers r
-    run_cut f is same c = elim c.stop [
+-- how a run ends that read these bytes, of which `text` are its lines; names with ' are of the devices after it
+module _ {A I W : Type 0} (Q : Answered A) (remaining : I → Option (List ℕ)) (contents : W → Option (List ℕ)) (input input' : Device I) (output output' : Device W) (state : Lined A) (reads : ℕ) (read text : List ℕ) where
+  -- the ways in which it ends
+  abbrev pub Ways : Result (Unit {0}) ToolFault → Type 0
+  Ways r =
+      IsFinished (λ _ end. Finishes Q contents output output' text state end) remaining input input' read r
+      ⊎ (IsStopped (λ _ end. Stops Q contents output output' text end) input input' read r
+      ⊎ (IsStoppedByRead (λ _. IsBetween Q contents output output' text state.answers) input input' read r
+      ⊎ (IsStoppedByTurns (λ _. IsBetween Q contents output output' text state.answers) input input' reads read r
+      ⊎ IsWithoutMemory (λ _. IsBetween Q contents output output' text state.answers) input input' read r)))
+
+  -- what is said of what it wrote
+  pub record Ended (r : Result (Unit {0}) ToolFault) : Type 0 where
+    pub written : List ℕ
+    pub appends : Appends (contents (inner_of output)) (contents (inner_of output')) written
+    pub begun : IsBegun Q text written
+    pub ends : EndsAs Q remaining input input' output output' reads read text written state.answers r
+    pub read_rises : failures_of input < failures_of input' → r ≡ Err faults.Read
+    pub write_rises : failures_of output < failures_of output' → r ≡ Err faults.Write
+
+  module _ (r : Result (Unit {0}) ToolFault) where
+    -- a write failed, or memory ran out as a line was answered
+    ended_cut : (f : ToolFault) → r ≡ Err f → failures_of input' ≡ failures_of input → IsCutOff Q contents output output' text f → Ended r
+    ended_cut f is same c = elim c.stop [
       | inl wrote ↦
           let fault : r ≡ Err faults.Write = is ∙ ap (λ (e : ToolFault). Err e) wrote.0 in
-          run_over c.written c.appends c.begun (rw fault wrote.1) (λ lt. absurd (omega (arith, lt, same))) (λ lt. fault)
+          record { written = c.written; appends = c.appends; begun = c.begun; ends = rw fault wrote.1; read_rises = λ lt. absurd (omega (arith, lt, same)); write_rises = λ lt. fault }
       | inr lacks ↦
           let fault : r ≡ Err faults.OutOfMemory = is ∙ ap (λ (e : ToolFault). Err e) lacks.0 in
-          run_over c.written c.appends c.begun (rw fault tt) (λ lt. absurd (omega (arith, lt, same))) (λ lt. absurd (omega (arith, lt, lacks.1)))
+          record { written = c.written; appends = c.appends; begun = c.begun; ends = rw fault tt; read_rises = λ lt. absurd (omega (arith, lt, same)); write_rises = λ lt. absurd (omega (arith, lt, lacks.1)) }
     ]
 
-    -- the run over lines ends between two pieces, with all answers written
-    run_taken : (t : IsTaken Q longest contents output output' p.read state) → EndsAs Q remaining input input' output output' p.reads p.read t.during.written state.answers r
-        → (failures_of input < failures_of input' → r ≡ Err faults.Read) → RunsOverLines Q remaining contents input input' output output' state.answers r
-    run_taken t ends read_rises = run_over t.during.written t.during.appends (begun_taken p.read t) ends read_rises (λ lt. absurd (omega (arith, lt, t.during.same)))
+    -- it ends between two pieces, with all answers written
+    ended_between : (b : IsBetween Q contents output output' text state.answers) → EndsAs Q remaining input input' output output' reads read text b.written state.answers r
+        → (failures_of input < failures_of input' → r ≡ Err faults.Read) → Ended r
+    ended_between b ends rises = record { written = b.written; appends = b.appends; begun = b.begun; ends = ends; read_rises = rises; write_rises = λ lt. absurd (omega (arith, lt, b.same)) }
 
-    -- the run over lines ends where a read failed
-    run_read : IsStoppedByRead (λ bytes. IsTaken Q longest contents output output' bytes state) input input' p.read r → RunsOverLines Q remaining contents input input' output output' state.answers r
-    run_read s = run_taken s.taken (rw s.fault (record { failed = s.failed; owed = to_last_feed p.read s.taken })) (λ _. s.fault)
+    -- a read failed
+    ended_read : IsStoppedByRead (λ _. IsBetween Q contents output output' text state.answers) input input' read r → Ended r
+    ended_read s = ended_between s.taken (rw s.fault (record { failed = s.failed; owed = s.taken.owed })) (λ _. s.fault)
 
-    -- the run over lines ends where all reads were made, and the last gave bytes
-    run_turns : IsStoppedByTurns (λ bytes. IsTaken Q longest contents output output' bytes state) input input' p.reads p.read r → RunsOverLines Q remaining contents input input' output output' state.answers r
-    run_turns s =
-        run_taken s.taken (rw s.fault (record { all_made = s.all_made; gave_bytes = s.gave_bytes; last_gave = s.last_gave; owed = to_last_feed p.read s.taken })) (λ lt. absurd (omega (arith, lt, s.same)))
+    -- all reads were made, and the last gave bytes
+    ended_turns : IsStoppedByTurns (λ _. IsBetween Q contents output output' text state.answers) input input' reads read r → Ended r
+    ended_turns s =
+        ended_between s.taken (rw s.fault (record { all_made = s.all_made; gave_bytes = s.gave_bytes; last_gave = s.last_gave; owed = s.taken.owed })) (λ lt. absurd (omega (arith, lt, s.same)))
 
-    -- the run over lines ends where there was no memory for a piece
-    run_memory : IsWithoutMemory (λ bytes. IsTaken Q longest contents output output' bytes state) input input' p.read r → RunsOverLines Q remaining contents input input' output output' state.answers r
-    run_memory s = run_taken s.taken (rw s.fault tt) (λ lt. absurd (omega (arith, lt, s.same)))
+    -- there was no memory for a piece
+    ended_memory : IsWithoutMemory (λ _. IsBetween Q contents output output' text state.answers) input input' read r → Ended r
+    ended_memory s = ended_between s.taken (rw s.fault tt) (λ lt. absurd (omega (arith, lt, s.same)))
 
-  -- a run over the pieces of lines is a run over the lines
-  pub runs_over : (r : Result (Unit {0}) ToolFault) → RunsPieces (IsTaken Q longest contents) (λ start now read _ end. Stops Q contents start now read end) (Finishes Q contents) remaining input input' output output' state r
-      → RunsOverLines Q remaining contents input input' output output' state.answers r
-  runs_over (Ok u) p = elim p.ends [
-    | inl f ↦
-        let a = f.finished in
-        run_over (Ok u) p a.written a.appends
-        (record { lines = lines_of p.read; others = []; cut = sym (append-nil (lines_of p.read)); answers = state.answers; all = a.written; answered = a.answered; rest = []; front = sym (append-nil a.written) })
-        (record { end = f.end; answered = a.answered }) (λ lt. absurd (omega (arith, lt, f.same))) (λ lt. absurd (omega (arith, lt, a.same)))
-    | inr (inl s) ↦ absurd s.stopped
-    | inr (inr (inl s)) ↦ run_read (Ok u) p s
-    | inr (inr (inr (inl s))) ↦ run_turns (Ok u) p s
-    | inr (inr (inr (inr s))) ↦ run_memory (Ok u) p s
-  ]
-  runs_over (Err f) p = elim p.ends [
-    | inl e ↦ run_cut (Err f) p f refl e.same e.finished
-    | inr (inl s) ↦ run_cut (Err f) p f refl s.same s.stopped
-    | inr (inr (inl s)) ↦ run_read (Err f) p s
-    | inr (inr (inr (inl s))) ↦ run_turns (Err f) p s
-    | inr (inr (inr (inr s))) ↦ run_memory (Err f) p s
-  ]
+  -- each way in which it ends says that
+  pub ended : (r : Result (Unit {0}) ToolFault) → Ways r → Ended r
+  ended (Ok u) (inl f) =
+      let a = f.finished in
+      record {
+        written = a.written;
+        appends = a.appends;
+        begun = record { lines = lines_of text; others = []; cut = sym (append-nil (lines_of text)); answers = state.answers; all = a.written; answered = a.answered; rest = []; front = sym (append-nil a.written) };
+        ends = record { end = f.end; answered = a.answered };
+        read_rises = λ lt. absurd (omega (arith, lt, f.same));
+        write_rises = λ lt. absurd (omega (arith, lt, a.same));
+      }
+  ended (Ok u) (inr (inl s)) = absurd s.stopped
+  ended (Err f) (inl e) = ended_cut (Err f) f refl e.same e.finished
+  ended (Err f) (inr (inl s)) = ended_cut (Err f) f refl s.same s.stopped
+  ended r (inr (inr (inl s))) = ended_read r s
+  ended r (inr (inr (inr (inl s)))) = ended_turns r s
+  ended r (inr (inr (inr (inr s)))) = ended_memory r s
+
+-- a run over the pieces of lines is a run over the lines
+pub runs_over : {A I W : Type 0} (Q : Answered A) (longest : ℕ) (remaining : I → Option (List ℕ)) (contents : W → Option (List ℕ)) (input input' : Device I) (output output' : Device W) (state : Lined A) (r : Result (Unit {0}) ToolFault)
+    → RunsPieces (IsTaken Q longest contents) (λ start now read _ end. Stops Q contents start now read end) (Finishes Q contents) remaining input input' output output' state r → RunsOverLines Q remaining contents input input' output output' state.answers r
+runs_over Q longest remaining contents input input' output output' state r p =
+    let taken = between Q longest contents output output' p.read state in
+    let e = ended Q remaining contents input input' output output' state p.reads p.read p.read r (elim p.ends [
+      | inl f ↦ inl (record { end = f.end; same = f.same; finished = f.finished })
+      | inr (inl s) ↦ inr (inl (record { same = s.same; stopped = s.stopped }))
+      | inr (inr (inl s)) ↦ inr (inr (inl (record { fault = s.fault; failed = s.failed; taken = taken s.taken })))
+      | inr (inr (inr (inl s))) ↦ inr (inr (inr (inl (record { fault = s.fault; same = s.same; all_made = s.all_made; gave_bytes = s.gave_bytes; last_gave = s.last_gave; taken = taken s.taken }))))
+      | inr (inr (inr (inr s))) ↦ inr (inr (inr (inr (record { fault = s.fault; same = s.same; taken = taken s.taken }))))
+    ]) in
+    record {
+      read = p.read;
+      written = e.written;
+      reads = p.reads;
+      consumes = p.consumes;
+      appends = e.appends;
+      begun = e.begun;
+      calls = p.calls;
+      bounded = p.bounded;
+      ends = e.ends;
+      read_rises = e.read_rises;
+      write_rises = e.write_rises;
+    }

@@ -5,4 +5,6 @@ pub mod Running
 pub mod Pieces
 pub mod Lines
 pub mod Lined
+pub mod Texts
+pub mod Begun
 pub mod Tallies

@@ -52,40 +52,41 @@ pub record IsBegun {A : Type 0} (Q : Answered A) (bytes written : List ℕ) : Ty
   pub rest : List ℕ
   pub front : all ≡ written ++ rest
 
--- the device was read to its end, and the answers to the lines of all bytes that were read were written
+-- the device was read to its end, and the answers to all lines of the text were written
 pub record IsDone {I A : Type 0} (Q : Answered A) (remaining : I → Option (List ℕ)) (input' : Device I)
-    (read written : List ℕ) (answers : A) : Type 0 where
+    (text written : List ℕ) (answers : A) : Type 0 where
   pub end : IsAtEnd (remaining (inner_of input'))
-  pub answered : Q answers (lines_of read) written
+  pub answered : Q answers (lines_of text) written
 
--- a read failed, and the lines up to the last line feed (10) are answered
-pub record IsStoppedByRead {I A : Type 0} (Q : Answered A) (input input' : Device I) (read written : List ℕ)
+-- a read failed, and the lines of the text up to its last line feed (10) are answered
+pub record IsStoppedByRead {I A : Type 0} (Q : Answered A) (input input' : Device I) (text written : List ℕ)
     (answers : A) : Type 0 where
   pub failed : HasFailed input input'
-  pub owed : IsAnsweredToLastFeed Q read written answers
+  pub owed : IsAnsweredToLastFeed Q text written answers
 
--- the most reads that a run may make were made, the last still gave bytes, and the lines up to the last line feed (10)
--- are answered
-pub record IsStoppedByTurns {I A : Type 0} (Q : Answered A) (input' : Device I) (reads : ℕ) (read written : List ℕ)
-    (answers : A) : Type 0 where
+-- the most reads that a run may make were made, the last still gave bytes, and the lines of the text up to its last line
+-- feed (10) are answered
+pub record IsStoppedByTurns {I A : Type 0} (Q : Answered A) (input' : Device I) (reads : ℕ)
+    (read text written : List ℕ) (answers : A) : Type 0 where
   pub all_made : reads ≡ most_reads
   pub gave_bytes : most_reads ≤ length read
   pub last_gave : 0 < last_given_of input'
-  pub owed : IsAnsweredToLastFeed Q read written answers
+  pub owed : IsAnsweredToLastFeed Q text written answers
 
--- how the run ended, by its answer: done, or with a fault; an end by OutOfMemory says nothing more. Names with ' are
--- of the devices after the run.
+-- how the run ended that read these bytes, of which `text` are its lines, by its answer: done, or with a fault; an end
+-- by OutOfMemory says nothing more. Names with ' are of the devices after the run.
 abbrev pub EndsAs : {I O A : Type 0} → Answered A → (I → Option (List ℕ)) → (input input' : Device I)
-    → (output output' : Device O) → ℕ → (read written : List ℕ) → A → Result (Unit {0}) ToolFault → Type 0
-EndsAs Q remaining input input' output output' reads read written answers (Ok _) =
-    IsDone Q remaining input' read written answers
-EndsAs Q remaining input input' output output' reads read written answers (Err faults.Read) =
-    IsStoppedByRead Q input input' read written answers
-EndsAs Q remaining input input' output output' reads read written answers (Err faults.TooManyTurns) =
-    IsStoppedByTurns Q input' reads read written answers
-EndsAs Q remaining input input' output output' reads read written answers (Err faults.Write) = HasFailed output output'
-EndsAs Q remaining input input' output output' reads read written answers (Err faults.OutOfMemory) = Unit {0}
-EndsAs Q remaining input input' output output' reads read written answers (Err _) = ⊥
+    → (output output' : Device O) → ℕ → (read text written : List ℕ) → A → Result (Unit {0}) ToolFault → Type 0
+EndsAs Q remaining input input' output output' reads read text written answers (Ok _) =
+    IsDone Q remaining input' text written answers
+EndsAs Q remaining input input' output output' reads read text written answers (Err faults.Read) =
+    IsStoppedByRead Q input input' text written answers
+EndsAs Q remaining input input' output output' reads read text written answers (Err faults.TooManyTurns) =
+    IsStoppedByTurns Q input' reads read text written answers
+EndsAs Q remaining input input' output output' reads read text written answers (Err faults.Write) =
+    HasFailed output output'
+EndsAs Q remaining input input' output output' reads read text written answers (Err faults.OutOfMemory) = Unit {0}
+EndsAs Q remaining input input' output output' reads read text written answers (Err _) = ⊥
 
 -- A run that answers the lines of a reader. Whatever ended it, what was written is a front of the answers. Names with
 -- ' are of the devices after it; `remaining` tells what a reader has still to give, `contents` what a writer has
@@ -101,6 +102,6 @@ pub record RunsOverLines {I O A : Type 0} (Q : Answered A) (remaining : I → Op
   pub begun : IsBegun Q read written
   pub calls : HasRead input input' reads
   pub bounded : reads ≤ most_reads
-  pub ends : EndsAs Q remaining input input' output output' reads read written answers result
+  pub ends : EndsAs Q remaining input input' output output' reads read read written answers result
   pub read_rises : failures_of input < failures_of input' → result ≡ Err faults.Read
   pub write_rises : failures_of output < failures_of output' → result ≡ Err faults.Write

@@ -8,9 +8,11 @@ mod faults;
 mod lines;
 mod pieces;
 mod tallies;
+mod texts;
 
 pub use device_output::{write_fault, write_text};
 pub use faults::ToolFault;
 pub use lines::{Lines, run_lines};
 pub use pieces::{Pieces, run_pieces};
 pub use tallies::{Tallies, Tally};
+pub use texts::{run_text, take_front};

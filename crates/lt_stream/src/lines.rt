@@ -50,6 +50,19 @@ pub(crate) struct Lined<A> {
 }
 
 impl<A: Lines> Lined<A> {
+    /// No line read so far.
+    pub(crate) fn new(alloc: Global, answers: A) -> Lined<A>
+        ensures answers { result.answers ≡ answers }
+        ensures kept { result.kept.items ≡ [] }
+        ensures owed { result.owed.items ≡ [] }
+    {
+        Lined {
+            answers,
+            kept: Vec::new(alloc),
+            owed: Vec::new(alloc),
+        }
+    }
+
     /// Keeps a further part of the line, up to the most bytes that the answers need. Refused where memory runs out.
     fn keep(&mut self, part: &[u8]) -> Result<(), AllocError>
         ensures { OnOk result (spec.KeepsMore A.longest part.now self.old self.new) }
@@ -103,7 +116,7 @@ impl<A: Lines> Lined<A> {
     }
 
     /// What has answered the lines, given back at the end.
-    fn into_answers(self) -> A
+    pub(crate) fn into_answers(self) -> A
         ensures { result ≡ self.answers }
     {
         let Lined {
@@ -171,11 +184,7 @@ pub fn run_lines<A: Lines + Drop, R: Read, W: Write>(
     requires some { 0 < A.longest }
     ensures { RunsOverLines (A.answered answers) R.remaining W.contents input.old input.new output.old output.new result.0 result.1 }
 {
-    let mut lined = Lined {
-        answers,
-        kept: Vec::new(alloc),
-        owed: Vec::new(alloc),
-    };
+    let mut lined = Lined::new(alloc, answers);
     let end = run_pieces(alloc, &mut lined, input, output);
     (lined.into_answers(), end)
 }

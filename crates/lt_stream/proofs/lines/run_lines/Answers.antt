@@ -3,7 +3,9 @@ use Rattle.lt_stream.proofs.LineRunLemmas.{runs_over}
 use Rattle.lt_stream.proofs.lines.run_lines.Goals as goal
 
 pub run_pieces-end-requires : goal.run_pieces-end-requires
-run_pieces-end-requires g c = taken_none g.A.Lines.answered c.args.answers _ _ _ _ c.requires.some c.new.ensures.items c.new-2.ensures.items c.requires.first
+run_pieces-end-requires g c =
+    let made = c.new-lined.ensures in
+    taken_none g.A.Lines.answered c.new-lined.result.answers _ _ _ c.new-lined.result c.requires.some made.kept made.owed (rw made.answers c.requires.first)
 
 pub returns : goal.returns
-returns g c = rw c.into_answers.ensures (runs_over _ _ _ _ _ _ _ _ _ _ c.run_pieces-end.ensures)
+returns g c = rw (c.into_answers.ensures, ← c.new-lined.ensures.answers) (runs_over _ _ _ _ _ _ _ _ _ _ c.run_pieces-end.ensures)
