@@ -1,5 +1,5 @@
 //! A registry that passes the check, and what it says of tags.
-ghost use Rattle.std.specs.Prelude.{◌≡◌, ◌++◌, Ok, OnOk, OnErr, IfOk, IfErr, IfSome, Err, Some};
+ghost use Rattle.std.specs.Prelude.{◌≡◌, ◌≢◌, ◌++◌, Ok, OnOk, OnErr, IfOk, IfErr, IfSome, Err, Some};
 ghost use Rattle.std.specs.Option.{option_copied};
 ghost use Rattle.lt_registry.specs.Entries as listed;
 ghost use Rattle.lt_registry.specs.Faults as validity;
@@ -12,7 +12,7 @@ ghost use Rattle.lt_canon.specs.Explaining.{IsExplanation};
 ghost use Rattle.lt_canon.specs.ExplanationTexts.{IsExplanationTextOf};
 ghost use Rattle.lt_canon.specs.ExtlangForm.{IsExtlangFormOf};
 ghost use Rattle.lt_canon.specs.Texts.{AppendsCanonicalText, IsCanonicalTextOf, IsTextRefusal, RefusesTextOnlyRepeats};
-ghost use Rattle.lt_canon.specs.Traces.{IsTraceFault, IsValidTrace};
+ghost use Rattle.lt_canon.specs.Traces.{IsTraceFault, IsValidTrace, no_trace_memory};
 ghost use Rattle.lt_match.specs.Matched.{HasCanonicalList, IsCanonicalRange};
 ghost use Rattle.lt_match.specs.Refusals.{IsRangeRefusal};
 ghost use Rattle.lt_show.specs.Json.{rows_value};
@@ -287,6 +287,8 @@ impl Registry {
         ensures ok { OnOk result (IsValidTrace self.now tag.now trace.now.steps.items trace.now.last) }
         ensures equivalent { OnOk result (AreEquivalent self.now tag.now trace.now.last) }
         ensures err { IfErr result (λ fault. IsTraceFault self.now tag.now trace.now.steps.items trace.now.last fault) }
+        ensures exact { IfErr result (λ fault. fault ≢ no_trace_memory
+            → IsValidTrace self.now tag.now trace.now.steps.items trace.now.last → ⊥) }
     {
         lt_canon::verify(alloc, &self.checked, tag, trace)
     }
