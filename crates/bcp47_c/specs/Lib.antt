@@ -1,11 +1,12 @@
 -- What the functions of C answer: outcomes in numbers, and what is written to buffers.
+pub mod Numbers
+pub mod Outcomes
 pub mod Records
 pub mod Handles
-pub mod Numbers
 pub mod Names
-pub mod Outcomes
 pub mod Texts
 pub mod Parts
+pub mod Parents
 pub mod Steps
 pub mod Traces
 pub mod Ends

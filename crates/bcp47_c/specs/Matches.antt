@@ -1,5 +1,5 @@
 -- Whether a language range matches a tag (RFC 4647, 3), and what the call answers that tells it.
-use Rattle.std.specs.Prelude.{ℕ, ◌≡◌, ◌≢◌, ◌==◌, ◌⊎◌, ◌↔◌, if◌then◌else◌, Bool, IsTrue, List, [], Option, Some, None}
+use Rattle.std.specs.Prelude.{ℕ, ◌≡◌, ◌≢◌, ◌⊎◌, ◌↔◌, if◌then◌else◌, Bool, IsTrue, List, [], Option, Some, None}
 use Rattle.lt_tag.specs.Faults.{HasTag}
 use Rattle.lt_tag.specs.Parts.{TagForm}
 use Rattle.lt_registry.specs.Parts.{EntryParts}
@@ -11,7 +11,7 @@ use Rattle.lt_match.specs.Refusals.{IsRangeRefusal}
 use Rattle.lt_match.specs.declared.refusals.RangeRefusal.{RangeRefusal}
 use Rattle.lt_match.specs.declared.refusals.RangeRefusal.TheVariants as refusals
 use Rattle.bcp47_c.specs.Numbers.{range_fault}
-use Rattle.bcp47_c.specs.Outcomes.{ended, IsDelivered, IsRefusedAsOwed}
+use Rattle.bcp47_c.specs.Outcomes.{ended, of_text, IsDelivered, IsRefusedAsOwed}
 use Rattle.bcp47_c.specs.declared.matching.Scheme.{Scheme}
 use Rattle.bcp47_c.specs.declared.matching.Scheme.TheVariants as schemes
 use Rattle.bcp47_c.specs.declared.outcomes.Outcome.{Outcome}
@@ -70,22 +70,6 @@ abbrev pub range_text : RangeRefusal → List ℕ
 range_text (refusals.NotARange fault) = []
 range_text (refusals.ReplacementRepeats variant) = variant
 range_text refusals.OutOfMemory = []
-
--- the outcome, with the number of the text that it is about: 1 for the range, 2 for the tag
-abbrev pub told_of : ℕ → Outcome → Outcome
-told_of number o =
-    record {
-      status = o.status;
-      detail = o.detail;
-      place = o.place;
-      length = o.length;
-      text = number;
-      reserved = o.reserved;
-    }
-
--- the outcome, with the number of the text that it is about, unless memory ran out (status 4), where it names none
-abbrev pub of_text : ℕ → Outcome → Outcome
-of_text number o = if o.status == 4 then o else told_of number o
 
 -- Why the range is refused is answered, with the number of its text, 1. `alone` is the outcome without that number; the
 -- buffer was `before` and is `after`.

@@ -1,5 +1,5 @@
 -- What calls of the C library answer (an outcome), and what they leave in a buffer.
-use Rattle.std.specs.Prelude.{ℕ, ◌≡◌, ◌≤◌, ◌<◌, ◌⊎◌, List, [], take, drop, length}
+use Rattle.std.specs.Prelude.{ℕ, ◌≡◌, ◌≤◌, ◌<◌, ◌==◌, ◌⊎◌, if◌then◌else◌, List, [], take, drop, length}
 use Rattle.lt_canon.specs.declared.refusals.TextRefusal.{TextRefusal}
 use Rattle.lt_canon.specs.declared.refusals.TextRefusal.TheVariants as refusals
 use Rattle.bcp47_c.specs.Numbers.{tag_fault, valid_fault}
@@ -69,3 +69,43 @@ pub record IsRefusedAsOwed (IsOwed : TextRefusal → Type 0) (before after : Lis
 -- `before` and is `after`
 abbrev pub Answers : (List ℕ → Type 0) → (TextRefusal → Type 0) → List ℕ → List ℕ → Outcome → Type 0
 Answers IsText IsRefusal before after o = IsWritten IsText before after o ⊎ IsRefusedAsOwed IsRefusal before after o
+
+-- the outcome, with the number of the text that it is about, 1 or 2
+abbrev pub told_of : ℕ → Outcome → Outcome
+told_of number o =
+    record {
+      status = o.status;
+      detail = o.detail;
+      place = o.place;
+      length = o.length;
+      text = number;
+      reserved = o.reserved;
+    }
+
+-- the outcome, with the number of the text that it is about, unless memory ran out (status 4), where it names none
+abbrev pub of_text : ℕ → Outcome → Outcome
+of_text number o = if o.status == 4 then o else told_of number o
+
+-- ---- rows of fixed size
+
+-- the rows are at the front of a room for rows, and the rest of the room is as before; the room was `before` and is
+-- `after`
+pub record StandIn {X : Type 0} (rows before after : List X) : Type 0 where
+  pub front : take (length rows) after ≡ rows
+  pub rest : drop (length rows) after ≡ drop (length rows) before
+
+-- a status, with the number of these rows as the place
+abbrev pub counted : {X : Type 0} → ℕ → List X → Said
+counted status rows = record { status = status; detail = 0; place = length rows }
+
+-- If the rows fit the room and the text fits the buffer, both are written. Else nothing is, and the status is
+-- BufferTooSmall (5). The number of rows and the text's length are answered in both cases. The room for rows was
+-- `room` and is `filled`, and the buffer was `before` and is `after`.
+pub record AreDelivered {X : Type 0} (rows : List X) (text : List ℕ) (room filled : List X) (before after : List ℕ)
+    (o : Outcome) : Type 0 where
+  pub fit : length rows ≤ length room → length text ≤ length before
+      → (o ≡ outcome (counted 0 rows) (length text)) × StandIn rows room filled × StandsIn text before after
+  pub too_many : length room < length rows
+      → (o ≡ outcome (counted 5 rows) (length text)) × (filled ≡ room) × (after ≡ before)
+  pub too_long : length before < length text
+      → (o ≡ outcome (counted 5 rows) (length text)) × (filled ≡ room) × (after ≡ before)

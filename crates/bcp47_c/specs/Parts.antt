@@ -1,5 +1,5 @@
 -- The parts of a tag in numbers, and what the call answers that writes them.
-use Rattle.std.specs.Prelude.{ℕ, ◌≡◌, ◌≢◌, ◌≤◌, ◌<◌, ◌⊎◌, List, [], take, drop, length, map, Option, Some, None}
+use Rattle.std.specs.Prelude.{ℕ, ◌≡◌, ◌≢◌, ◌⊎◌, List, map, Option, Some, None}
 use Rattle.lt_tag.specs.Faults.{HasTag}
 use Rattle.lt_tag.specs.Parts.{TagForm}
 use Rattle.lt_tag.specs.Texts.{text_of}
@@ -7,10 +7,9 @@ use Rattle.lt_parts.specs.Places.{parts_of}
 use Rattle.lt_parts.specs.declared.kinds.PartKind.{PartKind}
 use Rattle.lt_parts.specs.declared.kinds.PartKind.TheVariants as kinds
 use Rattle.lt_parts.specs.declared.placing.Part.{Part}
-use Rattle.bcp47_c.specs.Outcomes.{outcome, IsRefusedAsOwed, StandsIn}
+use Rattle.bcp47_c.specs.Outcomes.{AreDelivered, IsRefusedAsOwed}
 use Rattle.bcp47_c.specs.Texts.{IsReadingRefusal}
 use Rattle.bcp47_c.specs.declared.outcomes.Outcome.{Outcome}
-use Rattle.bcp47_c.specs.declared.outcomes.Said.{Said}
 use Rattle.bcp47_c.specs.declared.parts.PartNumbers.{PartNumbers}
 
 -- the number of a kind of part
@@ -44,29 +43,6 @@ IsPartKindOf n None = (kind : PartKind) → n ≢ part_kind kind
 -- a part in numbers: that of its kind, and where it starts and how many bytes it has in the tag's text
 abbrev pub in_numbers : Part → PartNumbers
 in_numbers part = record { kind = part_kind part.kind; start = part.start; length = part.length }
-
--- the parts are at the front of a room for parts, and the rest of the room is as before; the room was `before` and is
--- `after`
-pub record StandIn (parts before after : List PartNumbers) : Type 0 where
-  pub front : take (length parts) after ≡ parts
-  pub rest : drop (length parts) after ≡ drop (length parts) before
-
--- a status, with the number of these parts as the place
-abbrev pub counted : ℕ → List PartNumbers → Said
-counted status parts = record { status = status; detail = 0; place = length parts }
-
--- If the parts fit the room and the text fits the buffer, both are written. Else nothing is, and the status is
--- BufferTooSmall (5). The number of parts and the text's length are answered in both cases. The room for parts was
--- `room` and is `filled`, and the buffer was `before` and is `after`.
-pub record AreDelivered (parts : List PartNumbers) (text : List ℕ) (room filled : List PartNumbers)
-    (before after : List ℕ)
-    (o : Outcome) : Type 0 where
-  pub fit : length parts ≤ length room → length text ≤ length before
-      → (o ≡ outcome (counted 0 parts) (length text)) × StandIn parts room filled × StandsIn text before after
-  pub too_many : length room < length parts
-      → (o ≡ outcome (counted 5 parts) (length text)) × (filled ≡ room) × (after ≡ before)
-  pub too_long : length before < length text
-      → (o ≡ outcome (counted 5 parts) (length text)) × (filled ≡ room) × (after ≡ before)
 
 -- the text is read as a tag, `shown` is that tag's text in conventional case, and `parts` are its parts in numbers
 pub record HasParts (text : List ℕ) (shown : List ℕ) (parts : List PartNumbers) : Type 0 where

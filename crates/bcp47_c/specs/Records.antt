@@ -1,9 +1,13 @@
 -- A registry and the records that are kept with it, and the rows of a tag by both.
-use Rattle.std.specs.Prelude.{ℕ, ◌≡◌, List}
+use Rattle.std.specs.Prelude.{ℕ, ◌≡◌, ◌⊎◌, List, [], ◌∷◌, ◌++◌, flat_map, length, map}
 use Rattle.lt_jar.specs.Records.{Field}
 use Rattle.lt_registry.specs.Parts.{EntryParts}
 use Rattle.lt_canon.specs.Texts.{ReadsAs}
+use Rattle.lt_show.specs.Fields.{fields_of}
 use Rattle.lt_show.specs.Json.{rows_value}
+use Rattle.bcp47_c.specs.Outcomes.{AreDelivered, ended, IsDelivered}
+use Rattle.bcp47_c.specs.declared.outcomes.Outcome.{Outcome}
+use Rattle.bcp47_c.specs.declared.records.FieldLengths.{FieldLengths}
 
 -- a registry, as its entries, and the records that are kept with it
 abbrev pub Kept : Type 0
@@ -12,3 +16,27 @@ Kept = List EntryParts × List (List Field)
 -- the text is read as a tag, and `rows` are that tag's rows as a JSON array
 abbrev pub AreRowsOf : Kept → (text rows : List ℕ) → Type 0
 AreRowsOf registry text rows = ReadsAs text (λ tag. rows ≡ rows_value registry.0 registry.1 tag)
+
+-- ---- the fields of a record
+
+-- how many bytes the name and the body of a field have
+abbrev pub lengths_of : Field → FieldLengths
+lengths_of f = record { name = length f.0; body = length f.1 }
+
+-- the name of a field and its body, with a zero after each
+abbrev pub field_text : Field → List ℕ
+field_text f = f.0 ++ 0 ∷ (f.1 ++ 0 ∷ [])
+
+-- the fields are answered; the room for their lengths was `room` and is `filled`, and the buffer was `before` and is
+-- `after`
+abbrev pub AreFieldsWritten : List Field → List FieldLengths → List FieldLengths → List ℕ → List ℕ → Outcome → Type 0
+AreFieldsWritten fields room filled before after o =
+    AreDelivered (map lengths_of fields) (flat_map field_text fields) room filled before after o
+
+-- the fields of the record with this number, counted from 1, are answered, or that memory ran out (4); of a record that
+-- is not there none are. In order: the records, the number, the room before and after, the buffer before and after, the
+-- outcome
+abbrev pub TellsRecord : List (List Field) → ℕ → List FieldLengths → List FieldLengths → List ℕ → List ℕ → Outcome → Type 0
+TellsRecord records number room filled before after o =
+    AreFieldsWritten (fields_of records number) room filled before after o
+    ⊎ (IsDelivered (ended 4) [] before after o × (filled ≡ room))

@@ -17,7 +17,7 @@ ghost use Rattle.bcp47_c.specs.Matches.{Matches};
 ghost use Rattle.bcp47_c.specs.Names.{fault_names, status_names};
 ghost use Rattle.bcp47_c.specs.Numbers as number_of;
 ghost use Rattle.bcp47_c.specs.Outcomes.{Answers, IsDelivered, ended};
-ghost use Rattle.bcp47_c.specs.Records.{AreRowsOf, Kept};
+ghost use Rattle.bcp47_c.specs.Records.{AreRowsOf, Kept, TellsRecord};
 ghost use Rattle.bcp47_c.specs.Texts.{IsReadingRefusal};
 ghost use Rattle.bcp47_c.specs.Traces.{Verifies};
 
@@ -29,7 +29,9 @@ mod names;
 mod numbers;
 mod opened;
 mod outcomes;
+mod parents;
 mod parts;
+mod records;
 mod steps;
 mod texts;
 mod traces;
@@ -42,7 +44,9 @@ use numbers::{DONE, OUT_OF_MEMORY};
 use opened::Opened;
 pub use outcomes::Outcome;
 use outcomes::{deliver, ended};
+pub use parents::bcp47_write_parent;
 pub use parts::{PartNumbers, bcp47_write_part_kind_name, bcp47_write_parts};
+pub use records::FieldLengths;
 use sha2::{Digest, Sha256};
 use std::alloc::Global;
 pub use steps::StepNumbers;
@@ -276,6 +280,30 @@ pub extern "C" fn bcp47_handle_count_steps(
 {
     let opened = take(alloc, handle);
     let outcome = opened.count_steps(alloc, text, buffer);
+    put(handle, opened);
+    outcome
+}
+
+/// Writes the fields of the record of a number, counted from 1 with the header, among the records that are kept (RFC 5646, 3.1.1),
+/// and answers how many there are as the place: status 0. Of each the name and the body are written, with a zero after each,
+/// and their lengths. A record that is not there has no fields.
+///
+/// Where the lengths or the texts do not fit, neither is written, and the status is 5; status 4 says that memory ran out.
+#[unsafe(no_mangle)]
+pub extern "C" fn bcp47_handle_record(
+    alloc: Global,
+    handle: &mut Handle,
+    number: u32,
+    buffer: &mut [u8],
+    room: &mut [FieldLengths],
+) -> Outcome
+    ghost registry: { Kept }
+    requires { handle.old.held ≡ Some registry }
+    ensures kept { handle.new.held ≡ Some registry }
+    ensures answer { TellsRecord registry.1 number room.old room.new buffer.old buffer.new result }
+{
+    let opened = take(alloc, handle);
+    let outcome = opened.record(alloc, number, buffer, room);
     put(handle, opened);
     outcome
 }

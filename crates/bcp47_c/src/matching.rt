@@ -3,11 +3,11 @@ ghost use Rattle.std.specs.Prelude.{◌≡◌, ◌↔◌, IsTrue, IfOk, IfErr};
 ghost use Rattle.lt_canon.specs.Texts.{IsTextRefusal, ReadsAs};
 ghost use Rattle.lt_match.specs.Matched.{HasCanonicalList, MatchesBy};
 ghost use Rattle.bcp47_c.specs.Matches as spec;
-ghost use Rattle.bcp47_c.specs.Matches.{IsSchemeOf, TellsMatch, matching, of_text};
+ghost use Rattle.bcp47_c.specs.Matches.{IsSchemeOf, TellsMatch, matching};
 ghost use Rattle.bcp47_c.specs.Outcomes.{IsDelivered};
 
 use crate::numbers::{DIFFERENT, DONE, NOT_A_TAG, OUT_OF_MEMORY, REPLACEMENT_REPEATS, range_fault};
-use crate::outcomes::{Outcome, Said, deliver, ended, refuse};
+use crate::outcomes::{Outcome, Said, deliver, ended, of_text, refuse};
 use bcp47::{LanguageRange, RangeRefusal, Registry, Tag, TagSubtags, TextRefusal};
 use std::alloc::Global;
 
@@ -89,24 +89,6 @@ fn refuse_range(refusal: &RangeRefusal, buffer: &mut [u8]) -> Outcome
     deliver(range_said(refusal), range_text(refusal), buffer)
 }
 
-/// The outcome, with the number of the text that is refused: 1 for the range, 2 for the tag. Where memory ran out, no
-/// text is named.
-fn told_of(number: u32, outcome: Outcome) -> Outcome
-    ensures { result ≡ of_text number outcome }
-{
-    if outcome.status == u32::from(OUT_OF_MEMORY) {
-        return outcome;
-    }
-    Outcome {
-        status: outcome.status,
-        detail: outcome.detail,
-        place: outcome.place,
-        length: outcome.length,
-        text: number,
-        reserved: outcome.reserved,
-    }
-}
-
 /// Tells whether a language range matches the tag that `text` is read as, by a scheme, or why the range, or else the
 /// tag, is refused. The buffer is for the variant that steps can repeat, where one of them is refused for that.
 pub(crate) fn answer_match(
@@ -123,11 +105,11 @@ pub(crate) fn answer_match(
     registry.promise();
     let canonical = match registry.range(alloc, range) {
         Ok(canonical) => canonical,
-        Err(refusal) => return told_of(1, refuse_range(&refusal, buffer)),
+        Err(refusal) => return of_text(1, refuse_range(&refusal, buffer)),
     };
     let subtags = match subtags_of_text(alloc, registry, text) {
         Ok(subtags) => subtags,
-        Err(refusal) => return told_of(2, refuse(&refusal, buffer)),
+        Err(refusal) => return of_text(2, refuse(&refusal, buffer)),
     };
     if is_matched(scheme, &canonical, &subtags) {
         deliver(ended(DONE), &[], buffer)

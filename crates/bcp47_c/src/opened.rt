@@ -6,7 +6,7 @@ ghost use Rattle.bcp47.specs.Promise.{ReadsBytes};
 ghost use Rattle.bcp47_c.specs.Ends.{ChecksUpgrade, Classifies, Compares, CountsSteps, Keeps, Validates};
 ghost use Rattle.bcp47_c.specs.Matches.{Matches};
 ghost use Rattle.bcp47_c.specs.Outcomes.{Answers};
-ghost use Rattle.bcp47_c.specs.Records.{AreRowsOf};
+ghost use Rattle.bcp47_c.specs.Records.{AreRowsOf, TellsRecord};
 ghost use Rattle.bcp47_c.specs.Texts.{IsReadingRefusal};
 ghost use Rattle.lt_canon.specs.TextAnswers.{IsExtlangTextOf};
 ghost use Rattle.bcp47_c.specs.Traces.{Verifies};
@@ -14,11 +14,14 @@ ghost use Rattle.bcp47_c.specs.Traces.{Verifies};
 use crate::errors::upgrade_said;
 use crate::matching::{answer_match, scheme_of};
 use crate::numbers::{BAD_CALL, BAD_FILE, DIFFERENT, DONE, OUT_OF_MEMORY};
-use crate::outcomes::{Outcome, Said, deliver, ended, refuse};
+use crate::outcomes::{Outcome, Said, deliver, deliver_rows, ended, refuse};
+use crate::records::{FieldLengths, read_fields};
 use crate::steps::StepNumbers;
 use crate::texts::{classify, equality, read_pair, rows_text, step_count, validity, write_extlang};
 use crate::traces::{judge, trace_said};
-use bcp47::{Jar, JarFaultKind, OutOfMemory, Registry, RegistryError, read_jar};
+use bcp47::{
+    Jar, JarFaultKind, OutOfMemory, Registry, RegistryError, TextRefusal, fields_of, read_jar,
+};
 use std::alloc::Global;
 use std::marker::Model;
 use std::sync::Arc;
@@ -239,6 +242,22 @@ impl Opened {
                 deliver(said, &[], buffer)
             }
             Err(refusal) => refuse(&refusal, buffer),
+        }
+    }
+
+    /// Writes the fields of the record of a number, or answers that memory ran out.
+    pub(crate) fn record(
+        &self,
+        alloc: Global,
+        number: u32,
+        buffer: &mut [u8],
+        room: &mut [FieldLengths],
+    ) -> Outcome
+        ensures { TellsRecord self.now.1 number room.old room.new buffer.old buffer.new result }
+    {
+        match read_fields(alloc, fields_of(self.records.records(), number)) {
+            Ok((lengths, texts)) => deliver_rows(&lengths, &texts, room, buffer),
+            Err(_) => refuse(&TextRefusal::OutOfMemory, buffer),
         }
     }
 

@@ -1,10 +1,10 @@
 //! What a call answers, and how it writes a text into a buffer.
 ghost use Rattle.std.specs.Prelude.{◌≡◌};
 ghost use Rattle.bcp47_c.specs.Outcomes as spec;
-ghost use Rattle.bcp47_c.specs.Outcomes.{IsDelivered, IsRefused};
+ghost use Rattle.bcp47_c.specs.Outcomes.{AreDelivered, IsDelivered, IsRefused};
 
 use crate::numbers::{
-    BUFFER_TOO_SMALL, INVALID, NOT_A_TAG, OUT_OF_MEMORY, REPLACEMENT_REPEATS, tag_fault,
+    BUFFER_TOO_SMALL, DONE, INVALID, NOT_A_TAG, OUT_OF_MEMORY, REPLACEMENT_REPEATS, tag_fault,
     valid_fault,
 };
 use bcp47::TextRefusal;
@@ -19,7 +19,7 @@ pub struct Outcome {
     /// The number of the fault, 1 to 53, whose name `bcp47_write_fault_name` writes, or that of the class of a tag;
     /// else 0.
     pub detail: u32,
-    /// The place of the fault: a subtag, a line, a record or a step, each counted from 1; of parts or steps that are
+    /// The place of the fault: a subtag, a line, a record or a step, each counted from 1; of rows that are
     /// counted, how many; else 0.
     pub place: u64,
     /// How many bytes the text has, also where it does not fit the buffer.
@@ -112,4 +112,57 @@ pub(crate) fn refuse(refusal: &TextRefusal, buffer: &mut [u8]) -> Outcome
     ensures { IsRefused refusal.now buffer.old buffer.new result }
 {
     deliver(refusal_said(refusal), refusal_text(refusal), buffer)
+}
+
+/// The outcome with this status, `count`, how many rows there are, as the place, and `length`, how many bytes the text
+/// has.
+fn counted(status: u8, count: usize, length: usize) -> Outcome
+    ensures { result ≡ spec.outcome (record { status = status; detail = 0; place = count }) length }
+{
+    Outcome {
+        status: u32::from(status),
+        detail: 0,
+        place: count as u64,
+        length,
+        text: 0,
+        reserved: 0,
+    }
+}
+
+/// Writes rows to the front of `room`, and their text to the front of a buffer. Where one of them doesn't fit, neither is
+/// written, and the status is `BUFFER_TOO_SMALL`.
+pub(crate) fn deliver_rows<T: Copy>(
+    rows: &[T],
+    text: &[u8],
+    room: &mut [T],
+    buffer: &mut [u8],
+) -> Outcome
+    ensures { AreDelivered rows.now text.now room.old room.new buffer.old buffer.new result }
+{
+    let count = rows.len();
+    let length = text.len();
+    if count > room.len() || length > buffer.len() {
+        return counted(BUFFER_TOO_SMALL, count, length);
+    }
+    room[..count].copy_from_slice(rows);
+    buffer[..length].copy_from_slice(text);
+    counted(DONE, count, length)
+}
+
+/// The outcome, with the number of the text that is refused, 1 or 2. Where memory ran out, no
+/// text is named.
+pub(crate) fn of_text(number: u32, outcome: Outcome) -> Outcome
+    ensures { result ≡ spec.of_text number outcome }
+{
+    if outcome.status == u32::from(OUT_OF_MEMORY) {
+        return outcome;
+    }
+    Outcome {
+        status: outcome.status,
+        detail: outcome.detail,
+        place: outcome.place,
+        length: outcome.length,
+        text: number,
+        reserved: outcome.reserved,
+    }
 }

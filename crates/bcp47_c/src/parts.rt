@@ -2,13 +2,13 @@
 ghost use Rattle.std.specs.Prelude.{◌≡◌, ◌≢◌, [], map, IfOk, IfErr};
 ghost use Rattle.lt_parts.specs.Names.{name_of};
 ghost use Rattle.lt_parts.specs.declared.kinds.PartKind.{PartKind};
-ghost use Rattle.bcp47_c.specs.Outcomes.{IsDelivered, ended, outcome};
+ghost use Rattle.bcp47_c.specs.Outcomes.{IsDelivered, ended};
 ghost use Rattle.bcp47_c.specs.Parts as spec;
-ghost use Rattle.bcp47_c.specs.Parts.{AreDelivered, HasParts, IsPartKindOf, TellsParts, in_numbers};
+ghost use Rattle.bcp47_c.specs.Parts.{HasParts, IsPartKindOf, TellsParts, in_numbers};
 ghost use Rattle.bcp47_c.specs.Texts.{IsReadingRefusal};
 
-use crate::numbers::{BUFFER_TOO_SMALL, DONE};
-use crate::outcomes::{Outcome, deliver, ended, refuse};
+use crate::numbers::DONE;
+use crate::outcomes::{Outcome, deliver, deliver_rows, ended, refuse};
 use bcp47::{OutOfMemory, Part, PartKind, Tag, TextRefusal, parts, write_tag};
 use std::alloc::Global;
 
@@ -119,41 +119,6 @@ fn read_parts(alloc: Global, text: &[u8]) -> Result<(Vec<u8>, Vec<PartNumbers>),
     Ok((shown, numbers_of(alloc, &found)?))
 }
 
-/// The outcome with this status, `count`, how many parts there are, as the place, and `length`, how many bytes the text
-/// has.
-fn counted(status: u8, count: usize, length: usize) -> Outcome
-    ensures { result ≡ outcome (record { status = status; detail = 0; place = count }) length }
-{
-    Outcome {
-        status: u32::from(status),
-        detail: 0,
-        place: count as u64,
-        length,
-        text: 0,
-        reserved: 0,
-    }
-}
-
-/// Writes parts to the front of `room`, and their text to the front of a buffer. Where one of them doesn't fit, neither is
-/// written, and the status is `BUFFER_TOO_SMALL`.
-fn deliver_parts(
-    numbers: &[PartNumbers],
-    text: &[u8],
-    room: &mut [PartNumbers],
-    buffer: &mut [u8],
-) -> Outcome
-    ensures { AreDelivered numbers.now text.now room.old room.new buffer.old buffer.new result }
-{
-    let count = numbers.len();
-    let length = text.len();
-    if count > room.len() || length > buffer.len() {
-        return counted(BUFFER_TOO_SMALL, count, length);
-    }
-    room[..count].copy_from_slice(numbers);
-    buffer[..length].copy_from_slice(text);
-    counted(DONE, count, length)
-}
-
 /// Writes the text, in conventional case (RFC 5646, 2.1.1), of the tag that a text is read as, and its parts (RFC
 /// 5646, 2.1; RFC 6067, 2.1; RFC 6497, 2.2): status 0, and their number as the place. It asks no registry.
 ///
@@ -170,7 +135,7 @@ pub extern "C" fn bcp47_write_parts(
     ensures { TellsParts text.now room.old room.new buffer.old buffer.new result }
 {
     match read_parts(alloc, text) {
-        Ok((shown, numbers)) => deliver_parts(&numbers, &shown, room, buffer),
+        Ok((shown, numbers)) => deliver_rows(&numbers, &shown, room, buffer),
         Err(refusal) => refuse(&refusal, buffer),
     }
 }
