@@ -1,6 +1,6 @@
 /* SPDX-License-Identifier: MIT OR Apache-2.0 */
 /* The calls of bcp47.h over the proved ones of handles.h. What this file decides is which handle a call asks by, which
-   arguments are answered by a status, and where a zero follows a text; all else is theirs. There is no lock and no state
+   arguments are answered by a status, where a zero follows a text, and which steps the lines of an explanation are; all else is theirs. There is no lock and no state
    but a registry's own. */
 #define _POSIX_C_SOURCE 200809L
 #include "handles.h"
@@ -366,13 +366,19 @@ bcp47_outcome bcp47_explain(const bcp47_registry *registry, const char *text, si
     return write_text(bcp47_handle_explain, registry, text, length, buffer, room);
 }
 
-bcp47_outcome bcp47_classify(const bcp47_registry *registry, const char *text, size_t length, char *buffer, size_t room) {
+/* A proved call that writes a text, and needs no registry. */
+static bcp47_outcome write_alone(bcp47_outcome (*writes)(const uint8_t *, size_t, uint8_t *, size_t), const char *text, size_t length,
+                                 char *buffer, size_t room) {
     uint8_t nowhere;
-    if (registry) return write_text(bcp47_handle_classify, registry, text, length, buffer, room);
     if (!are_apart(text, length, buffer, room)) return ended(BCP47_BAD_CALL);
-    bcp47_outcome outcome = bcp47_classify_text(bytes_of(text), length, room_of(buffer, &nowhere), room);
+    bcp47_outcome outcome = writes(bytes_of(text), length, room_of(buffer, &nowhere), room);
     end_text(&outcome, buffer, room);
     return outcome;
+}
+
+bcp47_outcome bcp47_classify(const bcp47_registry *registry, const char *text, size_t length, char *buffer, size_t room) {
+    if (registry) return write_text(bcp47_handle_classify, registry, text, length, buffer, room);
+    return write_alone(bcp47_classify_text, text, length, buffer, room);
 }
 
 bcp47_outcome bcp47_parts(const char *text, size_t length, char *buffer, size_t room, bcp47_part *parts, size_t count) {
@@ -385,6 +391,10 @@ bcp47_outcome bcp47_parts(const char *text, size_t length, char *buffer, size_t 
         bcp47_write_parts(bytes_of(text), length, room_of(buffer, &nowhere), room, parts ? parts : &none, count);
     end_text(&outcome, buffer, room);
     return outcome;
+}
+
+bcp47_outcome bcp47_parent(const char *text, size_t length, char *buffer, size_t room) {
+    return write_alone(bcp47_write_parent, text, length, buffer, room);
 }
 
 /* ---- texts that are given whole */
@@ -524,15 +534,43 @@ static slots *find_shown(bcp47_registry *registry) {
     return shown;
 }
 
+/* A slot for a call that asks of records: the status is BCP47_DONE, or else why there is none. */
+static int take_shown(const bcp47_registry *registry, slot **s) {
+    if (!is_open(registry)) return BCP47_NOT_OPEN;
+    slots *shown = find_shown((bcp47_registry *)(uintptr_t)registry);
+    if (!shown) return BCP47_OUT_OF_MEMORY;
+    *s = take_of(registry, shown);
+    return *s ? BCP47_DONE : BCP47_BUSY;
+}
+
+bcp47_outcome bcp47_record(const bcp47_registry *registry, uint32_t number, bcp47_field **fields, const char **texts) {
+    bcp47_field none;
+    uint8_t nowhere;
+    slot *s;
+    if (!fields || !texts) return ended(BCP47_BAD_CALL);
+    *fields = NULL, *texts = NULL;
+    int status = take_shown(registry, &s);
+    if (status) return ended(status);
+    bcp47_outcome outcome = bcp47_handle_record(&s->handle, number, &nowhere, 0, &none, 0);
+    bcp47_field *made = NULL;
+    if (outcome.status != BCP47_OUT_OF_MEMORY) made = malloc(outcome.place * sizeof *made + outcome.length + 1);
+    if (made) outcome = bcp47_handle_record(&s->handle, number, (uint8_t *)(made + outcome.place), outcome.length, made, outcome.place);
+    give(s);
+    if (!made || outcome.status != BCP47_DONE) {
+        free(made);
+        return ended(BCP47_OUT_OF_MEMORY);
+    }
+    *fields = made, *texts = (char *)(made + outcome.place);
+    outcome.length = 0;
+    return outcome;
+}
+
 bcp47_outcome bcp47_show(const bcp47_registry *registry, const char *text, size_t length, char **rows) {
+    slot *s;
     if (!rows) return ended(BCP47_BAD_CALL);
     *rows = NULL;
-    if (!is_open(registry)) return ended(BCP47_NOT_OPEN);
-    if (!is_text(text, length)) return ended(BCP47_BAD_CALL);
-    slots *shown = find_shown((bcp47_registry *)(uintptr_t)registry);
-    if (!shown) return ended(BCP47_OUT_OF_MEMORY);
-    slot *s = take_of(registry, shown);
-    if (!s) return ended(BCP47_BUSY);
+    int status = is_text(text, length) ? take_shown(registry, &s) : is_open(registry) ? BCP47_BAD_CALL : BCP47_NOT_OPEN;
+    if (status) return ended(status);
     bcp47_outcome outcome = write_whole(bcp47_handle_show, s, bytes_of(text), length, ROWS, rows);
     give(s);
     return outcome;

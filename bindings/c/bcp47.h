@@ -110,6 +110,12 @@ enum {
     BCP47_PART_GRANDFATHERED = 20     /* the whole of the tag */
 };
 
+/* A field of a record: how many bytes its name has, for example Description, and its body. */
+typedef struct {
+    size_t name;
+    size_t body;
+} bcp47_field;
+
 /* Room for the parts of any tag, and for its text with a zero. */
 #define BCP47_PARTS 512
 #define BCP47_TEXT 1025
@@ -150,6 +156,10 @@ bcp47_outcome bcp47_classify(const bcp47_registry *registry, const char *text, s
    not fit, neither is written, and the status is BCP47_BUFFER_TOO_SMALL. */
 bcp47_outcome bcp47_parts(const char *text, size_t length, char *buffer, size_t room, bcp47_part *parts, size_t count);
 
+/* The parent of a tag, to which lookup falls back (RFC 4647, 3.4): without its last subtag, and without the singletons that then
+   end it. The text is empty where nothing is left. */
+bcp47_outcome bcp47_parent(const char *text, size_t length, char *buffer, size_t room);
+
 /* Whether a tag is valid. */
 bcp47_outcome bcp47_validate(const bcp47_registry *registry, const char *text, size_t length);
 
@@ -188,7 +198,12 @@ bcp47_outcome bcp47_show(const bcp47_registry *registry, const char *text, size_
 bcp47_outcome bcp47_steps(const bcp47_registry *registry, const char *text, size_t length, size_t most, bcp47_step **steps,
                           const char **tags);
 
-/* Lets go of what bcp47_explanation, bcp47_steps or bcp47_show gave. NULL does nothing. */
+/* The fields of a record of the registry, by its number from 1 on, with the header counted: *fields points to them then, in memory that
+   bcp47_free lets go of, and `place` is how many there are; 0 where there is no such record. *texts, in the same memory, points to
+   their names and bodies in turn, with a zero after each. The first call reads the records, as that of bcp47_show does. */
+bcp47_outcome bcp47_record(const bcp47_registry *registry, uint32_t number, bcp47_field **fields, const char **texts);
+
+/* Lets go of what bcp47_explanation, bcp47_steps, bcp47_show or bcp47_record gave. NULL does nothing. */
 void bcp47_free(void *text);
 
 /* Whether steps lead from a valid tag, one after another, to another tag, which is then equivalent to it. */

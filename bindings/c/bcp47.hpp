@@ -235,6 +235,11 @@ inline result<std::vector<part>> parts(std::string_view text) {
     return read;
 }
 
+/* A tag without its last subtag, and without the singletons that then end it; empty where nothing is left. */
+inline result<std::string> parent(std::string_view tag) {
+    return detail::text_of([&](char *buffer, std::size_t room) { return bcp47_parent(tag.data(), tag.size(), buffer, room); });
+}
+
 /* A registry that is open until its object ends. Any number of threads may make const calls at once. */
 class registry {
   public:
@@ -311,6 +316,19 @@ class registry {
         std::unique_ptr<char, void (*)(void *)> freed(rows, &bcp47_free);
         if (outcome.status == BCP47_DONE) return std::string(rows, outcome.length);
         return detail::refused(refusal{outcome, {}});
+    }
+
+    /* The names and bodies of the fields of a record, by its number from 1 on, with the header counted; none where it is not there. */
+    result<std::vector<std::pair<std::string, std::string>>> record(std::uint32_t number) const {
+        bcp47_field *fields;
+        const char *at;
+        bcp47_outcome outcome = bcp47_record(opened_.get(), number, &fields, &at);
+        std::unique_ptr<bcp47_field, void (*)(void *)> freed(fields, &bcp47_free);
+        if (outcome.status != BCP47_DONE) return detail::refused(refusal{outcome, {}});
+        std::vector<std::pair<std::string, std::string>> read;
+        for (std::size_t i = 0; i < outcome.place; at += fields[i].name + fields[i].body + 2, i++)
+            read.emplace_back(std::string(at, fields[i].name), std::string(at + fields[i].name + 1, fields[i].body));
+        return read;
     }
 
     /* Nothing, if the steps lead from a valid tag, one after another, to the last. */

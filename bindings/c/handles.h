@@ -34,9 +34,13 @@ size_t bcp47_handle_entries(bcp47_handle *handle);
 /* `place` is how many steps the explanation has. */
 bcp47_outcome bcp47_handle_count_steps(bcp47_handle *handle, const uint8_t *text, size_t length, uint8_t *buffer, size_t room);
 
+/* The fields of a record that is kept: their lengths, and in the buffer each name and body with a zero after it; `place` is how many. */
+bcp47_outcome bcp47_handle_record(bcp47_handle *handle, uint32_t number, uint8_t *buffer, size_t room, bcp47_field *fields, size_t count);
+
 /* These need no registry. The digest is the SHA-256 of the bytes, of 32 bytes. */
 bcp47_outcome bcp47_classify_text(const uint8_t *text, size_t length, uint8_t *buffer, size_t room);
 bcp47_outcome bcp47_write_parts(const uint8_t *text, size_t length, uint8_t *buffer, size_t room, bcp47_part *parts, size_t count);
+bcp47_outcome bcp47_write_parent(const uint8_t *text, size_t length, uint8_t *buffer, size_t room);
 bcp47_outcome bcp47_digest(const uint8_t *bytes, size_t length, uint8_t *buffer, size_t room);
 
 /* The names that names.c has too: tests/bindings.sh compares them. */

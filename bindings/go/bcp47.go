@@ -29,6 +29,9 @@ package bcp47
 // static bcp47_outcome steps(uintptr_t registry, _GoString_ tag, size_t most, bcp47_step **steps, const char **tags) {
 //     return bcp47_steps((bcp47_registry *)registry, _GoStringPtr(tag), _GoStringLen(tag), most, steps, tags);
 // }
+// static bcp47_outcome record(uintptr_t registry, uint32_t number, bcp47_field **fields, const char **texts) {
+//     return bcp47_record((bcp47_registry *)registry, number, fields, texts);
+// }
 // static bcp47_outcome registry_info(uintptr_t registry, bcp47_info *info) {
 //     return bcp47_registry_info((bcp47_registry *)registry, info);
 // }
@@ -213,6 +216,31 @@ func (r *Registry) Explain(tag string, most int) (explanation Explanation, err e
 		return nil
 	})
 	return explanation, err
+}
+
+// A Field of a record: its name, for example "Description", and its body.
+type Field struct{ Name, Body string }
+
+// Record gives the fields of a record of the file, by its number from 1 on, with the header counted; none where it is not there. The
+// numbers are those of a Step. The first call reads the records.
+func (r *Registry) Record(number uint32) (fields []Field, err error) {
+	err = r.ask(func(raw C.uintptr_t, _ *[room]byte) error {
+		var lengths *C.bcp47_field
+		var at *C.char
+		outcome := C.record(raw, C.uint32_t(number), &lengths, &at)
+		defer C.bcp47_free(unsafe.Pointer(lengths))
+		next := func(length C.size_t) string {
+			text := C.GoStringN(at, C.int(length))
+			at = (*C.char)(unsafe.Add(unsafe.Pointer(at), length+1))
+			return text
+		}
+		for _, field := range unsafe.Slice(lengths, int(outcome.place)) {
+			fields = append(fields, Field{next(field.name), next(field.body)})
+		}
+		_, err := causeOf(int(outcome.status), 0, 0)
+		return err
+	})
+	return fields, err
 }
 
 // Info says which registry it is.

@@ -72,6 +72,28 @@ func TestTheLongestTextHasRoom(t *testing.T) {
 	is(t, canonical, said(registry.Canonical(tag)))
 }
 
+func TestParents(t *testing.T) {
+	is(t, "zh-Hant", MustParseTag("zh-Hant-TW").Parent().String())
+	is(t, "zh-Hant-CN", MustParseTag("zh-Hant-CN-x-private1").Parent().String())
+	is(t, Tag{}, MustParseTag("zh").Parent())
+	is(t, Tag{}, Tag{}.Parent())
+}
+
+func TestRecords(t *testing.T) {
+	registry := opened(t)
+	defer registry.Close()
+	header, err := registry.Record(1)
+	is(t, nil, err)
+	is(t, "[{File-Date 2024-01-01}]", fmt.Sprint(header))
+	none, err := registry.Record(1 << 31)
+	is(t, nil, err)
+	is(t, 0, len(none))
+	own := opened(t)
+	own.Close()
+	_, err = own.Record(1)
+	is(t, ErrClosed, err)
+}
+
 func TestRefusals(t *testing.T) {
 	registry := opened(t)
 	defer registry.Close()

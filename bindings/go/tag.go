@@ -12,6 +12,9 @@ package bcp47
 //         for (size_t i = 0; i < outcome.place; i++) buffer[outcome.length + i] = (char)parts[i].kind;
 //     return outcome;
 // }
+// static bcp47_outcome parent(_GoString_ tag, char *buffer, size_t room) {
+//     return bcp47_parent(_GoStringPtr(tag), _GoStringLen(tag), buffer, room);
+// }
 import "C"
 
 import (
@@ -67,6 +70,16 @@ func MustParseTag(text string) Tag {
 		panic("bcp47: " + strconv.Quote(text) + ": " + err.Error())
 	}
 	return tag
+}
+
+// Parent gives the tag without its last subtag, and without the singletons that then end it (RFC 4647, 3.4); the zero Tag where
+// nothing is left.
+func (t Tag) Parent() Tag {
+	buffer := buffers.Get().(*[room]byte)
+	defer buffers.Put(buffer)
+	outcome := C.parent(t.text, chars(buffer), room)
+	parent, _ := ParseTag(string(buffer[:outcome.length]))
+	return parent
 }
 
 // String is the text of the tag.

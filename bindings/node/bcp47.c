@@ -154,6 +154,16 @@ static napi_value extlang(napi_env env, napi_callback_info info) {
     return text_by(env, info, bcp47_extlang, BCP47_DONE);
 }
 
+/* parent(tag): its text without the last subtag */
+static napi_value parent(napi_env env, napi_callback_info info) {
+    napi_value value;
+    char text[ROOM], buffer[ROOM];
+    size_t length;
+    if (!takes(env, info, 1, &value) || !text_of(env, value, text, &length)) return NULL;
+    bcp47_outcome outcome = bcp47_parent(text, length, buffer, sizeof buffer);
+    return outcome.status == BCP47_DONE ? string_of(env, buffer, outcome.length) : refusal(env, outcome);
+}
+
 /* parts(tag): its text in conventional case, a point, and a character for each part: the number of its kind and 64 */
 static napi_value parts(napi_env env, napi_callback_info info) {
     napi_value value;
@@ -203,6 +213,31 @@ static napi_value explain(napi_env env, napi_callback_info info) {
     }
     napi_set_element(env, made, (uint32_t)i, string_of(env, at, NAPI_AUTO_LENGTH));
     bcp47_free(steps);
+    return made;
+}
+
+/* record(registry, number): an array of the fields, each with name and body */
+static napi_value record(napi_env env, napi_callback_info info) {
+    napi_value values[2], made, field, text;
+    uint32_t number = 0;
+    bcp47_field *fields;
+    const char *at;
+    if (!takes(env, info, 2, values)) return NULL;
+    holder *it = held(env, values[0]);
+    if (!it) return NULL;
+    napi_get_value_uint32(env, values[1], &number);
+    bcp47_outcome outcome = bcp47_record(it->registry, number, &fields, &at);
+    if (outcome.status != BCP47_DONE) return refusal(env, outcome);
+    napi_create_array(env, &made);
+    for (uint32_t i = 0; i < outcome.place; at += fields[i].name + fields[i].body + 2, i++) {
+        napi_create_object(env, &field);
+        napi_create_string_utf8(env, at, fields[i].name, &text);
+        set(env, field, "name", text);
+        napi_create_string_utf8(env, at + fields[i].name + 1, fields[i].body, &text);
+        set(env, field, "body", text);
+        napi_set_element(env, made, i, field);
+    }
+    bcp47_free(fields);
     return made;
 }
 
@@ -295,7 +330,7 @@ NAPI_MODULE_INIT() {
     } functions[] = {
         {"open", open_registry}, {"close", close_registry}, {"canonical", canonical}, {"variant", variant}, {"extlang", extlang},
         {"parts", parts},        {"explain", explain},      {"validate", validate},   {"match", match},     {"facts", facts},
-        {"names", names},        {"show", show},
+        {"names", names},        {"show", show},            {"parent", parent},       {"record", record},
     };
     for (size_t i = 0; i < sizeof functions / sizeof *functions; i++) {
         napi_value made = NULL;

@@ -4,8 +4,8 @@
 
 // Room for the text of any tag, for its canonical text and for its parts. What is longer is no tag, which the library says of its front.
 const ROOM = 4096, PARTS = 512;
-// What a part takes, in numbers of 32 bits, and a step, in bytes.
-const [PART, STEP] = [6, 12];
+// What a part takes, in numbers of 32 bits, and a step and a field, in bytes.
+const [PART, STEP, FIELD] = [6, 12, 16];
 const [DONE, REPEATS, DIFFERENT] = [0, 3, 6];
 
 function callsOf(wasm) {
@@ -106,6 +106,25 @@ function callsOf(wasm) {
     canonical: (held, tag) => written(wasm.bcp47_canonical(placeOf(held), input, write(tag, input), output, ROOM)),
     variant: (held, tag) => written(wasm.bcp47_canonical(placeOf(held), input, write(tag, input), output, ROOM), REPEATS),
     extlang: (held, tag) => written(wasm.bcp47_extlang(placeOf(held), input, write(tag, input), output, ROOM)),
+    parent: (tag) => written(wasm.bcp47_parent(input, write(tag, input), output, ROOM)),
+    record(held, number) {
+      const place = wasm.bcp47_record(placeOf(held), number);
+      look();
+      if (words[outcome]) return refusal();
+      const count = words[outcome + 2];
+      let at = place + FIELD * count;
+      const next = (length) => {
+        const text = read(at, length);
+        at += length + 1;
+        return text;
+      };
+      const made = Array.from({ length: count }, (_, i) => {
+        const [name, , body] = words.subarray((place + FIELD * i) / 4);
+        return { name: next(name), body: next(body) };
+      });
+      wasm.bcp47_free(place);
+      return made;
+    },
     parts(tag) {
       const text = written(wasm.bcp47_parts(input, write(tag, input), output, ROOM, parts, PARTS));
       if (typeof text === 'number') return text;

@@ -57,6 +57,8 @@ export class Tag {
   readonly privateUse: string[];
   /** One part for each subtag, in their order, for example { kind: 'Script', text: 'Hant' }; a grandfathered tag is one part. */
   readonly parts: readonly { readonly kind: string; readonly text: string }[];
+  /** The tag to which lookup falls back (RFC 4647, 3.4): without its last subtag, and the singletons before that. */
+  readonly parent: Tag | null;
   /** @throws RangeError for a tag that Unicode's locales leave out, for example `x-own` */
   toLocale(): Intl.Locale;
   toString(): string;
@@ -122,6 +124,8 @@ export class Registry {
   matches(range: string | Tag | Intl.Locale, tag: string | Tag | Intl.Locale, scheme?: 'basic' | 'extended' | 'lookup'): boolean;
   /** The steps from a tag to its canonical form, at most so many, else 20,000, and that form. A tag can have 57,000. */
   explain(tag: string | Tag | Intl.Locale, most?: number): { steps: Step[]; canonical: string };
+  /** The fields of a record of the file, by its number from 1 on, with the header counted; none where it is not there. */
+  record(number: number): { readonly name: string; readonly body: string }[];
   /** What the registry says of each part of a tag, which need not be valid. The first call reads the records, some milliseconds. */
   show(tag: string | Tag | Intl.Locale): Row[];
   readonly info: Info;

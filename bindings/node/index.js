@@ -86,6 +86,11 @@ class Tag {
     Object.freeze(this);
   }
 
+  get parent() {
+    const text = native.parent(this.text);
+    return text ? new Tag(text) : null;
+  }
+
   get parts() {
     // a grandfathered tag is one part
     const texts = this.#kinds.length === 1 ? [this.text] : this.text.split('-');
@@ -209,6 +214,10 @@ class Registry {
     const answer = native.explain(this.#open, textOf(tag), Math.min(Math.max(most, 0), 0xffffffff));
     const steps = answered(this.#open, answer, tag);
     return { canonical: steps.pop(), steps };
+  }
+
+  record(number) {
+    return answered(this.#open, native.record(this.#open, number));
   }
 
   show(tag) {

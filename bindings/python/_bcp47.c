@@ -307,6 +307,19 @@ static PyObject *listed(const bcp47_part *parts, size_t count, const char *text)
     return list;
 }
 
+/* The parent of a tag, by no registry; no text where nothing is left. */
+static PyObject *module_parent(PyObject *module, PyObject *tag) {
+    char buffer[ROOM];
+    text it;
+    (void)module;
+    if (!has_text(tag, &it)) return NULL;
+    bcp47_outcome outcome = bcp47_parent(it.bytes, it.length, buffer, sizeof buffer);
+    PyObject *made = outcome.status == BCP47_DONE ? PyUnicode_FromStringAndSize(buffer, (Py_ssize_t)outcome.length)
+                                                  : raise_refusal(REFUSED_TAG, outcome, NULL, it.str);
+    end_text(&it);
+    return made;
+}
+
 /* The parts of a tag, by no registry. */
 static PyObject *module_parts(PyObject *module, PyObject *tag) {
     bcp47_part parts[BCP47_PARTS];
@@ -392,6 +405,32 @@ static PyObject *registry_show_rows(PyObject *self, PyObject *tag) {
     }
     end_text(&it);
     return made;
+}
+
+/* A pair of strs, the name and the body of a field; a new reference. */
+static PyObject *field_of(const bcp47_field *field, const char *at) {
+    return Py_BuildValue("s#s#", at, (Py_ssize_t)field->name, at + field->name + 1, (Py_ssize_t)field->body);
+}
+
+/* record(number): a list of the fields, each its name and its body. The first call reads the records. */
+static PyObject *registry_record(PyObject *self, PyObject *argument) {
+    unsigned long number = PyLong_AsUnsignedLong(argument);
+    bcp47_field *fields;
+    const char *at;
+    registry_object *registry = PyErr_Occurred() ? NULL : opened(self);
+    if (!registry) return NULL;
+    bcp47_outcome outcome;
+    registry->calls++;
+    Py_BEGIN_ALLOW_THREADS
+    outcome = bcp47_record(registry->registry, number > UINT32_MAX ? 0 : (uint32_t)number, &fields, &at);
+    Py_END_ALLOW_THREADS
+    end_call(registry);
+    if (outcome.status != BCP47_DONE) return PyErr_NoMemory();
+    PyObject *list = PyList_New((Py_ssize_t)outcome.place);
+    for (size_t i = 0; list && i < outcome.place; at += fields[i].name + fields[i].body + 2, i++)
+        if (!put(list, (Py_ssize_t)i, field_of(fields + i, at))) Py_CLEAR(list);
+    bcp47_free(fields);
+    return list;
 }
 
 /* ---- two texts */
@@ -665,6 +704,7 @@ static PyMethodDef registry_methods[] = {
     {"_match", registry_match, METH_VARARGS, NULL},
     {"_explain_steps", registry_explain_steps, METH_VARARGS, NULL},
     {"_show_rows", registry_show_rows, METH_O, NULL},
+    {"_record", registry_record, METH_O, NULL},
     {"_verify_steps", registry_verify_steps, METH_VARARGS, NULL},
     {"_upgrade_to", registry_upgrade_to, METH_O, NULL},
     {"_answer_many", registry_answer_many, METH_VARARGS, NULL},
@@ -689,7 +729,8 @@ static PyType_Spec registry_spec = {
 static PyMethodDef module_methods[] = {
     {"setup", module_setup, METH_O, NULL},         {"open", module_open, METH_VARARGS, NULL},
     {"classify", module_classify, METH_O, NULL},   {"names", module_names, METH_O, NULL},
-    {"parts", module_parts, METH_O, NULL},         {NULL, NULL, 0, NULL},
+    {"parts", module_parts, METH_O, NULL},         {"parent", module_parent, METH_O, NULL},
+    {NULL, NULL, 0, NULL},
 };
 
 /* Makes what a module of an interpreter has. It has no state of its own. */

@@ -76,6 +76,18 @@ CALL(int, parts, (TEXT(text), TEXT(buffer), at parts, uint32_t count), (BOTH(tex
     return told(bcp47_parts(CHARS(text), CHARS(buffer), TO(bcp47_part, parts), count));
 }
 
+CALL(int, parent, (TEXT(text), TEXT(buffer)), (BOTH(text), BOTH(buffer))) {
+    return told(bcp47_parent(CHARS(text), CHARS(buffer)));
+}
+
+/* Where the lengths of the fields are; their names and bodies stand behind as many as the outcome tells. */
+CALL(at, record, (at registry, uint32_t number), (registry, number)) {
+    bcp47_field *fields;
+    const char *texts;
+    told(bcp47_record(TO(bcp47_registry, registry), number, &fields, &texts));
+    return OF(fields);
+}
+
 CALL(int, validate, (at registry, TEXT(text)), (registry, BOTH(text))) {
     return told(bcp47_validate(TO(bcp47_registry, registry), CHARS(text)));
 }

@@ -86,6 +86,23 @@ static void parts(void) {
     CHECK(is_ended(bcp47_parts(buffer, 2, buffer, sizeof buffer, room, 4), BCP47_BAD_CALL));
 }
 
+static int is_refused(bcp47_outcome o, int status, int text, size_t place) {
+    return o.status == status && o.text == text && o.place == place;
+}
+
+#define ALONE(call, text) call(text, strlen(text), buffer, sizeof buffer)
+
+/* The first are those of RFC 4647, 3.4. */
+static void parents(void) {
+    static const char *const chain[] = {"zh-Hant-CN-x-private1-private2", "zh-Hant-CN-x-private1", "zh-Hant-CN", "zh-Hant", "zh", ""};
+    for (int i = 0; i < 5; i++) CHECK(is_text(ALONE(bcp47_parent, chain[i]), chain[i + 1]));
+    CHECK(is_text(ALONE(bcp47_parent, "EN-a-bbb-x-a-b"), "en-a-bbb") && is_text(ALONE(bcp47_parent, "x-own"), ""));
+    CHECK(is_text(ALONE(bcp47_parent, "i-klingon"), "") && is_text(ALONE(bcp47_parent, "en-GB-oed"), ""));
+    CHECK(ALONE(bcp47_parent, "en_US").status == BCP47_NOT_A_TAG);
+    CHECK(bcp47_parent("zh-Hant", 7, NULL, 0).status == BCP47_BUFFER_TOO_SMALL);
+    CHECK(is_ended(bcp47_parent(NULL, 1, buffer, 9), BCP47_BAD_CALL));
+}
+
 static void canonical(void) {
     CHECK(is_text(ASK(bcp47_canonical, "zh-yue"), "yue"));
     CHECK(is_text(ASK(bcp47_canonical, "I-KLINGON"), "tlh"));
@@ -123,10 +140,6 @@ static void classify(const bcp47_registry *by) {
     CHECK(bcp47_classify(by, NULL, 0, NULL, 0).status == BCP47_NOT_A_TAG);
     o = bcp47_classify(by, "EN", 2, NULL, 0);
     CHECK(o.status == BCP47_BUFFER_TOO_SMALL && o.length == 2);
-}
-
-static int is_refused(bcp47_outcome o, int status, int text, size_t place) {
-    return o.status == status && o.text == text && o.place == place;
 }
 
 static void equal(void) {
@@ -287,6 +300,44 @@ static void shown(void) {
     rows = buffer;
     CHECK(is_ended(bcp47_show(opened, "en", SIZE_MAX, &rows), BCP47_BAD_CALL) && !rows);
     CHECK(is_ended(bcp47_show(opened, "en", 2, NULL), BCP47_BAD_CALL));
+    bcp47_close(opened);
+}
+
+/* The fields of a record in one text. */
+static int has_fields(const bcp47_registry *by, uint32_t number, const char *wanted) {
+    bcp47_field *fields;
+    const char *texts;
+    static char told[1024];
+    bcp47_outcome o = bcp47_record(by, number, &fields, &texts);
+    told[0] = 0;
+    for (size_t i = 0; i < o.place; i++) {
+        const char *body = texts + fields[i].name + 1;
+        if (strlen(texts) != fields[i].name || strlen(body) != fields[i].body) return 0;
+        sprintf(told + strlen(told), "%s: %s\n", texts, body);
+        texts = body + fields[i].body + 1;
+    }
+    int is_so = !o.status && !o.detail && !o.length && !o.text && fields && !strcmp(told, wanted);
+    bcp47_free(fields);
+    return is_so;
+}
+
+/* RFC 5646, 3.1.1: the records in their order, with the header, and a body that is folded. */
+static void records(void) {
+    static const char bytes[] = "File-Date: 2000-01-01\n%%\nType: extlang\nSubtag: yue\nDescription: Yue\n  Chinese\nPreferred-Value: yue\nPrefix: zh\n%%\n"
+        "Type: language\nSubtag: zh\n%%\nType: language\nSubtag: yue\n";
+    bcp47_registry *opened;
+    bcp47_field field, *fields = &field;
+    const char *texts = buffer;
+    bcp47_outcome o = bcp47_open(&opened, bytes, strlen(bytes), buffer, sizeof buffer);
+    CHECK(is_ended(o, BCP47_DONE));
+    CHECK(has_fields(opened, 1, "File-Date: 2000-01-01\n"));
+    CHECK(has_fields(opened, 2, "Type: extlang\nSubtag: yue\nDescription: Yue Chinese\nPreferred-Value: yue\nPrefix: zh\n"));
+    CHECK(has_fields(opened, 3, "Type: language\nSubtag: zh\n"));
+    CHECK(has_fields(opened, 4, "Type: language\nSubtag: yue\n"));
+    CHECK(has_fields(opened, 5, "") && has_fields(opened, 0, "") && has_fields(opened, UINT32_MAX, ""));
+    o = bcp47_record(NULL, 1, &fields, &texts);
+    CHECK(is_ended(o, BCP47_NOT_OPEN) && !fields && !texts);
+    CHECK(is_ended(bcp47_record(opened, 1, NULL, &texts), BCP47_BAD_CALL) && is_ended(bcp47_record(opened, 1, &fields, NULL), BCP47_BAD_CALL));
     bcp47_close(opened);
 }
 
@@ -581,6 +632,8 @@ int main(int count, char **words) {
     match_refused();
     others();
     shown();
+    parents();
+    records();
     explanations();
     steps();
     longer();

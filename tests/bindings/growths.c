@@ -26,7 +26,7 @@ void *__wrap_realloc(void *old, size_t size) {
 static const char *const tags[] = {"zh-yue", "en-us", "I-KLINGON", "sgn-dd", "en-t-iw-m0-names", "en-u-nu-latn-ca-buddhist-foo",
                                    "en_US", "xx", "de-1901-1901", "x-own-use", "en-a-bbb-x-own"};
 #define TAGS (sizeof tags / sizeof *tags)
-#define CALLS 14
+#define CALLS 16
 static char buffer[4096];
 static bcp47_part parts[BCP47_PARTS];
 static char wanted[CALLS * TAGS][2048];
@@ -77,6 +77,15 @@ static void ask(const bcp47_registry *registry, int is_first, size_t at, const c
     kept(is_first, at + 13, o, given ? behind : "", before);
     bcp47_free(given);
     before = growths;
+    bcp47_field *fields;
+    o = bcp47_record(registry, 2, &fields, &behind);
+    CHECK((o.status == BCP47_DONE) == (fields != NULL) && !fields == !behind);
+    if (fields) o.length = strlen(behind);
+    kept(is_first, at + 14, o, fields ? behind : "", before);
+    bcp47_free(fields);
+    before = growths;
+    kept(is_first, at + 15, bcp47_parent(text, n, buffer, sizeof buffer), buffer, before);
+    before = growths;
     kept(is_first, at + 8, bcp47_classify(NULL, text, n, buffer, sizeof buffer), buffer, before);
     before = growths;
     kept(is_first, at + 9, bcp47_parts(text, n, buffer, sizeof buffer, parts, BCP47_PARTS), buffer, before);
@@ -120,7 +129,7 @@ static void first_answers(void) {
         {CALLS + 4, "! UnknownRegion 2\n12"}, {3 * CALLS + 4, "\n6"}, {3 * CALLS + 5, "\n0"}, {3 * CALLS + 6, "\n0"},
         {6 * CALLS + 5, "! BadByte 1\n1"}, {7 * CALLS + 5, "! UnknownLanguage 1\n2"}, {7 * CALLS + 6, "! UnknownLanguage 1\n12"},
         {8 * CALLS + 5, "! DuplicateVariant 3\n2"}, {9, "zh-yue\n0"}, {2 * CALLS + 9, "i-klingon\n0"}, {6 * CALLS + 9, "! BadByte 1\n1"},
-        {13, "yue\n0"}, {10, "\n0"}, {11, "\n0"}, {3 * CALLS + 10, "\n6"}, {6 * CALLS + 10, "! BadByte 1\n21"}, {6 * CALLS + 11, "! BadByte 0\n11"},
+        {13, "yue\n0"}, {14, "Type\n0"}, {15, "zh\n0"}, {10, "\n0"}, {11, "\n0"}, {3 * CALLS + 10, "\n6"}, {6 * CALLS + 10, "! BadByte 1\n21"}, {6 * CALLS + 11, "! BadByte 0\n11"},
         {7 * CALLS + 10, "! UnknownLanguage 1\n22"}, {7 * CALLS + 11, "\n6"}, {6 * CALLS + 12, "! BadByte 1\n1"},
         {7 * CALLS + 12, "[{\"place\":1,\"kind\":\"Language\",\"text\":\"xx\",\"listing\":\"Unregistered\",\"record\":null,\"fields\":[]}]\n0"},
     };

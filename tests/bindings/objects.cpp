@@ -125,6 +125,11 @@ int main(int count, char **words) {
     CHECK(explained->tags == (std::vector<std::string>{"sgn-DE", "gsg"}) && explained->canonical == "gsg");
     CHECK(explained->steps[1].kind == BCP47_WHOLE && explained->steps[1].place == 1 && explained->steps[1].number == 44);
     CHECK(registry.verify("sgn-DD", explained->steps, explained->canonical) && registry.explain("EN")->steps.empty());
+    CHECK(*bcp47::parent("ZH-hant-cn-x-private1") == "zh-Hant-CN" && bcp47::parent("zh")->empty());
+    CHECK(bcp47::parent("en_US").error().line() == "BadByte 1");
+    auto header = registry.record(1);
+    CHECK(header->size() == 1 && header->front() == std::make_pair(std::string("File-Date"), std::string(words[2])));
+    CHECK(registry.record(UINT32_MAX)->empty());
     auto parts = bcp47::parts("zh-hant-hk");
     CHECK(parts->size() == 3 && (*parts)[1].kind == BCP47_PART_SCRIPT && (*parts)[1].text == "Hant");
     CHECK(registry.verify("sgn-DD", {{BCP47_REGION, 2, 27}, {BCP47_WHOLE, 1, 44}}, "gsg") && registry.verify("en", {}, "EN"));

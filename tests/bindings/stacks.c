@@ -46,14 +46,22 @@ static void ask_explain(void) {
 
 static void ask_show(void) {
     char *rows;
+    bcp47_field *fields;
+    const char *texts;
     bcp47_show(registry, text, strlen(text), &rows);
     bcp47_free(rows);
+    CHECK(!bcp47_record(registry, 2, &fields, &texts).status);
+    bcp47_free(fields);
 }
 
 static void ask_explanation(void) {
     char *lines;
+    bcp47_step *steps;
+    const char *tags;
     bcp47_explanation(registry, text, strlen(text), 1000, &lines);
     bcp47_free(lines);
+    bcp47_steps(registry, text, strlen(text), 1000, &steps, &tags);
+    bcp47_free(steps);
 }
 
 static void ask_others(void) {
@@ -63,6 +71,7 @@ static void ask_others(void) {
     for (int scheme = BCP47_BASIC; scheme <= BCP47_LOOKUP; scheme++)
         bcp47_match(registry, scheme, text, strlen(text), text, strlen(text), NULL, 0);
     bcp47_verify(registry, text, strlen(text), &step, 1, text, strlen(text));
+    bcp47_parent(text, strlen(text), buffer, room);
 }
 
 static void ask_parts(void) {

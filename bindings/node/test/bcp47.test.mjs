@@ -192,6 +192,17 @@ test('memory that runs out is no answer', () => {
   }
 });
 
+test('tags have parents', () => {
+  assert.equal(`${new Tag('zh-Hant-CN-x-private1').parent}`, 'zh-Hant-CN');
+  assert.equal(new Tag('zh').parent, null);
+});
+
+test('records have fields', () => {
+  const registry = Registry.fromFile(sample);
+  assert.deepEqual(registry.record(1), [{ name: 'File-Date', body: '2024-01-01' }]);
+  assert.deepEqual(registry.record(4e9), []);
+});
+
 test('CommonJS', () => {
   const bcp47 = createRequire(import.meta.url)('../index.js');
   assert.equal(bcp47.Registry, Registry);

@@ -9,6 +9,8 @@ const many: (string | Refusal | null)[] = registry.canonicalMany(new Set(['iw', 
 const refusals: Refusal[] = many.filter((answer): answer is Refusal => answer instanceof Refusal);
 const bytes: boolean = refusals.some(({ fault }) => fault === 'BadByte');
 const { steps } = registry.explain('sgn-dd', 100);
+const parent: Tag | null = new Tag('zh-TW').parent;
+const field: string = registry.record(1)[0].name;
 const names: string[] = registry.show('sgn-dd').flatMap(({ fields }) => fields.map(({ body }) => body));
 const step: Step | undefined = steps[0];
 const kinds: ('langtag' | 'privateuse' | 'grandfathered')[] = [new Tag('en').kind];
@@ -36,4 +38,4 @@ new Registry('text');
 // @ts-expect-error
 const wrong: Fault = 'BadBytes';
 export { loaded, names };
-export { bytes, isOne, kinds, matched, parts, scripts, step, wrong };
+export { bytes, field, isOne, kinds, matched, parent, parts, scripts, step, wrong };

@@ -11,9 +11,10 @@ from __future__ import annotations
 import datetime
 import functools
 import importlib.resources
+import itertools
 import json
 import os
-from typing import (TYPE_CHECKING, Any, Dict, Iterable, List, Literal, NamedTuple, NoReturn, Optional, Tuple, Type, TypeVar, Union,
+from typing import (TYPE_CHECKING, Any, Dict, Iterable, Iterator, List, Literal, NamedTuple, NoReturn, Optional, Tuple, Type, TypeVar, Union,
                     overload)
 
 from . import _bcp47
@@ -186,6 +187,13 @@ class Tag:
         number, shown = _bcp47.classify(text)
         object.__setattr__(self, "kind", _CLASSES[number])
         object.__setattr__(self, "text", shown)
+
+    @property
+    def parent(self) -> Optional[Tag]:
+        """The tag to which lookup falls back (RFC 4647, 3.4): without its last subtag, and the singletons before that. None if
+        nothing is left."""
+        text = _bcp47.parent(self.text)
+        return Tag(text) if text else None
 
     if not TYPE_CHECKING:
         def __getattr__(self, name: str) -> object:
@@ -372,6 +380,15 @@ class Registry(_bcp47.Registry):
         row for the whole of it first. The tag need not be valid. Raises RefusedTag where the text is no tag."""
         return [Row(row["place"], row["kind"], row["text"], row["listing"], row["record"],
                     tuple((field["name"], field["body"]) for field in row["fields"])) for row in json.loads(self._show_rows(tag))]
+
+    def record(self, number: int) -> Tuple[Tuple[str, str], ...]:
+        """The fields of a record of the file, each its name and its body, by its number from 1 on, with the header counted; no fields
+        where it is not there. The numbers are those of a Step and a Row."""
+        return tuple(self._record(number))
+
+    def records(self) -> Iterator[Tuple[Tuple[str, str], ...]]:
+        """Each record of the file in its order, the header among them, as `record` gives it."""
+        return itertools.takewhile(bool, map(self.record, itertools.count(1)))
 
     def verify(self, tag: Union[str, Tag], steps: Iterable[Step], last: Union[str, Tag, None] = None) -> None:
         """Returns where steps lead from a valid tag, one after another, to the last: that of the last step, if none is given.

@@ -125,6 +125,25 @@ class Calls(unittest.TestCase):
         self.assertEqual(self.registry.canonical(bcp47.Tag("iw")), "he")
         self.assertRaises(bcp47.RefusedTag, bcp47.Tag, "e")
 
+    def test_parents(self):
+        # the example of RFC 4647, 3.4
+        chain = [bcp47.Tag("zh-Hant-CN-x-private1-private2")]
+        while chain[-1] is not None:
+            chain.append(chain[-1].parent)
+        self.assertEqual(list(map(str, chain[1:-1])), ["zh-Hant-CN-x-private1", "zh-Hant-CN", "zh-Hant", "zh"])
+        self.assertRaises(bcp47.RefusedTag, bcp47._bcp47.parent, "en_US")
+        self.assertRaises(TypeError, bcp47._bcp47.parent, 7)
+
+    def test_records(self):
+        registry = bcp47.Registry.from_bytes(DESCRIBED)
+        self.assertEqual(registry.record(1), (("File-Date", "2000-01-01"),))
+        self.assertEqual(dict(registry.record(3))["description"], '"Cantonese" \u7cb5')
+        self.assertEqual([dict(record).get("Type") for record in registry.records()], [None, "language", "extlang", "language", "redundant"])
+        self.assertEqual((registry.record(6), registry.record(0), registry.record(2**32 + 1)), ((), (), ()))
+        self.assertRaises(OverflowError, registry.record, -1)
+        registry.close()
+        self.assertRaises(ValueError, registry.record, 1)
+
     def test_show(self):
         with bcp47.Registry.from_bytes(DESCRIBED) as registry:
             chinese = bcp47.Row(1, "Language", "zh", "Record", 2, (("Description", "Chinese"), ("Scope", "macrolanguage")))

@@ -419,6 +419,8 @@ class Growths(unittest.TestCase):
             (lambda: registry.canonical(tag), "yue"), (lambda: registry.is_valid("en_US"), False),
             (lambda: str(bcp47.Tag("EN-us")), "en-US"), (lambda: bcp47._bcp47.parts("yue"), [("Language", "yue")]),
             (lambda: registry.equivalent("zh-yue", tag), True), (lambda: registry._explain_steps("en", 9), ([], "en")),
+            (lambda: bcp47._bcp47.parent("zh-TW"), "zh"),
+            (lambda: registry._record(2), registry._record(2)),
             (lambda: registry.matches("zh-yue", "yue-GB"), True), (lambda: registry.matches(tag, "en", "basic"), False),
             (lambda: registry._verify_steps("sgn-dd", steps, "gsg"), None), (lambda: registry.upgrade_check(registry), None),
             (lambda: registry.info.entries, registry.info.entries),

@@ -40,6 +40,13 @@ pub struct bcp47_part {
 
 #[repr(C)]
 #[derive(Clone, Copy, Debug, Default, PartialEq, Eq)]
+pub struct bcp47_field {
+    pub name: usize,
+    pub body: usize,
+}
+
+#[repr(C)]
+#[derive(Clone, Copy, Debug, Default, PartialEq, Eq)]
 pub struct bcp47_info {
     pub entries: usize,
     pub sha256: [u8; 32],
@@ -148,6 +155,7 @@ extern "C" {
         parts: *mut bcp47_part,
         count: usize,
     ) -> bcp47_outcome;
+    pub fn bcp47_parent(text: *const c_char, length: usize, buffer: *mut c_char, room: usize) -> bcp47_outcome;
     pub fn bcp47_validate(registry: *const bcp47_registry, text: *const c_char, length: usize) -> bcp47_outcome;
     pub fn bcp47_equivalent(
         registry: *const bcp47_registry,
@@ -195,6 +203,12 @@ extern "C" {
         most: usize,
         steps: *mut *mut bcp47_step,
         tags: *mut *const c_char,
+    ) -> bcp47_outcome;
+    pub fn bcp47_record(
+        registry: *const bcp47_registry,
+        number: u32,
+        fields: *mut *mut bcp47_field,
+        texts: *mut *const c_char,
     ) -> bcp47_outcome;
     pub fn bcp47_free(text: *mut c_void);
     pub fn bcp47_verify(

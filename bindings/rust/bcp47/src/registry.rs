@@ -122,32 +122,20 @@ impl Registry {
         Registry::from_bytes(bcp47_registry::TEXT)
     }
 
-    fn append(&self, writer: Writer, tag: &[u8], text: &mut String) -> Result<(), TagError> {
+    fn text(&self, writer: Writer, tag: &[u8]) -> Result<String, TagError> {
         let mut buffer = Buffer::new();
         let ((front, length), (at, room)) = (place_of(tag), buffer.place());
         // SAFETY: the registry is open, and the pointers and lengths are those of a text and of a buffer.
         let outcome = unsafe { writer(self.raw.as_ptr(), front, length, at, room) };
-        if outcome.status != sys::BCP47_DONE {
-            return Err(refusal(&outcome, &buffer));
+        match outcome.status {
+            sys::BCP47_DONE => Ok(buffer.text(outcome.length).to_owned()),
+            _ => Err(refusal(&outcome, &buffer)),
         }
-        text.push_str(buffer.text(outcome.length));
-        Ok(())
-    }
-
-    fn text(&self, writer: Writer, tag: &[u8]) -> Result<String, TagError> {
-        let mut text = String::new();
-        self.append(writer, tag, &mut text)?;
-        Ok(text)
     }
 
     /// The canonical text of a tag, which is a text or bytes (RFC 5646, 4.5): `yue` for `zh-yue`.
     pub fn canonical(&self, tag: impl AsRef<[u8]>) -> Result<String, TagError> {
         self.text(sys::bcp47_canonical, tag.as_ref())
-    }
-
-    /// Appends the canonical text of a tag to a text, which is as it was where the tag is refused.
-    pub fn append_canonical(&self, tag: impl AsRef<[u8]>, text: &mut String) -> Result<(), TagError> {
-        self.append(sys::bcp47_canonical, tag.as_ref(), text)
     }
 
     /// The canonical text with its extlang prefix (RFC 5646, 4.5): `zh-yue` for `yue`.
@@ -158,7 +146,7 @@ impl Registry {
     /// Whether a text is a tag that is valid (RFC 5646, 2.2.9), and why it is not.
     pub fn validate(&self, tag: impl AsRef<[u8]>) -> Result<(), TagError> {
         let (front, length) = place_of(tag.as_ref());
-        // SAFETY: as in `append`.
+        // SAFETY: as in `text`.
         let outcome = unsafe { sys::bcp47_validate(self.raw.as_ptr(), front, length) };
         match outcome.status {
             sys::BCP47_DONE => Ok(()),
@@ -171,7 +159,7 @@ impl Registry {
         let mut buffer = Buffer::new();
         let (at, room) = buffer.place();
         let ((one, length), (other, other_length)) = (place_of(first.as_ref()), place_of(second.as_ref()));
-        // SAFETY: as in `append`.
+        // SAFETY: as in `text`.
         let outcome = unsafe { sys::bcp47_equivalent(self.raw.as_ptr(), one, length, other, other_length, at, room) };
         agrees(&outcome, &buffer)
     }
@@ -183,7 +171,7 @@ impl Registry {
         let (mut buffer, raw, scheme) = (Buffer::new(), self.raw.as_ptr(), scheme as c_int);
         let (at, room) = buffer.place();
         let ((one, length), (other, other_length)) = (place_of(range.as_ref()), place_of(tag.as_ref()));
-        // SAFETY: as in `append`.
+        // SAFETY: as in `text`.
         let outcome = unsafe { sys::bcp47_match(raw, scheme, one, length, other, other_length, at, room) };
         agrees(&outcome, &buffer)
     }
@@ -191,7 +179,7 @@ impl Registry {
     /// The steps from a tag to its canonical form, at most so many.
     pub fn explain(&self, tag: impl AsRef<[u8]>, most: usize) -> Result<Explanation, TagError> {
         let ((front, length), mut steps, mut at) = (place_of(tag.as_ref()), ptr::null_mut(), ptr::null());
-        // SAFETY: as in `append`; `steps` is what bcp47_free lets go of.
+        // SAFETY: as in `text`; `steps` is what bcp47_free lets go of.
         let outcome = unsafe { sys::bcp47_steps(self.raw.as_ptr(), front, length, most, &mut steps, &mut at) };
         // SAFETY: `at` is at the variant, or at the tag of a step or the last tag: a text in ASCII with a zero after it.
         let mut next = || unsafe {
@@ -218,6 +206,29 @@ impl Registry {
         answer
     }
 
+    /// The fields of a record of the file, each its name and its body, by its number from 1 on, with the header counted; none where
+    /// it is not there. The numbers are those of a `Step`. The first call reads the records.
+    pub fn record(&self, number: u32) -> Result<Vec<(String, String)>, TagError> {
+        let (mut fields, mut at) = (ptr::null_mut(), ptr::null());
+        // SAFETY: the registry is open; `fields` is what bcp47_free lets go of.
+        let outcome = unsafe { sys::bcp47_record(self.raw.as_ptr(), number, &mut fields, &mut at) };
+        if outcome.status != sys::BCP47_DONE {
+            return Err(TagError::of(&outcome, String::new));
+        }
+        // SAFETY: at `at` are as many bytes, which are UTF-8, and a zero.
+        let mut next = |length: usize| unsafe {
+            let text = std::slice::from_raw_parts(at.cast::<u8>(), length);
+            at = at.add(length + 1);
+            String::from_utf8_lossy(text).into_owned()
+        };
+        // SAFETY: the call gave so many.
+        let lengths = unsafe { std::slice::from_raw_parts(fields, outcome.place) };
+        let texts = lengths.iter().map(|field| (next(field.name), next(field.body))).collect();
+        // SAFETY: the call gave it, and nothing borrows it.
+        unsafe { sys::bcp47_free(fields.cast()) };
+        Ok(texts)
+    }
+
     /// Whether steps lead from a valid tag, one after another, to another tag, which is then equivalent to it.
     pub fn verify(&self, tag: impl AsRef<[u8]>, steps: &[Step], last: impl AsRef<[u8]>) -> Result<(), TraceError> {
         let (front, length) = place_of(tag.as_ref());
@@ -225,7 +236,7 @@ impl Registry {
         let numbers = |step: &Step| sys::bcp47_step { kind: step.kind as u8, place: step.place, number: step.number };
         let steps: Vec<_> = steps.iter().map(numbers).collect();
         let (of, count) = (steps.as_ptr(), steps.len());
-        // SAFETY: as in `append`.
+        // SAFETY: as in `text`.
         let outcome = unsafe { sys::bcp47_verify(self.raw.as_ptr(), front, length, of, count, end, end_length) };
         match outcome.status {
             sys::BCP47_DONE => Ok(()),

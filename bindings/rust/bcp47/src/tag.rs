@@ -91,6 +91,23 @@ impl Tag {
     }
 }
 
+impl Tag {
+    /// The tag without its last subtag, and without the singletons that then end it (RFC 4647, 3.4); None where nothing is left.
+    ///
+    /// ```
+    /// let tag: bcp47::Tag = "zh-Hant-TW".parse()?;
+    /// assert_eq!(tag.parent().unwrap().as_str(), "zh-Hant");
+    /// # Ok::<(), bcp47::TagError>(())
+    /// ```
+    pub fn parent(&self) -> Option<Tag> {
+        let mut buffer = Buffer::new();
+        let (at, room) = buffer.place();
+        // SAFETY: the pointers and lengths are those of a text and of a buffer.
+        let outcome = unsafe { sys::bcp47_parent(self.text.as_ptr().cast(), self.text.len(), at, room) };
+        buffer.text(outcome.length).parse().ok()
+    }
+}
+
 impl FromStr for Tag {
     type Err = TagError;
 

@@ -21,10 +21,6 @@ fn texts_are_made_canonical() {
     }
     assert_eq!(registry.extlang("yue").unwrap(), "zh-yue");
     assert!(!registry.equivalent("zh", "yue").unwrap());
-    let mut text = String::from("<");
-    registry.append_canonical("iw", &mut text).unwrap();
-    registry.append_canonical("e_n", &mut text).unwrap_err();
-    assert_eq!(text, "<he");
 }
 
 #[test]
@@ -211,4 +207,18 @@ fn threads_share_a_registry() {
             });
         }
     });
+}
+
+#[test]
+fn tags_have_parents() {
+    let parent = |tag: &str| tag.parse::<Tag>().unwrap().parent().map(String::from);
+    assert_eq!(parent("zh-Hant-CN-x-private1").as_deref(), Some("zh-Hant-CN"));
+    assert_eq!((parent("zh"), parent("i-klingon")), (None, None));
+}
+
+#[test]
+fn records_have_fields() {
+    let registry = sample();
+    assert_eq!(registry.record(1).unwrap(), [("File-Date".to_owned(), "2024-01-01".to_owned())]);
+    assert!(registry.record(u32::MAX).unwrap().is_empty());
 }

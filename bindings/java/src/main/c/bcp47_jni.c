@@ -110,6 +110,39 @@ NATIVE(jobject, parts)(JNIEnv *env, jclass self, jbyteArray tag) {
     return (*env)->NewStringUTF(env, buffer);
 }
 
+NATIVE(jobject, parent)(JNIEnv *env, jclass self, jbyteArray tag) {
+    char text[ROOM], buffer[ROOM];
+    size_t length = text_of(env, tag, text);
+    (void)self;
+    bcp47_outcome outcome = bcp47_parent(text, length, buffer, sizeof buffer);
+    return outcome.status == BCP47_DONE ? (*env)->NewStringUTF(env, buffer) : refusal(env, outcome, NULL);
+}
+
+/* The bytes of a text, into an array, while Java throws nothing. */
+static void put(JNIEnv *env, jobjectArray all, size_t index, const char *text, size_t length) {
+    jbyteArray made = (*env)->ExceptionCheck(env) ? NULL : (*env)->NewByteArray(env, (jsize)length);
+    if (!made) return;
+    (*env)->SetByteArrayRegion(env, made, 0, (jsize)length, (const jbyte *)text);
+    (*env)->SetObjectArrayElement(env, all, (jsize)index, made);
+    (*env)->DeleteLocalRef(env, made);
+}
+
+/* An array of the names and bodies of the fields in turn. */
+NATIVE(jobject, record)(JNIEnv *env, jclass self, jlong registry, jint number) {
+    bcp47_field *fields;
+    const char *at;
+    (void)self;
+    bcp47_outcome outcome = bcp47_record(registry_of(registry), (uint32_t)number, &fields, &at);
+    if (outcome.status != BCP47_DONE) return refusal(env, outcome, NULL);
+    jobjectArray made = (*env)->NewObjectArray(env, (jsize)(2 * outcome.place), object_class, NULL);
+    for (size_t i = 0; made && i < outcome.place; at += fields[i].name + fields[i].body + 2, i++) {
+        put(env, made, 2 * i, at, fields[i].name);
+        put(env, made, 2 * i + 1, at + fields[i].name + 1, fields[i].body);
+    }
+    bcp47_free(fields);
+    return made;
+}
+
 NATIVE(jobject, validate)(JNIEnv *env, jclass self, jlong registry, jbyteArray tag) {
     char text[ROOM];
     size_t length = text_of(env, tag, text);

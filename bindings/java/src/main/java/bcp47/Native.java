@@ -31,6 +31,11 @@ final class Native {
 
     static native Object parts(byte[] tag);
 
+    static native Object parent(byte[] tag);
+
+    /** An array of the names and bodies of the fields in turn, each its bytes. */
+    static native Object record(long registry, int number);
+
     static native Refusal validate(long registry, byte[] tag);
 
     /** Null where they match, and so does the scheme 0 for two tags that are equivalent. */

@@ -12,6 +12,8 @@ import java.util.Arrays;
 import java.util.HexFormat;
 import java.util.List;
 import java.util.Objects;
+import java.util.function.LongFunction;
+import java.util.stream.IntStream;
 
 /**
  * A registry of language subtags that passes the check. Any number of threads may ask it at once. It is freed by
@@ -88,24 +90,23 @@ public final class Registry implements AutoCloseable {
         cleanable.clean();
     }
 
+    /** What a call answers, which has the registry until then. */
+    private <T> T ask(LongFunction<T> call) {
+        long registry = held.take();
+        try {
+            return call.apply(registry);
+        } finally {
+            held.give();
+        }
+    }
+
     private static String text(Object answer, CharSequence tag) {
-        if (answer == null) {
-            return tag.toString();
-        }
-        if (answer instanceof String text) {
-            return text;
-        }
-        throw new RefusedTag(((Refusal) answer).checked(), tag);
+        return answer == null ? tag.toString() : Tag.text(answer, tag);
     }
 
     private Object asked(CharSequence tag, boolean extlang) {
         byte[] bytes = Native.bytes(tag);
-        long registry = held.take();
-        try {
-            return Native.text(registry, bytes, extlang);
-        } finally {
-            held.give();
-        }
+        return ask(registry -> Native.text(registry, bytes, extlang));
     }
 
     /**
@@ -144,13 +145,8 @@ public final class Registry implements AutoCloseable {
 
     private Refusal validated(CharSequence tag) {
         byte[] bytes = Native.bytes(tag);
-        long registry = held.take();
-        try {
-            Refusal refusal = Native.validate(registry, bytes);
-            return refusal == null ? null : refusal.checked();
-        } finally {
-            held.give();
-        }
+        Refusal refusal = ask(registry -> Native.validate(registry, bytes));
+        return refusal == null ? null : refusal.checked();
     }
 
     /**
@@ -179,16 +175,11 @@ public final class Registry implements AutoCloseable {
     private boolean agree(int scheme, CharSequence first, CharSequence second) {
         byte[] one = Native.bytes(first);
         byte[] other = Native.bytes(second);
-        long registry = held.take();
-        try {
-            Refusal refusal = Native.match(registry, scheme, one, other);
-            if (refusal == null || refusal.isDifferent()) {
-                return refusal == null;
-            }
-            throw new RefusedTag(refusal.checked(), refusal.isOfSecond() ? second : first);
-        } finally {
-            held.give();
+        Refusal refusal = ask(registry -> Native.match(registry, scheme, one, other));
+        if (refusal == null || refusal.isDifferent()) {
+            return refusal == null;
         }
+        throw new RefusedTag(refusal.checked(), refusal.isOfSecond() ? second : first);
     }
 
     /**
@@ -238,31 +229,36 @@ public final class Registry implements AutoCloseable {
      */
     public Explanation explain(CharSequence tag, int most) {
         byte[] bytes = Native.bytes(tag);
-        long registry = held.take();
-        try {
-            Object answer = Native.explain(registry, bytes, Math.max(most, 0));
-            if (answer instanceof Refusal refusal) {
-                throw new RefusedTag(refusal.checked(), tag);
-            }
-            List<?> all = Arrays.asList((Object[]) answer);
-            int last = all.size() - 1;
-            return new Explanation(all.subList(0, last).stream().map(Step.class::cast).toList(), (String) all.get(last));
-        } finally {
-            held.give();
+        Object answer = ask(registry -> Native.explain(registry, bytes, Math.max(most, 0)));
+        if (answer instanceof Refusal refusal) {
+            throw new RefusedTag(refusal.checked(), tag);
         }
+        List<?> all = Arrays.asList((Object[]) answer);
+        int last = all.size() - 1;
+        return new Explanation(all.subList(0, last).stream().map(Step.class::cast).toList(), (String) all.get(last));
+    }
+
+    /**
+     * The fields of a record of the file. The first call reads the records.
+     *
+     * @param number its number from 1 on, with the header counted, as that of a {@link Step}
+     * @return the fields; none where it is not there
+     */
+    public List<Field> record(int number) {
+        Object answer = ask(registry -> Native.record(registry, number));
+        if (answer instanceof Refusal refusal) {
+            throw new IllegalStateException(refusal.checked().toString());
+        }
+        List<String> texts = Arrays.stream((Object[]) answer).map(it -> new String((byte[]) it, StandardCharsets.UTF_8)).toList();
+        return IntStream.range(0, texts.size() / 2).mapToObj(i -> new Field(texts.get(2 * i), texts.get(2 * i + 1))).toList();
     }
 
     /** @return which registry it is; the digest is taken anew at each call */
     public Info info() {
         byte[] date = new byte[11];
         byte[] sha256 = new byte[32];
-        long registry = held.take();
-        try {
-            long entries = Native.info(registry, date, sha256);
-            String fileDate = new String(date, StandardCharsets.US_ASCII).replace("\0", "");
-            return new Info(fileDate, entries, HexFormat.of().formatHex(sha256));
-        } finally {
-            held.give();
-        }
+        long entries = ask(registry -> Native.info(registry, date, sha256));
+        String fileDate = new String(date, StandardCharsets.US_ASCII).replace("\0", "");
+        return new Info(fileDate, entries, HexFormat.of().formatHex(sha256));
     }
 }

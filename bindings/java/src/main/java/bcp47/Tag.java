@@ -51,10 +51,7 @@ public final class Tag implements CharSequence, Comparable<Tag>, Serializable {
      * @throws RefusedTag where the text is no tag
      */
     public static Tag of(CharSequence text) {
-        Object answer = Native.parts(Native.bytes(text));
-        if (!(answer instanceof String shown)) {
-            throw new RefusedTag(((Refusal) answer).checked(), text);
-        }
+        String shown = text(Native.parts(Native.bytes(text)), text);
         int point = shown.indexOf('.');
         String tag = shown.substring(0, point);
         String kinds = shown.substring(point + 1);
@@ -75,6 +72,20 @@ public final class Tag implements CharSequence, Comparable<Tag>, Serializable {
      */
     public static Tag of(Locale locale) {
         return of(locale.toLanguageTag());
+    }
+
+    /** The text that a call answers, or throws why it refuses. */
+    static String text(Object answer, CharSequence asked) {
+        if (answer instanceof String text) {
+            return text;
+        }
+        throw new RefusedTag(((Refusal) answer).checked(), asked);
+    }
+
+    /** @return the tag without its last subtag and the singletons that then end it (RFC 4647, 3.4), or null where nothing is left */
+    public Tag parent() {
+        String parent = text(Native.parent(Native.bytes(text)), text);
+        return parent.isEmpty() ? null : of(parent);
     }
 
     /** @return the locale of this tag; what Java's locales have no place for is left out */

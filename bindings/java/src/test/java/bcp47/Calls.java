@@ -149,6 +149,13 @@ final class Calls {
         is("ReplacementRepeats alalc97", registry.answer(repeats).refusal().toString());
     }
 
+    private static void parents(Registry registry) {
+        is("zh-Hant-CN", Tag.of("zh-Hant-CN-x-private1").parent().toString());
+        is(true, Tag.of("zh").parent() == null);
+        is("[Field[name=File-Date, body=2024-01-01]]", registry.record(1).toString());
+        is(List.of(), registry.record(-1));
+    }
+
     private static void explanations(Registry registry) {
         Explanation explanation = registry.explain("sgn-dd");
         is("Region 2 27 sgn-DE\nWhole 1 44 gsg\n= gsg", explanation.toString());
@@ -321,6 +328,7 @@ final class Calls {
             longest();
             refusals(registry);
             explanations(registry);
+            parents(registry);
             tags();
             info(registry, content);
             travels(registry);
