@@ -291,7 +291,11 @@ END
     answered "load.mjs" apart "$folder/bcp47-wasm-$version" node answers.mjs "$folder/registry.txt"
     passes "WebAssembly" tests/wasm.sh
     tail -n 1 "$folder/out"
-    passes "the page" tests/packaging/page.py "$folder/dist/langtag.html" build/langtag examples/iana-2025-05-15.txt
+    mkdir -p "$folder"/page/{bench,examples}
+    cp tests/packaging/{page,browsers}.py "$folder/dist/langtag.html" "$folder/unpacked/bin/langtag" "$folder/registry.txt" "$folder/page"
+    cp bench/make_tags.py "$folder/page/bench"
+    cp examples/sample-registry.txt "$folder/page/examples"
+    passes "the page" apart "$folder/page" ./page.py langtag.html langtag registry.txt
     cat "$folder/out"
 else
     echo "skipped: WebAssembly and the page langtag.html, which make lib-wasm builds"

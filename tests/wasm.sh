@@ -43,19 +43,21 @@ writes "hostile registries" "$folder/checked" node tests/wasm/check.mjs "$alone"
 passes "calls that are cut off" node tests/wasm/cut_off.mjs "$alone" "$sample"
 cat "$folder/out"
 
-# The heap and the exports on this machine, each line and each branch of them.
+# The heap and the exports on this machine, each line and each branch of them. The proved calls take what they allocate from the heap.
 flags="-std=c11 -D_GNU_SOURCE -g -no-pie -fno-pie -Wall -Wextra -Werror -Ibindings/c -Ibindings/wasm"
-for source in wasm/heap wasm/bcp47_wasm c/bcp47 c/names; do
+for source in wasm/heap wasm/bcp47_wasm c/bcp47 c/heap c/names; do
     # shellcheck disable=SC2086
-    passes "compile $source" gcc $flags -O0 --coverage -fno-builtin -include tests/wasm/memory.h -c bindings/$source.c -o "$folder/$(basename $source).o"
+    passes "compile $source" gcc $flags -O0 --coverage -fno-builtin -include tests/wasm/memory.h -c bindings/$source.c -o "$folder/${source/\//_}.o"
 done
+objcopy --weaken-symbol=rattle_alloc --weaken-symbol=rattle_realloc --weaken-symbol=rattle_dealloc build/proved.o "$folder/proved.o"
 # shellcheck disable=SC2086
-passes "compile the test of the heap" gcc $flags -O1 --coverage -o "$folder/heap" tests/wasm/heap.c "$folder/bcp47.o" "$folder/names.o" "$folder/bcp47_wasm.o" \
-    "$folder/heap.o" build/proved.o
+passes "compile the test of the heap" gcc $flags -O1 --coverage -o "$folder/heap" tests/wasm/heap.c "$folder"/{proved,c_bcp47,c_heap,c_names,wasm_bcp47_wasm,wasm_heap}.o
 passes "the heap" "$folder/heap"
 passes "the exports" "$folder/heap" "$registry" "$folder/tags"
 cat "$folder/out"
-(cd "$folder" && gcov -b -o . heap.o bcp47_wasm.o > report 2>&1)
+tail -n 1 "$folder/out" > "$folder/sum"
+writes "each export of bcp47.wasm" "$folder/sum" node tests/wasm/exports.mjs build/wasm/bcp47.wasm "$registry" "$folder/tags"
+(cd "$folder" && gcov -b -o . wasm_heap.o wasm_bcp47_wasm.o > report 2>&1)
 passes "each line and branch of both is run" test "$(grep -A 3 -E "^File '.*wasm/" "$folder/report" | grep -c ':100.00%')" = 4
 grep -A 3 -E "^File '.*wasm/" "$folder/report" | grep -v ':100.00%\|^--\|^File\|^No '
 

@@ -3,207 +3,22 @@
 
 Usage: page.py langtag.html PROGRAM REGISTRY [FOLDER], from the repository; pictures at three widths in two colour schemes go to FOLDER.
 ROWS=1000000 in the environment makes the CSV file that long; else it has 200,000 rows.
-Each browser is driven by its own protocol over the standard library: DevTools by a pipe, and Marionette.
 """
-import base64
-import contextlib
 import json
 import os
 import random
 import shutil
-import signal
-import socket
 import subprocess
 import sys
 import tempfile
 import time
 from pathlib import Path
 
+from browsers import CLOSE, CONTRAST, Chromium, Firefox, wait
+
 PAGE, PROGRAM, REGISTRY = (Path(it).resolve() for it in sys.argv[1:4])
 PICTURES = Path(sys.argv[4]) if len(sys.argv) > 4 else None
 BIG = int(os.environ.get("ROWS", "200000"))
-
-
-class Chromium:
-    """Chromium, by the DevTools protocol."""
-
-    PROGRAM = "chromium"
-
-    def __init__(self, folder: Path) -> None:
-        (mine, its_output), (its_input, other) = os.pipe(), os.pipe()
-
-        def hand_over() -> None:
-            first, second = os.dup(its_input), os.dup(its_output)
-            os.dup2(first, 3)
-            os.dup2(second, 4)
-
-        self.process = subprocess.Popen(  # pylint: disable=subprocess-popen-preexec-fn
-            ["chromium", "--headless", "--no-sandbox", "--disable-gpu", "--no-first-run", f"--user-data-dir={folder}/profile",
-             "--remote-debugging-pipe", "about:blank"], preexec_fn=hand_over, close_fds=False, stdout=subprocess.DEVNULL,
-            stderr=subprocess.DEVNULL, start_new_session=True)
-        os.close(its_output)
-        os.close(its_input)
-        self.input, self.output, self.number, self.told, self.session = open(mine, "rb"), open(other, "wb"), 0, [], None
-        self.buffer = b""
-        targets = self.call("Target.getTargets")["targetInfos"]
-        target = next(it["targetId"] for it in targets if it["type"] == "page")
-        self.session = self.call("Target.attachToTarget", targetId=target, flatten=True)["sessionId"]
-        for domain in ("Page", "Runtime", "Log", "Network", "DOM", "Accessibility"):
-            self.call(f"{domain}.enable")
-        self.requests = []
-        self.call("Browser.setDownloadBehavior", behavior="allow", downloadPath=str(folder))
-
-    def call(self, method: str, **parameters):
-        self.number += 1
-        message = {"id": self.number, "method": method, "params": parameters}
-        if self.session and not method.startswith(("Target.", "Browser.")):
-            message["sessionId"] = self.session
-        self.output.write(json.dumps(message).encode() + b"\0")
-        self.output.flush()
-        while True:
-            answer = self.read()
-            if answer.get("id") == self.number:
-                assert "error" not in answer, (method, answer)
-                return answer["result"]
-            if answer.get("method") in ("Runtime.consoleAPICalled", "Runtime.exceptionThrown", "Log.entryAdded"):
-                self.told.append(json.dumps(answer["params"])[:400])
-            if answer.get("method") == "Network.requestWillBeSent":
-                self.requests.append(answer["params"]["request"]["url"][:60])
-
-    def read(self):
-        while b"\0" not in self.buffer:
-            more = os.read(self.input.fileno(), 1 << 20)
-            assert more, "Chromium ended"
-            self.buffer += more
-        text, _, self.buffer = self.buffer.partition(b"\0")
-        return json.loads(text)
-
-    def go(self, address: str) -> None:
-        self.call("Page.navigate", url=address)
-
-    def run(self, script: str):
-        answer = self.call("Runtime.evaluate", expression=f"(async () => {{{script}}})()", awaitPromise=True, returnByValue=True)
-        assert "exceptionDetails" not in answer, (script, answer)
-        return answer["result"].get("value")
-
-    def file(self, selector: str, path: Path) -> None:
-        root = self.call("DOM.getDocument")["root"]["nodeId"]
-        node = self.call("DOM.querySelector", nodeId=root, selector=selector)["nodeId"]
-        self.call("DOM.setFileInputFiles", nodeId=node, files=[str(path)])
-
-    def press(self, key: str) -> None:
-        codes = {"Tab": 9, "Enter": 13, " ": 32}
-        more = {"text": "\r"} if key == "Enter" else {"text": key} if len(key) == 1 else {}
-        code = codes.get(key, 0)
-        for kind in ("keyDown", "keyUp"):
-            self.call("Input.dispatchKeyEvent", type=kind, key=key, windowsVirtualKeyCode=code, **(more if kind == "keyDown" else {}))
-
-    def look(self, width: int, dark: bool) -> None:
-        self.call("Emulation.setEmulatedMedia", features=[{"name": "prefers-color-scheme", "value": "dark" if dark else "light"}])
-        self.call("Emulation.setDeviceMetricsOverride", width=width, height=900, deviceScaleFactor=1, mobile=False)
-
-    def picture(self) -> bytes:
-        return base64.b64decode(self.call("Page.captureScreenshot", captureBeyondViewport=True)["data"])
-
-    def messages(self):
-        self.run("")
-        return self.told + [it for it in self.requests if not it.startswith(("file:", "blob:"))]
-
-    def end(self) -> None:
-        os.killpg(self.process.pid, signal.SIGKILL)
-        self.process.wait()
-
-
-class Firefox:
-    """Firefox, by Marionette."""
-
-    PROGRAM = "firefox-esr"
-
-    def __init__(self, folder: Path) -> None:
-        with socket.socket() as free:
-            free.bind(("127.0.0.1", 0))
-            port = free.getsockname()[1]
-        profile = folder / "profile"
-        profile.mkdir()
-        settings = {"marionette.port": port, "browser.download.folderList": 2, "browser.download.dir": str(folder),
-                    "browser.shell.checkDefaultBrowser": False, "datareporting.policy.dataSubmissionEnabled": False,
-                    "browser.download.alwaysOpenPanel": False, "network.proxy.type": 0, "app.update.enabled": False,
-                    "browser.safebrowsing.downloads.enabled": False, "toolkit.telemetry.enabled": False}
-        (profile / "user.js").write_text("".join(f"user_pref({json.dumps(key)}, {json.dumps(it)});\n" for key, it in settings.items()))
-        self.process = subprocess.Popen(["firefox-esr", "--headless", "--no-remote", "--marionette", "--remote-allow-system-access",
-                                         "--profile", str(profile)], stdout=subprocess.DEVNULL, stderr=subprocess.DEVNULL,
-                                        env={**os.environ, "HOME": str(folder), "MOZ_CRASHREPORTER_DISABLE": "1"}, start_new_session=True)
-        for _ in range(600):
-            with contextlib.suppress(OSError):
-                self.socket = socket.create_connection(("127.0.0.1", port))
-                break
-            time.sleep(0.1)
-        self.number = 0
-        self.read()
-        self.call("WebDriver:NewSession", capabilities={"alwaysMatch": {"webSocketUrl": False}})
-        self.call("WebDriver:SetTimeouts", script=120000, pageLoad=60000)
-
-    def read(self):
-        text = b""
-        while not text.endswith(b":"):
-            text += self.socket.recv(1)
-        size = int(text[:-1])
-        text = b""
-        while len(text) < size:
-            text += self.socket.recv(size - len(text))
-        return json.loads(text)
-
-    def call(self, method: str, **parameters):
-        self.number += 1
-        text = json.dumps([0, self.number, method, parameters]).encode()
-        self.socket.sendall(b"%d:%b" % (len(text), text))
-        _, number, error, answer = self.read()
-        assert (number, error) == (self.number, None), (method, error)
-        return answer
-
-    def go(self, address: str) -> None:
-        self.call("WebDriver:Navigate", url=address)
-
-    def run(self, script: str):
-        answer = self.call("WebDriver:ExecuteScript", script=f"return (async () => {{{script}}})()", args=[], sandbox=None)
-        return answer["value"]
-
-    def system(self, script: str):
-        self.call("Marionette:SetContext", value="chrome")
-        try:
-            return self.run(script)
-        finally:
-            self.call("Marionette:SetContext", value="content")
-
-    def element(self, selector: str) -> str:
-        (found,) = self.call("WebDriver:FindElement", using="css selector", value=selector)["value"].values()
-        return found
-
-    def file(self, selector: str, path: Path) -> None:
-        self.call("WebDriver:ElementSendKeys", id=self.element(selector), text=str(path))
-
-    def press(self, key: str) -> None:
-        code = {"Tab": "\ue004", "Enter": "\ue007"}.get(key, key)
-        actions = [{"type": kind, "value": code} for kind in ("keyDown", "keyUp")]
-        self.call("WebDriver:PerformActions", actions=[{"type": "key", "id": "keys", "actions": actions}])
-
-    def look(self, width: int, dark: bool) -> None:
-        self.system(f"Services.prefs.setIntPref('layout.css.prefers-color-scheme.content-override', {0 if dark else 1});"
-                    "window.document.documentElement.style.minWidth = '0'")
-        self.call("WebDriver:SetWindowRect", width=width, height=1000)
-
-    def picture(self) -> bytes:
-        return base64.b64decode(self.call("WebDriver:TakeScreenshot", full=True, hash=False)["value"])
-
-    def messages(self):
-        return self.system("""return Services.console.getMessageArray().filter((it) => it instanceof Ci.nsIScriptError
-            && /langtag.html|^blob:/.test(it.sourceName)).map((it) => it.errorMessage)
-            .concat(Cc['@mozilla.org/consoleAPI-storage;1'].getService(Ci.nsIConsoleAPIStorage).getEvents()
-            .filter((it) => /langtag.html|^blob:/.test(it.filename)).map((it) => `${it.filename} ${it.arguments}`))""")
-
-    def end(self) -> None:
-        os.killpg(self.process.pid, signal.SIGKILL)
-        self.process.wait()
 
 
 def program(*words, given=b""):
@@ -211,15 +26,9 @@ def program(*words, given=b""):
     return subprocess.run([PROGRAM, *words], input=given, capture_output=True, check=False).stdout
 
 
-def wait(browser, script: str, seconds: float = 60):
-    """The value of an expression, as soon as it is true."""
-    end = time.monotonic() + seconds
-    while True:
-        value = browser.run(f"return {script}")
-        if value or time.monotonic() > end:
-            assert value, (script, browser.run("return document.body.innerText.slice(0, 3000)"), browser.messages())
-            return value
-        time.sleep(0.05)
+def mixed(count: int) -> bytes:
+    """So many tags, right and wrong ones, one in each line."""
+    return subprocess.run([sys.executable, "bench/make_tags.py", REGISTRY, "mixed", str(count)], capture_output=True, check=True).stdout
 
 
 def text_of(browser, name: str) -> str:
@@ -289,6 +98,8 @@ def by_keys(browser) -> None:
     for _ in range(16):
         browser.press("Tab")
         order.append(browser.run("return document.activeElement.id || document.activeElement.textContent"))
+        seen = browser.run("const {outlineStyle, outlineWidth} = getComputedStyle(document.activeElement); return [outlineStyle, outlineWidth]")
+        assert seen == ["solid", "3px"], (order, seen)
         if order[-1] == "jar":
             break
     assert order == ["One tag", "A list or a file", "Are these one?", "The registry", "tag", "Look at the tag", "tags", "Look at the list", "file", "first",
@@ -301,14 +112,19 @@ def by_keys(browser) -> None:
     unnamed = browser.run("""return [...document.querySelectorAll('input, textarea, select, progress, button, a, [role=region], section')].filter((it) =>
         !(it.labels?.length || it.textContent.trim() || it.getAttribute('aria-label') || document.getElementById(it.getAttribute('aria-labelledby')))).map((it) => it.outerHTML)""")
     assert unnamed == [], unnamed
+    # WCAG 2.2, 2.5.8 and 1.3.1: nothing to press is small, and no heading skips a level
+    small = browser.run("""return [...document.querySelectorAll('input, textarea, select, button, a')].filter((it) => it.offsetParent)
+        .filter((it) => Math.min(it.getBoundingClientRect().width, it.getBoundingClientRect().height) < 24).map((it) => it.outerHTML)""")
+    assert small == [], small
+    levels = browser.run("return [...document.querySelectorAll('h1, h2, h3, h4')].map((it) => Number(it.tagName[1]))")
+    assert levels[0] == 1 and all(b - a <= 1 for a, b in zip(levels, levels[1:])), levels
     twice = browser.run("const all = [...document.querySelectorAll('[id]')].map((it) => it.id); return all.filter((it, i) => all.indexOf(it) !== i)")
     assert twice == [], twice
 
 
 def by_lists(browser, folder: Path) -> None:
     """A list that is pasted, CSV that is dropped or chosen, and what is saved, which is what the program writes."""
-    tags = subprocess.run([sys.executable, "bench/make_tags.py", REGISTRY, "mixed", "3000"], capture_output=True, check=True).stdout
-    tags += "iw\nhe\nen_US\n\neng\neng\nDeutsch\u00e9\nen-US\r\n".encode()
+    tags = mixed(3000) + "iw\nhe\nen_US\n\neng\neng\nDeutsch\u00e9\nen-US\r\n".encode()
     browser.run(f"document.getElementById('tags').value = {json.dumps(tags.decode())}; document.getElementById('list-form').requestSubmit()")
     said = wait(browser, READ)
     # a field for text has line feeds alone
@@ -422,6 +238,8 @@ def pictures(browser, name: str) -> None:
             time.sleep(0.1)
             wide = browser.run("return [innerWidth, document.documentElement.scrollWidth]")
             assert wide[0] == width and wide[1] <= width, wide
+            bad = browser.run(f"return [...{CONTRAST}, ...{CLOSE}]")
+            assert bad == [], (width, dark, bad)
             if PICTURES:
                 (PICTURES / f"{name}-{width}-{'dark' if dark else 'light'}.png").write_bytes(browser.picture())
 
@@ -429,8 +247,8 @@ def pictures(browser, name: str) -> None:
 def main() -> None:
     with tempfile.TemporaryDirectory(ignore_cleanup_errors=True) as made:
         big = Path(made) / "big.csv"
-        kinds = random.Random(1).choices(["zh-yue", "en-us", "iw", "he", "de-DE", "eng", "en_US", "fr-x-n%d"], k=BIG)
-        big.write_text("id,title,tag\n" + "".join(f'{i},"A title, {i}",{it % i if "%" in it else it}\n' for i, it in enumerate(kinds)))
+        tags = mixed(BIG).decode().splitlines()
+        big.write_text("id,title,tag\n" + "".join(f'{i},"A title, {i}",{it}\n' for i, it in enumerate(tags)))
         for kind in (Chromium, Firefox):
             name = kind.__name__.lower()
             if not shutil.which(kind.PROGRAM):

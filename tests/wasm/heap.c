@@ -34,7 +34,7 @@ int wasm_parts(address, uint32_t, address, uint32_t, address, uint32_t);
 int wasm_validate(address, address, uint32_t);
 int wasm_equivalent(address, address, uint32_t, address, uint32_t, address, uint32_t);
 int wasm_match(address, int, address, uint32_t, address, uint32_t, address, uint32_t);
-address wasm_explanation(address, address, uint32_t, uint32_t), wasm_show(address, address, uint32_t);
+address wasm_explanation(address, address, uint32_t, uint32_t), wasm_steps(address, address, uint32_t, uint32_t), wasm_show(address, address, uint32_t);
 int wasm_verify(address, address, uint32_t, address, uint32_t, address, uint32_t), wasm_upgrade_check(address, address);
 address wasm_status_name(int), wasm_fault_name(int), wasm_kind_name(int), wasm_part_kind_name(int), wasm_status_help(int), wasm_fault_help(int);
 
@@ -156,7 +156,14 @@ static void test_heap(void) {
 static char *buffer, *given, *wanted_text;
 static bcp47_outcome *told;
 
+/* A sum over what is answered (FNV-1a), which exports.mjs makes of the exports themselves. */
+static uint32_t sum;
+static void add(const void *bytes, size_t count) {
+    for (const unsigned char *at = bytes; count--; at++) sum = (sum ^ *at) * 16777619;
+}
+
 static int is_told(int status, bcp47_outcome wanted) {
+    add(told, offsetof(bcp47_outcome, text) + sizeof told->text);
     return status == wanted.status && told->status == wanted.status && told->detail == wanted.detail && told->place == wanted.place &&
            told->length == wanted.length && told->text == wanted.text;
 }
@@ -167,7 +174,15 @@ static int is_told(int status, bcp47_outcome wanted) {
         bcp47_outcome of_c = wanted; \
         SAME(status, of_c); \
         CHECK(!memcmp(buffer, wanted_text, of_c.length)); \
+        add(buffer, of_c.length); \
     } while (0)
+
+/* A text that a call gave in the place of another, by C. */
+static void test_given(address said, char *lines) {
+    CHECK(!said == !lines && (!said || !strcmp(AT(char, said), lines)));
+    if (said) add(lines, strlen(lines));
+    wasm_free(said), bcp47_free(lines);
+}
 
 static void test_tag(address at, const char *text, uint32_t length) {
     bcp47_registry *registry = AT(bcp47_registry, at);
@@ -176,23 +191,44 @@ static void test_tag(address at, const char *text, uint32_t length) {
     SAME_TEXT(wasm_canonical(at, tag, length, to, 4096), bcp47_canonical(registry, text, length, wanted_text, 4096));
     SAME_TEXT(wasm_extlang(at, tag, length, to, 4096), bcp47_extlang(registry, text, length, wanted_text, 4096));
     SAME_TEXT(wasm_classify(0, tag, length, to, 4096), bcp47_classify(NULL, text, length, wanted_text, 4096));
+    SAME_TEXT(wasm_classify(at, tag, length, to, 4096), bcp47_classify(registry, text, length, wanted_text, 4096));
+    static const bcp47_step steps[] = {{BCP47_REGION, 2, 27}, {BCP47_WHOLE, 1, 44}};
+    for (uint32_t two = 0; two < 3; two += 2)
+        SAME(wasm_verify(at, tag, length, OF(steps), two, tag, length), bcp47_verify(registry, text, length, steps, two, text, length));
     SAME(wasm_validate(at, tag, length), bcp47_validate(registry, text, length));
     SAME(wasm_equivalent(at, tag, length, OF(memcpy(given + 2048, "zh-yue", 6)), 6, to, 4096), bcp47_equivalent(registry, text, length, "zh-yue", 6, wanted_text, 4096));
     for (int scheme = 0; scheme < 4; scheme++)
         SAME(wasm_match(at, scheme, OF(given + 2048), 2, tag, length, to, 4096), bcp47_match(registry, scheme, "zh", 2, text, length, wanted_text, 4096));
     static bcp47_part parts[BCP47_PARTS], by_c[BCP47_PARTS];
     SAME_TEXT(wasm_parts(tag, length, to, 4096, OF(parts), BCP47_PARTS), bcp47_parts(text, length, wanted_text, 4096, by_c, BCP47_PARTS));
-    for (size_t i = 0; told->status == BCP47_DONE && i < told->place; i++)
+    for (size_t i = 0; told->status == BCP47_DONE && i < told->place; i++) {
         CHECK(parts[i].kind == by_c[i].kind && parts[i].start == by_c[i].start && parts[i].length == by_c[i].length);
+        add(&parts[i].kind, 1), add(&parts[i].start, 16);
+    }
     char *lines;
     address said = wasm_explanation(at, tag, length, 3);
     SAME((int)told->status, bcp47_explanation(registry, text, length, 3, &lines));
-    CHECK(!said == !lines && (!said || !strcmp(AT(char, said), lines)));
-    wasm_free(said), bcp47_free(lines);
+    test_given(said, lines);
+    bcp47_step *list;
+    const char *leads;
+    said = wasm_steps(at, tag, length, 3);
+    SAME((int)told->status, bcp47_steps(registry, text, length, 3, &list, &leads));
+    CHECK(!said == !list);
+    size_t count = told->status ? 0 : told->place;
+    const char *behind = AT(char, said) + count * sizeof *list;
+    for (size_t i = 0; list && i < count; i++) {
+        const bcp47_step *step = AT(bcp47_step, said) + i;
+        CHECK(step->kind == list[i].kind && step->place == list[i].place && step->number == list[i].number);
+        add(&step->kind, 1), add(&step->place, 8);
+    }
+    for (size_t i = 0; list && i <= count; i++, behind += strlen(behind) + 1, leads += strlen(leads) + 1) {
+        CHECK(!strcmp(behind, leads));
+        add(leads, strlen(leads));
+    }
+    wasm_free(said), bcp47_free(list);
     said = wasm_show(at, tag, length);
     SAME((int)told->status, bcp47_show(registry, text, length, &lines));
-    CHECK(!said == !lines && (!said || !strcmp(AT(char, said), lines)));
-    wasm_free(said), bcp47_free(lines);
+    test_given(said, lines);
 }
 
 static char *file_of(const char *path, size_t *length) {
@@ -213,6 +249,7 @@ int main(int count, char **words) {
         return 0;
     }
     char *file = file_of(words[1], &length), *tags = file_of(words[2], &size);
+    memory_pages = 1; /* what is before the heap lies in memory */
     told = AT(bcp47_outcome, wasm_outcome());
     buffer = AT(char, wasm_allocate(4096)), given = AT(char, wasm_allocate(4096));
     wanted_text = malloc(4096);
@@ -226,6 +263,7 @@ int main(int count, char **words) {
         registry = wasm_open(bytes, (uint32_t)length, room, 4096);
         CHECK(!registry == (told->status == BCP47_OUT_OF_MEMORY));
     }
+    CHECK(tries > 10);
     memory_most = PAGES;
     printf("heap.c: opened after %zu refusals\n", tries - 1);
     wasm_free(bytes);
@@ -237,20 +275,21 @@ int main(int count, char **words) {
     const char *others[] = {"", "ja-Latn-hepburn-alalc97-heploc", "sgn-dd", "en_US", "i-klingon", "x-own", "xx", "de-x-1", "zh-yue"};
     for (size_t i = 0; i < sizeof others / sizeof *others; i++) test_tag(registry, others[i], (uint32_t)strlen(others[i]));
     size_t tested = 0;
-    for (char *tag = tags, *end; (end = strchr(tag, '\n')) && tested < 20000; tag = end + 1, tested++)
-        if (end - tag < 2000) test_tag(registry, tag, (uint32_t)(end - tag));
-    static const bcp47_step steps[] = {{BCP47_REGION, 2, 27}, {BCP47_WHOLE, 1, 44}};
-    memcpy(given, "sgn-dd", 6), memcpy(given + 64, "gsg", 3);
-    SAME(wasm_verify(registry, OF(given), 6, OF(steps), 2, OF(given + 64), 3),
-         bcp47_verify(AT(bcp47_registry, registry), "sgn-dd", 6, steps, 2, "gsg", 3));
-    CHECK(wasm_upgrade_check(registry, registry) == BCP47_DONE && wasm_upgrade_check(registry, 0) == BCP47_NOT_OPEN);
+    sum = 2166136261;
+    for (char *tag = tags, *end; (end = strchr(tag, '\n')); tag = end + 1, tested++) {
+        CHECK(end - tag < 2000);
+        test_tag(registry, tag, (uint32_t)(end - tag));
+    }
+    SAME(wasm_upgrade_check(registry, registry), bcp47_upgrade_check(AT(bcp47_registry, registry), AT(bcp47_registry, registry)));
     for (int i = -1; i < 70; i++) {
+        const char *const names[] = {bcp47_status_name(i), bcp47_fault_name(i), bcp47_kind_name(i), bcp47_part_kind_name(i), bcp47_status_help(i), bcp47_fault_help(i)};
+        for (size_t k = 0; k < sizeof names / sizeof *names; k++) add(names[k], strlen(names[k]));
         CHECK(wasm_status_name(i) == OF(bcp47_status_name(i)) && wasm_fault_name(i) == OF(bcp47_fault_name(i)));
         CHECK(wasm_kind_name(i) == OF(bcp47_kind_name(i)) && wasm_part_kind_name(i) == OF(bcp47_part_kind_name(i)));
         CHECK(wasm_status_help(i) == OF(bcp47_status_help(i)) && wasm_fault_help(i) == OF(bcp47_fault_help(i)));
     }
     CHECK(!strcmp(AT(char, wasm_version()), BCP47_VERSION));
     wasm_close(registry);
-    CHECK(wasm_validate(registry, room, 0) == BCP47_NOT_OPEN);
-    printf("heap.c: %zu tags\n", tested);
+    CHECK(wasm_validate(registry, room, 0) == BCP47_NOT_OPEN && wasm_upgrade_check(registry, 0) == BCP47_NOT_OPEN);
+    printf("%zu tags, %08x\n", tested, (unsigned)sum);
 }

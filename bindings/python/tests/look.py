@@ -16,40 +16,12 @@ from pathlib import Path
 from bcp47 import page, server
 from command import COMMAND
 
+sys.path.insert(0, str(Path(__file__).parents[3] / "tests/packaging"))
+from browsers import CLOSE, CONTRAST  # noqa: E402
+
 LONG = "de-DE-x-a-rather-long-tag-of-private-use-as-some-have-it"
 LIST = f"zh-yue\nYUE\nen_US\n\nde-u\nja-heploc-alalc97\n{LONG}\nyue"
 CATALOGUE = f"tag\n{LIST}\nI-KLINGON\nx y\nar\nde\nde\n".encode()
-# Elements whose text is not distinct from what is behind it (WCAG 2.2, 1.4.3), and focus that is not seen.
-CONTRAST = """(() => {
-    const channels = colour => colour.match(/[0-9.]+/g).map(Number);
-    const luminance = ([r, g, b]) => [r, g, b].map(it => it / 255).map(it => it <= 0.04045 ? it / 12.92 : ((it + 0.055) / 1.055) ** 2.4)
-        .reduce((sum, it, at) => sum + it * [0.2126, 0.7152, 0.0722][at], 0);
-    const behind = element => {
-        for (let it = element; it; it = it.parentElement) {
-            const colour = channels(getComputedStyle(it).backgroundColor);
-            if (colour.length < 4 || colour[3] === 1) return colour;
-        }
-        return [255, 255, 255];
-    };
-    const bad = [];
-    for (const element of document.body.querySelectorAll("*")) {
-        if (![...element.childNodes].some(it => it.nodeType === 3 && it.data.trim()) && !element.matches("input, textarea")) continue;
-        const [low, high] = [luminance(channels(getComputedStyle(element).color)), luminance(behind(element))].sort((a, b) => a - b);
-        if ((high + 0.05) / (low + 0.05) < 4.5) bad.push(element.outerHTML);
-    }
-    return bad;
-})()"""
-
-# Cells whose text is not apart from that of the next one.
-CLOSE = """(() => {
-    const of = cell => {
-        const range = document.createRange();
-        range.selectNodeContents(cell);
-        return range.getBoundingClientRect();
-    };
-    return [...document.querySelectorAll("th, td")].filter(it => it.nextElementSibling && of(it.nextElementSibling).left - of(it).right < 8)
-        .map(it => it.outerHTML);
-})()"""
 
 
 class Browser:
