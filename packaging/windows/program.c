@@ -52,6 +52,13 @@ int linux_isatty(int file) {
     return GetConsoleMode((HANDLE)_get_osfhandle(file), &mode) != 0;
 }
 
+/* As it starts, the program asks that a pipe without a reader is an error of a write, and no signal: so it is here. */
+int64_t __sysv_signal(int number, int64_t handler);
+int64_t __sysv_signal(int number, int64_t handler) {
+    (void)number, (void)handler;
+    return 0;
+}
+
 int rattle_errno(void);
 int rattle_errno(void) {
     return errno;
