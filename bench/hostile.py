@@ -4,9 +4,9 @@
 Usage: hostile.py PROGRAM [--count N] [--only WORD] [--seconds S]
 
 For each registry of `hostile_registries.py`, by the counts N, 2N and 4N less one (25,000, 50,000 and 99,999): processor
-time, the least of three runs, and memory of `check`, and of `upgrade` to itself and to the registry after it. Then the
-time of a tag of about 1,024 bytes: of a line of `canon`, where no two lines are equal, and of `explain`, `equal` and
-`extlang` beside the same command with a short tag. The last line tells how many figures are past a limit: 4 seconds or 300 MB for a registry, 1 millisecond
+time, the least of three runs, and memory of `check`, of `show` of a short tag, and of `upgrade` to itself and to the
+registry after it. Then the time of a tag of about 1,024 bytes: of a line of `canon`, where no two lines are equal, and of
+`explain`, `equal` and `extlang` beside the same command with a short tag; and the memory of `show` of it. The last line tells how many figures are past a limit: 4 seconds or 300 MB for a registry, 1 millisecond
 for a tag and 0.05 more for each step that `explain` prints with the tag to which it leads, or more than 2.6 times the time
 for twice the count. What is past a limit is measured again, a few times, and the least counts, since the times of a host
 vary. Ends with 1 if any is past a limit then.
@@ -82,6 +82,7 @@ def one_row(options, folder, command, title, other):
         one = path_of(folder, title, count)
         words = {
             "check": ["check", one],
+            "show": ["show", one, "aaa"],
             "itself": ["upgrade", one, one],
             "next": ["upgrade", one, path_of(folder, other, count)],
         }[command]
@@ -91,7 +92,7 @@ def one_row(options, folder, command, title, other):
             seconds = min([seconds] + again)
         times.append(seconds)
         memory = max(memory, used)
-        if status is None or status not in (0, 2):
+        if status is None or status not in ((0, 1) if command == "show" else (0, 2)):
             answer = answer or f"status {status}"
             break
     return times, memory, answer
@@ -121,7 +122,7 @@ def registries(options, folder, found):
         if options.only not in title:
             continue
         other = every[(place + 1) % len(every)]
-        for command in ("check", "itself", "next"):
+        for command in ("check", "show", "itself", "next"):
             times, memory, answer = one_row(options, folder, command, title, other)
             for _ in range(MORE_TRIES):
                 if not past_limits(times, memory, answer):
@@ -148,6 +149,7 @@ def long_tags():
         "variants that turn in turn": ("turns-in-values", few, turning(2) + "-x{}", ""),
         "the same, 100 Prefixes": ("turns-in-values-100", 99999, turning(2) + "-x{}", ""),
         "the same, 1,000 Prefixes": ("turns-in-values-1000", 99999, turning(2) + "-x{}", ""),
+        "the same, 3,700 Prefixes": ("turns-in-values-3700", 99999, turning(2) + "-x{}", ""),
         "the same in a t extension": ("turns-in-values", few, "aaa-t-" + turning(4) + "-x{}", ""),
         "variants that stay": ("long-values", few, chained + "-x{}", ""),
         "keywords of one key": ("long-values", few, "aaa-u" + "-aa" * 335 + "-x{}", ""),
@@ -180,7 +182,7 @@ def least(options, words):
 
 def tags(options, folder, found):
     """The table of tags."""
-    print(f"\n{'tag':34}{'bytes':>6}{'canon ms':>10}{'explain':>10}{'equal':>10}{'extlang':>10}  answer")
+    print(f"\n{'tag':34}{'bytes':>6}{'canon ms':>10}{'explain':>10}{'equal':>10}{'extlang':>10}{'show MB':>10}  answer")
     for title, (registry, count, tag, by) in long_tags().items():
         if options.only not in title:
             continue
@@ -195,7 +197,10 @@ def tags(options, folder, found):
             time.sleep(PAUSE)
             again, _ = figures_of(options, path, lines, count)
             figures = [min(pair) for pair in zip(figures, again)]
-        print(f"{title:34}{len(lines[0]):6}" + "".join(f"{it:10.3f}" for it in figures) + f"  {answer}", flush=True)
+        memory = run([options.program, "show", path, lines[0]], b"", options.seconds)[2]
+        print(f"{title:34}{len(lines[0]):6}" + "".join(f"{it:10.3f}" for it in figures) + f"{memory:10.0f}  {answer}", flush=True)
+        if memory > MOST_MEGABYTES:
+            found.append(f"show of {title}: {memory:.0f} MB")
         for what, figure, limit in zip(("canon", "explain", "equal", "extlang"), figures, limits):
             if figure > limit:
                 found.append(f"{what} of {title}: {figure:.2f} ms")

@@ -255,7 +255,7 @@ def in_turn(others, past=False, idle=0, apart=0, spread=0, alike=0):
     turned before. And so many variants that no tag has, with all the languages as Prefixes. After each of the former
     come so many variants that are not replaced, and after each of the latter so many; and at last so many that begin
     as those that turn do."""
-    beside = [name(n, 5) for n in range(others)]
+    beside = [name(n, 4) for n in range(others)]
     languages = [name(n, 3) for n in range(MOST_VARIANTS + 1)]
     heads = [record("language", one) for one in languages] + BY_RANGE
     heads += [record("language", "aaaa..zzzz"), record("region", "AA")]
@@ -441,6 +441,7 @@ REGISTRIES = {
     "turns-in-values": lambda count: turns_in_values(count, in_turn(0)),
     "turns-in-values-100": lambda count: turns_in_values(count, in_turn(count // 1000)),
     "turns-in-values-1000": lambda count: turns_in_values(count, in_turn(count // 100)),
+    "turns-in-values-3700": lambda count: turns_in_values(count, in_turn(37 * count // 1000)),
     "turns-after-others": lambda count: turns_in_values(count, in_turn(0, past=True)),
     "turns-beside-3": lambda count: turns_in_values(count, in_turn(0, idle=3)),
     "turns-beside-100": lambda count: turns_in_values(count, in_turn(0, idle=count // 1000)),
