@@ -45,6 +45,7 @@ for (let at = 0, end; (end = lines.indexOf(10, at)) >= 0; at = end + 1, tested++
   written(of.bcp47_classify(0, ...tag, to, ROOM));
   written(of.bcp47_classify(...asked));
   for (const count of [0, 2]) told(of.bcp47_verify(registry, ...tag, steps, count, ...tag));
+  written(of.bcp47_parent(...tag, to, ROOM));
   told(of.bcp47_validate(registry, ...tag));
   const range = put(Buffer.from('zh-yue'), given + 2048);
   told(of.bcp47_equivalent(registry, ...tag, ...range, to, ROOM));
@@ -68,6 +69,15 @@ for (let at = 0, end; (end = lines.indexOf(10, at)) >= 0; at = end + 1, tested++
   }
   of.bcp47_free(list);
   taken(of.bcp47_show(registry, ...tag));
+}
+for (let number = 0; number < 10000; number++) {
+  const fields = of.bcp47_record(registry, number);
+  told(word(outcome));
+  const count = word(outcome + 8);
+  let whole = 16 * count;
+  for (let i = 0; i < count; i++) whole += word(fields + 16 * i) + word(fields + 16 * i + 8) + 2;
+  add(fields, whole);
+  of.bcp47_free(fields);
 }
 told(of.bcp47_upgrade_check(registry, registry));
 const names = ['status_name', 'fault_name', 'kind_name', 'part_kind_name', 'status_help', 'fault_help'].map((name) => of[`bcp47_${name}`]);

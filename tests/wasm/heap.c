@@ -31,7 +31,8 @@ int wasm_registry_info(address, address);
 int wasm_canonical(address, address, uint32_t, address, uint32_t), wasm_extlang(address, address, uint32_t, address, uint32_t);
 int wasm_classify(address, address, uint32_t, address, uint32_t);
 int wasm_parts(address, uint32_t, address, uint32_t, address, uint32_t);
-int wasm_validate(address, address, uint32_t);
+int wasm_parent(address, uint32_t, address, uint32_t), wasm_validate(address, address, uint32_t);
+address wasm_record(address, uint32_t);
 int wasm_equivalent(address, address, uint32_t, address, uint32_t, address, uint32_t);
 int wasm_match(address, int, address, uint32_t, address, uint32_t, address, uint32_t);
 address wasm_explanation(address, address, uint32_t, uint32_t), wasm_steps(address, address, uint32_t, uint32_t), wasm_show(address, address, uint32_t);
@@ -195,6 +196,7 @@ static void test_tag(address at, const char *text, uint32_t length) {
     static const bcp47_step steps[] = {{BCP47_REGION, 2, 27}, {BCP47_WHOLE, 1, 44}};
     for (uint32_t two = 0; two < 3; two += 2)
         SAME(wasm_verify(at, tag, length, OF(steps), two, tag, length), bcp47_verify(registry, text, length, steps, two, text, length));
+    SAME_TEXT(wasm_parent(tag, length, to, 4096), bcp47_parent(text, length, wanted_text, 4096));
     SAME(wasm_validate(at, tag, length), bcp47_validate(registry, text, length));
     SAME(wasm_equivalent(at, tag, length, OF(memcpy(given + 2048, "zh-yue", 6)), 6, to, 4096), bcp47_equivalent(registry, text, length, "zh-yue", 6, wanted_text, 4096));
     for (int scheme = 0; scheme < 4; scheme++)
@@ -279,6 +281,18 @@ int main(int count, char **words) {
     for (char *tag = tags, *end; (end = strchr(tag, '\n')); tag = end + 1, tested++) {
         CHECK(end - tag < 2000);
         test_tag(registry, tag, (uint32_t)(end - tag));
+    }
+    for (uint32_t number = 0; number < 10000; number++) {
+        bcp47_field *fields;
+        const char *texts;
+        address said = wasm_record(registry, number);
+        SAME((int)told->status, bcp47_record(AT(bcp47_registry, registry), number, &fields, &texts));
+        CHECK(!said == !fields);
+        size_t whole = told->place * sizeof *fields;
+        for (size_t i = 0; i < told->place; i++) whole += fields[i].name + fields[i].body + 2;
+        CHECK(!whole || !memcmp(AT(char, said), fields, whole));
+        add(fields, whole);
+        wasm_free(said), bcp47_free(fields);
     }
     SAME(wasm_upgrade_check(registry, registry), bcp47_upgrade_check(AT(bcp47_registry, registry), AT(bcp47_registry, registry)));
     for (int i = -1; i < 70; i++) {
