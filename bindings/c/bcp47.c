@@ -1,7 +1,7 @@
 /* SPDX-License-Identifier: MIT OR Apache-2.0 */
 /* The calls of bcp47.h over the proved ones of handles.h. What this file decides is which handle a call asks by, which
-   arguments are answered by a status, where a zero follows a text, and which steps the lines of an explanation are; all else is theirs. There is no lock and no state
-   but a registry's own. */
+   arguments are answered by a status, where a zero follows a text, and which steps the lines of an explanation are; all else is
+   theirs. There is no lock and no state but a registry's own. */
 #define _POSIX_C_SOURCE 200809L
 #include "handles.h"
 #include <sched.h>
