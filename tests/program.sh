@@ -450,6 +450,9 @@ on_terminal classify xx-; ended=$?; cut -c1-12 err > told; mv told err
 printf 'File-Date: 2024-01-01\n%%%%\nType: region\nSubtag: BU\nPreferred-Value: MM\n' > refused
 on_terminal check refused; ended=$?; cut -c1-28 err > told; mv told err
 (exit "$ended"); is 'check at a terminal: a record' 2 'check C2 record 2\n' 'C2: The value of a language,\nrecord 2: region BU, line 3\n'
+mkfifo pipe; cat refused > pipe &
+on_terminal check pipe; ended=$?; cut -c1-28 err > told; mv told err
+(exit "$ended"); is 'check at a terminal: a record that came through a pipe' 2 'check C2 record 2\n' 'C2: The value of a language,\n'
 on_terminal upgrade old new; ended=$?; tail -n 1 err > told; mv told err
 (exit "$ended"); is 'upgrade at a terminal: a record' 2 'upgrade U1 record 3\n' 'record 3: language fr, line 6\n'
 on_terminal check missing; ended=$?; sed -n '1p; 3p' err > told; mv told err

@@ -7,6 +7,7 @@
 #include <io.h>
 #include <stdint.h>
 #include <string.h>
+#include <sys/stat.h>
 #include <wchar.h>
 #include <windows.h>
 #include <shellapi.h>
@@ -43,6 +44,18 @@ int linux_open(const char *path, int flags, ...) {
     if (MultiByteToWideChar(CP_UTF8, MB_ERR_INVALID_CHARS, path, -1, wide, 4096)) return _wopen(wide, _O_RDONLY | _O_BINARY | _O_NOINHERIT);
     errno = ENOENT;
     return -1;
+}
+
+/* What a file is, which is all that the program asks of it: the field stx_mode. Its bits are those of Linux. */
+int linux_statx(int folder, const char *path, int flags, unsigned mask, uint16_t *fields) LINUX(statx);
+int linux_statx(int folder, const char *path, int flags, unsigned mask, uint16_t *fields) {
+    wchar_t wide[4096];
+    struct _stat64 found;
+    (void)folder, (void)flags, (void)mask;
+    errno = ENOENT;
+    if (!MultiByteToWideChar(CP_UTF8, MB_ERR_INVALID_CHARS, path, -1, wide, 4096) || _wstat64(wide, &found)) return -1;
+    fields[14] = found.st_mode;
+    return 0;
 }
 
 /* NUL is no terminal, though _isatty says so. */

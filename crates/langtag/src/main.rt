@@ -3,49 +3,43 @@
 
 mod words;
 
-use crate::words::words_given;
+use crate::words::command_given;
 use lt_jar::Device;
-use lt_terminal::{Openings, Progress, run_for_people};
+use lt_terminal::{People, Progress, run_for_people};
+use lt_tool::Streams;
 use std::fs;
-use std::io::IsTerminal;
+use std::io::{self, ErrorKind, IsTerminal};
 use std::process::ExitCode;
 
 fn main(rt: HostRuntime) -> ExitCode {
-    let words = words_given(&rt);
-    let openings = Openings::new();
-    let mut opener = |name: &str| {
-        let file = openings.kept(rt.alloc(), name, fs::open(&rt, name))?;
-        Ok(openings.traced(rt.alloc(), file))
+    let mut opener = |name: &str| fs::open(&rt, name);
+    // What is no file on a disk is not opened again: a pipe has given its bytes, and to open one may wait for a writer.
+    let mut again = |name: &str| {
+        if fs::metadata(&rt, name)?.is_file() {
+            fs::open(&rt, name)
+        } else {
+            Err(io::Error::from(ErrorKind::Unsupported))
+        }
     };
-    let mut input = Device::new(rt.stdin());
-    let mut people = Device::new(rt.stderr());
     let at_terminal = rt.stderr().is_terminal();
-    let status = if at_terminal {
-        let is_told = !rt.stdout().is_terminal();
-        let output = Progress::new(rt.alloc(), rt.stdout(), rt.stderr(), is_told);
-        run_for_people(
-            rt.alloc(),
-            words,
-            &mut opener,
-            &openings,
-            &mut input,
-            output,
-            rt.stderr(),
-            &mut people,
-            at_terminal,
-        )
-    } else {
-        run_for_people(
-            rt.alloc(),
-            words,
-            &mut opener,
-            &openings,
-            &mut input,
-            rt.stdout(),
-            rt.stderr(),
-            &mut people,
-            at_terminal,
-        )
+    // Where the output is a terminal itself, its lines tell how far the run is.
+    let is_told = at_terminal && !rt.stdout().is_terminal();
+    let mut streams = Streams {
+        input: Device::new(rt.stdin()),
+        output: Device::new(Progress::new(rt.alloc(), rt.stdout(), rt.stderr(), is_told)),
+        errors: Device::new(rt.stderr()),
     };
+    let mut people = People {
+        device: Device::new(rt.stderr()),
+        at_terminal,
+    };
+    let status = run_for_people(
+        rt.alloc(),
+        command_given(&rt),
+        &mut opener,
+        &mut again,
+        &mut streams,
+        &mut people,
+    );
     ExitCode::from(status)
 }

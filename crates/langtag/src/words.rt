@@ -1,5 +1,5 @@
 //! The words of the command line.
-use lt_tool::{WordsFault, word_text};
+use lt_tool::{Command, WordsFault, read_words, word_text};
 use std::alloc::{Alloc, AllocError};
 use std::env::{Env, FillError};
 
@@ -23,7 +23,7 @@ fn word_bytes(rt: &HostRuntime, number: usize) -> Result<Option<Vec<u8>>, WordsF
 }
 
 /// The words of the command line, of which the first is the program's name, or why they can't be had.
-pub(crate) fn words_given(rt: &HostRuntime) -> Result<Vec<String>, WordsFault> {
+fn words_given(rt: &HostRuntime) -> Result<Vec<String>, WordsFault> {
     let mut words = Vec::new(rt.alloc());
     for number in 0..usize::MAX {
         let Some(bytes) = word_bytes(rt, number)? else {
@@ -34,4 +34,10 @@ pub(crate) fn words_given(rt: &HostRuntime) -> Result<Vec<String>, WordsFault> {
             .map_err(AllocError::from)?;
     }
     Ok(words)
+}
+
+/// The command that the words of the command line name, or why they name none.
+pub(crate) fn command_given(rt: &HostRuntime) -> Result<Command, WordsFault> {
+    let words = words_given(rt)?;
+    read_words(rt.alloc(), &words)
 }

@@ -5,15 +5,11 @@
 mod advice;
 mod codes;
 mod meanings;
-mod openings;
 mod progress;
 mod records;
 mod run;
 mod table;
 mod telling;
-mod watched;
 
-pub use openings::{Openings, Traced};
 pub use progress::Progress;
-pub use run::run_for_people;
-pub use watched::Watched;
+pub use run::{People, run_for_people};

@@ -3,7 +3,6 @@ ghost use Rattle.std.specs.Prelude.{◌≡◌, OnErr, false};
 ghost use Rattle.std.specs.Io.KnownBytes.{Keeps, WriteAppends};
 ghost use Rattle.std.specs.Io.{WritesAtMost};
 ghost use Rattle.lt_jar.specs.Devices.{HasFailed, failures_of, inner_of};
-ghost use Rattle.lt_tool.specs.Streams.{IsUntouched, stream};
 
 use crate::telling::say;
 use lt_jar::Device;
@@ -43,17 +42,8 @@ impl<W, T> Progress<W, T> {
 }
 
 /// Tells a person that `after` lines are answered, if a multiple of a million was reached since there were `before`.
-/// Nothing unless `is_told`.
-fn tell_progress<T: Write>(
-    alloc: Global,
-    is_told: bool,
-    before: u64,
-    after: u64,
-    people: &mut Device<T>,
-)
-    ensures { is_told ≡ false → IsUntouched (stream T.contents people.old people.new) }
-{
-    if is_told && after / MILLION != before / MILLION {
+fn tell_progress<T: Write>(alloc: Global, before: u64, after: u64, people: &mut Device<T>) {
+    if after / MILLION != before / MILLION {
         if let Ok(line) = format!(in alloc; "{after} lines\r") {
             say(line.as_bytes(), people);
         }
@@ -63,25 +53,21 @@ fn tell_progress<T: Write>(
 impl<W: Write, T: Write> Write for Progress<W, T> {
     ghost contents = { λ progress. W.contents (inner_of progress.inner) };
 
-    /// Writes once to the writer, and counts the lines that it took.
+    /// Writes once to the writer, and counts the lines that it took, if a person is told of them.
     fn write(&mut self, buf: &[u8]) -> io::Result<usize>
         ensures bound { WritesAtMost result buf.now }
         ensures bytes { WriteAppends (W.contents (inner_of self.old.inner)) (W.contents (inner_of self.new.inner)) result buf.now }
         ensures fails { OnErr result (HasFailed self.old.inner self.new.inner) }
-        ensures told { self.old.is_told ≡ false → IsUntouched (stream T.contents self.old.people self.new.people) }
+        ensures told { self.old.is_told ≡ false → self.new.people ≡ self.old.people }
     {
         match self.inner.write(buf) {
             Ok(count) => {
-                let before = self.lines;
-                let feeds = count_of(b'\n', &buf[..count]);
-                self.lines = before.saturating_add(feeds as u64);
-                tell_progress(
-                    self.alloc,
-                    self.is_told,
-                    before,
-                    self.lines,
-                    &mut self.people,
-                );
+                if self.is_told {
+                    let before = self.lines;
+                    let feeds = count_of(b'\n', &buf[..count]);
+                    self.lines = before.saturating_add(feeds as u64);
+                    tell_progress(self.alloc, before, self.lines, &mut self.people);
+                }
                 Ok(count)
             }
             Err(error) => Err(error),

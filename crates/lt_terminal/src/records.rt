@@ -1,25 +1,5 @@
-//! Which record of a registry an answer is about.
+//! Where a record is in the file of a registry.
 use std::alloc::{AllocError, Global};
-
-/// A record that an answer names.
-#[derive(Clone, Copy, Debug, PartialEq, Eq)]
-pub(crate) struct Named {
-    /// Its number, counted from 1.
-    pub(crate) number: u64,
-    /// Whether it is in the file that the command names second.
-    pub(crate) is_second: bool,
-}
-
-/// The record that a line names, which refuses a registry or an upgrade. None if the line names none. The record of
-/// condition U5 is one of the newer registry, those of the other conditions of an upgrade are of the older.
-pub(crate) fn named_in(line: &str) -> Option<Named> {
-    let (front, after) = line.split_once("record ")?;
-    let number = after.split(' ').next()?.parse::<u64>().ok()?;
-    Some(Named {
-        number,
-        is_second: front.starts_with("new ") || front.starts_with("upgrade U5 "),
-    })
-}
 
 /// Where a record begins, and what it is of.
 #[derive(Drop)]
@@ -52,12 +32,23 @@ impl<'a> Place<'a> {
     }
 }
 
+/// The text that bytes begin with: all of them if they are UTF-8.
+fn front_text(bytes: &[u8]) -> &str {
+    match std::str::from_utf8(bytes) {
+        Ok(text) => text,
+        Err(error) => {
+            let end = error.valid_up_to().min(bytes.len());
+            std::str::from_utf8(&bytes[..end]).unwrap_or("")
+        }
+    }
+}
+
 /// Where the record of this number, counted from 1, begins in the text of a registry, and what it is. None if there are
 /// fewer. Lines `%%` part the records (RFC 5646, 3.1.1); where blank lines alone are between two of them, there is no
 /// record.
-fn place_in(text: &str, number: u64) -> Option<Place<'_>> {
+fn place_in(text: &str, number: u32) -> Option<Place<'_>> {
     let mut place = None;
-    let (mut seen, mut is_within) = (0u64, false);
+    let (mut seen, mut is_within) = (0u32, false);
     for (index, line) in text.split('\n').enumerate() {
         if line.trim_end() == "%%" {
             is_within = false;
@@ -81,14 +72,14 @@ fn place_in(text: &str, number: u64) -> Option<Place<'_>> {
 }
 
 /// The line, without a line feed, that says what a record is and where it begins: `record 570: region BU, line 4711`.
-fn place_line(alloc: Global, number: u64, place: &Place<'_>) -> Result<String, AllocError> {
+fn place_line(alloc: Global, number: u32, place: &Place<'_>) -> Result<String, AllocError> {
     let Place { line, kind, name } = place;
     format!(in alloc; "record {number}: {kind} {name}, line {line}")
 }
 
-/// The line that tells what the record of this number is and where it begins in the text of a registry. None if there is no
+/// The line that tells what the record of this number is and where it begins in the bytes of a registry. None if there is no
 /// such record, or no memory.
-pub(crate) fn told_place(alloc: Global, text: &str, number: u64) -> Option<String> {
-    let place = place_in(text, number)?;
+pub(crate) fn told_place(alloc: Global, bytes: &[u8], number: u32) -> Option<String> {
+    let place = place_in(front_text(bytes), number)?;
     place_line(alloc, number, &place).ok()
 }

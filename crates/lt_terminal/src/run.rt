@@ -1,69 +1,82 @@
 //! The run.
+ghost use Rattle.std.specs.Prelude.{◌≡◌, false};
 ghost use Rattle.std.specs.Fn.{CalledAt};
-ghost use Rattle.lt_terminal.specs.People.{RunsForPeople};
-ghost use Rattle.lt_tool.specs.Program.{opener_of, texts_of};
+ghost use Rattle.lt_terminal.specs.People as spec;
+ghost use Rattle.lt_terminal.specs.People.{RunsWords, is_asked};
 ghost use Rattle.lt_tool.specs.Streams.{stream};
 
-use crate::openings::Openings;
-use crate::telling::{asked_by, tell};
-use crate::watched::Watched;
+use crate::telling::tell;
 use lt_jar::Device;
-use lt_tool::{Answered, WordsFault, run_program};
+use lt_tool::{Command, Outcome, Streams, WordsFault, report, run_program};
 use std::alloc::Global;
 use std::io::{self, Read, Write};
 
-/// Runs the program as [`run_program`] does. At a terminal, or where the words ask for a summary, it then tells a person on
-/// `people` what the run came to. Of `canon`, `codes`, `tsv` and `csv` it tells how many lines or records were answered and
-/// how many refused, if all of them were answered; and for each fault how many it refused, which was the first, and what to
-/// do. Of a run with one answer it tells what a fault in the answer means, and what to do; and it tells the same of a fault
-/// on `errors`. Where a record is refused, a line says what it is and where it begins. Where a file can't be opened, a line
-/// says which and why, if `opener` kept that in `openings`.
+/// Who is told what a run came to.
+#[derive(Drop)]
+pub struct People<T> {
+    /// Where they are told.
+    pub device: Device<T>,
+    /// Whether that is a terminal: else they are told only if the words ask for a summary.
+    pub at_terminal: bool,
+}
+
+/// Whether people are told of the run of a command: at a terminal, or if the words ask for a summary.
+fn is_told(at_terminal: bool, command: &Command) -> bool
+    ensures { result ≡ spec.is_told at_terminal command.now }
+{
+    at_terminal || command.has_summary()
+}
+
+/// Tells people what the run of a command came to, if they are to be told.
+fn tell_people<F: Read + Drop, Q: FnMut(&str) -> io::Result<F>, T: Write>(
+    alloc: Global,
+    command: &Command,
+    outcome: &Outcome,
+    again: &mut Q,
+    people: &mut People<T>,
+)
+    requires { Q.IsAlwaysCallable again.old }
+    ensures { spec.is_told people.old.at_terminal command.now ≡ false → people.new ≡ people.old }
+{
+    if !is_told(people.at_terminal, command) {
+        return;
+    }
+    tell(alloc, command, outcome, again, &mut people.device);
+}
+
+/// Runs the program by its words as [`run_program`] does, and answers the exit status. At a terminal, or where the words ask
+/// for a summary, it then tells people what the run came to. Of `canon`, `codes`, `tsv` and `csv` it tells how many lines or
+/// records were answered and how many refused, if all of them were answered; and for each fault how many it refused, which
+/// was the first, and what to do. Of what was refused or failed it tells what that means, and what to do; where it is a record
+/// of a registry, what the record is and where it begins, for which `again` opens the file again; and where a file can't be
+/// opened, which and why.
 pub fn run_for_people<
     F: Read + Drop,
     P: FnMut(&str) -> io::Result<F>,
+    Q: FnMut(&str) -> io::Result<F>,
     I: Read,
-    O: Write + Drop,
-    E: Write + Drop,
+    O: Write,
+    E: Write,
     T: Write,
 >(
     alloc: Global,
-    words: Result<Vec<String>, WordsFault>,
+    words: Result<Command, WordsFault>,
     opener: &mut P,
-    openings: &Openings,
-    input: &mut Device<I>,
-    output: O,
-    errors: E,
-    people: &mut Device<T>,
-    at_terminal: bool,
+    again: &mut Q,
+    streams: &mut Streams<I, O, E>,
+    people: &mut People<T>,
 ) -> u8
-    requires { P.IsAlwaysCallable opener.old }
-    ensures { RunsForPeople (texts_of words) (opener_of (CalledAt P.FnMut) F.remaining opener.old opener.new)
-        ⟦<&'static [u8] as Read>⟧.remaining (stream I.remaining input.old input.new)
-        ⟦<Watched<O> as Write>⟧.contents output ⟦<Watched<E> as Write>⟧.contents errors
-        (stream T.contents people.old people.new) at_terminal result }
+    requires opens { P.IsAlwaysCallable opener.old }
+    requires again { Q.IsAlwaysCallable again.old }
+    ensures runs { RunsWords (CalledAt P.FnMut) F.remaining words opener.old opener.new (stream I.remaining streams.old.input streams.new.input)
+        (stream O.contents streams.old.output streams.new.output) (stream E.contents streams.old.errors streams.new.errors) result }
+    ensures tells { is_asked people.old.at_terminal words ≡ false → people.new ≡ people.old }
 {
-    let asked = asked_by(alloc, &words, at_terminal);
-    let mut output = Device::new(Watched::new(output));
-    let mut errors = Device::new(Watched::new(errors));
-    let mut answered = Answered::new(alloc);
-    let status = run_program(
-        alloc,
-        words,
-        opener,
-        input,
-        &mut output,
-        &mut errors,
-        &mut answered,
-    );
-    tell(
-        alloc,
-        asked,
-        status,
-        &answered,
-        openings,
-        &mut output,
-        &mut errors,
-        people,
-    );
-    status
+    let command = match words {
+        Ok(command) => command,
+        Err(fault) => return report(alloc, fault, streams).status().code(),
+    };
+    let outcome = run_program(alloc, &command, opener, streams);
+    tell_people(alloc, &command, &outcome, again, people);
+    outcome.status().code()
 }

@@ -25,17 +25,13 @@ fn append_counted(
     Ok(())
 }
 
-/// Appends the line that tells how many of these units were answered and refused, as `2 lines, 1 refused`. Nothing if it is
-/// not known.
+/// Appends the line that tells how many of these units were answered and refused, as `2 lines, 1 refused`.
 pub(crate) fn append_counts(
     told: &mut Vec<u8>,
     alloc: Global,
     unit: &str,
-    counts: Option<Counts>,
+    counts: Counts,
 ) -> Result<(), AllocError> {
-    let Some(counts) = counts else {
-        return Ok(());
-    };
     append_counted(told, alloc, counts.lines, unit)?;
     told.extend_from_slice(b", ")?;
     append_number(told, alloc, counts.refused)?;

@@ -5,26 +5,18 @@ use Rattle.std.proofs.lemmas.Result.{IfErr-weaker, IfOk-weaker, err_from_is_err_
 use Rattle.std.specs.Io.KnownBytes.{Appends}
 use Rattle.lt_jar.specs.Devices.{failures_of, inner_of}
 use Rattle.lt_jar.specs.declared.devices.Device.{Device}
-use Rattle.lt_tag.specs.declared.faults.OutOfMemory.{OutOfMemory}
 use Rattle.lt_registry.specs.Parts.{EntryParts}
 use Rattle.lt_rewrite.specs.Labels.{IsTrace}
 use Rattle.lt_canon.specs.ExplanationTexts.{AppendsEnd, AppendsStep, IsWholeLeft, StepsLeft}
-use Rattle.lt_canon.specs.Texts.{IsTextRefusal}
-use Rattle.lt_canon.specs.declared.refusals.TextRefusal.{TextRefusal}
 use Rattle.lt_canon.proofs.LinesLeft.{HasGiven, given_all, given_front, given_none, given_step, whole_text}
 use Rattle.lt_stream.specs.DeviceOutput.{WritesText}
-use Rattle.lt_stream.specs.Faults.{fault_said}
-use Rattle.lt_lines.specs.Refusals.{IsRefusalLine}
 use Rattle.lt_stream.specs.declared.faults.ToolFault.{ToolFault}
 use Rattle.lt_stream.specs.declared.faults.ToolFault.TheVariants as faults
 use Rattle.lt_stream.proofs.DeviceLemmas.{failed_from}
-use Rattle.lt_tool.specs.Codes.{code_of}
-use Rattle.lt_tool.specs.Printed.{ExplainsText}
-use Rattle.lt_tool.specs.Streams.{IsUntouched, Stream}
-use Rattle.lt_tool.specs.TagCommands.{Explains}
-use Rattle.lt_tool.specs.Written.{Says, WritesLines, memory_line, write_line}
-use Rattle.lt_tool.specs.declared.lines.Answer.{Answer}
-use Rattle.lt_tool.specs.declared.status.Status.TheVariants as status
+use Rattle.lt_tool.specs.Runs.{ExplainsText}
+use Rattle.lt_tool.specs.Runs.{written as written_end}
+use Rattle.lt_tool.specs.Streams.{Stream}
+use Rattle.lt_tool.specs.Written.{WritesLines}
 
 -- a text of `before`, `kept` and `more`, cut within `kept`, which is `front` and `rest`
 cut_again : (before kept front rest more : List ℕ) → kept ≡ front ++ rest → (before ++ kept) ++ more ≡ (before ++ front) ++ (rest ++ more)
@@ -101,37 +93,13 @@ module _ {W : Type 0} (contents : W → Option (List ℕ)) (first left : StepsLe
     stopped = IfErr-weaker r _ _ (λ _ h. inl (h.0, failed_from start before after w.worked h.1)) t.stopped;
   }
 
--- the answer for a text that has no explanation, with the line and the status of its refusal
-pub refused_text : (R : List EntryParts) (text : List ℕ) (refusal : TextRefusal) (answer : Result Answer OutOfMemory) → IsTextRefusal R text refusal → IfOk answer (λ a. IsRefusalLine refusal a.line.items)
-    → IfOk answer (λ a. a.status ≡ status.Refused) → IfOk answer (λ a. Explains R text a.line.items a.status)
-refused_text R text refusal (Ok answer) is line end = rw end (record { refusal = refusal; is_refusal = is; line_is = line })
-refused_text R text refusal (Err none) is line end = tt
-
--- `left` is the explanation of a text by a registry, of which no line was written yet
-module _ {O E : Type 0} (R : List EntryParts) (text : List ℕ) (left : StepsLeft) (output : Stream O) (errors : Stream E) (whole : IsWholeLeft R text left) where
-  -- all lines of the explanation were written, and nothing is on the errors
-  pub explained : WritesLines output.bytes left output.before output.after (Ok tt) → IsUntouched errors → ExplainsText R text output errors (code_of status.Done)
-  explained w none = inl (inr (record {
-    line = w.lines;
-    end = status.Done;
-    answers = whole_text R text w.lines left whole w.are_lines;
-    prints = record { written = w.written; appends = w.appends; front = w.front; ends = inl (refl, w.done.0, w.done.1, none) };
-  }))
-
-  -- a front of the lines was written, and the errors say why: a write failed, or memory ran out
-  pub explained_less : (f : ToolFault) → WritesLines output.bytes left output.before output.after (Err f) → Says errors (fault_said f) → ExplainsText R text output errors (code_of status.Failed)
-  explained_less f w said =
-      let lines = whole_text R text w.lines left whole w.are_lines in
-      elim w.stopped [
-        | (inl failed) ↦
-            let told : Says errors write_line = rw failed.0 at said in
-            inl (inr (record {
-              line = w.lines;
-              end = status.Done;
-              answers = lines;
-              prints = record { written = w.written; appends = w.appends; front = w.front; ends = inr (refl, failed.1, told) };
-            }))
-        | (inr lacks) ↦
-            let told : Says errors memory_line = rw lacks.0 at said in
-            inr (w.lines, lines, record { written = w.written; appends = w.appends; front = w.front; worked = lacks.1; failed = refl; said = told })
-      ]
+-- the lines of a whole explanation were written as far as `result` says
+pub explained : {O : Type 0} (R : List EntryParts) (text : List ℕ) (left : StepsLeft) (output : Stream O) (result : Result (Unit {0}) ToolFault) → IsWholeLeft R text left
+    → WritesLines output.bytes left output.before output.after result → ExplainsText R text output (written_end result)
+explained R text left output result whole w = inr (
+  w.lines,
+  result,
+  whole_text R text w.lines left whole w.are_lines,
+  record { written = w.written; appends = w.appends; front = w.front; done = w.done; stopped = w.stopped },
+  refl,
+)

@@ -1,7 +1,6 @@
 -- Lemmas on the program's calls.
 pub mod AheadLemmas
-pub mod AnswerLemmas
-pub mod VerdictLemmas
+pub mod ResultLemmas
 pub mod ExplainedLemmas
 pub mod RangeLemmas
 pub mod ShownLemmas

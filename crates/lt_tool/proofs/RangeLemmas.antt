@@ -5,7 +5,7 @@ use Rattle.lt_registry.specs.Parts.{EntryParts}
 use Rattle.lt_range.specs.Ranges.{RangeParts}
 use Rattle.lt_match.specs.Matched.{IsCanonicalRange}
 use Rattle.lt_match.specs.Refusals.{IsRangeRefusal}
-use Rattle.lt_tool.specs.declared.selecting.RefusedRange.{RefusedRange}
+use Rattle.lt_tool.specs.declared.ranges.RefusedRange.{RefusedRange}
 use Rattle.lt_tool.specs.Selected.{AreRanges, RefusesRange}
 
 -- `ranges` are those of `texts`: with the range of one text more they are those of all

@@ -1,7 +1,8 @@
 -- The devices that a run of the program reads and writes, before and after it.
-use Rattle.std.specs.Prelude.{◌≡◌, ℕ, List, Option}
+use Rattle.std.specs.Prelude.{◌≡◌, ℕ, List, [], Option, Some}
 use Rattle.lt_jar.specs.declared.devices.Device.{Device}
-use Rattle.lt_tool.specs.declared.answered.Answered.{Answered}
+use Rattle.lt_tool.specs.declared.streams.Source.{Source}
+use Rattle.lt_tool.specs.declared.streams.Source.TheVariants as sources
 
 -- a device that a run reads or writes, before and after the run, and `bytes`, which gives its bytes where they are
 -- known
@@ -18,15 +19,7 @@ stream bytes before after = record { bytes = bytes; before = before; after = aft
 abbrev pub IsUntouched : {T : Type 0} → Stream T → Type 0
 IsUntouched s = s.after ≡ s.before
 
--- what the caller of a run is told of the lines that were answered, before the run and after it
-pub record Handed : Type 0 where
-  pub before : Answered
-  pub after : Answered
-
--- a `Handed` of these parts
-abbrev pub handed : (before after : Answered) → Handed
-handed before after = record { before = before; after = after }
-
--- the caller is told nothing of lines by this run: what was known before stays
-abbrev pub HandsNone : Handed → Type 0
-HandsNone answered = answered.after ≡ answered.before
+-- the bytes of a source, where those of a file are known: no bytes where there is no file
+abbrev pub bytes_of : {F : Type 0} → (F → Option (List ℕ)) → Source F → Option (List ℕ)
+bytes_of bytes (sources.File file) = bytes file
+bytes_of bytes sources.Empty = Some []

@@ -1,56 +1,74 @@
--- What the commands on one or two tags, `extlang`, `equal` and `explain`, print by a registry.
-use Rattle.std.specs.Prelude.{◌≡◌, ◌⊎◌, ℕ, Bool, true, false, List, [], ◌∷◌, ◌++◌, codes}
+-- What the commands on one or two tags, and on one or two registries, give.
+use Rattle.std.specs.Prelude.{◌≡◌, ℕ, Bool, List, [], ◌∷◌, ◌++◌, Option, Result, Ok, IfErr, Vec, length}
+use Rattle.std.specs.Borrow.{Bor}
+use Rattle.std.specs.declared.alloc.Global.{Global}
+use Rattle.lt_tag.specs.Faults.{HasTag, IsFault}
+use Rattle.lt_tag.specs.Parts.{TagForm}
+use Rattle.lt_tag.specs.declared.faults.TagFault.{TagFault}
 use Rattle.lt_registry.specs.Parts.{EntryParts}
-use Rattle.lt_canon.specs.ExplanationTexts.{IsExplanationTextOf}
+use Rattle.lt_canon.specs.Refusals.{of_fault}
 use Rattle.lt_canon.specs.TextAnswers.{IsEqualityOf, IsExtlangTextOf, IsPairRefusal}
-use Rattle.lt_canon.specs.declared.refusals.TextRefusal.{TextRefusal}
-use Rattle.lt_lines.specs.Owed.{RefusesText}
-use Rattle.lt_lines.specs.Refusals.{IsRefusalLine}
-use Rattle.lt_tool.specs.declared.status.Status.{Status}
-use Rattle.lt_tool.specs.declared.status.Status.TheVariants as status
+use Rattle.lt_canon.specs.Texts.{IsTextRefusal}
+use Rattle.lt_upgrade.specs.Upgrade.{IsUpgradeFinding, Upgrades}
+use Rattle.lt_upgrade.specs.declared.conditions.UpgradeCondition.{UpgradeCondition}
+use Rattle.lt_tool.specs.Answers.{class_line, entries_line}
+use Rattle.lt_tool.specs.Registries.{ReadsJudged}
+use Rattle.lt_tool.specs.Results.{Gives, IsTextFault, Then}
+use Rattle.lt_tool.specs.Streams.{bytes_of, stream}
+use Rattle.lt_tool.specs.declared.answers.Answer.TheVariants as answers
+use Rattle.lt_tool.specs.declared.faults.Fault.{Fault}
+use Rattle.lt_tool.specs.declared.faults.Fault.TheVariants as faults
+use Rattle.lt_tool.specs.declared.faults.Role.TheVariants as roles
+use Rattle.lt_tool.specs.declared.plans.Plan.{Plan}
+use Rattle.lt_tool.specs.declared.plans.Plan.TheVariants as plans
+use Rattle.lt_tool.specs.declared.streams.Files.{Files}
 
--- the line of a text's extlang form (RFC 5646, 4.5), ended by a line feed (10)
-pub record PrintsExtlang (R : List EntryParts) (text line : List ℕ) : Type 0 where
-  pub extlang : List ℕ
-  pub is_extlang : IsExtlangTextOf R text extlang
-  pub line_is : line ≡ extlang ++ 10 ∷ []
+-- a run is to print these lines, and is done then
+abbrev pub IsText : List ℕ → Plan → Type 0
+IsText text plan = (line : Vec ℕ Global) × (line.items ≡ text) × (plan ≡ plans.Print (answers.Text line))
 
--- the word for whether two tags are equivalent, ended by a line feed
-abbrev pub equality_line : Bool → List ℕ
-equality_line true = codes "equal" ++ 10 ∷ []
-equality_line false = codes "different" ++ 10 ∷ []
+-- `classify` gives the line of the tag that a text is, or why it is none
+abbrev pub Classifies : List ℕ → Result Plan Fault → Type 0
+Classifies text = Gives (λ plan. (form : TagForm) × HasTag text form × IsText (class_line form) plan)
+    (λ fault. (f : TagFault) × IsFault text f.kind f.place × (fault ≡ faults.Text (of_fault f)))
 
--- whether the tags of two texts are equivalent, and the line that says so
-pub record PrintsEquality (R : List EntryParts) (first second line : List ℕ) (answer : Bool) : Type 0 where
-  pub is_answer : IsEqualityOf R first second answer
-  pub line_is : line ≡ equality_line answer
+-- `check` gives the number of the entries
+abbrev pub Checks : List EntryParts → Result Plan Fault → Type 0
+Checks R = Gives (λ plan. (line : Vec ℕ Global) × (line.items ≡ entries_line (length R))
+    × (plan ≡ plans.Print (answers.Entries (length R) line))) (λ fault. ⊥)
 
--- one of the texts is refused, and this is the line that says so
-pub record RefusesPair (R : List EntryParts) (first second line : List ℕ) : Type 0 where
-  pub refusal : TextRefusal
-  pub is_refusal : IsPairRefusal R first second refusal
-  pub line_is : IsRefusalLine refusal line
+-- `extlang` gives the line of a text's extlang form (RFC 5646, 4.5)
+abbrev pub FormsExtlang : List ℕ → List EntryParts → Result Plan Fault → Type 0
+FormsExtlang text R =
+    Gives (λ plan. (extlang : List ℕ) × IsExtlangTextOf R text extlang × IsText (extlang ++ 10 ∷ []) plan)
+    (IsTextFault (IsTextRefusal R text))
 
--- what `extlang` prints for a text by a registry, and the status with which it ends
-abbrev pub FormsExtlang : List EntryParts → List ℕ → List ℕ → Status → Type 0
-FormsExtlang R text line status.Done = PrintsExtlang R text line
-FormsExtlang R text line status.Refused = RefusesText R text line
-FormsExtlang R text line status.RegistryRefused = ⊥
-FormsExtlang R text line status.Usage = ⊥
-FormsExtlang R text line status.Failed = ⊥
+-- `equal` gives whether the tags of two texts are equivalent
+abbrev pub Compares : (first second : List ℕ) → List EntryParts → Result Plan Fault → Type 0
+Compares first second R = Gives (λ plan. (equal : Bool) × IsEqualityOf R first second equal
+    × (plan ≡ plans.Print (answers.Equal equal))) (IsTextFault (IsPairRefusal R first second))
 
--- what `equal` prints for two texts by a registry, and the status with which it ends
-abbrev pub Compares : List EntryParts → List ℕ → List ℕ → List ℕ → Status → Type 0
-Compares R first second line status.Done = PrintsEquality R first second line true
-Compares R first second line status.Refused = PrintsEquality R first second line false ⊎ RefusesPair R first second line
-Compares R first second line status.RegistryRefused = ⊥
-Compares R first second line status.Usage = ⊥
-Compares R first second line status.Failed = ⊥
+-- the text is to be explained
+abbrev pub PlansExplanation : List ℕ → List EntryParts → Result Plan Fault → Type 0
+PlansExplanation text R result = (t : Bor (List ℕ)) × (t.now ≡ text) × (result ≡ Ok (plans.Explain R t))
 
--- what `explain` prints for a text by a registry, and the status with which it ends
-abbrev pub Explains : List EntryParts → List ℕ → List ℕ → Status → Type 0
-Explains R text lines status.Done = IsExplanationTextOf R text lines
-Explains R text lines status.Refused = RefusesText R text lines
-Explains R text lines status.RegistryRefused = ⊥
-Explains R text lines status.Usage = ⊥
-Explains R text lines status.Failed = ⊥
+-- lines are to be judged as an explanation of the text
+abbrev pub PlansVerifying : List ℕ → List EntryParts → Result Plan Fault → Type 0
+PlansVerifying text R result = (t : Bor (List ℕ)) × (t.now ≡ text) × (result ≡ Ok (plans.Verify R t))
+
+-- `upgrade` finds that B upgrades the older registry A; or the first condition that fails, and the record with the least
+-- number that fails it
+abbrev pub JudgesUpgrade : (A B : List EntryParts) → Result Plan Fault → Type 0
+JudgesUpgrade A B = Gives (λ plan. Upgrades A B × (plan ≡ plans.Print answers.Passed))
+    (λ fault. (condition : UpgradeCondition) × (number : ℕ) × IsUpgradeFinding A B condition number
+    × (fault ≡ faults.Upgrade condition number))
+
+-- the older file is read and judged first, and the newer one only if its registry passes
+pub record UpgradesFiles {F : Type 0} (bytes : F → Option (List ℕ)) (before after : Files F)
+    (result : Result Plan Fault) : Type 0 where
+  pub older : Result (List EntryParts) Fault
+  pub reads_older : ReadsJudged (stream (bytes_of bytes) before.first after.first) roles.Older older
+  pub unread : IfErr older (λ fault. after.second ≡ before.second)
+  pub goes_on : Then (λ A result. (newer : Result (List EntryParts) Fault)
+      × ReadsJudged (stream (bytes_of bytes) before.second after.second) roles.Newer newer
+      × Then (JudgesUpgrade A) newer result) older result

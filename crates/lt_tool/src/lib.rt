@@ -1,31 +1,32 @@
-//! The program `langtag`: what its commands print, and its statuses. A program of your own begins with the
-//! crate `bcp47`.
+//! The program `langtag`: what its commands read and print, and what a run of them came to. A program of your own begins
+//! with the crate `bcp47`.
 #![tactic(auto)]
 
-mod answered;
-mod answering;
+mod answers;
 mod explaining;
-mod json_objects;
-mod lines;
-mod looking_up;
+mod faults;
+mod outcomes;
+mod plans;
 mod printing;
 mod program;
+mod ranges;
 mod registries;
 mod rows;
-mod selecting;
+mod running;
 mod showing;
 mod showing_json;
 mod status;
-mod tables;
+mod streams;
 mod tag_commands;
-mod upgrade_command;
-mod verifying;
 
-pub use answered::Answered;
-pub use lt_lines::{Basis, Counts, LineForm, RowForm, Tallies, Tally, ToolFault, run_lines};
+pub use answers::Answer;
+pub use faults::{Fault, Role};
+pub use lt_lines::{Counts, LineForm, RowForm, Tallies, Tally, ToolFault, run_lines};
 pub use lt_words::{
     Column, Command, Matching, Ranges, Rows, Run, Tags, WordsFault, read_words, word_text,
 };
-pub use printing::{perform, report, report_file};
-pub use program::run_program;
+pub use outcomes::Outcome;
+pub use program::{path_of, perform, report, run_program};
+pub use registries::RegistryRefusal;
 pub use status::Status;
+pub use streams::{Files, Source, Streams};

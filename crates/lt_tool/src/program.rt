@@ -1,41 +1,32 @@
-//! A run of the program, from its words to its exit status.
-ghost use Rattle.std.specs.Prelude.{◌≡◌, IfErr, IfOk};
+//! A run of the program, from its command to what it came to.
+ghost use Rattle.std.specs.Prelude.{◌≡◌};
 ghost use Rattle.std.specs.Fn.{CalledAt};
+ghost use Rattle.std.specs.Option.{option_map};
 ghost use Rattle.std.specs.IoError.{error_kind};
-ghost use Rattle.lt_words.specs.Reading.{first_file_of, reads_input_of, second_file_of};
-ghost use Rattle.lt_tool.specs.Codes.{code_of};
-ghost use Rattle.lt_tool.specs.Program.{IsPath, IsProgramFault, NamesCommand, RunsCommand, RunsOnFiles, RunsOnFirst, RunsProgram, input_line, open_line, opener_of, texts_of};
-ghost use Rattle.lt_tool.specs.Streams.{handed, stream};
-ghost use Rattle.lt_tool.specs.Written.{Says};
-ghost use Rattle.lt_tool.specs.declared.status.Status.TheVariants.{Failed};
+ghost use Rattle.lt_words.specs.Reading.{reads_input_of};
+ghost use Rattle.lt_tool.specs.Performed.{Answers, Performs, PerformsTo};
+ghost use Rattle.lt_tool.specs.Program.{AsksIf, EndsWords, IsFileFault, IsPath, OpensFile, OpensFiles, OpensNamed, Prepares, Reports, RunsProgram};
+ghost use Rattle.lt_tool.specs.Streams.{stream};
 
-use crate::answered::Answered;
-use crate::printing::{perform, report, report_file, report_memory, say};
-use crate::status::Status;
+use crate::answers::Answer;
+use crate::faults::Fault;
+use crate::outcomes::Outcome;
+use crate::plans::make_plan;
+use crate::printing::finish;
+use crate::running::run;
+use crate::streams::{Files, Source, Streams};
 use lt_jar::Device;
-use lt_words::{Command, WordsFault, read_words};
+use lt_lines::Tallies;
+use lt_stream::ToolFault;
+use lt_words::{Command, WordsFault};
 use std::alloc::Global;
 use std::io::{self, Read, Write};
-
-/// What is read where a command names no file.
-const NO_FILE: &[u8] = &[];
-
-/// The command that the words name. If the words can't be had, the fault is the one that is given.
-fn command_of(alloc: Global, words: Result<Vec<String>, WordsFault>) -> Result<Command, WordsFault>
-    ensures names { IfOk result (NamesCommand (texts_of words)) }
-    ensures fault { IfErr result (IsProgramFault (texts_of words)) }
-{
-    match words {
-        Ok(words) => read_words(alloc, &words),
-        Err(fault) => Err(fault),
-    }
-}
 
 /// The path of the standard input.
 const INPUT_PATH: &str = "/dev/stdin";
 
 /// The path of the file that a name means. `-` is the standard input, unless `is_taken`: the command reads that for itself.
-fn path_of<'a>(name: &'a str, is_taken: bool) -> &'a str
+pub fn path_of<'a>(name: &'a str, is_taken: bool) -> &'a str
     ensures { IsPath is_taken name.entry.now result.now }
 {
     if name == "-" && !is_taken {
@@ -45,158 +36,213 @@ fn path_of<'a>(name: &'a str, is_taken: bool) -> &'a str
     }
 }
 
-/// Names on `errors` why a file can't be opened, `! OutOfMemory` or `! File`, and gives the exit status.
-fn refuse_file<E: Write>(error: &io::Error, errors: &mut Device<E>) -> u8
-    ensures status { result ≡ code_of Failed }
-    ensures said { Says (stream E.contents errors.old errors.new) (open_line (error_kind error.now)) }
+/// The fault of a file that can't be opened, with a line for a person that says which and why.
+fn file_fault(alloc: Global, path: &str, error: &io::Error) -> Fault
+    ensures { IsFileFault (error_kind error.now) result }
 {
     match error.kind() {
-        io::ErrorKind::OutOfMemory => report_memory(errors).code(),
-        _ => report_file(errors),
+        io::ErrorKind::OutOfMemory => Fault::Run(ToolFault::OutOfMemory),
+        _ => Fault::File(format!(in alloc; "{path}: {error}\n").ok()),
     }
 }
 
-/// Names on `errors` that the input can't be read, by `! Read`, and gives the exit status.
-fn refuse_input<E: Write>(errors: &mut Device<E>) -> u8
-    ensures status { result ≡ code_of Failed }
-    ensures said { Says (stream E.contents errors.old errors.new) input_line }
-{
-    say(b"! Read\n", errors);
-    Status::Failed.code()
-}
-
-/// Opens the file that a command names second, if it names one, and does what the command asks for. `first` is its first
-/// file. If the second can't be opened, that is named on `errors`.
-fn run_on_first<F: Read + Drop, P: FnMut(&str) -> io::Result<F>, I: Read, O: Write, E: Write>(
+/// Opens the file that a name means. `is_taken` is whether the command reads the standard input for itself.
+fn open_named<F: Read + Drop, P: FnMut(&str) -> io::Result<F>>(
     alloc: Global,
-    command: &Command,
-    mut first: Device<F>,
     opener: &mut P,
-    input: &mut Device<I>,
-    output: &mut Device<O>,
-    errors: &mut Device<E>,
-    answered: &mut Answered,
-) -> u8
+    name: &str,
+    is_taken: bool,
+) -> Result<Source<F>, Fault>
     requires { P.IsAlwaysCallable opener.old }
-    ensures { RunsOnFirst command.now (opener_of (CalledAt P.FnMut) F.remaining opener.old opener.new)
-        ⟦<&'static [u8] as Read>⟧.remaining (stream I.remaining input.old input.new) (stream O.contents output.old output.new)
-        (stream E.contents errors.old errors.new) (handed answered.old answered.new) result first (second_file_of command.now) }
+    ensures { OpensNamed (CalledAt P.FnMut) opener.old opener.new is_taken name.now result }
 {
-    let Some(name) = command.second_file() else {
-        return perform(
-            alloc,
-            command,
-            &mut first,
-            &mut Device::new(NO_FILE),
-            input,
-            output,
-            errors,
-            answered,
-        );
-    };
-    match opener(path_of(name, command.reads_input())) {
-        Ok(second) => perform(
-            alloc,
-            command,
-            &mut first,
-            &mut Device::new(second),
-            input,
-            output,
-            errors,
-            answered,
-        ),
-        Err(error) => refuse_file(&error, errors),
+    let path = path_of(name, is_taken);
+    match opener(path) {
+        Ok(file) => Ok(Source::File(file)),
+        Err(error) => Err(file_fault(alloc, path, &error)),
     }
 }
 
-/// Opens the files that a command names, in the order in which they are read, and does what it asks for. One that
-/// can't be opened is named on `errors`.
-fn run_on_files<F: Read + Drop, P: FnMut(&str) -> io::Result<F>, I: Read, O: Write, E: Write>(
+/// Opens the file of this name, if there is a name.
+fn open_file<F: Read + Drop, P: FnMut(&str) -> io::Result<F>>(
     alloc: Global,
-    command: &Command,
     opener: &mut P,
-    input: &mut Device<I>,
-    output: &mut Device<O>,
-    errors: &mut Device<E>,
-    answered: &mut Answered,
-) -> u8
+    name: Option<&str>,
+    is_taken: bool,
+) -> Result<Source<F>, Fault>
     requires { P.IsAlwaysCallable opener.old }
-    ensures { RunsOnFiles command.now (opener_of (CalledAt P.FnMut) F.remaining opener.old opener.new)
-        ⟦<&'static [u8] as Read>⟧.remaining (stream I.remaining input.old input.new) (stream O.contents output.old output.new)
-        (stream E.contents errors.old errors.new) (handed answered.old answered.new) result (first_file_of command.now) }
+    ensures { OpensFile (CalledAt P.FnMut) opener.old opener.new is_taken (option_map (λ text. text.now) name.entry) result }
 {
-    let Some(name) = command.first_file() else {
-        let (mut none, mut other) = (Device::new(NO_FILE), Device::new(NO_FILE));
-        return perform(
-            alloc, command, &mut none, &mut other, input, output, errors, answered,
-        );
-    };
-    match opener(path_of(name, command.reads_input())) {
-        Ok(first) => run_on_first(
-            alloc,
-            command,
-            Device::new(first),
-            opener,
-            input,
-            output,
-            errors,
-            answered,
-        ),
-        Err(error) => refuse_file(&error, errors),
+    match name {
+        None => Ok(Source::Empty),
+        Some(name) => open_named(alloc, opener, name, is_taken),
     }
 }
 
-/// Does what a command asks for. If it reads the input and that can't be read, this is named on `errors` before a file is
-/// opened.
-fn run_command<F: Read + Drop, P: FnMut(&str) -> io::Result<F>, I: Read, O: Write, E: Write>(
+/// Opens the files that a command names, in the order in which they are read.
+fn open_files<F: Read + Drop, P: FnMut(&str) -> io::Result<F>>(
     alloc: Global,
     command: &Command,
     opener: &mut P,
-    input: &mut Device<I>,
-    output: &mut Device<O>,
-    errors: &mut Device<E>,
-    answered: &mut Answered,
-) -> u8
+) -> Result<Files<F>, Fault>
     requires { P.IsAlwaysCallable opener.old }
-    ensures { RunsCommand command.now (opener_of (CalledAt P.FnMut) F.remaining opener.old opener.new)
-        ⟦<&'static [u8] as Read>⟧.remaining (stream I.remaining input.old input.new) (stream O.contents output.old output.new)
-        (stream E.contents errors.old errors.new) (handed answered.old answered.new) result (reads_input_of command.now) }
+    ensures { OpensFiles (CalledAt P.FnMut) command.now opener.old opener.new result }
+{
+    let is_taken = command.reads_input();
+    let first = open_file(alloc, opener, command.first_file(), is_taken)?;
+    let second = open_file(alloc, opener, command.second_file(), is_taken)?;
+    Ok(Files {
+        first: Device::new(first),
+        second: Device::new(second),
+    })
+}
+
+/// Asks the input for no bytes, if a command reads it. Refused with `Read` if the input can't be read, as when it is closed.
+fn ask<I: Read>(command: &Command, input: &mut Device<I>) -> Result<(), Fault>
+    ensures { AsksIf (reads_input_of command.now) (stream I.remaining input.old input.new) result }
 {
     if !command.reads_input() {
-        return run_on_files(alloc, command, opener, input, output, errors, answered);
+        return Ok(());
     }
     match input.read(&mut []) {
-        Ok(_) => run_on_files(alloc, command, opener, input, output, errors, answered),
-        Err(_) => refuse_input(errors),
+        Ok(_) => Ok(()),
+        Err(_) => Err(Fault::Run(ToolFault::Read)),
     }
 }
 
-/// Runs the program by the words of its command line, of which the first is its name, and answers the exit
-/// status, 0 to 4. Words that can't be had are answered as words that name no command, for the reason that is given.
-///
-/// `opener` opens the files that the words name, in the order in which they are read: of a table and a registry the
-/// registry, of two registries the older one first. One that can't be opened ends the run by `! File` on `errors`,
-/// and the status 4. The name `-` is the standard input where the command doesn't read `input`. Where the command
-/// reads `input`, it is asked for no bytes before a file is opened, so that one that is closed is not taken for a
-/// file that is opened in its place: it ends the run by `! Read`, and the status 4. Then [`perform`] does what the
-/// command asks for, or [`report`] says why the words name none. `answered` is set as [`perform`] sets it, and stays
-/// where nothing is performed.
-pub fn run_program<F: Read + Drop, P: FnMut(&str) -> io::Result<F>, I: Read, O: Write, E: Write>(
+/// Opens the files that a command names. If the command reads the input, this is asked for no bytes before: one that is
+/// closed is not taken for a file that is opened in its place.
+fn prepare<F: Read + Drop, P: FnMut(&str) -> io::Result<F>, I: Read>(
     alloc: Global,
-    words: Result<Vec<String>, WordsFault>,
+    command: &Command,
     opener: &mut P,
     input: &mut Device<I>,
-    output: &mut Device<O>,
-    errors: &mut Device<E>,
-    answered: &mut Answered,
-) -> u8
+) -> Result<Files<F>, Fault>
     requires { P.IsAlwaysCallable opener.old }
-    ensures { RunsProgram (texts_of words) (opener_of (CalledAt P.FnMut) F.remaining opener.old opener.new)
-        ⟦<&'static [u8] as Read>⟧.remaining (stream I.remaining input.old input.new) (stream O.contents output.old output.new)
-        (stream E.contents errors.old errors.new) (handed answered.old answered.new) result }
+    ensures { Prepares (CalledAt P.FnMut) command.now opener.old opener.new (stream I.remaining input.old input.new) result }
 {
-    match command_of(alloc, words) {
-        Ok(command) => run_command(alloc, &command, opener, input, output, errors, answered),
-        Err(fault) => report(&fault, output, errors),
+    ask(command, input)?;
+    open_files(alloc, command, opener)
+}
+
+/// Does what a command asks for, but for the answer that it gives, which is not printed yet. `tallies` is set to what was
+/// refused of lines that were answered.
+fn answer_of<F: Read, I: Read, O: Write>(
+    alloc: Global,
+    command: &Command,
+    files: &mut Files<F>,
+    input: &mut Device<I>,
+    output: &mut Device<O>,
+    tallies: &mut Tallies,
+) -> Result<Answer, Fault>
+    ensures { Answers F.remaining command.now files.old files.new (stream I.remaining input.old input.new)
+        (stream O.contents output.old output.new) tallies.old tallies.new result }
+{
+    let plan = make_plan(alloc, command, files, input)?;
+    run(alloc, plan, input, output, tallies)
+}
+
+/// Does what a command asks for, as [`perform`] does, and gives what it came to.
+fn carry_out<F: Read, I: Read, O: Write, E: Write>(
+    alloc: Global,
+    command: &Command,
+    files: &mut Files<F>,
+    streams: &mut Streams<I, O, E>,
+) -> Outcome
+    ensures { Performs F.remaining command.now files.old files.new (stream I.remaining streams.old.input streams.new.input)
+        (stream O.contents streams.old.output streams.new.output) (stream E.contents streams.old.errors streams.new.errors) result }
+{
+    let mut tallies = Tallies::new(alloc);
+    let end = answer_of(
+        alloc,
+        command,
+        files,
+        &mut streams.input,
+        &mut streams.output,
+        &mut tallies,
+    );
+    let end = finish(alloc, end, &mut streams.output, &mut streams.errors);
+    Outcome { end, tallies }
+}
+
+/// Does what a command asks for, and answers the exit status, 0 to 4.
+///
+/// `files` are those that the command names; one that it does not name is left as it is, and so is the second where the first
+/// is refused. A registry is read record by record, up to its end or the first line at fault. The answer is printed at
+/// once, but by `explain` as its lines are made; `canon`, `codes`, `tsv`, `csv` and `json` answer the lines or records of
+/// the input as they come, `match` prints those of its lines that a range matches, or the one that lookup finds, and
+/// `verify` reads them up to the first that settles its answer.
+///
+/// A read of a file that fails, or is one too many, is answered as a fault of the file. A write to the output
+/// that fails, a read of the input that fails, its end within quotes, and an allocation that fails are named on the errors; a
+/// write there that fails is counted by the device alone. Where a column has a name, it is found in the heading of the input
+/// before a byte is written; a name that no column has, or more than one, is told on the errors, and the status is 3. So it
+/// is where a range of `match` is refused, and no line is read.
+pub fn perform<F: Read, I: Read, O: Write, E: Write>(
+    alloc: Global,
+    command: &Command,
+    files: &mut Files<F>,
+    streams: &mut Streams<I, O, E>,
+) -> u8
+    ensures { PerformsTo F.remaining command.now files.old files.new (stream I.remaining streams.old.input streams.new.input)
+        (stream O.contents streams.old.output streams.new.output) (stream E.contents streams.old.errors streams.new.errors) result }
+{
+    let outcome = carry_out(alloc, command, files, streams);
+    outcome.status().code()
+}
+
+/// Runs the program by a command, and gives what the run came to.
+///
+/// `opener` opens the files that the command names, in the order in which they are read: of a table and a registry the
+/// registry, of two registries the older one first. One that can't be opened ends the run by `! File` on the errors,
+/// and the status 4. The name `-` is the standard input where the command doesn't read that. Where it does, the input is
+/// asked for no bytes before a file is opened, so that one that is closed is not taken for a file that is opened in its
+/// place: it ends the run by `! Read`, and the status 4. Then all is done as by [`perform`].
+pub fn run_program<F: Read + Drop, P: FnMut(&str) -> io::Result<F>, I: Read, O: Write, E: Write>(
+    alloc: Global,
+    command: &Command,
+    opener: &mut P,
+    streams: &mut Streams<I, O, E>,
+) -> Outcome
+    requires { P.IsAlwaysCallable opener.old }
+    ensures { RunsProgram (CalledAt P.FnMut) F.remaining command.now opener.old opener.new (stream I.remaining streams.old.input streams.new.input)
+        (stream O.contents streams.old.output streams.new.output) (stream E.contents streams.old.errors streams.new.errors) result }
+{
+    match prepare(alloc, command, opener, &mut streams.input) {
+        Ok(mut files) => carry_out(alloc, command, &mut files, streams),
+        Err(fault) => Outcome {
+            end: finish(alloc, Err(fault), &mut streams.output, &mut streams.errors),
+            tallies: Tallies::new(alloc),
+        },
+    }
+}
+
+/// What a run comes to whose words name no command.
+fn end_of_words(fault: WordsFault) -> Result<Answer, Fault>
+    ensures { EndsWords fault result }
+{
+    match fault {
+        WordsFault::Help(text) => Ok(Answer::Text(text.into_bytes())),
+        WordsFault::Version(text) => Ok(Answer::Text(text.into_bytes())),
+        WordsFault::Usage(text) => Err(Fault::Usage(text)),
+        WordsFault::OutOfMemory => Err(Fault::Run(ToolFault::OutOfMemory)),
+    }
+}
+
+/// Says why the words are no command, and gives what the run came to: the status is 0 for help and the version, 3 for
+/// words that name no command, 4 where memory ran out or a write failed. Help and the version are printed, and any other
+/// fault is told on the errors.
+pub fn report<I, O: Write, E: Write>(
+    alloc: Global,
+    fault: WordsFault,
+    streams: &mut Streams<I, O, E>,
+) -> Outcome
+    ensures ends { Reports fault (stream O.contents streams.old.output streams.new.output) (stream E.contents streams.old.errors streams.new.errors) result }
+    ensures unread { streams.new.input ≡ streams.old.input }
+{
+    let end = end_of_words(fault);
+    Outcome {
+        end: finish(alloc, end, &mut streams.output, &mut streams.errors),
+        tallies: Tallies::new(alloc),
     }
 }

@@ -1,20 +1,20 @@
 //! The registry that a command names.
-ghost use Rattle.std.specs.Prelude.{◌≡◌, Err, IfOk, Ok};
-ghost use Rattle.lt_tool.specs.Registries.{Answers, Checks, CountsEntries, IsJudged, IsRegistryLine, IsRegistryRefusal, ReadsFile, refused_end};
+ghost use Rattle.std.specs.Prelude.{◌≡◌, Err, Ok};
+ghost use Rattle.lt_tool.specs.Registries as spec;
+ghost use Rattle.lt_tool.specs.Registries.{IsJudged, IsRegistryRefusal, ReadsFile, ReadsJudged};
 ghost use Rattle.lt_tool.specs.Streams.{stream};
 
-use crate::lines::Answer;
+use crate::faults::{Fault, Role};
 use crate::status::Status;
 use lt_canon::{Checked, Finding, RejectedCause};
 use lt_jar::{Device, JarFault, JarFaultKind};
-use lt_registry::{Lookup, RecordFault, RecordFaultKind, Registry, RegistryFault, SortedTable};
-use lt_tag::OutOfMemory;
+use lt_registry::{RecordFault, RecordFaultKind, Registry, RegistryFault, SortedTable};
 use std::alloc::Global;
 use std::io::Read;
 
 /// Why a file holds no registry that passes the check.
 #[derive(Debug, Drop)]
-pub(crate) enum RegistryRefusal {
+pub enum RegistryRefusal {
     /// The file is not in the format of a registry, or was not read to its end.
     Jar(JarFault),
     /// A record gives no entry.
@@ -28,7 +28,7 @@ pub(crate) enum RegistryRefusal {
 impl RegistryRefusal {
     /// How a run ends that has refused a registry: failed if a read failed or was one too many, else as a refused registry.
     pub(crate) fn status(&self) -> Status
-        ensures { result ≡ refused_end self.now }
+        ensures { result ≡ spec.refused_end self.now }
     {
         match self {
             RegistryRefusal::Jar(
@@ -38,6 +38,25 @@ impl RegistryRefusal {
                 },
             ) => Status::Failed,
             _ => Status::RegistryRefused,
+        }
+    }
+
+    /// The name of the fault, or the code of the condition that is not met.
+    pub(crate) fn name(&self) -> &'static str {
+        match self {
+            RegistryRefusal::Jar(fault) => fault.kind.name(),
+            RegistryRefusal::Record(fault) => fault.kind.name(),
+            RegistryRefusal::Check(finding) => finding.condition.code(),
+            RegistryRefusal::OutOfMemory => "OutOfMemory",
+        }
+    }
+
+    /// The number of the record at fault, counted from 1.
+    pub(crate) fn record(&self) -> Option<u32> {
+        match self {
+            RegistryRefusal::Record(fault) => Some(fault.number),
+            RegistryRefusal::Check(finding) => Some(finding.number),
+            RegistryRefusal::Jar(_) | RegistryRefusal::OutOfMemory => None,
         }
     }
 }
@@ -82,7 +101,7 @@ pub(crate) fn check_entries(
 }
 
 /// The entries of a file, as a table that passed the check, or why the file is refused.
-pub(crate) fn read_registry<F: Read>(
+fn judge_file<F: Read>(
     alloc: Global,
     file: &mut Device<F>,
 ) -> Result<Checked<SortedTable>, RegistryRefusal>
@@ -94,62 +113,16 @@ pub(crate) fn read_registry<F: Read>(
     }
 }
 
-/// The line that is printed for a refused registry, as `jar BadLine line 3`. Refused where memory runs out, and for
-/// `RegistryRefusal::OutOfMemory`, which has no line.
-pub(crate) fn line_of_refusal(
+/// The registry of a file, or the fault with which it is refused. `role` is which of its registries the command means.
+pub(crate) fn read_registry<F: Read>(
     alloc: Global,
-    refusal: &RegistryRefusal,
-) -> Result<Vec<u8>, OutOfMemory>
-    ensures { IfOk result (λ line. IsRegistryLine refusal.now line.items) }
+    role: Role,
+    file: &mut Device<F>,
+) -> Result<Checked<SortedTable>, Fault>
+    ensures { ReadsJudged (stream F.remaining file.old file.new) role result }
 {
-    let line = match refusal {
-        RegistryRefusal::Jar(fault) => {
-            let (name, number) = (fault.kind.name(), fault.line);
-            format!(in alloc; "jar {name} line {number}\n")?
-        }
-        RegistryRefusal::Record(fault) => {
-            let (name, number) = (fault.kind.name(), fault.number);
-            format!(in alloc; "record {number} {name}\n")?
-        }
-        RegistryRefusal::Check(finding) => {
-            let (code, number) = (finding.condition.code(), finding.number);
-            format!(in alloc; "check {code} record {number}\n")?
-        }
-        RegistryRefusal::OutOfMemory => return Err(OutOfMemory),
-    };
-    Ok(line.into_bytes())
-}
-
-/// The answer for a refused registry: its line and the status. Refused where memory runs out, and for
-/// `RegistryRefusal::OutOfMemory`, which has no line.
-pub(crate) fn refuse(alloc: Global, refusal: &RegistryRefusal) -> Result<Answer, OutOfMemory>
-    ensures line { IfOk result (λ answer. IsRegistryLine refusal.now answer.line.items) }
-    ensures status { IfOk result (λ answer. answer.status ≡ refused_end refusal.now) }
-{
-    Ok(Answer {
-        line: line_of_refusal(alloc, refusal)?,
-        status: refusal.status(),
-    })
-}
-
-/// The answer of `check` for a registry that passes: `ok` and the number of its entries.
-fn count_entries<L: Lookup>(alloc: Global, checked: &Checked<L>) -> Result<Answer, OutOfMemory>
-    ensures { IfOk result (λ answer. CountsEntries (L.listed checked.now) answer.line.items answer.status) }
-{
-    let count = checked.table().entries().len();
-    let line = format!(in alloc; "ok {count}\n")?;
-    Ok(Answer {
-        line: line.into_bytes(),
-        status: Status::Done,
-    })
-}
-
-/// The answer of `check` for a file: `ok` and the number of its entries, or the line of the registry's refusal.
-pub(crate) fn check<F: Read>(alloc: Global, file: &mut Device<F>) -> Result<Answer, OutOfMemory>
-    ensures { Answers (stream F.remaining file.old file.new) Checks result }
-{
-    match read_registry(alloc, file) {
-        Ok(checked) => count_entries(alloc, &checked),
-        Err(refusal) => refuse(alloc, &refusal),
+    match judge_file(alloc, file) {
+        Ok(checked) => Ok(checked),
+        Err(refusal) => Err(Fault::Registry(role, refusal)),
     }
 }

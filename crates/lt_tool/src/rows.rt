@@ -1,27 +1,69 @@
-//! What is answered to rows.
+//! Lines that are tags, and rows with a column of tags.
 ghost use Rattle.std.specs.Prelude.{◌≡◌};
-ghost use Rattle.std.specs.Io.KnownBytes.{prepend_known};
-ghost use Rattle.lt_jar.specs.Devices.{inner_of};
-ghost use Rattle.lt_registry.specs.ReadRegistry.{Reading};
-ghost use Rattle.lt_lines.specs.Owed.{codes_in};
-ghost use Rattle.lt_tool.specs.Codes.{code_of};
-ghost use Rattle.lt_tool.specs.Printed as spec;
-ghost use Rattle.lt_tool.specs.Printed.{RunsAfter, RunsNamed, RunsRows};
-ghost use Rattle.lt_tool.specs.Registries.{HoldsRegistry};
-ghost use Rattle.lt_tool.specs.Streams.{handed, stream};
+ghost use Rattle.lt_tool.specs.Rows as spec;
+ghost use Rattle.lt_tool.specs.Rows.{FindsPlace, PlansRows, PlansTags, ReadsCodes, ReadsGround};
+ghost use Rattle.lt_tool.specs.Streams.{stream};
+ghost use Rattle.lt_tool.specs.declared.faults.Fault.TheVariants as faults;
 
-use crate::answered::Answered;
-use crate::answering::run_by_registry;
-use crate::printing::{say, say_fault};
-use crate::status::Status;
-use lt_heading::{ColumnFault, find_column};
+use crate::faults::{Fault, Role};
+use crate::plans::{Ground, LinesPlan, Plan};
+use crate::registries::read_registry;
+use crate::streams::Files;
+use lt_codes::CodeTable;
+use lt_heading::{ColumnFault, FoundColumn, find_column};
 use lt_jar::Device;
-use lt_lines::{Basis, LineForm, RowForm};
-use lt_registry::Lookup;
+use lt_lines::{LineForm, RowForm};
 use lt_rows::Separator;
 use lt_words::{Column, Rows};
 use std::alloc::Global;
-use std::io::{Read, Write};
+use std::io::Read;
+
+/// The table of codes of a file, or None if no table is named; or why it is refused.
+fn read_codes<F: Read>(
+    alloc: Global,
+    is_named: bool,
+    file: &mut Device<F>,
+) -> Result<Option<CodeTable>, Fault>
+    ensures { ReadsCodes is_named (stream F.remaining file.old file.new) result }
+{
+    if !is_named {
+        return Ok(None);
+    }
+    match CodeTable::read(alloc, file) {
+        Ok(codes) => Ok(Some(codes)),
+        Err(fault) => Err(Fault::Table(fault)),
+    }
+}
+
+/// By what lines are answered: the registry of the first file, and the table of codes of the second if `is_named`. Where
+/// the registry is refused, the second file is not read.
+fn read_ground<F: Read>(
+    alloc: Global,
+    is_named: bool,
+    files: &mut Files<F>,
+) -> Result<Ground, Fault>
+    ensures { ReadsGround F.remaining is_named files.old files.new result }
+{
+    let checked = read_registry(alloc, Role::Only, &mut files.first)?;
+    let codes = read_codes(alloc, is_named, &mut files.second)?;
+    Ok(Ground { checked, codes })
+}
+
+/// To answer the lines of the input as tags, by a registry, and by a table of codes if `is_named`; or why a file is refused.
+pub(crate) fn plan_tags<'a, F: Read>(
+    alloc: Global,
+    is_named: bool,
+    files: &mut Files<F>,
+) -> Result<Plan<'a>, Fault>
+    ensures { PlansTags F.remaining is_named files.old files.new result }
+{
+    let ground = read_ground(alloc, is_named, files)?;
+    Ok(Plan::Lines(LinesPlan {
+        ground,
+        form: LineForm::Tag,
+        front: None,
+    }))
+}
 
 /// The form of rows whose column has this number, counted from 1, by what the words say of headings and of keeping
 /// rows. It counts the fields before the column.
@@ -47,87 +89,70 @@ fn line_form(separator: Separator, rows: &Rows, number: usize) -> LineForm
     }
 }
 
-/// Answers the lines of `front`, which was read from the input, and then of what is left of the input.
-fn answer_after<L: Lookup, I: Read, O: Write, E: Write>(
-    alloc: Global,
-    basis: &Basis<'_, L>,
-    form: LineForm,
-    front: &[u8],
-    input: &mut Device<I>,
-    output: &mut Device<O>,
-    errors: &mut Device<E>,
-    answered: &mut Answered,
-) -> Status
-    ensures { (reading : Reading) → HoldsRegistry reading (L.listed basis.now.checked.now) → RunsAfter form (codes_in basis.now.codes) reading I.remaining (prepend_known front.now (I.remaining (inner_of input.old)))
-        (stream O.contents output.old output.new) (stream E.contents errors.old errors.new) (handed answered.old answered.new) (code_of result) }
-{
-    let mut ahead = Device::new(front.chain(input));
-    run_by_registry(alloc, basis, form, &mut ahead, output, errors, answered)
+/// Where the column of tags is.
+#[derive(Drop)]
+pub(crate) struct ColumnPlace {
+    /// Its number, counted from 1.
+    number: usize,
+    /// What was read of the input to find it, if it was looked for.
+    front: Option<Vec<u8>>,
 }
 
-/// Answers the rows of the input by the column of this name. If the heading has no such column, or more than one, this is
-/// told on `errors`, and no row is answered.
-fn answer_named<L: Lookup, I: Read, O: Write, E: Write>(
-    alloc: Global,
-    basis: &Basis<'_, L>,
-    separator: Separator,
-    rows: &Rows,
-    name: &str,
-    input: &mut Device<I>,
-    output: &mut Device<O>,
-    errors: &mut Device<E>,
-    answered: &mut Answered,
-) -> Status
-    ensures { (reading : Reading) → HoldsRegistry reading (L.listed basis.now.checked.now) → RunsNamed separator rows.now name.now (codes_in basis.now.codes) reading (stream I.remaining input.old input.new)
-        (stream O.contents output.old output.new) (stream E.contents errors.old errors.new) (handed answered.old answered.new) (code_of result) }
-{
-    match find_column(alloc, separator, name, input) {
-        Ok(found) => {
-            let form = line_form(separator, rows, found.number);
-            answer_after(
-                alloc,
-                basis,
-                form,
-                &found.front,
-                input,
-                output,
-                errors,
-                answered,
-            )
-        }
-        Err(ColumnFault::Name(line)) => {
-            say(line.as_bytes(), errors);
-            Status::Usage
-        }
-        Err(ColumnFault::Heading(fault)) => {
-            say_fault(fault, errors);
-            Status::Failed
+impl From<ColumnFault> for Fault {
+    ghost from_gives = { λ missing fault. fault ≡ spec.of_column_fault missing };
+
+    fn from(fault: ColumnFault) -> Fault {
+        match fault {
+            ColumnFault::Name(line) => Fault::Usage(line),
+            ColumnFault::Heading(fault) => Fault::Run(fault),
         }
     }
 }
 
-/// Answers the rows of the input by the column that the words name, by its number or by its name in the heading.
-/// `basis` has the registry, and the table of codes if there is one.
-pub(crate) fn answer_rows<L: Lookup, I: Read, O: Write, E: Write>(
+/// Where the column is that the words name, by its number or by its name in the heading of the input; or why it is not
+/// found.
+fn place_of<I: Read>(
     alloc: Global,
-    basis: &Basis<'_, L>,
     separator: Separator,
-    rows: &Rows,
+    column: &Column,
     input: &mut Device<I>,
-    output: &mut Device<O>,
-    errors: &mut Device<E>,
-    answered: &mut Answered,
-) -> Status
-    ensures { (reading : Reading) → HoldsRegistry reading (L.listed basis.now.checked.now) → RunsRows separator rows.now rows.now.column (codes_in basis.now.codes) reading (stream I.remaining input.old input.new)
-        (stream O.contents output.old output.new) (stream E.contents errors.old errors.new) (handed answered.old answered.new) (code_of result) }
+) -> Result<ColumnPlace, Fault>
+    ensures { FindsPlace separator column.now (stream I.remaining input.old input.new) result }
 {
-    match &rows.column {
+    let name = match column {
         Column::Number(number) => {
-            let form = line_form(separator, rows, *number);
-            run_by_registry(alloc, basis, form, input, output, errors, answered)
+            return Ok(ColumnPlace {
+                number: *number,
+                front: None,
+            });
         }
-        Column::Name(name) => answer_named(
-            alloc, basis, separator, rows, name, input, output, errors, answered,
-        ),
+        Column::Name(name) => name,
+    };
+    match find_column(alloc, separator, name, input) {
+        Ok(FoundColumn { number, front }) => Ok(ColumnPlace {
+            number,
+            front: Some(front),
+        }),
+        Err(fault) => Err(Fault::from(fault)),
     }
+}
+
+/// To answer the rows of the input; or why a file is refused, or the column is not found.
+pub(crate) fn plan_rows<'a, F: Read, I: Read>(
+    alloc: Global,
+    separator: Separator,
+    rows: &Rows,
+    files: &mut Files<F>,
+    input: &mut Device<I>,
+) -> Result<Plan<'a>, Fault>
+    ensures { PlansRows F.remaining separator rows.now files.old files.new (stream I.remaining input.old input.new) result }
+{
+    let ground = read_ground(alloc, rows.codes.is_some(), files)?;
+    let place = place_of(alloc, separator, &rows.column, input)?;
+    let ColumnPlace { number, front } = place;
+    Ok(Plan::Lines(LinesPlan {
+        ground,
+        form: line_form(separator, rows, number),
+        front,
+    }))
 }

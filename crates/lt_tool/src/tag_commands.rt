@@ -1,20 +1,78 @@
-//! What is answered to one or two tags by the registry of a file.
-ghost use Rattle.std.specs.Prelude.{◌≡◌, IfOk, IfErr};
+//! What is answered to one or two tags, or to one or two registries.
+ghost use Rattle.std.specs.Prelude.{◌≡◌, IfOk, IfErr, length};
 ghost use Rattle.lt_canon.specs.Texts.{IsTextRefusal};
-ghost use Rattle.lt_tool.specs.Registries.{Answers, ByRegistry};
 ghost use Rattle.lt_canon.specs.TextAnswers.{IsEqualityOf, IsExtlangTextOf, IsPairRefusal};
-ghost use Rattle.lt_tool.specs.TagCommands.{Compares, FormsExtlang};
+ghost use Rattle.lt_tool.specs.Answers as spec;
+ghost use Rattle.lt_tool.specs.Answers.{class_line};
+ghost use Rattle.lt_tool.specs.Registries.{ByRegistry};
 ghost use Rattle.lt_tool.specs.Streams.{stream};
+ghost use Rattle.lt_tool.specs.TagCommands.{Checks, Classifies, Compares, FormsExtlang, PlansExplanation, PlansVerifying, UpgradesFiles};
 
-use crate::lines::{Answer, answer_refusal};
-use crate::registries::{read_registry, refuse};
-use crate::status::Status;
+use crate::answers::Answer;
+use crate::faults::{Fault, Role};
+use crate::plans::Plan;
+use crate::registries::read_registry;
+use crate::running::ended;
+use crate::streams::Files;
 use lt_canon::{Checked, TextRefusal, equivalent, extlang_form};
 use lt_jar::Device;
+use lt_json::class_name;
 use lt_registry::Lookup;
-use lt_tag::{OutOfMemory, read_tag, write_tag};
+use lt_tag::{OutOfMemory, Tag, read_tag, write_tag};
+use lt_upgrade::{UpgradeFault, upgrade_check};
 use std::alloc::Global;
 use std::io::Read;
+
+/// The line that `classify` prints for a tag: the name of its class, a space, and the tag in conventional case, as
+/// `grandfathered en-GB-oed`.
+fn line_of_tag(alloc: Global, tag: &Tag) -> Result<Vec<u8>, OutOfMemory>
+    ensures { IfOk result (λ line. line.items ≡ class_line tag.now) }
+{
+    let text = write_tag(alloc, tag)?;
+    let mut line = Vec::new(alloc);
+    line.extend_from_slice(class_name(tag.class()).as_bytes())?;
+    line.push(b' ')?;
+    line.extend_from_slice(&text)?;
+    line.push(b'\n')?;
+    Ok(line)
+}
+
+/// What `classify` answers to a text: the line of its tag, or why it is none.
+pub(crate) fn classify<'a>(alloc: Global, text: &[u8]) -> Result<Plan<'a>, Fault>
+    ensures { Classifies text.now result }
+{
+    let tag = match read_tag(alloc, text) {
+        Ok(tag) => tag,
+        Err(fault) => return Err(Fault::Text(TextRefusal::from(fault))),
+    };
+    let line = line_of_tag(alloc, &tag)?;
+    Ok(Plan::Print(Answer::Text(line)))
+}
+
+/// How many entries a registry has.
+fn count_of<L: Lookup>(checked: &Checked<L>) -> usize
+    ensures { result ≡ length (L.listed checked.now) }
+{
+    checked.table().entries().len()
+}
+
+/// The line that `check` prints for a registry that passes, with the number of its entries.
+fn entries_line(alloc: Global, count: usize) -> Result<Vec<u8>, OutOfMemory>
+    ensures { IfOk result (λ line. line.items ≡ spec.entries_line count) }
+{
+    let line = format!(in alloc; "ok {count}\n")?;
+    Ok(line.into_bytes())
+}
+
+/// What `check` answers to a file: the number of its entries, or why its registry is refused.
+pub(crate) fn check<'a, F: Read>(alloc: Global, file: &mut Device<F>) -> Result<Plan<'a>, Fault>
+    ensures { ByRegistry (stream F.remaining file.old file.new) Checks result }
+{
+    let checked = read_registry(alloc, Role::Only, file)?;
+    let count = count_of(&checked);
+    let line = entries_line(alloc, count)?;
+    Ok(Plan::Print(Answer::Entries(count, line)))
+}
 
 /// The text of the extlang form (RFC 5646, 4.5) of the tag that a text is read as, or why there is none.
 fn extlang_text<L: Lookup>(
@@ -46,70 +104,68 @@ fn equality<L: Lookup>(
     Ok(equivalent(alloc, checked, &tag, &other)?)
 }
 
-/// The answer of `extlang` for a text, by a registry: its extlang form, or the line of its refusal.
-fn answer_extlang<L: Lookup>(
+/// What `extlang` answers to a text, by the registry of a file.
+pub(crate) fn extlang<'a, F: Read>(
     alloc: Global,
-    checked: &Checked<L>,
     text: &[u8],
-) -> Result<Answer, OutOfMemory>
-    ensures { IfOk result (λ answer. FormsExtlang (L.listed checked.now) text.now answer.line.items answer.status) }
+    file: &mut Device<F>,
+) -> Result<Plan<'a>, Fault>
+    ensures { ByRegistry (stream F.remaining file.old file.new) (FormsExtlang text.now) result }
 {
-    match extlang_text(alloc, checked, text) {
-        Ok(mut line) => {
-            line.push(b'\n')?;
-            Ok(Answer {
-                line,
-                status: Status::Done,
-            })
-        }
-        Err(refusal) => answer_refusal(alloc, &refusal),
-    }
+    let checked = read_registry(alloc, Role::Only, file)?;
+    let extlang = extlang_text(alloc, &checked, text)?;
+    let line = ended(extlang)?;
+    Ok(Plan::Print(Answer::Text(line)))
 }
 
-/// The answer of `equal` for two texts, by a registry: `equal`, `different`, or the line of a text's refusal.
-fn answer_equal<L: Lookup>(
+/// What `equal` answers to two texts, by the registry of a file.
+pub(crate) fn equal<'a, F: Read>(
     alloc: Global,
-    checked: &Checked<L>,
     first: &[u8],
     second: &[u8],
-) -> Result<Answer, OutOfMemory>
-    ensures { IfOk result (λ answer. Compares (L.listed checked.now) first.now second.now answer.line.items answer.status) }
+    file: &mut Device<F>,
+) -> Result<Plan<'a>, Fault>
+    ensures { ByRegistry (stream F.remaining file.old file.new) (Compares first.now second.now) result }
 {
-    let (word, status) = match equality(alloc, checked, first, second) {
-        Ok(true) => (b"equal\n".as_slice(), Status::Done),
-        Ok(false) => (b"different\n".as_slice(), Status::Refused),
-        Err(refusal) => return answer_refusal(alloc, &refusal),
-    };
-    let mut line = Vec::new(alloc);
-    line.extend_from_slice(word)?;
-    Ok(Answer { line, status })
+    let checked = read_registry(alloc, Role::Only, file)?;
+    let equal = equality(alloc, &checked, first, second)?;
+    Ok(Plan::Print(Answer::Equal(equal)))
 }
 
-/// The answer of `extlang` for a text, by the registry of a file, or the line of the registry's refusal.
-pub(crate) fn extlang<F: Read>(
+/// To explain a text by the registry of a file; or why that is refused.
+pub(crate) fn plan_explain<'a, F: Read>(
     alloc: Global,
+    text: &'a [u8],
     file: &mut Device<F>,
-    text: &[u8],
-) -> Result<Answer, OutOfMemory>
-    ensures { Answers (stream F.remaining file.old file.new) (ByRegistry (λ R. FormsExtlang R text.now)) result }
+) -> Result<Plan<'a>, Fault>
+    ensures { ByRegistry (stream F.remaining file.old file.new) (PlansExplanation text.now) result }
 {
-    match read_registry(alloc, file) {
-        Ok(checked) => answer_extlang(alloc, &checked, text),
-        Err(refusal) => refuse(alloc, &refusal),
-    }
+    let checked = read_registry(alloc, Role::Only, file)?;
+    Ok(Plan::Explain(checked, text))
 }
 
-/// The answer of `equal` for two texts, by the registry of a file, or the line of the registry's refusal.
-pub(crate) fn equal<F: Read>(
+/// To judge lines as an explanation of a text by the registry of a file; or why that is refused.
+pub(crate) fn plan_verify<'a, F: Read>(
     alloc: Global,
+    text: &'a [u8],
     file: &mut Device<F>,
-    first: &[u8],
-    second: &[u8],
-) -> Result<Answer, OutOfMemory>
-    ensures { Answers (stream F.remaining file.old file.new) (ByRegistry (λ R. Compares R first.now second.now)) result }
+) -> Result<Plan<'a>, Fault>
+    ensures { ByRegistry (stream F.remaining file.old file.new) (PlansVerifying text.now) result }
 {
-    match read_registry(alloc, file) {
-        Ok(checked) => answer_equal(alloc, &checked, first, second),
-        Err(refusal) => refuse(alloc, &refusal),
+    let checked = read_registry(alloc, Role::Only, file)?;
+    Ok(Plan::Verify(checked, text))
+}
+
+/// What `upgrade` answers to two files. The older one is read and judged first; where it is refused, the newer one is not
+/// read.
+pub(crate) fn upgrade<'a, F: Read>(alloc: Global, files: &mut Files<F>) -> Result<Plan<'a>, Fault>
+    ensures { UpgradesFiles F.remaining files.old files.new result }
+{
+    let older = read_registry(alloc, Role::Older, &mut files.first)?;
+    let newer = read_registry(alloc, Role::Newer, &mut files.second)?;
+    match upgrade_check(alloc, &older, &newer) {
+        Ok(()) => Ok(Plan::Print(Answer::Passed)),
+        Err(UpgradeFault::Fails { condition, number }) => Err(Fault::Upgrade(condition, number)),
+        Err(UpgradeFault::OutOfMemory) => Err(Fault::from(OutOfMemory)),
     }
 }

@@ -1,12 +1,13 @@
-use Rattle.std.proofs.Common.{inl, inr}
-use Rattle.lt_tool.specs.Registries.{RefusesRegistry}
-use Rattle.lt_tool.proofs.AnswerLemmas.{printed_answer, read_more, refused_answer}
+use Rattle.std.proofs.Common.{inl, refl}
+use Rattle.lt_tool.proofs.ExplainedLemmas.{explained}
+use Rattle.lt_tool.proofs.ResultLemmas.{is_fault}
 use Rattle.lt_tool.proofs.explaining.explain.Goals as goal
 
+pub returns-in_err-left : goal.returns-in_err-left
+returns-in_err-left g c = inl (c.in_err-left.field-0.0, (c.in_err-left.ensures {u = tt}).refusal, refl, is_fault _ _ c.from_residual.ensures.1)
+
 pub returns-in-Ok : goal.returns-in-Ok
-returns-in-Ok g c = read_more _ _ _ c.in-Ok.ensures (λ reading holds. inr (c.in-Ok.checked, holds, c.explain_text.ensures))
+returns-in-Ok g c = explained _ _ _ _ _ (c.in_ok-left.ensures {u = tt}).whole c.in-Ok.ensures
 
 pub returns-in-Err : goal.returns-in-Err
-returns-in-Err g c = read_more _ _ _ c.in-Err.ensures (λ reading is.
-    inl (printed_answer (RefusesRegistry reading) _ _ c.refuse.result _
-    (refused_answer reading c.in-Err.refusal c.refuse.result is c.refuse.ensures.line c.refuse.ensures.status) c.print_answer.ensures))
+returns-in-Err g c = explained _ _ _ _ _ (c.in_ok-left.ensures {u = tt}).whole c.in-Err.ensures

@@ -1,4 +1,4 @@
-use Rattle.lt_tool.proofs.AnswerLemmas.{text_said}
+use Rattle.lt_tool.proofs.ResultLemmas.{text_said}
 use Rattle.lt_tool.proofs.printing.say_fault.Goals as goal
 
 pub returns : goal.returns

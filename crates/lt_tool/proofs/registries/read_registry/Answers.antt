@@ -1,8 +1,8 @@
-use Rattle.std.proofs.Common.{Err, Ok}
+use Rattle.std.proofs.Common.{refl}
 use Rattle.lt_tool.proofs.registries.read_registry.Goals as goal
 
 pub returns-in-Ok : goal.returns-in-Ok
-returns-in-Ok g c = record { reading = Ok c.in-Ok.registry; reads = c.in-Ok.ensures; holds = c.check_entries.ensures }
+returns-in-Ok g c = let r = c.in-Ok.ensures in record { reading = r.reading; reads = r.reads; holds = r.holds }
 
 pub returns-in-Err : goal.returns-in-Err
-returns-in-Err g c = record { reading = Err c.in-Err.fault; reads = c.in-Err.ensures; holds = c.from.ensures }
+returns-in-Err g c = let r = c.in-Err.ensures in record { reading = r.reading; reads = r.reads; holds = (c.in-Err.refusal, r.holds, refl) }

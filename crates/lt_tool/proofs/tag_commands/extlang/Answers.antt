@@ -1,10 +1,16 @@
-use Rattle.lt_tool.specs.TagCommands.{FormsExtlang}
-use Rattle.lt_tool.proofs.AnswerLemmas.{answered_by, answered_refusal}
+use Rattle.std.proofs.Common.{refl}
+use Rattle.lt_tool.proofs.ResultLemmas.{gives_no_memory, gives_text_fault, registry_had, registry_refused}
 use Rattle.lt_tool.proofs.tag_commands.extlang.Goals as goal
 
-pub returns-in-Ok : goal.returns-in-Ok
-returns-in-Ok g c = answered_by _ (λ R. FormsExtlang R c.args.text.now) _ c.answer_extlang.result c.in-Ok.ensures c.answer_extlang.ensures
+pub returns-in_err-checked : goal.returns-in_err-checked
+returns-in_err-checked g c = registry_refused _ _ _ _ c.in_err-checked.ensures c.from_residual.ensures.1
 
-pub returns-in-Err : goal.returns-in-Err
-returns-in-Err g c =
-    answered_refusal _ (λ R. FormsExtlang R c.args.text.now) _ c.refuse.result c.in-Err.ensures c.refuse.ensures.line c.refuse.ensures.status
+pub returns-in_err-extlang : goal.returns-in_err-extlang
+returns-in_err-extlang g c =
+    registry_had _ _ _ _ c.in_ok-checked.ensures (gives_text_fault _ _ _ _ c.in_err-extlang.ensures.refusal c.from_residual-in_err-extlang.ensures.1)
+
+pub returns-in_err-line : goal.returns-in_err-line
+returns-in_err-line g c = registry_had _ _ _ _ c.in_ok-checked.ensures (gives_no_memory _ _ _ c.from_residual-in_err-line.ensures.1)
+
+pub returns : goal.returns
+returns g c = registry_had _ _ _ _ c.in_ok-checked.ensures (c.in_ok-extlang.extlang.items, c.in_ok-extlang.ensures.written, (c.in_ok-line.line, c.in_ok-line.ensures, refl))

@@ -1,0 +1,45 @@
+use Rattle.std.proofs.Common.{refl}
+use Rattle.lt_tool.proofs.plans.make_plan.Goals as goal
+
+pub returns-in-Classify : goal.returns-in-Classify
+returns-in-Classify g c = rw c.in-Classify.is (refl, refl, rw c.as_bytes.ensures.value at c.classify.ensures)
+
+pub returns-in-Check : goal.returns-in-Check
+returns-in-Check g c = rw c.in-Check.is (refl, refl, c.check.ensures)
+
+pub returns-in-Canon : goal.returns-in-Canon
+returns-in-Canon g c = rw c.in-Canon.is (refl, c.plan_tags.ensures)
+
+pub returns-in-Codes : goal.returns-in-Codes
+returns-in-Codes g c = rw c.in-Codes.is (refl, c.plan_tags-in-Codes.ensures)
+
+pub returns-in-Tsv : goal.returns-in-Tsv
+returns-in-Tsv g c = rw c.in-Tsv.is c.plan_rows.ensures
+
+pub returns-in-Csv : goal.returns-in-Csv
+returns-in-Csv g c = rw c.in-Csv.is c.plan_rows-in-Csv.ensures
+
+pub returns-in-Match : goal.returns-in-Match
+returns-in-Match g c = rw c.in-Match.is (refl, refl, c.plan_match.ensures)
+
+pub returns-in-Extlang : goal.returns-in-Extlang
+returns-in-Extlang g c = rw c.in-Extlang.is (refl, refl, rw c.as_bytes-in-Extlang.ensures.value at c.extlang.ensures)
+
+pub returns-in-Equal : goal.returns-in-Equal
+returns-in-Equal g c =
+    rw c.in-Equal.is (refl, refl, rw (c.as_bytes-in-Equal.ensures.value, c.as_bytes-in-Equal-2.ensures.value) at c.equal.ensures)
+
+pub returns-in-Explain : goal.returns-in-Explain
+returns-in-Explain g c = rw c.in-Explain.is (refl, refl, rw c.as_bytes-in-Explain.ensures.value at c.plan_explain.ensures)
+
+pub returns-in-Verify : goal.returns-in-Verify
+returns-in-Verify g c = rw c.in-Verify.is (refl, refl, rw c.as_bytes-in-Verify.ensures.value at c.plan_verify.ensures)
+
+pub returns-in-Upgrade : goal.returns-in-Upgrade
+returns-in-Upgrade g c = rw c.in-Upgrade.is (refl, c.upgrade.ensures)
+
+pub returns-in-Show : goal.returns-in-Show
+returns-in-Show g c = rw c.in-Show.is (refl, refl, c.show.ensures)
+
+pub returns-in-Json : goal.returns-in-Json
+returns-in-Json g c = rw c.in-Json.is (refl, refl, c.plan_json.ensures)

@@ -1,0 +1,8 @@
+use Rattle.std.proofs.Common.{refl}
+use Rattle.lt_tool.proofs.program.report.Goals as goal
+
+pub returns : goal.returns
+returns g c = record {
+  ends = record { end = c.end_of_words-end.result; is_end = c.end_of_words-end.ensures; tallies = c.new.ensures; finishes = c.finish.ensures };
+  unread = refl;
+}

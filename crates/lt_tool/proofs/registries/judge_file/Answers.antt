@@ -1,0 +1,8 @@
+use Rattle.std.proofs.Common.{Err, Ok}
+use Rattle.lt_tool.proofs.registries.judge_file.Goals as goal
+
+pub returns-in-Ok : goal.returns-in-Ok
+returns-in-Ok g c = record { reading = Ok c.in-Ok.registry; reads = c.in-Ok.ensures; holds = c.check_entries.ensures }
+
+pub returns-in-Err : goal.returns-in-Err
+returns-in-Err g c = record { reading = Err c.in-Err.fault; reads = c.in-Err.ensures; holds = c.from.ensures }

@@ -1,0 +1,20 @@
+use Rattle.std.proofs.Common.{inl, inr, refl, subst, sym}
+use Rattle.lt_registry.specs.Validity.{IsProper}
+use Rattle.lt_verify.specs.Verifying.{VerifiesLines}
+use Rattle.lt_tool.proofs.running.verify.Goals as goal
+
+pub verify_lines-requires : goal.verify_lines-requires
+verify_lines-requires g c = subst (λ l. IsProper (g.L.Lookup.listed l) c.in-Ok.tag) (sym c.table.ensures.value) c.in-Ok.ensures.valid.proper
+
+pub returns-in-Ok : goal.returns-in-Ok
+returns-in-Ok g c = inr (
+  c.in-Ok.tag,
+  c.verify_lines.result,
+  c.in-Ok.ensures.read,
+  c.in-Ok.ensures.valid,
+  subst (λ l. VerifiesLines (g.L.Lookup.listed l) c.in-Ok.tag g.I.Read.remaining c.args.input.now c.verify_lines.new.input c.verify_lines.result) c.table.ensures.value c.verify_lines.ensures,
+  c.judged.ensures,
+)
+
+pub returns-in-Err : goal.returns-in-Err
+returns-in-Err g c = inl (c.in-Err.refusal, c.in-Err.ensures.refusal, refl, refl)

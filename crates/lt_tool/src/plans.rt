@@ -1,0 +1,115 @@
+//! What is left to do once the files that a command names are read and judged.
+ghost use Rattle.std.specs.Prelude.{◌≡◌};
+ghost use Rattle.lt_tool.specs.Plans.{Plans, PlansJson};
+ghost use Rattle.lt_tool.specs.Streams.{stream};
+
+use crate::answers::Answer;
+use crate::faults::{Fault, Role};
+use crate::ranges::plan_match;
+use crate::registries::read_registry;
+use crate::rows::{plan_rows, plan_tags};
+use crate::showing::show;
+use crate::streams::Files;
+use crate::tag_commands::{check, classify, equal, extlang, plan_explain, plan_verify, upgrade};
+use lt_canon::Checked;
+use lt_codes::CodeTable;
+use lt_jar::Device;
+use lt_lines::LineForm;
+use lt_match::LanguageRange;
+use lt_registry::SortedTable;
+use lt_rows::Separator;
+use lt_select::Scheme;
+use lt_words::Command;
+use std::alloc::Global;
+use std::io::Read;
+
+/// By what lines are answered: a registry, and a table of codes if one is named.
+#[derive(Drop)]
+pub(crate) struct Ground {
+    /// The entries of the registry, which passes the check.
+    pub(crate) checked: Checked<SortedTable>,
+    /// The codes of the table.
+    pub(crate) codes: Option<CodeTable>,
+}
+
+/// Lines of the input that are to be answered.
+#[derive(Drop)]
+pub(crate) struct LinesPlan {
+    /// By what they are answered.
+    pub(crate) ground: Ground,
+    /// What each of them is.
+    pub(crate) form: LineForm,
+    /// The bytes of the input that were read to find a column by its name, if it was looked for.
+    pub(crate) front: Option<Vec<u8>>,
+}
+
+/// Lines of the input that are to be matched by language ranges.
+#[derive(Drop)]
+pub(crate) struct MatchPlan {
+    /// The entries of the registry by which they are matched.
+    pub(crate) checked: Checked<SortedTable>,
+    /// The scheme of filtering; without one the ranges look one line up.
+    pub(crate) scheme: Option<Scheme>,
+    /// The ranges.
+    pub(crate) ranges: Vec<LanguageRange>,
+}
+
+/// What is left to do once the files that a command names are read and judged.
+#[derive(Drop)]
+pub(crate) enum Plan<'a> {
+    /// To print this answer.
+    Print(Answer),
+    /// To answer lines.
+    Lines(LinesPlan),
+    /// To match lines.
+    Match(MatchPlan),
+    /// To explain this text by a registry.
+    Explain(Checked<SortedTable>, &'a [u8]),
+    /// To judge the lines of the input as an explanation of this text by a registry.
+    Verify(Checked<SortedTable>, &'a [u8]),
+    /// To answer the lines of the input by objects of JSON.
+    Json(Checked<SortedTable>),
+}
+
+/// To answer the lines of the input by objects of JSON, by the registry of a file; or why that is refused.
+fn plan_json<'a, F: Read>(alloc: Global, file: &mut Device<F>) -> Result<Plan<'a>, Fault>
+    ensures { PlansJson (stream F.remaining file.old file.new) result }
+{
+    let checked = read_registry(alloc, Role::Only, file)?;
+    Ok(Plan::Json(checked))
+}
+
+/// Reads the files that a command names and judges them; and finds the column of rows in the heading of the input if the
+/// command names it. Gives what is then left to do, or what was refused.
+pub(crate) fn make_plan<'a, F: Read, I: Read>(
+    alloc: Global,
+    command: &'a Command,
+    files: &mut Files<F>,
+    input: &mut Device<I>,
+) -> Result<Plan<'a>, Fault>
+    ensures { Plans F.remaining command.now files.old files.new (stream I.remaining input.old input.new) result }
+{
+    match command {
+        Command::Classify(tag) => classify(alloc, tag.as_bytes()),
+        Command::Check(_) => check(alloc, &mut files.first),
+        Command::Canon(_) => plan_tags(alloc, false, files),
+        Command::Codes(_, _) => plan_tags(alloc, true, files),
+        Command::Tsv(_, rows) => plan_rows(alloc, Separator::Tab, rows, files, input),
+        Command::Csv(_, rows, delimiter) => {
+            plan_rows(alloc, Separator::Delimiter(*delimiter), rows, files, input)
+        }
+        Command::Match(_, ranges) => plan_match(alloc, ranges, &mut files.first),
+        Command::Extlang(_, tag) => extlang(alloc, tag.as_bytes(), &mut files.first),
+        Command::Equal(_, tag, other) => equal(
+            alloc,
+            tag.as_bytes(),
+            other.as_bytes(),
+            &mut files.first,
+        ),
+        Command::Explain(_, tag) => plan_explain(alloc, tag.as_bytes(), &mut files.first),
+        Command::Verify(_, tag) => plan_verify(alloc, tag.as_bytes(), &mut files.first),
+        Command::Upgrade(_, _) => upgrade(alloc, files),
+        Command::Show(_, tags) => show(alloc, tags, &mut files.first),
+        Command::Json(_) => plan_json(alloc, &mut files.first),
+    }
+}

@@ -1,0 +1,138 @@
+//! Language ranges that are read from words.
+ghost use Rattle.std.specs.Prelude.{◌≡◌, ◌++◌, ◌∷◌, [], IfErr, IfOk, OnOk, map, string_bytes};
+ghost use Rattle.lt_match.specs.Matched.{IsCanonicalRange};
+ghost use Rattle.lt_match.specs.Refusals.{IsRangeRefusal};
+ghost use Rattle.lt_match.specs.declared.refusals.RangeRefusal.TheVariants.{OutOfMemory};
+ghost use Rattle.lt_tool.specs.Registries.{ByRegistry};
+ghost use Rattle.lt_tool.specs.Selected as spec;
+ghost use Rattle.lt_tool.specs.Selected.{AreRanges, IsRangeFault, PlansMatch, RefusesRange, scheme_for};
+ghost use Rattle.lt_tool.specs.Streams.{stream};
+
+use crate::faults::{Fault, Role};
+use crate::plans::{MatchPlan, Plan};
+use crate::registries::read_registry;
+use lt_canon::Checked;
+use lt_jar::Device;
+use lt_match::{LanguageRange, RangeRefusal, canonical_range};
+use lt_registry::Lookup;
+use lt_select::Scheme;
+use lt_stream::ToolFault;
+use lt_words::{Matching, Ranges};
+use std::alloc::{AllocError, Global};
+use std::io::Read;
+
+/// A range that is refused.
+#[derive(Drop)]
+pub(crate) struct RefusedRange {
+    /// Its number among the ranges, counted from 1.
+    number: usize,
+    /// Why it is refused.
+    refusal: RangeRefusal,
+}
+
+/// Puts a range after the others. `number` is that of the range, counted from 1, which the refusal names where memory
+/// runs out.
+fn push_range(
+    ranges: &mut Vec<LanguageRange>,
+    number: usize,
+    range: LanguageRange,
+) -> Result<(), RefusedRange>
+    ensures pushed { OnOk result (ranges.new.items ≡ ranges.old.items ++ range ∷ []) }
+    ensures numbered { IfErr result (λ refused. refused.number ≡ number) }
+    ensures refusal { IfErr result (λ refused. refused.refusal ≡ OutOfMemory) }
+{
+    match ranges.push(range) {
+        Ok(()) => Ok(()),
+        Err(_) => Err(RefusedRange {
+            number,
+            refusal: RangeRefusal::OutOfMemory,
+        }),
+    }
+}
+
+/// The canonical range that a text is read as. `number` is that of the text, counted from 1, which its refusal names.
+fn read_range<L: Lookup>(
+    alloc: Global,
+    checked: &Checked<L>,
+    number: usize,
+    text: &[u8],
+) -> Result<LanguageRange, RefusedRange>
+    ensures range { IfOk result (λ range. IsCanonicalRange (L.listed checked.now) text.now range) }
+    ensures numbered { IfErr result (λ refused. refused.number ≡ number) }
+    ensures refusal { IfErr result (λ refused. IsRangeRefusal (L.listed checked.now) text.now refused.refusal) }
+{
+    match canonical_range(alloc, checked, text) {
+        Ok(range) => Ok(range),
+        Err(refusal) => Err(RefusedRange { number, refusal }),
+    }
+}
+
+/// The canonical ranges that the texts are read as, or the first that is refused, by its number, counted from 1.
+fn read_ranges<L: Lookup>(
+    alloc: Global,
+    checked: &Checked<L>,
+    texts: &[String],
+) -> Result<Vec<LanguageRange>, RefusedRange>
+    ensures ranges { IfOk result (λ ranges. AreRanges (L.listed checked.now) (map string_bytes texts.now) ranges.items) }
+    ensures refusal { IfErr result (RefusesRange (L.listed checked.now) (map string_bytes texts.now)) }
+{
+    let mut ranges = Vec::new(alloc);
+    let mut number = 0;
+    for text in texts {
+        number += 1;
+        let range = read_range(alloc, checked, number, text.as_bytes())?;
+        push_range(&mut ranges, number, range)?;
+    }
+    Ok(ranges)
+}
+
+/// The scheme of filtering that the words ask for; None is lookup.
+fn scheme_of(matching: Matching) -> Option<Scheme>
+    ensures { result ≡ scheme_for matching }
+{
+    match matching {
+        Matching::Basic => Some(Scheme::Basic),
+        Matching::Extended => Some(Scheme::Extended),
+        Matching::Lookup => None,
+    }
+}
+
+/// The line that is told of a range that is refused: its name and the number of the range, as `! Empty range 1`.
+fn range_line(alloc: Global, refused: &RefusedRange) -> Result<String, AllocError>
+    ensures { IfOk result (λ line. string_bytes line ≡ spec.range_line refused.now.number refused.now.refusal) }
+{
+    let (name, number) = (refused.refusal.name(), refused.number);
+    format!(in alloc; "! {name} range {number}\n")
+}
+
+/// The fault of a range that is refused, or that memory ran out.
+fn fault_of(alloc: Global, refused: &RefusedRange) -> Fault
+    ensures { IsRangeFault refused.now result }
+{
+    if let RangeRefusal::OutOfMemory = refused.refusal {
+        return Fault::Run(ToolFault::OutOfMemory);
+    }
+    match range_line(alloc, refused) {
+        Ok(line) => Fault::Usage(line),
+        Err(_) => Fault::Run(ToolFault::OutOfMemory),
+    }
+}
+
+/// To match the lines of the input by ranges, by the registry of a file; or why that or a range is refused.
+pub(crate) fn plan_match<'a, F: Read>(
+    alloc: Global,
+    ranges: &Ranges,
+    file: &mut Device<F>,
+) -> Result<Plan<'a>, Fault>
+    ensures { ByRegistry (stream F.remaining file.old file.new) (PlansMatch ranges.now) result }
+{
+    let checked = read_registry(alloc, Role::Only, file)?;
+    match read_ranges(alloc, &checked, &ranges.texts) {
+        Ok(read) => Ok(Plan::Match(MatchPlan {
+            checked,
+            scheme: scheme_of(ranges.matching),
+            ranges: read,
+        })),
+        Err(refused) => Err(fault_of(alloc, &refused)),
+    }
+}

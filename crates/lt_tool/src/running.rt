@@ -1,0 +1,230 @@
+//! What is done with the lines of the input.
+ghost use Rattle.std.specs.Prelude.{◌≡◌, ◌++◌, ◌∷◌, [], IfErr, IfOk};
+ghost use Rattle.lt_tag.specs.Faults.{HasTag};
+ghost use Rattle.lt_registry.specs.Validity.{IsValid};
+ghost use Rattle.lt_canon.specs.TextAnswers.{IsValidityRefusal};
+ghost use Rattle.lt_tool.specs.Runs as spec;
+ghost use Rattle.lt_tool.specs.Runs.{AnswersInJson, AnswersLines, LooksUp, MatchesLines, PrintsLine, Runs, RunsOver, VerifiesText, tallies_after};
+ghost use Rattle.lt_tool.specs.Streams.{stream};
+
+use crate::answers::{Answer, status_if};
+use crate::explaining::explain;
+use crate::faults::Fault;
+use crate::plans::{Ground, LinesPlan, MatchPlan, Plan};
+use crate::status::Status;
+use lt_canon::{Checked, Refusal, TextRefusal};
+use lt_jar::Device;
+use lt_json::write_objects;
+use lt_lines::{Basis, Counts, LineForm, Tallies, run_lines};
+use lt_registry::{Lookup, validate};
+use lt_select::{look_up_line, select_lines};
+use lt_stream::ToolFault;
+use lt_tag::{OutOfMemory, Tag, read_tag};
+use lt_verify::{Verdict, verify_lines};
+use std::alloc::Global;
+use std::io::{Read, Write};
+
+/// Empties the tallies if the run ended by a failed write or for lack of memory: it is not known then which answers were
+/// written.
+fn drop_unknown(alloc: Global, end: Result<Counts, ToolFault>, tallies: &mut Tallies)
+    ensures { tallies.new ≡ tallies_after end tallies.old }
+{
+    if let Err(ToolFault::Write | ToolFault::OutOfMemory) = end {
+        *tallies = Tallies::new(alloc);
+    }
+}
+
+/// What a run over lines came to.
+fn counted(end: Result<Counts, ToolFault>) -> Result<Answer, Fault>
+    ensures { result ≡ spec.counted end }
+{
+    match end {
+        Ok(counts) => Ok(Answer::Lines(counts)),
+        Err(fault) => Err(Fault::Run(fault)),
+    }
+}
+
+/// Answers lines of this form. `tallies` is set to those that were refused, where it is known which were answered.
+fn run_over<I: Read, O: Write>(
+    alloc: Global,
+    ground: &Ground,
+    form: LineForm,
+    input: &mut Device<I>,
+    output: &mut Device<O>,
+    tallies: &mut Tallies,
+) -> Result<Answer, Fault>
+    ensures { RunsOver ground.now form (stream I.remaining input.old input.new) (stream O.contents output.old output.new) tallies.new result }
+{
+    let basis = Basis {
+        checked: &ground.checked,
+        codes: ground.codes.as_ref(),
+    };
+    let end = run_lines(alloc, &basis, form, input, output, tallies);
+    drop_unknown(alloc, end, tallies);
+    counted(end)
+}
+
+/// Answers the lines of the input, from those bytes on that were read to find a column.
+fn answer_lines<I: Read, O: Write>(
+    alloc: Global,
+    plan: &LinesPlan,
+    input: &mut Device<I>,
+    output: &mut Device<O>,
+    tallies: &mut Tallies,
+) -> Result<Answer, Fault>
+    ensures { AnswersLines plan.now plan.now.front (stream I.remaining input.old input.new) (stream O.contents output.old output.new) tallies.new result }
+{
+    match &plan.front {
+        None => run_over(alloc, &plan.ground, plan.form, input, output, tallies),
+        Some(front) => {
+            let mut ahead = Device::new(front.as_slice().chain(input));
+            run_over(alloc, &plan.ground, plan.form, &mut ahead, output, tallies)
+        }
+    }
+}
+
+/// What a run over lines came to that wrote so many of them.
+fn selected(end: Result<u64, ToolFault>) -> Result<Answer, Fault>
+    ensures { result ≡ spec.selected end }
+{
+    match end {
+        Ok(count) if count == 0 => Ok(Answer::Written(Status::Refused)),
+        Ok(_) => Ok(Answer::Written(Status::Done)),
+        Err(fault) => Err(Fault::Run(fault)),
+    }
+}
+
+/// A line with the line feed that ends it. Refused where memory runs out.
+pub(crate) fn ended(mut line: Vec<u8>) -> Result<Vec<u8>, OutOfMemory>
+    ensures { IfOk result (λ text. text.items ≡ line.items ++ 10 ∷ []) }
+{
+    line.push(b'\n')?;
+    Ok(line)
+}
+
+/// The answer that prints a line that was found.
+fn found(line: Vec<u8>) -> Result<Answer, Fault>
+    ensures { PrintsLine line.items result }
+{
+    let text = ended(line)?;
+    Ok(Answer::Text(text))
+}
+
+/// The line of the input that lookup by ranges finds.
+fn look_up<I: Read>(alloc: Global, plan: &MatchPlan, input: &mut Device<I>) -> Result<Answer, Fault>
+    ensures { LooksUp plan.now.checked plan.now.ranges.items (stream I.remaining input.old input.new) result }
+{
+    match look_up_line(alloc, &plan.checked, &plan.ranges, input) {
+        Ok(Some(line)) => found(line),
+        Ok(None) => Ok(Answer::Written(Status::Refused)),
+        Err(fault) => Err(Fault::Run(fault)),
+    }
+}
+
+/// Writes the lines of the input that ranges match by a scheme of filtering, or gives the one that they find by lookup.
+fn match_lines<I: Read, O: Write>(
+    alloc: Global,
+    plan: &MatchPlan,
+    input: &mut Device<I>,
+    output: &mut Device<O>,
+) -> Result<Answer, Fault>
+    ensures { MatchesLines plan.now plan.now.scheme (stream I.remaining input.old input.new) (stream O.contents output.old output.new) result }
+{
+    match plan.scheme {
+        Some(scheme) => {
+            let ranges = &plan.ranges;
+            selected(select_lines(alloc, &plan.checked, scheme, ranges, input, output))
+        }
+        None => look_up(alloc, plan, input),
+    }
+}
+
+/// The valid tag that a text is read as, or why it is no tag or not valid.
+fn valid_tag<L: Lookup>(
+    alloc: Global,
+    checked: &Checked<L>,
+    text: &[u8],
+) -> Result<Tag, TextRefusal>
+    ensures read { IfOk result (HasTag text.now) }
+    ensures valid { IfOk result (IsValid (L.listed checked.now)) }
+    ensures refusal { IfErr result (IsValidityRefusal (L.listed checked.now) text.now) }
+{
+    let tag = read_tag(alloc, text)?;
+    // The call is for its clause `tag` alone, which the proof of `valid` needs.
+    let _ = tag.extensions();
+    match validate(alloc, checked.table(), &tag) {
+        Ok(()) => Ok(tag),
+        Err(refused) => Err(TextRefusal::from(Refusal::from(refused))),
+    }
+}
+
+/// What is answered for a verdict on an explanation.
+fn judged(end: Result<Verdict, ToolFault>) -> Result<Answer, Fault>
+    ensures { result ≡ spec.judged end }
+{
+    match end {
+        Ok(Verdict::Right) => Ok(Answer::Passed),
+        Ok(verdict) => Err(Fault::Explanation(verdict)),
+        Err(fault) => Err(Fault::Run(fault)),
+    }
+}
+
+/// Judges the lines of the input as an explanation of a text, by a registry. Of a text that is no valid tag it gives the
+/// refusal, and reads no line.
+fn verify<L: Lookup, I: Read>(
+    alloc: Global,
+    checked: &Checked<L>,
+    text: &[u8],
+    input: &mut Device<I>,
+) -> Result<Answer, Fault>
+    ensures { VerifiesText (L.listed checked.now) text.now (stream I.remaining input.old input.new) result }
+{
+    match valid_tag(alloc, checked, text) {
+        Ok(tag) => judged(verify_lines(alloc, checked.table(), &tag, input)),
+        Err(refusal) => Err(Fault::Text(refusal)),
+    }
+}
+
+/// What a run over lines came to that answered them by objects, by whether it refused a line.
+fn answered(refused: bool, end: Result<(), ToolFault>) -> Result<Answer, Fault>
+    ensures { result ≡ spec.answered refused end }
+{
+    match end {
+        Ok(()) => Ok(Answer::Written(status_if(refused))),
+        Err(fault) => Err(Fault::Run(fault)),
+    }
+}
+
+/// Writes a JSON object for each line of the input.
+fn answer_in_json<L: Lookup, I: Read, O: Write>(
+    alloc: Global,
+    checked: &Checked<L>,
+    input: &mut Device<I>,
+    output: &mut Device<O>,
+) -> Result<Answer, Fault>
+    ensures { AnswersInJson (L.listed checked.now) (stream I.remaining input.old input.new) (stream O.contents output.old output.new) result }
+{
+    let ended = write_objects(alloc, checked, input, output);
+    answered(ended.0, ended.1)
+}
+
+/// Does what is left to do of a run, but for the answer that it gives, which is not printed yet. `tallies` is set to what
+/// was refused of lines that were answered.
+pub(crate) fn run<I: Read, O: Write>(
+    alloc: Global,
+    plan: Plan<'_>,
+    input: &mut Device<I>,
+    output: &mut Device<O>,
+    tallies: &mut Tallies,
+) -> Result<Answer, Fault>
+    ensures { Runs plan.entry (stream I.remaining input.old input.new) (stream O.contents output.old output.new) tallies.old tallies.new result }
+{
+    match plan {
+        Plan::Print(answer) => Ok(answer),
+        Plan::Lines(plan) => answer_lines(alloc, &plan, input, output, tallies),
+        Plan::Match(plan) => match_lines(alloc, &plan, input, output),
+        Plan::Explain(checked, text) => explain(alloc, &checked, text, output),
+        Plan::Verify(checked, text) => verify(alloc, &checked, text, input),
+        Plan::Json(checked) => answer_in_json(alloc, &checked, input, output),
+    }
+}
