@@ -6,9 +6,11 @@ Usage: hostile.py PROGRAM [--count N] [--only WORD] [--seconds S]
 For each registry of `hostile_registries.py`, by the counts N, 2N and 4N less one (25,000, 50,000 and 99,999): processor
 time, the least of three runs, and memory of `check`, of `show` of a short tag, and of `upgrade` to itself and to the
 registry after it. Then the time of a tag of about 1,024 bytes: of a line of `canon`, where no two lines are equal, and of
-`explain`, `equal` and `extlang` beside the same command with a short tag; and the memory of `show` of it. The last line tells how many figures are past a limit: 4 seconds or 300 MB for a registry, 1 millisecond
+`explain`, `equal` and `extlang` beside the same command with a short tag; and the memory of `show` of it, by the
+registries and by IANA's. The last line tells how many figures are past a limit: 4 seconds or 300 MB for a registry, 1 millisecond
 for a tag and 0.05 more for each step that `explain` prints with the tag to which it leads, or more than 2.6 times the time
-for twice the count. What is past a limit is measured again, a few times, and the least counts, since the times of a host
+for twice the count. `show` of a tag may take 300 MB, and 10 MB and three times the registry's bytes more than `show` of a
+short one. What is past a limit is measured again, a few times, and the least counts, since the times of a host
 vary. Ends with 1 if any is past a limit then.
 """
 
@@ -24,6 +26,7 @@ from hostile_registries import MOST_VARIANTS, REGISTRIES, name, short_variant, t
 
 MOST_SECONDS = 4.0
 MOST_MEGABYTES = 300
+MOST_MEGABYTES_MORE = 10
 MOST_RATIO = 2.6
 MOST_MILLISECONDS = 1.0
 MOST_MILLISECONDS_A_STEP = 0.05
@@ -36,6 +39,7 @@ RUNS = 9
 TRIES = 3
 MORE_TRIES = 5
 PAUSE = 4
+IANA = os.path.join(os.path.dirname(os.path.dirname(os.path.abspath(__file__))), "examples", "iana-2025-05-15.txt")
 # By registries of this count, what a command takes is told apart from what its start takes.
 FEW = 20
 
@@ -60,9 +64,13 @@ def run(words, given, seconds):
                 return None, seconds, used.ru_maxrss / 1024, "no answer", 0
             time.sleep(0.005)
         process.returncode = os.waitstatus_to_exitcode(status)
+        # The output is not held in memory: what is held here counts as memory of the next run.
         output.seek(0)
-        lines = output.read().decode("utf-8", "replace").splitlines() or [""]
-        return process.returncode, used.ru_utime + used.ru_stime, used.ru_maxrss / 1024, lines[-1][:40], len(lines)
+        last, count = b"", 0
+        for count, last in enumerate(output, 1):
+            pass
+        answer = last.decode("utf-8", "replace").rstrip("\n")[:40]
+        return process.returncode, used.ru_utime + used.ru_stime, used.ru_maxrss / 1024, answer, count
 
 
 def path_of(folder, title, count):
@@ -140,7 +148,7 @@ def registries(options, folder, found):
 
 
 def long_tags():
-    """Tags of about 1,024 bytes, each by a registry's title and count, and by what is put into it to make it another."""
+    """Tags of about 1,024 bytes, each by a registry's title and count, or by IANA's file, and by what is put into it to make it another."""
     chained = "aaa" + "".join("-" + short_variant(n) for n in range(MOST_VARIANTS - 2))
     few = FEW
     return {
@@ -155,6 +163,8 @@ def long_tags():
         "keywords of one key": ("long-values", few, "aaa-u" + "-aa" * 335 + "-x{}", ""),
         "keywords in falling order": ("long-values", few, "aaa-u" + "".join(
             f"-{chr(122 - n // 26)}{chr(122 - n % 26)}" for n in range(335)) + "-x{}", ""),
+        "the same by IANA's registry": (IANA, None, "en-u" + "".join(
+            f"-{chr(122 - n // 26)}{chr(122 - n % 26)}" for n in range(334)) + "-x{}", ""),
         "attributes in falling order": ("long-values", few, "aaa-u" + "".join("-" + name(17575 - n, 3) for n in range(250)) + "-x{}", ""),
         "types of a keyword": ("long-values", few, "aaa-u-aa" + "-aaa" * 250 + "-x{}", ""),
         "extensions in falling order": ("long-values", few, "aaa" + "".join(
@@ -186,7 +196,7 @@ def tags(options, folder, found):
     for title, (registry, count, tag, by) in long_tags().items():
         if options.only not in title:
             continue
-        path = path_of(folder, registry, count)
+        path = path_of(folder, registry, count) if count else registry
         lines = lines_of(tag, by)
         steps = run([options.program, "explain", path, lines[0]], b"", options.seconds)[4]
         limits = [MOST_MILLISECONDS, MOST_MILLISECONDS + steps * MOST_MILLISECONDS_A_STEP, MOST_MILLISECONDS, MOST_MILLISECONDS]
@@ -197,9 +207,9 @@ def tags(options, folder, found):
             time.sleep(PAUSE)
             again, _ = figures_of(options, path, lines, count)
             figures = [min(pair) for pair in zip(figures, again)]
-        memory = run([options.program, "show", path, lines[0]], b"", options.seconds)[2]
+        short, memory = (run([options.program, "show", path, it], b"", options.seconds)[2] for it in ("aaa", lines[0]))
         print(f"{title:34}{len(lines[0]):6}" + "".join(f"{it:10.3f}" for it in figures) + f"{memory:10.0f}  {answer}", flush=True)
-        if memory > MOST_MEGABYTES:
+        if memory > min(MOST_MEGABYTES, short + MOST_MEGABYTES_MORE + 3 * os.path.getsize(path) / 1e6):
             found.append(f"show of {title}: {memory:.0f} MB")
         for what, figure, limit in zip(("canon", "explain", "equal", "extlang"), figures, limits):
             if figure > limit:

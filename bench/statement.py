@@ -3,7 +3,7 @@
 
 Usage: bench/statement.py [--most N] [--list] [--docs] [--text] [--root FOLDER]
 
-It starts at the clauses of README's table (HEADLINE below) and follows each name: definitions in crates/*/specs/**/*.antt, and
+It starts at the clauses of the table of docs/PROVED.md (HEADLINE below) and follows each name: definitions in crates/*/specs/**/*.antt, and
 in crates/*/src the enums, structs, views (`impl Model`) and traits that they speak of. Of a type with a view the view counts,
 and not the private fields, nor an invariant on these alone; what a variant of an enum holds is followed only if a definition looks at it. What std defines is not
 counted. A line counts unless it is blank, a comment, a `use`, an attribute or a closing bracket alone.
@@ -25,7 +25,7 @@ from pathlib import Path
 
 ROOT = Path(__file__).resolve().parent.parent
 
-# A public call and its clauses. README's table names the same.
+# A public call and its clauses. The table of docs/PROVED.md names the same.
 HEADLINE = [
     ("new", ["value", "passes", "rejects"], "Checked"),
     ("canonical", ["ok", "repeats"]),

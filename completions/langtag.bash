@@ -45,7 +45,8 @@ _langtag() {
     done
     case ${COMP_WORDS[1]}:$place in
         check:2 | canon:2 | codes:2 | codes:3 | tsv:2 | csv:2 | match:2 | extlang:2 | equal:2 | explain:2 | verify:2 | upgrade:2 | upgrade:3 | show:2 | json:2)
-            mapfile -t COMPREPLY < <(compgen -f -- "$word")
+            # @ is the installed registry
+            mapfile -t COMPREPLY < <(compgen -W @ -- "$word"; compgen -f -- "$word")
             compopt -o filenames 2> /dev/null
             ;;
         help:2)

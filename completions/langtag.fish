@@ -19,6 +19,8 @@ complete -c langtag -n __fish_use_subcommand -s h -l help -d 'The commands'
 complete -c langtag -n __fish_use_subcommand -s V -l version -d 'The version'
 complete -c langtag -n '__fish_seen_subcommand_from check canon codes tsv csv match extlang equal explain verify upgrade show json; and test (count (string match -v -- "-*" (commandline -opc))) -eq 2' -F
 complete -c langtag -n '__fish_seen_subcommand_from codes upgrade; and test (count (string match -v -- "-*" (commandline -opc))) -eq 3' -F
+complete -c langtag -n '__fish_seen_subcommand_from check canon tsv csv match extlang equal explain verify upgrade show json; and test (count (string match -v -- "-*" (commandline -opc))) -eq 2' -a @ -d 'The installed registry'
+complete -c langtag -n '__fish_seen_subcommand_from codes; and test (count (string match -v -- "-*" (commandline -opc))) -eq 3' -a @ -d 'The installed registry'
 complete -c langtag -n '__fish_seen_subcommand_from csv' -l delimiter -x -d 'The byte between fields, or tab'
 complete -c langtag -n '__fish_seen_subcommand_from tsv' -l heading -d 'Take the first row for a heading'
 complete -c langtag -n '__fish_seen_subcommand_from tsv csv' -l keep -d 'Leave each row as it is, and add the answer in two fields'

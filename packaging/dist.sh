@@ -128,7 +128,7 @@ if command -v cargo > /dev/null; then
     cp "$root/examples/iana-2025-05-15.txt" "$crates/bcp47-registry/registry.txt"
     cp "$root/examples/sample-registry.txt" "$crates/bcp47/tests"
     sed -i 's#"../../../../examples/iana-2025-05-15.txt"#"../registry.txt"#' "$crates/bcp47-registry/src/lib.rs"
-    sed -i 's#/../../../examples/#/tests/#' "$crates/bcp47/src/lib.rs" "$crates/bcp47/tests/answers.rs"
+    sed -i 's#/../../../examples/#/tests/#' "$crates"/bcp47/src/*.rs "$crates/bcp47/tests/answers.rs"
     for crate in bcp47-sys bcp47-registry bcp47; do cp "$root"/LICENSE* "$crates/$crate"; done
     (cd "$crates" && CARGO_HOME=$work/cargo CARGO_TARGET_DIR=$work/target cargo package --workspace --offline --exclude-lockfile --no-verify --allow-dirty -q)
     cp "$work"/target/package/*.crate "$to"

@@ -1,9 +1,9 @@
 #!/bin/bash
-# Builds the library for C and what stands on it, and runs their tests: C, Python, SQLite and PostgreSQL one after another, and beside
-# them C++, Rust, Node.js, Java, Go and Dask. Each has to answer 200,000 tags as the program does. The last line counts; the status
+# Builds the library for C and what stands on it, and runs their tests: C, and beside it Python, SQLite and PostgreSQL, C++, Rust, Node.js,
+# Java, Go and Dask. Each has to answer 200,000 tags as the program does. The last line counts; the status
 # is 1 if any test failed.
 #
-# Usage: tests/bindings.sh [PROGRAM [PART..]]     build/langtag, and all; the parts are cpp, rust, node, java, go and dask
+# Usage: tests/bindings.sh [PROGRAM [PART..]]     build/langtag, and all; the parts are python, sql, cpp, rust, node, java, go and dask
 set -e
 cd "$(dirname "$0")/.."
 program=$(realpath "${1:-build/langtag}")
@@ -32,7 +32,7 @@ passes "tags of each record" test "$(wc -l < "$folder/shown-tags")" -gt 18000
 tests/bindings/rows.py rows "$program" "$registry" "$folder/shown-tags" > "$folder/shown"
 
 # A script for each, beside what is below.
-if [ $# -gt 1 ]; then parts=${*:2}; else parts="cpp rust node java go dask"; fi
+if [ $# -gt 1 ]; then parts=${*:2}; else parts="python sql cpp rust node java go dask"; fi
 for part in $parts; do
     mkdir "$folder/$part"
     tests/bindings/"$part".sh "$folder" "$program" > "$folder/$part.told" 2>&1 &
@@ -58,28 +58,15 @@ if [ $# -gt 1 ]; then
     exit
 fi
 
-# The programs at the heads of the pages.
+# The program at the head of the page.
 mkdir "$folder/examples"
 cp "$sample" "$folder/examples/registry.txt"
 sed -n '/^```c$/,/^```$/{/^```/!p}' docs/C.md > "$folder/examples/example.c"
-sed -n '/^```python$/,/^```$/{/^```/!p}' docs/PYTHON.md > "$folder/examples/example.py"
 
 # ---- C
 export LD_LIBRARY_PATH=$root/build
-flags="-std=c11 -D_GNU_SOURCE -g -Wall -Wextra -Werror -pthread -Ibindings/c"
-wrapped="-Wl,--wrap=malloc,--wrap=calloc,--wrap=realloc"
 within="-Wl,--wrap=malloc,--wrap=calloc"
-files="bindings/c/bcp47.c bindings/c/names.c build/proved.o"
-memory="-O1 -fsanitize=address,undefined -fno-sanitize-recover=all"
 of_sample="$(sha256sum < "$sample" | cut -d ' ' -f 1) $(grep -c '^%%' "$sample") $(sed -n '1s/File-Date: //p' "$sample")"
-
-# made NAME SOURCE FLAG..: compiles a test in C to $folder/NAME.
-made() {
-    local name=$1 source=$2
-    shift 2
-    # shellcheck disable=SC2086
-    passes "compile $name" gcc $flags -o "$folder/$name" "$source" "$@"
-}
 
 # The header, alone, by each standard.
 for standard in c90 c99 c11 c17 c2x; do
@@ -192,89 +179,15 @@ passes "two libraries in a process" "$folder/host" "$folder/module.so" "$sample"
 # `nothing` is the kit's: where allocations of no bytes are.
 passes "nothing is global but constants" test -z "$(nm build/libbcp47.a | grep -E ' [bBdDsSgG] ' | grep -vE ' (d (statuses|faults|kinds|part_kinds)|b nothing)$')"
 
+# The names of locales that others have.
+passes "names of locales" $python tests/bindings/locales.py build/libbcp47.so.1 "$registry"
+
 # The names of numbers, and what each means: those of the proved calls and of the program.
 made numbers tests/bindings/numbers.c $files
 passes "names" "$folder/numbers"
 sed -n 's/^    "\(.*\)",$/\1/p' crates/lt_terminal/src/meanings.rt > "$folder/messages"
-grep -vE '^(None|Failed|BadFirst|Done|NotATag|Invalid|BufferTooSmall|Different|BadFile|BadRecord|Rejected|NoUpgrade|NoSuchStep|WrongEnd|NotOpen|BadCall|Busy|TooManySteps|NoEntries): ' \
+grep -vE '^(None|Failed|BadFirst|ExtendedRange|BadWeight|BadHeader|Done|NotATag|Invalid|BufferTooSmall|Different|BadFile|BadRecord|Rejected|NoUpgrade|NoSuchStep|WrongEnd|NotOpen|BadCall|Busy|TooManySteps|NoEntries): ' \
     "$folder/out" > "$folder/helps"
 passes "meanings" test "$(grep -cvxFf "$folder/messages" "$folder/helps")" = 0 -a "$(wc -l < "$folder/helps")" = 53
-
-# ---- Python
-passes "pip install" $python -m pip install -q --no-index --root-user-action=ignore --target "$folder/python" bindings/python
-export PYTHONPATH=$folder/python
-passes "docs/PYTHON.md's example" env -C "$folder/examples" $python example.py
-printf 'id,tag\n1,zh-yue\n2,eng\n' > "$folder/examples/catalogue.csv"
-sed -n '/^## A report about/,/^## A page/s/^    //p' docs/PYTHON.md > "$folder/examples/report"
-passes "docs/PYTHON.md's report" env -C "$folder/examples" bash -e report
-passes "it says what to write" grep -q '>en</bdi>' "$folder/examples/report.html"
-passes "Python's tests" $python bindings/python/tests/test_bcp47.py "$sample" "$registry"
-passes "Python: copies, processes, signals, threads, columns" $python -W error bindings/python/tests/test_habits.py "$sample"
-passes "Python: the report and commands" $python -B -W error bindings/python/tests/test_report.py "$sample" "$registry"
-passes "Python: the page" $python -B -W error bindings/python/tests/test_page.py "$sample" "$registry"
-# Each line and each branch of what both are made of. What coverage runs ends otherwise, so it is a second run.
-mkdir "$folder/counted"
-export COVERAGE_FILE=$folder/counted/of
-passes "the report and commands for coverage" $python -B bindings/python/tests/test_report.py "$sample" "$registry"
-passes "the page for coverage" $python -B -m coverage run --parallel-mode --branch --source=bcp47 \
-    bindings/python/tests/test_page.py "$sample" "$registry"
-passes "what was run" $python -m coverage combine "$folder/counted"
-passes "each line and branch of the report, the commands and the page is run" $python -m coverage report --fail-under=100 --show-missing \
-    --omit='*/__init__.py'
-unset COVERAGE_FILE
-passes "Python: the look of both" $python -B bindings/python/tests/look.py "$registry" "$folder"
-passes "Python: the wheel" $python -B bindings/python/tests/test_wheel.py
-passes "Python: types of the package" env -C "$folder/python" MYPYPATH=. mypy --strict --cache-dir="$folder/mypy" -p bcp47
-passes "Python: types of a program" env MYPYPATH="$folder/python" mypy --strict --cache-dir="$folder/mypy" "$folder/examples/example.py"
-writes "Python answers as the program" "$folder/wanted" $python bindings/python/tests/answers.py "$registry" "$folder/tags"
-writes "Python explains as the program" "$folder/explained" $python bindings/python/tests/answers.py "$registry" "$folder/explained-tags" explain
-writes "Python shows as the program" "$folder/shown" $python bindings/python/tests/answers.py "$registry" "$folder/shown-tags" show
-passes "a report about 1,000,000 rows" $python -B bindings/python/tests/catalogue.py "$registry" "$program" "$folder"
-cat "$folder/out"
-# Under sanitizers, which see the extension and what it frees; what the interpreter keeps to its end is no leak of it.
-CFLAGS="-O1 -g -fsanitize=address,undefined -fno-sanitize-recover=all" passes "pip install, for sanitizers" $python -m pip install -q \
-    --no-index --root-user-action=ignore --target "$folder/python-memory" bindings/python
-under="env PYTHONPATH=$folder/python-memory PYTHONMALLOC=malloc ASAN_OPTIONS=detect_leaks=0 LD_PRELOAD=$(gcc -print-file-name=libasan.so):$(gcc -print-file-name=libubsan.so) $python -B"
-# shellcheck disable=SC2086
-{
-    passes "Python's tests under sanitizers" $under bindings/python/tests/test_bcp47.py "$sample" "$registry"
-    passes "Python: growths, signals, threads, columns under sanitizers" $under bindings/python/tests/test_habits.py "$sample" Growths \
-        Signals Facts Parts Refusals Columns.test_missing_values Columns.test_long_columns Threads.test_a_registry_is_closed_in_the_midst_of_calls
-}
-# Each line of the extension.
-passes "compile the extension for gcov" gcc -O0 --coverage -std=c11 -fPIC -fvisibility=hidden -Ibindings/c \
-    "-I$($python -c 'import sysconfig; print(sysconfig.get_paths()["include"])')" -c bindings/python/_bcp47.c -o "$folder/coverage/_bcp47.o"
-cp -r bindings/python/bcp47 "$folder/coverage/bcp47"
-passes "link the extension for gcov" gcc -shared --coverage "$folder/coverage/_bcp47.o" build/libbcp47.a -Wl,--exclude-libs,ALL \
-    -o "$folder/coverage/bcp47/_bcp47.abi3.so"
-for test in "test_bcp47.py $sample $registry" "test_habits.py $sample Growths Copies Parts Refusals Columns Threads Facts"; do
-    # shellcheck disable=SC2086
-    passes "Python for gcov: ${test%% *}" env PYTHONPATH="$folder/coverage" $python -B bindings/python/tests/$test
-done
-(cd "$folder/coverage" && gcov -o . _bcp47.o > report 2>&1)
-passes "each line of the extension is run" test "$(grep -c '#####' "$folder/coverage/_bcp47.c.gcov")" = 0
-unset PYTHONPATH LD_LIBRARY_PATH
-
-# ---- SQLite
-passes "compile for SQLite" gcc -O2 -fPIC -shared -fvisibility=hidden -Wl,--exclude-libs,ALL -Wall -Wextra -Werror -Ibindings/c \
-    -o "$folder/bcp47_sqlite.so" bindings/sqlite/bcp47_sqlite.c build/libbcp47.a
-made sqlite tests/bindings/sqlite.c bindings/sqlite/bcp47_sqlite.c $files $memory -DSQLITE_CORE -lsqlite3 "$wrapped,--wrap=bcp47_canonical"
-passes "SQLite: each growth refused under sanitizers" "$folder/sqlite" "$sample"
-cat "$folder/out"
-# shellcheck disable=SC2086
-passes "compile SQLite's file for gcov" gcc $flags -O0 --coverage -DSQLITE_CORE -c bindings/sqlite/bcp47_sqlite.c -o "$folder/coverage/bcp47_sqlite.o"
-made coverage/sqlite tests/bindings/sqlite.c "$folder/coverage/bcp47_sqlite.o" build/libbcp47.a --coverage -lsqlite3 "$wrapped,--wrap=bcp47_canonical"
-passes "SQLite for gcov" "$folder/coverage/sqlite" "$sample"
-(cd "$folder/coverage" && gcov -o . bcp47_sqlite.o > report 2>&1)
-passes "each line of SQLite's file is run" grep -qz "bcp47_sqlite.c'.Lines executed:100.00%" "$folder/coverage/report"
-passes "SQLite's tests" bindings/sqlite/test.sh "$folder" "$sample"
-passes "SQLite: indexes, registries, connections, threads" $python -W error bindings/sqlite/test_habits.py "$folder" "$sample" build/libbcp47.so.1
-passes "SQLite answers as the program" bindings/sqlite/answers.sh "$folder" "$registry"
-passes "a catalogue of 1,000,000 rows" bindings/sqlite/catalogue.sh "$folder" "$registry"
-cat "$folder/out"
-
-# ---- PostgreSQL
-passes "PostgreSQL's tests" bindings/postgresql/test.sh "$folder" "$registry" "$sample"
-cat "$folder/out"
 
 count_parts

@@ -1,9 +1,9 @@
 #!/bin/bash
 # Installs what the tests of the bindings and tests/iso_codes.py need of Debian, where it is not there: as root, or by sudo.
-wanted="gcc g++ clang binutils jq valgrind qemu-user libsqlite3-dev sqlite3 python3 python3-dev python3-pip python3-venv python3-pandas mypy python3-icu
-    python3-coverage tidy chromium iso-codes libicu-dev pkg-config postgresql postgresql-server-dev-15"
+wanted="gcc g++ clang binutils jq valgrind qemu-user libsqlite3-dev sqlite3 python3 python3-dev python3-pip python3-venv python3-pandas python3-werkzeug mypy python3-icu
+    python3-coverage chromium iso-codes libicu-dev pkg-config postgresql postgresql-server-dev-15"
 # for types of Node.js, and for Java, Go and Dask
-wanted="$wanted node-typescript golang-go libmaven-compiler-plugin-java libmaven-jar-plugin-java libmaven-resources-plugin-java libsurefire-java
+wanted="$wanted node-typescript golang-go golang-golang-x-text-dev libmaven-compiler-plugin-java libmaven-jar-plugin-java libmaven-resources-plugin-java libsurefire-java
     librust-serde-dev maven openjdk-17-jdk-headless python3-dask python3-distributed"
 # for packages and releases
 wanted="$wanted binutils-aarch64-linux-gnu build-essential curl debhelper dh-python gcc-aarch64-linux-gnu libc6-dev-arm64-cross lintian

@@ -100,7 +100,7 @@ for made in "bcp47-$version-cp39-abi3-manylinux2014_x86_64.whl" "bcp47-$version.
     PYTHONPATH=$folder/site LD_LIBRARY_PATH=$folder/prefix/lib passes "$made runs" /usr/bin/python3 -c \
         'import bcp47, sys; print(bcp47.Registry.from_file(sys.argv[1]).canonical("zh-yue"))' "$folder/unpacked/share/langtag/registry.txt"
     is "$made answers" yue "$(cat "$folder/out")"
-    PYTHONPATH=$folder/site LD_LIBRARY_PATH=$folder/prefix/lib passes "$made has its commands" /usr/bin/python3 -m bcp47 page --help
+    PYTHONPATH=$folder/site LD_LIBRARY_PATH=$folder/prefix/lib passes "$made has its commands" /usr/bin/python3 -m bcp47 report --help
     rm -rf "$folder/site"
 done
 passes "the list of parts" /usr/bin/python3 - "$folder/dist" << 'END'
@@ -263,7 +263,7 @@ if [ -e "$folder/dist/bcp47-$version.tgz" ]; then
     cp examples/sample-registry.txt "$folder/node/registry.txt"
     cp bindings/node/test/answers.mjs "$folder/node"
     sed -i "s#'../index.mjs'#'bcp47'#" "$folder/node/answers.mjs"
-    sed -n '/^```js$/,/^```$/{/^```/!p}' docs/NODE.md > "$folder/node/page.mjs"
+    sed -n '/^```js$/,/^```$/{/^```$/q;/^```/!p}' docs/NODE.md > "$folder/node/page.mjs"
     passes "npm install" apart "$folder/node" npm install --silent --offline --no-audit --no-fund "$folder/dist/bcp47-$version.tgz"
     for with in addon WebAssembly; do
         [ $with = addon ] || rm "$folder/node/node_modules/bcp47/bcp47.node"

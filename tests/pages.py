@@ -23,7 +23,7 @@ import tempfile
 from pathlib import Path
 
 ROOT = Path(__file__).resolve().parent.parent
-PAGES = ["README.md", "docs/GUIDE.md", "docs/FAQ.md", "docs/INSTALL.md", "docs/updates.md", "docs/PROVED.md", "docs/tags.md",
+PAGES = ["README.md", "docs/GUIDE.md", "docs/FAQ.md", "docs/MATCHING.md", "docs/INSTALL.md", "docs/updates.md", "docs/PROVED.md", "docs/tags.md",
          "docs/validity.md", "docs/steps.md", "docs/conditions.md", "docs/record-jar.md", "docs/DECISIONS.md", "docs/langtag.1"]
 INDENT = "    "
 MOST_WORDS = 39

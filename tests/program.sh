@@ -50,6 +50,25 @@ run classify ZH-yue-hant-hk; is classify 0 'langtag zh-yue-Hant-HK\n' ''
 run classify en_US; is 'classify refuses' 1 '! BadByte 1\n' ''
 run check "$sample"; is check 0 'ok 46\n' ''
 run check other; is 'check refuses' 2 'jar BadLine line 1\n' ''
+# the registry @: of the environment, and the installed one
+LANGTAG_REGISTRY=$sample run check @; is '@: by LANGTAG_REGISTRY' 0 'ok 46\n' ''
+LANGTAG_REGISTRY=old run upgrade @ new; is '@: the older registry' 2 'upgrade U1 record 3\n' ''
+LANGTAG_REGISTRY=missing run check @; is '@: by the name of no file' 4 '' '! File\n'
+mkdir -p place/bin place/share/langtag
+cp "$program" place/bin/langtag
+env -u LANGTAG_REGISTRY place/bin/langtag check @ > out 2> err; is '@: none is installed' 4 '' '! File\n'
+cp "$sample" place/share/langtag/registry.txt
+env -u LANGTAG_REGISTRY place/bin/langtag check @ > out 2> err; is '@: the installed one' 0 'ok 46\n' ''
+LANGTAG_REGISTRY='' place/bin/langtag equal @ YUE zh-yue > out 2> err; is '@: an empty LANGTAG_REGISTRY is none' 0 'equal\n' ''
+LANGTAG_REGISTRY=$'\xff' place/bin/langtag check @ > out 2> err; is '@: LANGTAG_REGISTRY is not UTF-8' 4 '' '! File\n'
+cp new @
+LANGTAG_REGISTRY=$sample run check ./@; is '@: a file that is called so' 0 'ok 1\n' ''
+rm -r place @
+# a reader that goes away needs no advice, and a full output does
+yes en | "$program" canon --summary "$sample" 2> err | head -n 1 > out; is 'a reader that goes away' 0 'en\n' '! Write\n'
+: > out
+yes en | head -n 9 | "$program" canon --summary "$sample" > /dev/full 2> err
+is 'a full output' 4 '' "! Write\nWrite: The output can't be written: see whether it is closed, or the disk is\nfull.\n"
 run extlang "$sample" cmn-hans; is extlang 0 'zh-cmn-Hans\n' ''
 run extlang "$sample" en-x; is 'extlang refuses' 1 '! Unfinished 3\n' ''
 run equal "$sample" YUE zh-yue; is equal 0 'equal\n' ''
@@ -95,7 +114,7 @@ is 'verify: 100,000 steps round' 0 'ok\n' ''
 zh='record 3\n     Description      Chinese\n     Scope            macrolanguage\n'
 hant='record 8\n     Description      Han (Traditional variant)\n'
 run show described zh-YUE-hant-hk
-is show 0 "zh-yue-Hant-HK\n1    Language  zh    ${zh}2    Extlang   yue   record 7\n     Description      Yue Chinese\n     Description      Cantonese\n     Preferred-Value  yue\n     Macrolanguage    zh\n3    Script    Hant  ${hant}4    Region    HK    record 9\n     Description      Hong Kong\nExtlang 2 7 yue-Hant-HK\n= yue-Hant-HK\n\n" ''
+is show 0 "zh-yue-Hant-HK\n1    Language  zh    ${zh}2    Extlang   yue   record 7\n     Description      Yue Chinese\n     Description      Cantonese\n     Preferred-Value  yue\n     Prefix           zh\n     Macrolanguage    zh\n3    Script    Hant  ${hant}4    Region    HK    record 9\n     Description      Hong Kong\nExtlang 2 7 yue-Hant-HK\n= yue-Hant-HK\n\n" ''
 run show described zh-hant
 is 'show: a redundant tag' 0 "zh-Hant\n1    Whole     zh-Hant  record 12\n     Description      traditional Chinese\n1    Language  zh       ${zh}2    Script    Hant     ${hant}= zh-Hant\n\n" ''
 klingon='i-klingon\n1    Grandfathered  i-klingon  record 13\n     Description      Klingon\n     Deprecated       2004-02-24\n     Preferred-Value  tlh\nWhole 1 13 tlh\n= tlh\n\n'
@@ -106,7 +125,7 @@ is 'show: a source, and what no registry lists' 0 "de-t-zh-hk-m0-und-x-a\n1    L
 run show described de-foobar en_US i-klingon
 is 'show: refused tags, and more' 1 "de-foobar\n1    Language  de      ${de}2    Variant   foobar  not registered\n! UnknownVariant 2\n\nen_US\n! BadByte 1\n\n$klingon" ''
 run show described ja-heploc-alalc97
-is 'show: a variant would repeat' 1 'ja-heploc-alalc97\n1    Language  ja       record 6\n     Description      Japanese\n2    Variant   heploc   record 10\n     Description      Hepburn romanization, Library of Congress method\n     Deprecated       2010-02-07\n     Preferred-Value  alalc97\n     Comments         Preferred tag is ja-Latn-alalc97\n3    Variant   alalc97  record 11\n     description      ALA-LC romanization, 1997 edition\n! ReplacementRepeats alalc97\n\n' ''
+is 'show: a variant would repeat' 1 'ja-heploc-alalc97\n1    Language  ja       record 6\n     Description      Japanese\n2    Variant   heploc   record 10\n     Description      Hepburn romanization, Library of Congress method\n     Deprecated       2010-02-07\n     Preferred-Value  alalc97\n     Prefix           ja\n     Comments         Preferred tag is ja-Latn-alalc97\n3    Variant   alalc97  record 11\n     description      ALA-LC romanization, 1997 edition\n! ReplacementRepeats alalc97\n\n' ''
 cat described | "$program" show - i-klingon > out 2> err; is 'show: a registry that comes through a pipe' 0 "$klingon" ''
 run show other de; is 'show: the registry is refused' 2 'jar BadLine line 1\n' ''
 run show described; ended=$?; head -c 7 err > out; : > err; (exit "$ended"); is 'show: no tag' 3 'error: ' ''
@@ -114,7 +133,7 @@ run show described; ended=$?; head -c 7 err > out; : > err; (exit "$ended"); is 
 "$program" show described de > /dev/full 2> err; is 'show: full output' 4 '' '! Write\n'
 # as JSON
 run show --json described de-foobar en_US zh-YUE
-is 'show --json' 1 '{"input":"de-foobar","tag":"de-foobar","rows":[{"place":1,"kind":"Language","text":"de","listing":"Record","record":2,"fields":[{"name":"Description","body":"German"},{"name":"Suppress-Script","body":"Latn"}]},{"place":2,"kind":"Variant","text":"foobar","listing":"Unregistered","record":null,"fields":[]}],"canonical":null,"steps":[],"fault":"UnknownVariant 2"}\n{"input":"en_US","tag":null,"rows":[],"canonical":null,"steps":[],"fault":"BadByte 1"}\n{"input":"zh-YUE","tag":"zh-yue","rows":[{"place":1,"kind":"Language","text":"zh","listing":"Record","record":3,"fields":[{"name":"Description","body":"Chinese"},{"name":"Scope","body":"macrolanguage"}]},{"place":2,"kind":"Extlang","text":"yue","listing":"Record","record":7,"fields":[{"name":"Description","body":"Yue Chinese"},{"name":"Description","body":"Cantonese"},{"name":"Preferred-Value","body":"yue"},{"name":"Macrolanguage","body":"zh"}]}],"canonical":"yue","steps":[{"kind":"Extlang","place":2,"record":7}],"fault":null}\n' ''
+is 'show --json' 1 '{"input":"de-foobar","tag":"de-foobar","rows":[{"place":1,"kind":"Language","text":"de","listing":"Record","record":2,"fields":[{"name":"Description","body":"German"},{"name":"Suppress-Script","body":"Latn"}]},{"place":2,"kind":"Variant","text":"foobar","listing":"Unregistered","record":null,"fields":[]}],"canonical":null,"steps":[],"fault":"UnknownVariant 2"}\n{"input":"en_US","tag":null,"rows":[],"canonical":null,"steps":[],"fault":"BadByte 1"}\n{"input":"zh-YUE","tag":"zh-yue","rows":[{"place":1,"kind":"Language","text":"zh","listing":"Record","record":3,"fields":[{"name":"Description","body":"Chinese"},{"name":"Scope","body":"macrolanguage"}]},{"place":2,"kind":"Extlang","text":"yue","listing":"Record","record":7,"fields":[{"name":"Description","body":"Yue Chinese"},{"name":"Description","body":"Cantonese"},{"name":"Preferred-Value","body":"yue"},{"name":"Prefix","body":"zh"},{"name":"Macrolanguage","body":"zh"}]}],"canonical":"yue","steps":[{"kind":"Extlang","place":2,"record":7}],"fault":null}\n' ''
 run show described de-x-a --json; python3 -c 'import json, sys; rows = json.load(sys.stdin)["rows"]; print([(r["listing"], r["record"], len(r["fields"])) for r in rows])' < out > read; mv read out
 is 'show --json: private use' 0 "[('Record', 2, 2), ('Unlisted', None, 0), ('Unlisted', None, 0)]\n" ''
 # what canonical tags leave alone
@@ -142,9 +161,9 @@ dd bs=1 status=none < coded | "$program" codes table "$sample" > out 2> err; is 
 echo ger-DD | "$program" codes <(cat table) "$sample" > out 2> err; is 'codes: a table that comes through a pipe' 0 'de-DE\n' ''
 "$program" codes table "$sample" < lines > out 2> err; is 'codes: no code' 0 'yue\nde\n' ''
 "$program" codes empty "$sample" < coded > out 2> err; is 'codes: an empty table' 1 '! UnknownLanguage 1\n! UnknownLanguage 1\n! BadByte 1\n! UnknownLanguage 1\n! UnknownLanguage 1\n' ''
-"$program" codes --summary table "$sample" < coded > out 2> err; is 'codes --summary' 1 'yue\nen-GB\n! BadByte 1\n! UnknownLanguage 1\nde\n' '5 lines, 2 refused\n1 BadByte, first in line 3: ger_AT\n  A byte that is no ASCII letter, digit or hyphen: write zh-Hant for zh_Hant; remove quotes, spaces, a byte order mark.\n1 UnknownLanguage, first in line 4: fre\n  fre: BCP 47 writes fr.\n'
+"$program" codes --summary table "$sample" < coded > out 2> err; is 'codes --summary' 1 'yue\nen-GB\n! BadByte 1\n! UnknownLanguage 1\nde\n' '5 lines, 2 refused\n1 BadByte, first in line 3: ger_AT\n  A byte that is no ASCII letter, digit or hyphen: write zh-Hant for zh_Hant;\n  remove quotes, spaces, a byte order mark.\n1 UnknownLanguage, first in line 4: fre\n  fre: BCP 47 writes fr.\n'
 "$program" codes other "$sample" < coded > out 2> err; is 'codes: the table is refused' 2 'codes BadRow line 1\n' ''
-"$program" codes --summary other "$sample" < coded > out 2> err; is 'codes --summary: the table is refused' 2 'codes BadRow line 1\n' 'BadRow: A line of the table of codes has not five fields: see whether it is ISO-639-2_utf-8.txt.\n'
+"$program" codes --summary other "$sample" < coded > out 2> err; is 'codes --summary: the table is refused' 2 'codes BadRow line 1\n' 'BadRow: A line of the table of codes has not five fields: see whether it is\nISO-639-2_utf-8.txt.\nThe file is other.\n'
 "$program" codes table other < coded > out 2> err; is 'codes: the registry is refused' 2 'jar BadLine line 1\n' ''
 "$program" codes missing "$sample" < coded > out 2> err; is 'codes: no table' 4 '' '! File\n'
 "$program" codes table missing < coded > out 2> err; is 'codes: no registry' 4 '' '! File\n'
@@ -167,7 +186,7 @@ done
 # the lines that ranges match
 printf 'zh-yue\r\nzh\nyue-Hans\nen_US\nde-Latn-DE\nde-DE' > tags
 "$program" match "$sample" yue < tags > out 2> err; is match 0 'zh-yue\r\nyue-Hans\n' ''
-"$program" match "$sample" de-de zh < tags > out 2> err; is 'match: two ranges' 0 'zh\nde-DE\n' ''
+"$program" match "$sample" de-de zh < tags > out 2> err; is 'match: two ranges' 0 'zh-yue\r\nzh\nyue-Hans\nde-DE\n' ''
 "$program" match --extended "$sample" de-de < tags > out 2> err; is 'match --extended' 0 'de-Latn-DE\nde-DE\n' ''
 dd bs=1 status=none < tags | "$program" match "$sample" 'zh-yue' > out 2> err; is 'match: the same byte by byte' 0 'zh-yue\r\nyue-Hans\n' ''
 "$program" match "$sample" ja < tags > out 2> err; is 'match: none' 1 '' ''
@@ -314,7 +333,7 @@ printf 'id\ttag\n"a\tb"\tDE\n' > tabbed
 "$program" csv --delimiter=tab "$sample" 2 < tabbed > out 2> err; is 'csv: tabs by name' 0 'id\ttag\tlangtag_fault\n"a\tb"\tde\t\n' ''
 "$program" csv --delimiter $'\t' "$sample" 2 < tabbed > out 2> err; is 'csv: tabs' 0 'id\ttag\tlangtag_fault\n"a\tb"\tde\t\n' ''
 for delimiter in '' '"' $'\n' $'\r' ';;' ä Tab ' ' - _ 7 t Z; do
-    "$program" csv "--delimiter=$delimiter" "$sample" 2 < tabbed > out 2> err; is "csv: the delimiter $delimiter" 3 '' "error: the delimiter is the word tab, or one byte of ASCII but no letter, digit, space, hyphen, underscore, quote, carriage return or line feed\n\nFor more information, try '--help'.\n"
+    "$program" csv "--delimiter=$delimiter" "$sample" 2 < tabbed > out 2> err; is "csv: the delimiter $delimiter" 3 '' "error: the delimiter is the word tab, or one byte of ASCII but no letter,\ndigit, space, hyphen, underscore, quote, carriage return or line feed\n\nFor more information, try '--help'.\n"
 done
 for words in 'csv --delimiter' 'tsv --delimiter ;' 'csv --delimiter ; --delimiter ,' 'check --summary'; do
     # shellcheck disable=SC2086
@@ -375,7 +394,7 @@ run check .; is 'check: a folder' 4 'jar Read line 1\n' ''
 grep '^Usage: ' help > out
 (exit "$ended"); is help 0 'Usage: langtag <COMMAND>\n' ''
 sed -n '/^Status:/,$p' help > out
-(exit "$ended"); is 'help: the statuses' 0 'Status:\n  0  all was done\n  1  a tag was refused, two tags are different, steps are wrong, or no line was printed\n  2  a registry, a table or an upgrade was refused\n  3  the words of the command are wrong\n  4  a file, the input, the output or memory failed\n\nlangtag help COMMAND says more of a command. The manual, man langtag, has all of it.\n' ''
+(exit "$ended"); is 'help: the statuses' 0 'Status:\n  0  all was done\n  1  a tag was refused, two tags are different, steps are wrong,\n     or no line was printed\n  2  a registry, a table or an upgrade was refused\n  3  the words of the command are wrong\n  4  a file, the input, the output or memory failed\n\nlangtag help COMMAND says more of a command.\nThe manual, man langtag, has all of it.\n' ''
 "$program" --version < empty > version 2> err; ended=$?
 cut -d '(' -f 1 version > out
 (exit "$ended"); is version 0 "langtag $number \n" ''
@@ -411,7 +430,7 @@ with open("err", "wb") as err:
 sys.exit(run.wait())
 END
 }
-faults() { printf '%s' "1 UnknownLanguage, first in $1 2: xx\n  The registry lacks the language: correct it (en for eng or English), or get a newer registry.\n1 BadByte, first in $1 3: en_US\n  A byte that is no ASCII letter, digit or hyphen: write zh-Hant for zh_Hant; remove quotes, spaces, a byte order mark.\n"; }
+faults() { printf '%s' "1 UnknownLanguage, first in $1 2: xx\n  The registry lacks the language: correct it (en for eng or English), or get\n  a newer registry.\n1 BadByte, first in $1 3: en_US\n  A byte that is no ASCII letter, digit or hyphen: write zh-Hant for zh_Hant;\n  remove quotes, spaces, a byte order mark.\n"; }
 of_lines=$(faults line)
 of_records=$(faults record)
 printf 'zh-yue\nxx\nen_US\n' > input
@@ -422,8 +441,8 @@ on_terminal canon --summary "$sample"; is 'canon --summary at a terminal' 1 'yue
 "$program" tsv --summary "$sample" 1 < input > out 2> err; is 'tsv --summary' 1 'yue\t\nxx\tUnknownLanguage 1\nen_US\tBadByte 1\n' "3 lines, 2 refused\n$of_lines"
 "$program" csv --summary --delimiter ';' "$sample" 1 < input > out 2> err; is 'csv --summary' 1 'zh-yue;langtag_fault\nxx;UnknownLanguage 1\nen_US;BadByte 1\n' "3 records, 2 refused\n$of_records"
 : > out
-"$program" canon --summary "$sample" < input > /dev/full 2> err; is 'canon --summary: full output' 4 '' "! Write\nWrite: The output can't be written: see whether it is closed, or the disk is full.\n"
-"$program" canon --summary missing < input > out 2> err; ended=$?; sed -n '1p; 3p' err > told; mv told err
+"$program" canon --summary "$sample" < input > /dev/full 2> err; is 'canon --summary: full output' 4 '' "! Write\nWrite: The output can't be written: see whether it is closed, or the disk is\nfull.\n"
+"$program" canon --summary missing < input > out 2> err; ended=$?; sed -n '1p; 4p' err > told; mv told err
 (exit "$ended"); is 'canon --summary: no file' 4 '' '! File\nmissing: No such file or directory (os error 2)\n'
 on_terminal tsv "$sample" 1; is 'tsv at a terminal' 1 'yue\t\nxx\tUnknownLanguage 1\nen_US\tBadByte 1\n' "3 lines, 2 refused\n$of_lines"
 on_terminal csv "$sample" 1; is 'csv at a terminal' 1 'zh-yue,langtag_fault\nxx,UnknownLanguage 1\nen_US,BadByte 1\n' "3 records, 2 refused\n$of_records"
@@ -439,23 +458,23 @@ on_terminal show --json named zh File; ended=$?; grep -c 'a File here' out > tol
 printf 'zh-yue\n' > input
 on_terminal canon "$sample"; is 'canon at a terminal: one line' 0 'yue\n' '1 line, 0 refused\n'
 yes en | head -n 2500000 > input
-on_terminal canon "$sample"; ended=$?; tr '\r' '\n' < err | sed 's/[0-9]\{5\} lines$/..... lines/' > told; mv told err; cmp -s input out && : > out
-(exit "$ended"); is 'a long run at a terminal' 0 '' '10..... lines\n20..... lines\n2500000 lines, 0 refused\n'
+on_terminal canon "$sample"; ended=$?; tr '\r' '\n' < err | sed 's/[0-9],[0-9]\{3\} lines$/.,... lines/' > told; mv told err; cmp -s input out && : > out
+(exit "$ended"); is 'a long run at a terminal' 0 '' '1,00.,... lines\n2,00.,... lines\n2,500,000 lines, 0 refused\n'
 { head -c 3000000 /dev/zero | tr '\0' a; printf '\tzh-yue\n\tIW\n'; } > input
 on_terminal tsv "$sample" 2; ended=$?; { head -c 3000000 /dev/zero | tr '\0' a; printf '\tyue\t\n\the\t\n'; } | cmp -s - out && : > out
 (exit "$ended"); is 'a long row at a terminal' 0 '' '2 lines, 0 refused\n'
 on_terminal check "$sample"; is 'check at a terminal' 0 'ok 46\n' ''
-on_terminal classify xx-; ended=$?; cut -c1-12 err > told; mv told err
+on_terminal classify xx-; ended=$?; head -n 1 err | cut -c1-12 > told; mv told err
 (exit "$ended"); is 'classify at a terminal' 1 '! EmptySubtag 2\n' 'EmptySubtag:\n'
 printf 'File-Date: 2024-01-01\n%%%%\nType: region\nSubtag: BU\nPreferred-Value: MM\n' > refused
-on_terminal check refused; ended=$?; cut -c1-28 err > told; mv told err
+on_terminal check refused; ended=$?; sed -n '1p; $p' err | cut -c1-28 > told; mv told err
 (exit "$ended"); is 'check at a terminal: a record' 2 'check C2 record 2\n' 'C2: The value of a language,\nrecord 2: region BU, line 3\n'
 mkfifo pipe; cat refused > pipe &
-on_terminal check pipe; ended=$?; cut -c1-28 err > told; mv told err
-(exit "$ended"); is 'check at a terminal: a record that came through a pipe' 2 'check C2 record 2\n' 'C2: The value of a language,\n'
+on_terminal check pipe; ended=$?; sed -n '1p; $p' err | cut -c1-28 > told; mv told err
+(exit "$ended"); is 'check at a terminal: a record that came through a pipe' 2 'check C2 record 2\n' 'C2: The value of a language,\nThe file is pipe.\n'
 on_terminal upgrade old new; ended=$?; tail -n 1 err > told; mv told err
 (exit "$ended"); is 'upgrade at a terminal: a record' 2 'upgrade U1 record 3\n' 'record 3: language fr, line 6\n'
-on_terminal check missing; ended=$?; sed -n '1p; 3p' err > told; mv told err
+on_terminal check missing; ended=$?; sed -n '1p; 4p' err > told; mv told err
 (exit "$ended"); is 'check at a terminal: no file' 4 '' '! File\nmissing: No such file or directory (os error 2)\n'
 on_terminal --help; ended=$?; : > out
 (exit "$ended"); is 'help at a terminal' 0 '' ''

@@ -56,8 +56,12 @@ ROW = re.compile(r"(.*?) =>(?: (.*?))?(?: \[(\d)\])?")
 
 def value(text):
     """The bytes that a text stands for."""
-    text = re.sub(r"\\\{(\d+)\*([^}]*)\}", lambda it: it[2] * int(it[1]), text).encode()
-    return ESCAPE.sub(lambda it: BYTES.get(it[1]) if it[1] in BYTES else bytes([int(it[1][1:], 16)]), text)
+    first, *rest = re.split(r"\\\{(\d+)\*([^}]*)\}", text)
+    return plain(first) + b"".join(plain(part) * int(times) + plain(then) for times, part, then in zip(rest[::3], rest[1::3], rest[2::3]))
+
+
+def plain(text):
+    return ESCAPE.sub(lambda it: BYTES.get(it[1]) if it[1] in BYTES else bytes([int(it[1][1:], 16)]), text.encode())
 
 
 def line(text):

@@ -81,17 +81,15 @@ passes "esbuild, with the bytes" env -C "$folder/page" esbuild --bundle --format
 echo yue > "$folder/yue"
 cp "$folder/page/bytes.js" "$folder/bytes.mjs"
 writes "a bundle with the bytes" "$folder/yue" node "$folder/bytes.mjs" "$sample"
-# program N: that of the page, by its number
-program() { awk -v n="$1" '/^```js$/ { i++; is_it = i == n; next } /^```$/ { is_it = 0 } is_it' docs/WASM.md; }
-program 1 > "$folder/page/page.mjs"
-program 2 > "$folder/page/exports.mjs"
+program_of WASM.md js 1 > "$folder/page/page.mjs"
+program_of WASM.md js 2 > "$folder/page/exports.mjs"
 echo 0 yue > "$folder/status-yue"
 writes "docs/WASM.md's second program" "$folder/status-yue" env -C "$folder/page" node exports.mjs
 echo '<!doctype html><title>page</title><body><script type="module" src="app.js"></script>' > "$folder/page/app.html"
 echo '<!doctype html><title>page</title><body><script type="module">console.log = (it) => fetch("answer?" + it); await import("./page.mjs")</script>' > "$folder/page/page.html"
 PYTHONUNBUFFERED=1 $python -m http.server --bind 127.0.0.1 --directory "$folder/page" 0 > "$folder/port" 2>> "$folder/asked" &
 server=$!
-until grep -q ' port [0-9]' "$folder/port"; do sleep 0.1; done
+until grep -qs ' port [0-9]' "$folder/port"; do sleep 0.1; done
 address=$(sed -n 's/.*(\(http:.*\)\/).*/\1/p' "$folder/port")
 # in_chromium PAGE: what a page asks its server for, within a minute
 in_chromium() {

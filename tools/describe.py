@@ -5,7 +5,7 @@ Usage: tools/describe.py [--check]
 
 VERSION has the version, packaging/PUBLISHER the addresses, bindings/c/bcp47.h the calls and the constants of the library, and
 bindings/c/names.c the names of its faults and what they mean. From these are written the lines below in files of the packages,
-the crate bcp47-sys, and the faults of Rust, Node.js, Java and Go. With --check nothing is written: each file that differs is
+the crate bcp47-sys, and the faults of Python, Rust, Node.js, Java and Go. With --check nothing is written: each file that differs is
 named, and the status is then 1.
 """
 
@@ -43,6 +43,8 @@ LINES = [
     ("bindings/go/go.mod", "go_module", r"module (.*)"),
     ("bindings/go/example_test.go", "go_module", r'\t"(.*bcp47)"'),
     ("bindings/go/cmd/canon/main.go", "go_module", r'\t"(.*bcp47)"'),
+    ("bindings/go/cmd/serve/main.go", "go_module", r'\t"(.*bcp47)"'),
+    ("bench/peers/best/main.go", "go_module", r'\t"(.*bcp47)"'),
     ("bindings/go/registry/registry.go", "go_module", r'import "(.*)"'),
     ("bench/bindings/go/main.go", "go_module", r'\t"(.*bcp47)"'),
     ("docs/GO.md", "go_module", GO_MODULE),
@@ -84,10 +86,11 @@ class Header:
 
     def kind(self, words):
         """A type of C in Rust."""
-        constant, name, stars = re.fullmatch(r"(const )?(\w+) ?(\**)", words.strip()).groups()
+        constant, name, stars = re.fullmatch(r"(const )?(\w+) ?((?:\*(?:const )?)*)", words.strip()).groups()
         of = self.KINDS.get(name, name)
-        for level in range(len(stars)):
-            of = ("*const " if constant and level == 0 else "*mut ") + of
+        for star in re.findall(r"\*(const )?", stars):
+            of = ("*const " if constant else "*mut ") + of
+            constant = star
         return of
 
     def parameter(self, words):
@@ -123,12 +126,12 @@ def faults():
     return re.findall(r'\{"(\w+)",\s*"(.*)"\}', table)[1:]
 
 
-def statuses():
-    """The name, the meaning and the number of each status that tells by itself why something is refused."""
+def statuses(*more):
+    """The name, the meaning and the number of each status that tells by itself why something is refused, and of more."""
     text = (ROOT / "bindings/c/names.c").read_text(encoding="utf-8")
     table = re.findall(r'\{"(\w+)",\s*"(.*)"\}', re.search(r"statuses\[\] = \{(.*?)\n\};", text, re.S)[1])
     return [(name, meaning, number) for number, (name, meaning) in enumerate(table)
-            if name in ("ReplacementRepeats", "TooManySteps", "NoEntries")]
+            if name in ("ReplacementRepeats", "TooManySteps", "NoEntries", *more)]
 
 
 def rust_enum(meaning, name, rows):
@@ -138,18 +141,24 @@ def rust_enum(meaning, name, rows):
     return f"\nnumbered! {{\n    /// {meaning}{silent}\n    {name} {{\n" + "\n".join(lines) + "\n    }\n}\n"
 
 
-def rust_numbers():
-    def kinds(front):
+def kinds():
+    """The name and the number of each kind of part, and of each kind of step."""
+    def named(front):
         pairs = [(name[len(front):], number) for name, number in Header().constants if name.startswith(front)]
         return [("".join(word.capitalize() for word in name.split("_")), number, "") for name, number in pairs]
-    steps = kinds("BCP47_")
+    steps = named("BCP47_")
     begin = next(at for at, row in enumerate(steps) if row[:2] == ("Extlang", "1"))
     end = next(at for at, row in enumerate(steps) if row[0] == "PartLanguage")
+    return named("BCP47_PART_"), steps[begin:end]
+
+
+def rust_numbers():
+    parts, steps = kinds()
     told = [(name, number, meaning) for number, (name, meaning) in enumerate(faults(), 1)]
     return (f"//! What the library numbers. {BY}bcp47.h and names.c.\n"
             + rust_enum("What is wrong with a text, a record or a registry; it is shown as the program shows it.", "Fault", told)
-            + rust_enum("The kind of a part of a tag (RFC 5646, 2.1; RFC 6067, 2.1; RFC 6497, 2.2).", "PartKind", kinds("BCP47_PART_"))
-            + rust_enum("The kind of a step of an explanation.", "StepKind", steps[begin:end]))
+            + rust_enum("The kind of a part of a tag (RFC 5646, 2.1; RFC 6067, 2.1; RFC 6497, 2.2).", "PartKind", parts)
+            + rust_enum("The kind of a step of an explanation.", "StepKind", steps))
 
 
 def go_faults():
@@ -226,6 +235,38 @@ public enum Fault {{
 """
 
 
+def python_numbers():
+    rows = [f'    {name} = "{name}", "{meaning}"\n' for name, meaning in faults() + [row[:2] for row in statuses("NoSuchStep", "WrongEnd")]]
+    parts, steps = (", ".join(f'"{row[0]}"' for row in those) for those in kinds())
+    return f'''# SPDX-License-Identifier: MIT OR Apache-2.0
+"""What the library numbers. {BY}bcp47.h and names.c."""
+import enum
+
+
+class Fault(str, enum.Enum):
+    """What is wrong with a text, a registry or steps: a `str`, which is the name that the program prints, with a `help`."""
+
+    help: str
+
+    def __new__(cls, name: str, help: str) -> "Fault":
+        fault = str.__new__(cls, name)
+        fault._value_, fault.help = name, help
+        return fault
+
+    def __str__(self) -> str:
+        return str(self.value)
+
+    def __format__(self, form: str) -> str:
+        return format(str(self), form)
+
+{"".join(rows)}
+
+# The kinds of part, and of step, each after its number; none has the first.
+PARTS = ("", {parts})
+STEPS = ("", {steps})
+'''
+
+
 def node_faults():
     lines = "".join(f"\n  | '{name}'" for name in [row[0] for row in faults() + statuses()])
     return f"// {BY}names.c.\n\n/** What is wrong, by the names that the program prints. */\nexport type Fault ={lines};\n"
@@ -239,6 +280,7 @@ def written():
         "bindings/go/faults.go": go_faults(),
         "bindings/java/src/main/java/bcp47/Fault.java": java_faults(),
         "bindings/node/faults.d.ts": node_faults(),
+        "bindings/python/bcp47/numbers.py": python_numbers(),
     }
 
 

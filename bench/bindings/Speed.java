@@ -58,6 +58,11 @@ final class Speed {
                 }
             });
             measure("Tag.of, valid tags", tags, tag -> Tag.of(tag).length());
+            List<String> twelve = List.of("en", "de", "fr", "es", "pt-BR", "zh-Hans", "zh-Hant", "ja", "ko", "nb", "he", "sr-Latn");
+            List<String> headers = java.util.Collections.nCopies(100_000, "de-CH,de;q=0.9,en;q=0.8");
+            bcp47.Available available = registry.available(twelve);
+            measure("Available.best, headers of three ranges over twelve", headers, header -> available.best(header).length());
+            measure("Locale.lookupTag, the same", headers, header -> Locale.lookupTag(Locale.LanguageRange.parse(header), twelve).length());
             long same = tags.stream().filter(tag -> built(tag).equals(registry.canonical(tag))).count();
             long refused = tags.stream().filter(tag -> built(tag).isEmpty()).count();
             long taken = all.stream().filter(tag -> !registry.isValid(tag) && !built(tag).isEmpty()).count();

@@ -67,11 +67,11 @@ class Answers:
         self.registry = registry
         self.texts = {}
 
-    def canonical(self, text):
-        """The canonical text of a tag, or None where it is refused."""
+    def extlang(self, text):
+        """The text of a tag's extlang form, or None where it is refused."""
         if text not in self.texts:
             try:
-                self.texts[text] = self.registry.canonical(text)
+                self.texts[text] = self.registry.extlang(text)
             except bcp47.RefusedTag:
                 self.texts[text] = None
         return self.texts[text]
@@ -87,10 +87,11 @@ class Answers:
     def to(self, case):
         """The tags that are found."""
         scheme, ranges, tags = case
+        found = [[tag for tag in tags if self.registry.matches(it, tag, scheme)] for it in ranges]
         if scheme != "lookup":
-            return self.registry.filter(ranges, tags, scheme)
-        found = self.registry.lookup(ranges, tags)
-        return [] if found is None else [found]
+            return once([tag for those in found for tag in those])
+        # what ranges find are fronts of them: the longest text has the most subtags
+        return [max(those, key=lambda tag: len(self.extlang(tag))) for those in found if those][:1]
 
 
 def java(cases, folder):
@@ -119,14 +120,22 @@ def without_last_stars(range_):
     return range_
 
 
-def mended(case, answers, is_canonical):
-    """The case as Java would have to be asked: ranges that are valid tags and tags by their canonical forms, and no `*` that Java takes
-    otherwise."""
+def matched(range_, mend, answers):
+    """The range by which a text matches, as Java would have to be asked: of a valid tag its extlang form, else the range with its first
+    subtag in this form, if it alone is a valid tag."""
+    if answers.extlang(range_):
+        return answers.extlang(range_)
+    first, *others = mend(range_).split("-")
+    return "-".join([answers.extlang(first) or first, *others])
+
+
+def mended(case, answers, is_extlang):
+    """The case as Java would have to be asked: ranges and tags by their extlang forms, and no `*` that Java takes otherwise."""
     scheme, ranges, tags = case
     mend = {"basic": str, "extended": without_last_stars, "lookup": without_stars}[scheme]
-    if not is_canonical:
+    if not is_extlang:
         return scheme, [mend(it) for it in ranges], tags
-    return scheme, [answers.canonical(it) or mend(it) for it in ranges], [answers.canonical(it) for it in tags]
+    return scheme, [matched(it, mend, answers) for it in ranges], [answers.extlang(it) for it in tags]
 
 
 def is_in_order(case, found, said, tags):
@@ -136,17 +145,17 @@ def is_in_order(case, found, said, tags):
 
 
 def why(case, found, answers, one, two, three):
-    """Why Java answers otherwise, by its answers to the case, to the case without the stars, and to that by canonical forms."""
+    """Why Java answers otherwise, by its answers to the case, to the case without the stars, and to that by extlang forms."""
     if found == one:
         return "the same"
     if found == two:
         return "a `*` in lookup" if case[0] == "lookup" else "a `*` at the end of a range"
     if is_in_order(case, found, two, case[2]):
         return "the order at a `*`"
-    canonical = once(map(answers.canonical, found))
-    tags = once(map(answers.canonical, case[2]))
-    if three is not None and (canonical == once(three) or is_in_order(case, canonical, once(three), tags)):
-        return "canonical forms"
+    forms = once(map(answers.extlang, found))
+    tags = once(map(answers.extlang, case[2]))
+    if three is not None and (forms == once(three) or is_in_order(case, forms, once(three), tags)):
+        return "extlang forms"
     return None
 
 
@@ -156,7 +165,7 @@ def main():
     dice, answers = random.Random(int(words[2] or 1)), Answers(registry)
     cases = [made_case(dice) for _ in range(int(words[1] or 100_000))]
     # Refused tags and ranges are told apart first: what is left is asked for.
-    kept = [(scheme, [it for it in ranges if answers.is_range(it)], [it for it in tags if answers.canonical(it) is not None])
+    kept = [(scheme, [it for it in ranges if answers.is_range(it)], [it for it in tags if answers.extlang(it) is not None])
             for scheme, ranges, tags in cases]
     refused = [before != after for before, after in zip(cases, kept)]
     asked = [case for case in kept if case[1] and case[2]]

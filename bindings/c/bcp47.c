@@ -24,8 +24,9 @@ enum { SLOTS = BCP47_SLOTS, SEEDS = 8, KEPT = SLOTS + SEEDS };
 /* Room for what is shown of most tags. */
 enum { ROWS = 4096 };
 
-/* What a registry that is open begins with. */
+/* What a registry that is open begins with, and a list of tags. */
 #define OPEN 0x37345042u
+#define LISTED 0x3734414Cu
 
 /* What one call at a time asks by. It fills a line of a processor's cache, so that threads don't wait for each other. */
 typedef struct slot {
@@ -55,6 +56,11 @@ struct bcp47_registry {
     size_t length;
     slots asked;
     _Atomic(slots *) shown; /* those whose handles keep its records, too: made by the first bcp47_show */
+};
+
+struct bcp47_available {
+    atomic_uint mark;
+    slots asked; /* those whose handles keep the list, too */
 };
 
 /* ---- what is answered */
@@ -152,7 +158,7 @@ static inline void give(slot *s) {
 }
 
 /* Lets a handle hold what those of the slots do, by one that is kept for that; false where memory runs out. Where none of them is
-   given back for a while, as in the child of a fork that left a thread in each, the bytes are read anew. */
+   given back for a while, as in the child of a fork that left a thread in each, the bytes of the registry are read anew, if it is told. */
 static bool holds(const bcp47_registry *registry, slots *all, bcp47_handle *handle) {
     uint8_t line[BCP47_LINE];
     int64_t begun = milliseconds();
@@ -165,7 +171,7 @@ static bool holds(const bcp47_registry *registry, slots *all, bcp47_handle *hand
         }
         sched_yield();
     } while (milliseconds() - begun < BCP47_WAIT);
-    if (bcp47_handle_open(handle, registry->bytes, registry->length, line, sizeof line).status) return false;
+    if (!registry || bcp47_handle_open(handle, registry->bytes, registry->length, line, sizeof line).status) return false;
     if (all == &registry->asked || !bcp47_handle_keep(handle, registry->bytes, registry->length)) return true;
     bcp47_handle_close(handle);
     return false;
@@ -395,6 +401,19 @@ bcp47_outcome bcp47_parts(const char *text, size_t length, char *buffer, size_t 
 
 bcp47_outcome bcp47_parent(const char *text, size_t length, char *buffer, size_t room) {
     return write_alone(bcp47_write_parent, text, length, buffer, room);
+}
+
+bcp47_outcome bcp47_with(const char *tag, size_t length, int part, const char *value, size_t value_length, char *buffer, size_t room) {
+    uint8_t nowhere;
+    if (!are_apart(tag, length, buffer, room) || !are_apart(value, value_length, buffer, room)) return ended(BCP47_BAD_CALL);
+    bcp47_outcome outcome = bcp47_write_with(bytes_of(tag), length, (uint32_t)part, bytes_of(value), value_length,
+                                             room_of(buffer, &nowhere), room);
+    end_text(&outcome, buffer, room);
+    return outcome;
+}
+
+bcp47_outcome bcp47_posix(const char *name, size_t length, char *buffer, size_t room) {
+    return write_alone(bcp47_write_posix, name, length, buffer, room);
 }
 
 /* ---- texts that are given whole */
@@ -630,6 +649,97 @@ bcp47_outcome bcp47_match(const bcp47_registry *registry, int scheme, const char
                                                tag_length, variant, sizeof variant);
     give(s);
     tell(&outcome, variant, buffer, room);
+    return outcome;
+}
+
+/* ---- tags of which one is served */
+
+static bool is_listed(const bcp47_available *available) {
+    return available && atomic_load_explicit(&available->mark, memory_order_relaxed) == LISTED;
+}
+
+/* A list that one handle keeps, which shares the registry of another; NULL where memory runs out. */
+static bcp47_available *share_registry(bcp47_handle *handle) {
+    bcp47_available *made = calloc(1, sizeof *made);
+    if (!made || !bcp47_handle_share(handle, &made->asked.kept[0].handle)) return made;
+    free(made);
+    return NULL;
+}
+
+/* Keeps tags with a handle: so many texts, which have so many bytes in all. */
+static bcp47_outcome list_tags(bcp47_handle *handle, const char *const *tags, const size_t *lengths, size_t count, size_t length) {
+    static const size_t none = 0;
+    uint8_t *texts = malloc(length + 1), *end = texts;
+    if (!texts) return ended(BCP47_OUT_OF_MEMORY);
+    for (size_t i = 0; i < count; end += lengths[i++]) memcpy(end, bytes_of(tags[i]), lengths[i]);
+    bcp47_outcome outcome = bcp47_handle_list(handle, texts, length, lengths ? lengths : &none, count);
+    free(texts);
+    return outcome;
+}
+
+/* Lets go of a list that has so many handles, and answers why it is refused. */
+static bcp47_outcome refuse_list(bcp47_available *available, size_t handles, bcp47_outcome outcome) {
+    close_handles(&available->asked, handles);
+    free(available);
+    return outcome;
+}
+
+bcp47_outcome bcp47_available_open(bcp47_available **available, bcp47_registry *registry, const char *const *tags,
+                                   const size_t *lengths, size_t count) {
+    if (!available) return ended(BCP47_BAD_CALL);
+    *available = NULL;
+    if (!is_open(registry)) return ended(BCP47_NOT_OPEN);
+    if (!is_array(tags, count, sizeof *tags) || !is_array(lengths, count, sizeof *lengths)) return ended(BCP47_BAD_CALL);
+    size_t texts = 0, length = 0; /* of those before the first that is no text */
+    while (texts < count && is_text(tags[texts], lengths[texts]) && lengths[texts] <= PTRDIFF_MAX - length) length += lengths[texts++];
+    slot *s = take(registry);
+    if (!s) return ended(BCP47_BUSY);
+    bcp47_available *made = share_registry(&s->handle);
+    give(s);
+    if (!made) return ended(BCP47_OUT_OF_MEMORY);
+    bcp47_outcome outcome = list_tags(&made->asked.kept[0].handle, tags, lengths, texts, length);
+    if (outcome.status != BCP47_DONE) return refuse_list(made, 1, outcome);
+    if (texts < count) return refuse_list(made, 1, ended(BCP47_BAD_CALL));
+    size_t handles = share_first(&made->asked);
+    if (handles < KEPT) return refuse_list(made, handles, ended(BCP47_OUT_OF_MEMORY));
+    atomic_init(&made->mark, LISTED);
+    *available = made;
+    return outcome;
+}
+
+void bcp47_available_close(bcp47_available *available) {
+    if (!is_listed(available)) return;
+    atomic_store_explicit(&available->mark, 0, memory_order_relaxed);
+    if (close_slots(&available->asked)) free(available);
+}
+
+/* A slot for a call that asks a list: the status is BCP47_DONE, or else why there is none. */
+static int take_listed(bcp47_available *available, const char *accept, size_t length, slot **s) {
+    if (!is_listed(available)) return BCP47_NOT_OPEN;
+    if (!is_text(accept, length)) return BCP47_BAD_CALL;
+    *s = take_of(NULL, &available->asked);
+    return *s ? BCP47_DONE : BCP47_BUSY;
+}
+
+bcp47_outcome bcp47_best(bcp47_available *available, const char *accept, size_t length) {
+    slot *s;
+    int status = take_listed(available, accept, length, &s);
+    if (status) return ended(status);
+    bcp47_outcome outcome = bcp47_handle_best(&s->handle, bytes_of(accept), length);
+    give(s);
+    if (outcome.status == BCP47_DONE) outcome.place += (size_t)outcome.detail, outcome.detail = 0;
+    return outcome;
+}
+
+bcp47_outcome bcp47_filter(bcp47_available *available, const char *accept, size_t length, size_t *places, size_t room) {
+    slot *s;
+    size_t none;
+    if (is_listed(available) && !is_array(places, room, sizeof *places)) return ended(BCP47_BAD_CALL);
+    int status = take_listed(available, accept, length, &s);
+    if (status) return ended(status);
+    bcp47_outcome outcome = bcp47_handle_filter(&s->handle, bytes_of(accept), length, places ? places : &none, room);
+    give(s);
+    for (size_t i = 0; outcome.status == BCP47_DONE && i < outcome.place; i++) places[i]++;
     return outcome;
 }
 

@@ -16,13 +16,19 @@ extern "C" {
 /* A registry that is open. Any number of threads may ask it at once; bcp47_close comes after all of their calls. */
 typedef struct bcp47_registry bcp47_registry;
 
+/* The tags of which a service serves one, prepared. Any number of threads may ask it at once; bcp47_available_close comes after
+   all of their calls. */
+typedef struct bcp47_available bcp47_available;
+
 /* What a call answers beside the text that it writes. */
 typedef struct {
     int status;    /* how the call ended: BCP47_DONE and so on, which bcp47_status_name names */
     int detail;    /* the number of a fault, which bcp47_fault_name names; for bcp47_classify the class; else 0 */
-    size_t place;  /* of a fault: the subtag, the line, the record or the step, counted from 1; of parts: how many; else 0 */
+    size_t place;  /* of a fault: the subtag, the line, the record, the step or the list element, counted from 1; of parts: how many;
+                      of bcp47_best: the tag; else 0 */
     size_t length; /* the bytes of the text, also where it does not fit the buffer */
-    int text;      /* where bcp47_equivalent, bcp47_match or bcp47_verify refuses one of its two texts: which, 1 or 2; else 0 */
+    int text;      /* where bcp47_equivalent, bcp47_match, bcp47_verify or bcp47_with refuses one of its two texts: which, 1 or 2;
+                      where bcp47_available_open refuses a tag: which, from 1; else 0 */
     int reserved;  /* 0 */
 } bcp47_outcome;
 
@@ -42,10 +48,11 @@ enum {
     BCP47_NO_SUCH_STEP = 11,       /* of bcp47_verify: the step at `place` does not lead on */
     BCP47_WRONG_END = 12,          /* of bcp47_verify: the steps lead to another tag than the last */
     BCP47_NOT_OPEN = 13,           /* the registry is NULL, or no registry that is open */
-    BCP47_BAD_CALL = 14,           /* NULL where something is needed, a length that no text has, a buffer over a text, or no scheme */
+    BCP47_BAD_CALL = 14,           /* NULL where something is needed, a length that no text has, a buffer over a text, or no scheme or part */
     BCP47_BUSY = 15,               /* 64 calls and more are under way, and no memory was left for this one: call again */
     BCP47_TOO_MANY_STEPS = 16,     /* of bcp47_explanation and bcp47_steps: more than the steps that were allowed */
-    BCP47_NO_ENTRIES = 17          /* of bcp47_open: the bytes have no record but a header, so that each tag would be refused */
+    BCP47_NO_ENTRIES = 17,         /* of bcp47_open: the bytes have no record but a header, so that each tag would be refused */
+    BCP47_BAD_HEADER = 18          /* of bcp47_best and bcp47_filter: no Accept-Language header, with the list element at `place` */
 };
 
 /* The classes of a tag, in `detail` of bcp47_classify. */
@@ -160,6 +167,18 @@ bcp47_outcome bcp47_parts(const char *text, size_t length, char *buffer, size_t 
    end it. The text is empty where nothing is left. */
 bcp47_outcome bcp47_parent(const char *text, size_t length, char *buffer, size_t room);
 
+/* A tag with one of its parts replaced: "zh-Hant-TW" for "zh-TW", BCP47_PART_SCRIPT and "Hant". The part is BCP47_PART_LANGUAGE (with
+   extlangs), _SCRIPT, _REGION, _VARIANT (all of them: "rozaj-biske"), _SINGLETON (all extensions: "t-it-u-co-phonebk") or
+   _PRIVATE_USE_SINGLETON ("x-a"). An empty value takes the part away; a language can't be taken away. It asks no registry: a tag is
+   built by one call after another, from its language on, and bcp47_validate tells whether it is valid. Of BCP47_NOT_A_TAG `text` is 1
+   where the tag is refused, which may be no grandfathered tag and no private use alone, 2 where the value has not the form of the part,
+   and 0 where what they make has more than 1,024 bytes. */
+bcp47_outcome bcp47_with(const char *tag, size_t length, int part, const char *value, size_t value_length, char *buffer, size_t room);
+
+/* The tag that the name of a POSIX locale stands for: "sr-Latn-RS" for "sr_RS.UTF-8@latin", and "en-US-u-va-posix" for "C". It asks no
+   registry. BCP47_NOT_A_TAG with the fault BadByte at 0 says that the modifier, what is behind the @, is not known. */
+bcp47_outcome bcp47_posix(const char *name, size_t length, char *buffer, size_t room);
+
 /* Whether a tag is valid. */
 bcp47_outcome bcp47_validate(const bcp47_registry *registry, const char *text, size_t length);
 
@@ -169,11 +188,35 @@ bcp47_outcome bcp47_equivalent(const bcp47_registry *registry, const char *first
                           size_t second_length, char *buffer, size_t room);
 
 /* Whether a language range matches a tag by a scheme: BCP47_DONE, or BCP47_DIFFERENT; by BCP47_LOOKUP, whether the range, cut
-   from its end, is the tag. Both are matched by their canonical forms, so that "zh-yue" matches "yue-HK"; a range that is no
-   valid tag, as "zh-*", is taken as it is written. The range is text 1: BCP47_NOT_A_TAG says of it that it is neither a valid
+   from its end, is the tag. Both are matched by their extlang forms, so that "zh" and "zh-yue" match "yue-HK"; of a range that
+   is no valid tag, for example "yue-*", the first subtag is, where it alone is a valid tag. The range is text 1: BCP47_NOT_A_TAG says of it that it is neither a valid
    tag nor a range, and the place is 0. The buffer is that of bcp47_equivalent. */
 bcp47_outcome bcp47_match(const bcp47_registry *registry, int scheme, const char *range, size_t range_length, const char *tag,
                           size_t tag_length, char *buffer, size_t room);
+
+/* Prepares tags of which a service serves one: *available points to them then. It is refused at the first tag that bcp47_canonical
+   refuses, with its status, detail and place, and with the number of the tag, from 1, as `text`; *available is NULL then. Neither
+   the texts nor the registry are needed after the call: a list keeps its registry until it is closed, also where that is closed
+   before. `lengths` has the bytes of each text. */
+bcp47_outcome bcp47_available_open(bcp47_available **available, bcp47_registry *registry, const char *const *tags,
+                                   const size_t *lengths, size_t count);
+
+/* The tag to serve to the reader of an Accept-Language header (RFC 9110, 12.5.4): BCP47_DONE, and its number, from 1, as `place`;
+   0 where no range of the header serves a tag, so that the caller takes a default. The ranges have their turn from the greatest
+   weight to the least, `*` after all others, and the first that serves a tag decides: the longest tag to which it falls back
+   (RFC 4647, 3.4), so that "de-CH" serves "de"; else the first that it matches by basic filtering (3.3.1), so that "de" serves
+   "de-CH". No tag is served whose weight is 0. Ranges and tags are matched by their extlang forms, as by bcp47_match.
+
+   BCP47_BAD_HEADER says that the text is no such header, with the fault as `detail` and the number of the list element at fault,
+   from 1, as `place`; BCP47_REPLACEMENT_REPEATS that replacements would repeat a variant of one of its ranges. */
+bcp47_outcome bcp47_best(bcp47_available *available, const char *accept, size_t length);
+
+/* The numbers, from 1, of all tags that the header accepts, from the greatest weight to the least, written to `places`; `place` is
+   how many there are. Where there is no room for so many, none is written, and the status is BCP47_BUFFER_TOO_SMALL. */
+bcp47_outcome bcp47_filter(bcp47_available *available, const char *accept, size_t length, size_t *places, size_t room);
+
+/* Closes a list, as bcp47_close closes a registry. NULL does nothing. */
+void bcp47_available_close(bcp47_available *available);
 
 /* The lines that `langtag explain` prints for a tag, written to a buffer. */
 bcp47_outcome bcp47_explain(const bcp47_registry *registry, const char *text, size_t length, char *buffer, size_t room);
@@ -186,8 +229,8 @@ bcp47_outcome bcp47_explanation(const bcp47_registry *registry, const char *text
    it, in memory that bcp47_free lets go of. It has an object for each part, in order, and before those one for the whole of a
    tag that is registered as redundant: `place`, `kind` (that of the part by name, or "Whole"), `text`, `listing` ("Record",
    "Unregistered" or, where no registry lists parts of the kind, "Unlisted"), `record`, its number or null, and `fields`: each
-   Description, Deprecated, Preferred-Value, Suppress-Script, Macrolanguage, Scope and Comments of the record, with `name` and
-   `body`. Where the status is not BCP47_DONE, *rows is NULL. The first call reads the records, some milliseconds; they stay until
+   Description, Deprecated, Preferred-Value, Prefix, Suppress-Script, Macrolanguage, Scope and Comments of the record, with `name`
+   and `body`. Where the status is not BCP47_DONE, *rows is NULL. The first call reads the records, some milliseconds; they stay until
    the registry is closed, some MB for a registry of IANA's size. */
 bcp47_outcome bcp47_show(const bcp47_registry *registry, const char *text, size_t length, char **rows);
 

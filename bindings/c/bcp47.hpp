@@ -10,6 +10,7 @@
 #include <cstdlib>
 #include <cstring>
 #include <memory>
+#include <optional>
 #include <stdexcept>
 #include <string>
 #include <string_view>
@@ -156,16 +157,44 @@ class [[nodiscard]] answer {
     result<bool> held_;
 };
 
-/* A tag in conventional case, and its class: BCP47_LANGTAG, BCP47_PRIVATE_USE or BCP47_GRANDFATHERED. */
-struct tag {
-    std::string text;
-    int kind;
-};
-
 /* A part of a tag: its kind, BCP47_PART_LANGUAGE and so on, and its text. */
 struct part {
     int kind;
     std::string text;
+};
+
+/* A tag in conventional case, and its parts, one for each subtag: joined by hyphens they are the text. */
+struct tag {
+    std::string text;
+    std::vector<part> parts;
+
+    /* Its class: BCP47_LANGTAG, BCP47_PRIVATE_USE or BCP47_GRANDFATHERED; 0 of no tag. */
+    int kind() const noexcept {
+        if (parts.empty()) return 0;
+        const int first = parts.front().kind;
+        return first == BCP47_PART_GRANDFATHERED ? BCP47_GRANDFATHERED : first == BCP47_PART_LANGUAGE ? BCP47_LANGTAG : BCP47_PRIVATE_USE;
+    }
+
+    std::optional<std::string> language() const { return first(BCP47_PART_LANGUAGE); }
+    std::optional<std::string> script() const { return first(BCP47_PART_SCRIPT); }
+    std::optional<std::string> region() const { return first(BCP47_PART_REGION); }
+    std::vector<std::string> extlangs() const { return all(BCP47_PART_EXTLANG); }
+    std::vector<std::string> variants() const { return all(BCP47_PART_VARIANT); }
+
+    /* The texts of the parts of a kind. */
+    std::vector<std::string> all(int kind) const {
+        std::vector<std::string> found;
+        for (const part &one : parts)
+            if (one.kind == kind) found.push_back(one.text);
+        return found;
+    }
+
+  private:
+    std::optional<std::string> first(int kind) const {
+        for (const part &one : parts)
+            if (one.kind == kind) return one.text;
+        return {};
+    }
 };
 
 /* The steps to the canonical tag, as `verify` takes them, and the tag to which each leads. */
@@ -216,22 +245,13 @@ inline result<void> nothing_of(bcp47_outcome outcome) {
 
 /* The tag of a text, which needs no registry. */
 inline result<tag> classify(std::string_view text) {
-    std::string shown;
-    bcp47_outcome outcome = detail::write(
-        [&](char *buffer, std::size_t room) { return bcp47_classify(nullptr, text.data(), text.size(), buffer, room); }, shown);
-    if (outcome.status == BCP47_DONE) return tag{std::move(shown), outcome.detail};
-    return detail::refused(refusal{outcome, {}});
-}
-
-/* The parts of a tag in conventional case, one for each subtag, which needs no registry. */
-inline result<std::vector<part>> parts(std::string_view text) {
     char shown[BCP47_TEXT];
     bcp47_part found[BCP47_PARTS];
     bcp47_outcome outcome = bcp47_parts(text.data(), text.size(), shown, sizeof shown, found, BCP47_PARTS);
     if (outcome.status != BCP47_DONE) return detail::refused(refusal{outcome, {}});
-    std::vector<part> read;
-    read.reserve(outcome.place);
-    for (std::size_t i = 0; i < outcome.place; i++) read.push_back({found[i].kind, std::string(shown + found[i].start, found[i].length)});
+    tag read{std::string(shown, outcome.length), {}};
+    read.parts.reserve(outcome.place);
+    for (std::size_t i = 0; i < outcome.place; i++) read.parts.push_back({found[i].kind, std::string(shown + found[i].start, found[i].length)});
     return read;
 }
 
@@ -239,6 +259,47 @@ inline result<std::vector<part>> parts(std::string_view text) {
 inline result<std::string> parent(std::string_view tag) {
     return detail::text_of([&](char *buffer, std::size_t room) { return bcp47_parent(tag.data(), tag.size(), buffer, room); });
 }
+
+/* A tag with another part, which needs no registry: the part is BCP47_PART_LANGUAGE (with extlangs), _SCRIPT, _REGION, _VARIANT (all of
+   them), _SINGLETON (all extensions) or _PRIVATE_USE_SINGLETON ("x-a"). An empty value takes it away. `outcome.text` of a refusal is 1
+   where the tag is refused, and 2 where the value is. */
+inline result<std::string> with(std::string_view tag, int part, std::string_view value) {
+    return detail::text_of([&](char *buffer, std::size_t room) {
+        return bcp47_with(tag.data(), tag.size(), part, value.data(), value.size(), buffer, room);
+    });
+}
+
+/* The tag that the name of a POSIX locale stands for: "sr-Latn-RS" for "sr_RS.UTF-8@latin". It needs no registry. */
+inline result<std::string> posix(std::string_view name) {
+    return detail::text_of([&](char *buffer, std::size_t room) { return bcp47_posix(name.data(), name.size(), buffer, room); });
+}
+
+/* Tags of which a service serves one, until their object ends, also where the registry ended before. Any number of threads may ask. */
+class available {
+  public:
+    /* The place of the tag to serve to the reader of an Accept-Language header, from 0; none where no range of it serves a tag. */
+    result<std::optional<std::size_t>> best(std::string_view accept) const {
+        bcp47_outcome outcome = bcp47_best(opened_.get(), accept.data(), accept.size());
+        if (outcome.status != BCP47_DONE) return detail::refused(refusal{outcome, {}});
+        return outcome.place ? std::optional<std::size_t>(outcome.place - 1) : std::nullopt;
+    }
+
+    /* The places of all tags that the header accepts, from the greatest weight to the least. */
+    result<std::vector<std::size_t>> filter(std::string_view accept) const {
+        std::vector<std::size_t> places(count_);
+        bcp47_outcome outcome = bcp47_filter(opened_.get(), accept.data(), accept.size(), places.data(), places.size());
+        if (outcome.status != BCP47_DONE) return detail::refused(refusal{outcome, {}});
+        places.resize(outcome.place);
+        for (std::size_t &place : places) place--;
+        return places;
+    }
+
+  private:
+    friend class registry;
+    available(bcp47_available *opened, std::size_t count) noexcept : opened_(opened, &bcp47_available_close), count_(count) {}
+    std::unique_ptr<bcp47_available, void (*)(bcp47_available *)> opened_;
+    std::size_t count_;
+};
 
 /* A registry that is open until its object ends. Any number of threads may make const calls at once. */
 class registry {
@@ -294,6 +355,17 @@ class registry {
         return detail::told_of_two([&](char *buffer, std::size_t room) {
             return bcp47_match(opened_.get(), scheme, range.data(), range.size(), tag.data(), tag.size(), buffer, room);
         });
+    }
+
+    /* Tags of which a service serves one, prepared; `outcome.text` of a refusal says which of them is refused, from 1. */
+    result<bcp47::available> available(const std::vector<std::string_view> &tags) const {
+        std::vector<const char *> texts;
+        std::vector<std::size_t> lengths;
+        for (std::string_view tag : tags) texts.push_back(tag.data()), lengths.push_back(tag.size());
+        bcp47_available *made;
+        bcp47_outcome outcome = bcp47_available_open(&made, opened_.get(), texts.data(), lengths.data(), tags.size());
+        if (outcome.status != BCP47_DONE) return detail::refused(refusal{outcome, {}});
+        return bcp47::available(made, tags.size());
     }
 
     /* The steps to the canonical tag: BCP47_TOO_MANY_STEPS where there are more than `most`. */

@@ -22,10 +22,11 @@ static const word statuses[] = {
     {"NoSuchStep", "The step at the place that is named does not lead on: mend it, or take the registry by which the tag was explained."},
     {"WrongEnd", "The steps lead to another tag than the last: mend the last tag, or the steps."},
     {"NotOpen", "The registry is not open: open it first, and ask nothing of it once it is closed."},
-    {"BadCall", "NULL where something is needed, a length that no text has, a buffer over a text, or a number of no scheme: mend the call."},
+    {"BadCall", "NULL where something is needed, a length that no text has, a buffer over a text, or a number of no scheme or part: mend the call."},
     {"Busy", "64 calls and more are under way, and no memory was left for one more: call again, by fewer threads or on a larger machine."},
     {"TooManySteps", "The explanation has more steps than were allowed: allow more, or leave the tag unexplained."},
     {"NoEntries", "The registry has no entries: the file is empty, or was not downloaded or written to its end: get it again."},
+    {"BadHeader", "The text is no Accept-Language header: the fault and the number of the list element say what is wrong with it."},
 };
 
 static const word faults[] = {
@@ -83,6 +84,8 @@ static const word faults[] = {
     {"U5", "By the newer registry a variant of the older one becomes a language: remove its Preferred-Value."},
     {"U6", "By the newer registry a whole tag and its older value lead to two canonical tags: lead both to one."},
     {"BadFirst", "The first subtag of a language range has a digit: begin with a language of letters alone, or with *."},
+    {"ExtendedRange", "A range of the header has a * beside other subtags: write it without *, or * alone."},
+    {"BadWeight", "What follows a range of the header is no weight: write ;q= and a number from 0 to 1 with up to three decimals, or a comma."},
 };
 
 static const char *const kinds[] = {"", "Extlang", "Language", "Script", "Region", "Variant", "VariantLanguage", "Whole",

@@ -61,36 +61,39 @@ func chars(buffer *[room]byte) *C.char { return (*C.char)(unsafe.Pointer(buffer)
 // Version is that of the library.
 func Version() string { return C.GoString(C.bcp47_version()) }
 
-// A Registry of language subtags that passes the check. Any number of goroutines may ask it at once.
-type Registry struct {
-	calls sync.RWMutex // which calls share, and Close has for itself
-	raw   C.uintptr_t  // 0 once it is closed
+// What is open in the library: calls share it, and Close has it for itself.
+type handle struct {
+	calls  sync.RWMutex
+	raw    C.uintptr_t // 0 once it is closed
+	closed func(C.uintptr_t)
 }
 
-// Close lets calls that are under way end, and then lets go of the registry. Each later call gives ErrClosed, but for
-// Close. A registry that is not closed is let go of when it is collected.
-func (r *Registry) Close() error {
-	r.calls.Lock()
-	defer r.calls.Unlock()
-	if r.raw != 0 {
-		runtime.SetFinalizer(r, nil)
-		C.closed(r.raw)
-		r.raw = 0
+// Close lets calls that are under way end, and then frees what is open. Each later call gives ErrClosed, but for Close. What is not
+// closed is freed when it is collected.
+func (h *handle) Close() error {
+	h.calls.Lock()
+	defer h.calls.Unlock()
+	if h.raw != 0 {
+		h.closed(h.raw)
+		h.raw = 0
 	}
 	return nil
 }
 
-// ask makes a call by the registry and a buffer, which it may keep until it returns.
-func (r *Registry) ask(call func(raw C.uintptr_t, buffer *[room]byte) error) error {
-	r.calls.RLock()
-	defer r.calls.RUnlock()
-	if r.raw == 0 {
+// ask makes a call by what is open and a buffer, which it may keep until it returns.
+func (h *handle) ask(call func(raw C.uintptr_t, buffer *[room]byte) error) error {
+	h.calls.RLock()
+	defer h.calls.RUnlock()
+	if h.raw == 0 {
 		return ErrClosed
 	}
 	buffer := buffers.Get().(*[room]byte)
 	defer buffers.Put(buffer)
-	return call(r.raw, buffer)
+	return call(h.raw, buffer)
 }
+
+// A Registry of language subtags that passes the check. Any number of goroutines may ask it at once.
+type Registry struct{ handle }
 
 // Read makes a registry of its text. The error is a *RegistryError where it does not pass the check, or has no entries.
 func Read(content []byte) (*Registry, error) {
@@ -105,7 +108,7 @@ func Read(content []byte) (*Registry, error) {
 	if outcome.status != C.BCP47_DONE {
 		return nil, refusedRegistry(outcome, string(line[:outcome.length]))
 	}
-	registry := &Registry{raw: raw}
+	registry := &Registry{handle{raw: raw, closed: func(raw C.uintptr_t) { C.closed(raw) }}}
 	runtime.SetFinalizer(registry, (*Registry).Close)
 	return registry, nil
 }
@@ -179,8 +182,8 @@ const (
 	Lookup   Scheme = C.BCP47_LOOKUP   // lookup (3.4): the tag is the range, or what is left where that is cut from its end
 )
 
-// Matches tells whether a language range matches a tag by a scheme, both by their canonical forms: zh-yue matches yue-HK.
-// A range that is no valid tag, for example zh-*, is taken as it is written. The *TagError is of the range, where that is
+// Matches tells whether a language range matches a tag by a scheme, both by their extlang forms: zh-yue matches yue-HK.
+// Of a range that is no valid tag, for example yue-*, the first subtag has this form. The *TagError is of the range, where that is
 // neither a valid tag nor a range, or else of the tag; another scheme gives ErrScheme.
 func (r *Registry) Matches(languageRange, tag string, scheme Scheme) (bool, error) {
 	if scheme < Basic || scheme > Lookup {

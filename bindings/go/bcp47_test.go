@@ -79,6 +79,32 @@ func TestParents(t *testing.T) {
 	is(t, Tag{}, Tag{}.Parent())
 }
 
+func TestTagsAreChanged(t *testing.T) {
+	tag := MustParseTag("de-CH-1996-u-co-phonebk-x-own")
+	for wanted, change := range map[string]struct {
+		part  PartKind
+		value string
+	}{
+		"zh-yue-CH-1996-u-co-phonebk-x-own": {Language, "zh-yue"}, "de-Latn-CH-1996-u-co-phonebk-x-own": {Script, "LATN"},
+		"de-1996-u-co-phonebk-x-own": {Region, ""}, "de-CH-1901-u-co-phonebk-x-own": {Variant, "1901"},
+		"de-CH-1996-x-own": {Singleton, ""}, "de-CH-1996-u-co-phonebk-x-a-b": {PrivateUseSingleton, "x-a-b"},
+	} {
+		is(t, wanted, said(tag.With(change.part, change.value)))
+	}
+	var refused *TagError
+	_, err := tag.With(Region, "D_")
+	is(t, true, errors.As(err, &refused) && errors.Is(err, ErrNotATag))
+	is(t, "D_", refused.Tag)
+	_, err = Tag{}.With(Region, "DE")
+	is(t, true, errors.Is(err, ErrNotATag))
+	for name, wanted := range map[string]string{"en_US.UTF-8": "en-US", "sr_RS@latin": "sr-Latn-RS", "C": "en-US-u-va-posix"} {
+		is(t, wanted, said(ParsePosix(name)))
+	}
+	_, err = ParsePosix("de_DE@nothing")
+	is(t, true, errors.As(err, &refused))
+	is(t, "de_DE@nothing", refused.Tag)
+}
+
 func TestRecords(t *testing.T) {
 	registry := opened(t)
 	defer registry.Close()
@@ -178,6 +204,59 @@ func TestRanges(t *testing.T) {
 		_, err := registry.Matches("en", "en", scheme)
 		is(t, ErrScheme, err)
 	}
+}
+
+func TestReadersAreServed(t *testing.T) {
+	registry := opened(t)
+	available, err := registry.Available("en", "zh-yue", "de-DE", "he")
+	is(t, nil, err)
+	registry.Close()
+	for accept, best := range map[string]string{
+		"de, en;q=0.8": "de-DE", "iw-XA;q=0.5, EN-gb;q=0.3": "he", "zh;q=0.2, yue;q=0.1": "zh-yue", "en;q=0, *": "zh-yue", "gan, fr": "", "": "",
+	} {
+		is(t, best, said(available.Best(accept)))
+	}
+	is(t, "[he zh-yue]", said(available.Filter("zh;q=0.5, iw, de;q=0")))
+	for _, call := range []func(string) error{
+		func(accept string) error { _, err := available.Best(accept); return err },
+		func(accept string) error { _, err := available.Filter(accept); return err },
+	} {
+		var refused *TagError
+		is(t, true, errors.As(call("en, e_n"), &refused))
+		is(t, "2 en, e_n", fmt.Sprint(refused.Place, " ", refused.Tag))
+		is(t, true, errors.Is(refused, ErrBadHeader) && len(refused.Help()) > 9)
+		is(t, "ReplacementRepeats", call("ja-Latn-hepburn-alalc97-heploc").Error())
+	}
+	registry = opened(t)
+	for wanted, tags := range map[string][]string{"BadByte 1 e_n": {"en", "e_n"}, "UnknownLanguage 1 xx": {"xx", ""}, "EmptySubtag 1 ": {"en", ""}} {
+		var refused *TagError
+		_, err := registry.Available(tags...)
+		is(t, true, errors.As(err, &refused))
+		is(t, wanted, err.Error()+" "+refused.Tag)
+	}
+	none, err := registry.Available()
+	is(t, nil, err)
+	is(t, "", said(none.Best("en")))
+	is(t, "[]", said(none.Filter("*")))
+	var all sync.WaitGroup
+	for i := 0; i < 200; i++ {
+		all.Add(1)
+		go func() {
+			defer all.Done()
+			for n := 0; n < 100; n++ {
+				if text, err := available.Best("zh-yue;q=0.5"); text != "zh-yue" {
+					t.Error(text, err)
+				}
+			}
+		}()
+	}
+	all.Wait()
+	available.Close()
+	_, err = available.Best("en")
+	is(t, ErrClosed, err)
+	registry.Close()
+	_, err = registry.Available("en")
+	is(t, ErrClosed, err)
 }
 
 func TestExplanations(t *testing.T) {

@@ -14,12 +14,6 @@ import (
 // ErrClosed is what a registry answers that is closed.
 var ErrClosed = errors.New("bcp47: the registry is closed")
 
-// ErrOutOfMemory says that memory ran out.
-var ErrOutOfMemory = errors.New("bcp47: out of memory")
-
-// ErrBusy says that as many calls are under way as there is room for: call again.
-var ErrBusy = errors.New("bcp47: too many calls at once")
-
 // ErrScheme says that a number is none of Basic, Extended and Lookup.
 var ErrScheme = errors.New("bcp47: no scheme of matching")
 
@@ -33,6 +27,9 @@ const (
 	ErrBadRecord          Fault = -C.BCP47_BAD_RECORD
 	ErrRejected           Fault = -C.BCP47_REJECTED
 	ErrNoEntries          Fault = -C.BCP47_NO_ENTRIES
+	ErrBadHeader          Fault = -C.BCP47_BAD_HEADER // no Accept-Language header: the place is a list element
+	ErrOutOfMemory        Fault = -C.BCP47_OUT_OF_MEMORY
+	ErrBusy               Fault = -C.BCP47_BUSY // many calls are under way, and no memory was left for one more: call again
 )
 
 // Error is the name of a fault, for example "BadByte".
@@ -99,13 +96,10 @@ func (e *RegistryError) Error() string { return e.line }
 
 // The cause that an outcome has which is a refusal; else the error.
 func causeOf(status, fault, place int) (Cause, error) {
-	switch status {
-	case C.BCP47_OUT_OF_MEMORY:
-		return Cause{}, ErrOutOfMemory
-	case C.BCP47_BUSY:
-		return Cause{}, ErrBusy
-	}
 	cause := Cause{Status: -Fault(status), Fault: Fault(fault), Place: place}
+	if cause.Status == ErrOutOfMemory || cause.Status == ErrBusy {
+		return cause, cause.Status
+	}
 	if cause.Fault == 0 {
 		cause.Fault = cause.Status
 	}

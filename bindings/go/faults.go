@@ -115,4 +115,8 @@ const (
 	ErrU6
 	// The first subtag of a language range has a digit: begin with a language of letters alone, or with *.
 	ErrBadFirst
+	// A range of the header has a * beside other subtags: write it without *, or * alone.
+	ErrExtendedRange
+	// What follows a range of the header is no weight: write ;q= and a number from 0 to 1 with up to three decimals, or a comma.
+	ErrBadWeight
 )

@@ -12,6 +12,12 @@ package bcp47
 //         for (size_t i = 0; i < outcome.place; i++) buffer[outcome.length + i] = (char)parts[i].kind;
 //     return outcome;
 // }
+// static bcp47_outcome with(_GoString_ tag, int part, _GoString_ value, char *buffer, size_t room) {
+//     return bcp47_with(_GoStringPtr(tag), _GoStringLen(tag), part, _GoStringPtr(value), _GoStringLen(value), buffer, room);
+// }
+// static bcp47_outcome posix(_GoString_ name, char *buffer, size_t room) {
+//     return bcp47_posix(_GoStringPtr(name), _GoStringLen(name), buffer, room);
+// }
 // static bcp47_outcome parent(_GoString_ tag, char *buffer, size_t room) {
 //     return bcp47_parent(_GoStringPtr(tag), _GoStringLen(tag), buffer, room);
 // }
@@ -80,6 +86,29 @@ func (t Tag) Parent() Tag {
 	outcome := C.parent(t.text, chars(buffer), room)
 	parent, _ := ParseTag(string(buffer[:outcome.length]))
 	return parent
+}
+
+// The tag that a call writes, or why it writes none: of a text, or of another.
+func written(call func(at *C.char) C.bcp47_outcome, texts ...string) (Tag, error) {
+	buffer := buffers.Get().(*[room]byte)
+	defer buffers.Put(buffer)
+	outcome := call(chars(buffer))
+	if outcome.status != C.BCP47_DONE {
+		return Tag{}, refusedTag(outcome, nil, texts[outcome.text])
+	}
+	return ParseTag(string(buffer[:outcome.length]))
+}
+
+// With gives the tag with one of its parts replaced: a Language (with its extlangs), Script, Region, all Variants, all extensions
+// (Singleton) or private use (PrivateUseSingleton); an empty value takes it away. The error is a *TagError where the value has not the
+// form of the part. Whether the tag is valid says Validate.
+func (t Tag) With(part PartKind, value string) (Tag, error) {
+	return written(func(at *C.char) C.bcp47_outcome { return C.with(t.text, C.int(part), value, at, room) }, value, t.text, value)
+}
+
+// ParsePosix gives the tag that the name of a POSIX locale stands for: sr-Latn-RS for sr_RS.UTF-8@latin.
+func ParsePosix(name string) (Tag, error) {
+	return written(func(at *C.char) C.bcp47_outcome { return C.posix(name, at, room) }, name)
 }
 
 // String is the text of the tag.

@@ -27,7 +27,7 @@ archive() {
 }
 
 mkdir -p "$inside"
-${CC:-cc} -std=c11 ${CFLAGS:--O2} -fPIC -shared -fvisibility=hidden -Wall -Wextra -Werror -I../c -I"$home/include" \
+${CC:-cc} -std=c11 ${CFLAGS:--O2} -fPIC -shared -fvisibility=hidden -Wall -Wextra -Wno-unused-parameter -Werror -I../c -I"$home/include" \
     -I"$home/include/linux" -o "$inside/libbcp47jni.so" src/main/c/bcp47_jni.c \
     "${BCP47_LIBRARY:-../../build/libbcp47.a}" -Wl,--exclude-libs,ALL -Wl,-z,now -s
 [ "${1:-}" = native ] && exit

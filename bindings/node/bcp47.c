@@ -11,9 +11,12 @@
    may have any length. A registry takes about BYTES_OF_ONE bytes for one of its file. */
 enum { ROOM = 4096, BYTES_OF_ONE = 4 };
 
-/* A registry, which its object holds until it is closed or collected, and how many bytes of it the collector was told. */
+/* A registry, or so many tags of which one is served, which an object holds until it is closed or collected, and how many bytes of it
+   the collector was told. */
 typedef struct {
     bcp47_registry *registry;
+    bcp47_available *available;
+    size_t count;
     int64_t bytes;
 } holder;
 
@@ -27,8 +30,9 @@ static void tell_bytes(napi_env env, holder *it, int64_t bytes) {
 }
 
 static void release(napi_env env, holder *it) {
+    bcp47_available_close(it->available);
     bcp47_close(it->registry);
-    it->registry = NULL;
+    it->available = NULL, it->registry = NULL;
     tell_bytes(env, it, 0);
 }
 
@@ -48,6 +52,20 @@ static holder *held(napi_env env, napi_value value) {
     napi_throw_type_error(env, NULL, "a Registry is wanted");
     return NULL;
 }
+
+/* An object that holds so many bytes. */
+static napi_value object_of(napi_env env, holder *it, int64_t bytes) {
+    napi_value made;
+    if (napi_create_object(env, &made) != napi_ok || napi_type_tag_object(env, made, &tag_of_holder) != napi_ok ||
+        napi_wrap(env, made, it, finalize, NULL, NULL) != napi_ok) {
+        finalize(env, it, NULL);
+        return NULL;
+    }
+    tell_bytes(env, it, bytes);
+    return made;
+}
+
+static const bcp47_outcome no_memory = {BCP47_OUT_OF_MEMORY, 0, 0, 0, 0, 0};
 
 /* The bytes of a string; false, with a TypeError, where it is none. */
 static bool text_of(napi_env env, napi_value value, char text[ROOM], size_t *length) {
@@ -84,9 +102,14 @@ static napi_value refusal(napi_env env, bcp47_outcome outcome) {
     return number_of(env, (((double)outcome.place * 256 + outcome.detail) * 4 + outcome.text) * 32 + outcome.status);
 }
 
-/* The arguments of a call, as many as it has. */
-static bool takes(napi_env env, napi_callback_info info, size_t count, napi_value *values) {
-    return napi_get_cb_info(env, info, &count, values, NULL, NULL) == napi_ok;
+/* The arguments of a call, as many as it has, and what it was made with. */
+static bool takes(napi_env env, napi_callback_info info, size_t count, napi_value *values, const void **with) {
+    return napi_get_cb_info(env, info, &count, values, NULL, (void **)(uintptr_t)with) == napi_ok;
+}
+
+/* The arguments of a call that begin with what holds a registry, which is given: NULL, with a TypeError, where it is another. */
+static holder *takes_held(napi_env env, napi_callback_info info, size_t count, napi_value *values, const void **with) {
+    return takes(env, info, count, values, with) ? held(env, values[0]) : NULL;
 }
 
 /* open(bytes): an object that holds a registry, or an array of the refusal and its line */
@@ -96,13 +119,13 @@ static napi_value open_registry(napi_env env, napi_callback_info info) {
     char line[BCP47_LINE];
     void *data;
     size_t length;
-    if (!takes(env, info, 1, &bytes)) return NULL;
+    if (!takes(env, info, 1, &bytes, NULL)) return NULL;
     if (napi_get_typedarray_info(env, bytes, &kind, &length, &data, NULL, NULL) != napi_ok || kind != napi_uint8_array) {
         napi_throw_type_error(env, NULL, "a registry is read from a Uint8Array");
         return NULL;
     }
     holder *it = calloc(1, sizeof *it);
-    bcp47_outcome outcome = {BCP47_OUT_OF_MEMORY, 0, 0, 0, 0, 0};
+    bcp47_outcome outcome = no_memory;
     if (it) outcome = bcp47_open(&it->registry, data, length, line, sizeof line);
     if (outcome.status != BCP47_DONE) {
         free(it);
@@ -111,148 +134,98 @@ static napi_value open_registry(napi_env env, napi_callback_info info) {
         napi_set_element(env, made, 1, string_of(env, line, outcome.length));
         return made;
     }
-    if (napi_create_object(env, &made) != napi_ok || napi_type_tag_object(env, made, &tag_of_holder) != napi_ok ||
-        napi_wrap(env, made, it, finalize, NULL, NULL) != napi_ok) {
-        finalize(env, it, NULL);
-        return NULL;
-    }
-    tell_bytes(env, it, BYTES_OF_ONE * (int64_t)length);
-    return made;
+    return object_of(env, it, BYTES_OF_ONE * (int64_t)length);
 }
 
 static napi_value close_registry(napi_env env, napi_callback_info info) {
     napi_value object;
-    holder *it = takes(env, info, 1, &object) ? held(env, object) : NULL;
+    holder *it = takes_held(env, info, 1, &object, NULL);
     if (it) release(env, it);
     return NULL;
 }
 
-typedef bcp47_outcome writer(const bcp47_registry *, const char *, size_t, char *, size_t);
+/* What a call writes where it ends with a status. */
+typedef struct {
+    bcp47_outcome (*writes)(const bcp47_registry *, const char *, size_t, char *, size_t);
+    int status;
+} source;
 
-/* (registry, tag): the text that a call writes where it ends with a status */
-static napi_value text_by(napi_env env, napi_callback_info info, writer *writes, int status) {
+static bcp47_outcome parent(const bcp47_registry *none, const char *text, size_t length, char *buffer, size_t room) {
+    (void)none;
+    return bcp47_parent(text, length, buffer, room);
+}
+
+static bcp47_outcome posix(const bcp47_registry *none, const char *text, size_t length, char *buffer, size_t room) {
+    (void)none;
+    return bcp47_posix(text, length, buffer, room);
+}
+
+/* The text of a tag in conventional case, a point, and a character for each part: the number of its kind and 64. */
+static bcp47_outcome parts(const bcp47_registry *none, const char *text, size_t length, char *buffer, size_t room) {
+    bcp47_part found[BCP47_PARTS];
+    bcp47_outcome outcome = bcp47_parts(text, length, buffer, room - BCP47_PARTS, found, BCP47_PARTS);
+    (void)none;
+    if (outcome.status != BCP47_DONE) return outcome;
+    buffer[outcome.length++] = '.';
+    for (size_t i = 0; i < outcome.place; i++) buffer[outcome.length++] = (char)(64 + found[i].kind);
+    return outcome;
+}
+
+static const source of_canonical = {bcp47_canonical, BCP47_DONE}, of_variant = {bcp47_canonical, BCP47_REPLACEMENT_REPEATS},
+                    of_extlang = {bcp47_extlang, BCP47_DONE}, of_parent = {parent, BCP47_DONE}, of_posix = {posix, BCP47_DONE},
+                    of_parts = {parts, BCP47_DONE};
+
+/* (registry, tag) or, for what asks no registry, (tag): a text */
+static napi_value text_by(napi_env env, napi_callback_info info) {
     napi_value values[2];
     char text[ROOM], buffer[ROOM];
     size_t length;
-    if (!takes(env, info, 2, values)) return NULL;
-    holder *it = held(env, values[0]);
+    const void *with;
+    if (!takes(env, info, 2, values, &with)) return NULL;
+    const source *of = with;
+    bool asks = of->writes == bcp47_canonical || of->writes == bcp47_extlang;
+    holder *it = asks ? held(env, values[0]) : NULL;
+    if ((asks && !it) || !text_of(env, values[asks], text, &length)) return NULL;
+    bcp47_outcome outcome = of->writes(asks ? it->registry : NULL, text, length, buffer, sizeof buffer);
+    return outcome.status == of->status ? string_of(env, buffer, outcome.length) : refusal(env, outcome);
+}
+
+/* show(registry, tag) and explain(registry, tag, most): the rows that the program prints, as JSON, and its lines */
+static napi_value text_given(napi_env env, napi_callback_info info) {
+    napi_value values[3], made = NULL;
+    char text[ROOM], *whole;
+    size_t length;
+    uint32_t most;
+    holder *it = takes_held(env, info, 3, values, NULL);
     if (!it || !text_of(env, values[1], text, &length)) return NULL;
-    bcp47_outcome outcome = writes(it->registry, text, length, buffer, sizeof buffer);
-    return outcome.status == status ? string_of(env, buffer, outcome.length) : refusal(env, outcome);
-}
-
-static napi_value canonical(napi_env env, napi_callback_info info) {
-    return text_by(env, info, bcp47_canonical, BCP47_DONE);
-}
-
-/* variant(registry, tag): the variant that replacements can repeat */
-static napi_value variant(napi_env env, napi_callback_info info) {
-    return text_by(env, info, bcp47_canonical, BCP47_REPLACEMENT_REPEATS);
-}
-
-static napi_value extlang(napi_env env, napi_callback_info info) {
-    return text_by(env, info, bcp47_extlang, BCP47_DONE);
-}
-
-/* parent(tag): its text without the last subtag */
-static napi_value parent(napi_env env, napi_callback_info info) {
-    napi_value value;
-    char text[ROOM], buffer[ROOM];
-    size_t length;
-    if (!takes(env, info, 1, &value) || !text_of(env, value, text, &length)) return NULL;
-    bcp47_outcome outcome = bcp47_parent(text, length, buffer, sizeof buffer);
-    return outcome.status == BCP47_DONE ? string_of(env, buffer, outcome.length) : refusal(env, outcome);
-}
-
-/* parts(tag): its text in conventional case, a point, and a character for each part: the number of its kind and 64 */
-static napi_value parts(napi_env env, napi_callback_info info) {
-    napi_value value;
-    char text[ROOM], buffer[BCP47_TEXT + BCP47_PARTS];
-    bcp47_part found[BCP47_PARTS];
-    size_t length;
-    if (!takes(env, info, 1, &value) || !text_of(env, value, text, &length)) return NULL;
-    bcp47_outcome outcome = bcp47_parts(text, length, buffer, BCP47_TEXT, found, BCP47_PARTS);
+    bcp47_outcome outcome = napi_get_value_uint32(env, values[2], &most) == napi_ok
+                                ? bcp47_explanation(it->registry, text, length, most, &whole)
+                                : bcp47_show(it->registry, text, length, &whole);
     if (outcome.status != BCP47_DONE) return refusal(env, outcome);
-    buffer[outcome.length++] = '.';
-    for (size_t i = 0; i < outcome.place; i++) buffer[outcome.length++] = (char)(64 + found[i].kind);
-    return string_of(env, buffer, outcome.length);
-}
-
-static void set(napi_env env, napi_value object, const char *name, napi_value value) {
-    napi_set_named_property(env, object, name, value);
-}
-
-/* explain(registry, tag, most): an array of the steps, each with kind, place, number and tag, and last the canonical text */
-static napi_value explain(napi_env env, napi_callback_info info) {
-    napi_value values[3], made, step;
-    char text[ROOM];
-    size_t length, i = 0;
-    uint32_t most = 0;
-    bcp47_step *steps;
-    const char *at;
-    if (!takes(env, info, 3, values)) return NULL;
-    holder *it = held(env, values[0]);
-    if (!it || !text_of(env, values[1], text, &length)) return NULL;
-    napi_get_value_uint32(env, values[2], &most);
-    bcp47_outcome outcome = bcp47_steps(it->registry, text, length, most, &steps, &at);
-    if (outcome.status != BCP47_DONE) {
-        bcp47_free(steps);
-        return refusal(env, outcome);
-    }
-    napi_create_array_with_length(env, outcome.place + 1, &made);
-    for (; i < outcome.place; i++, at += strlen(at) + 1) {
-        napi_handle_scope scope;
-        napi_open_handle_scope(env, &scope);
-        napi_create_object(env, &step);
-        set(env, step, "kind", string_of(env, bcp47_kind_name(steps[i].kind), NAPI_AUTO_LENGTH));
-        set(env, step, "place", number_of(env, steps[i].place));
-        set(env, step, "number", number_of(env, steps[i].number));
-        set(env, step, "tag", string_of(env, at, NAPI_AUTO_LENGTH));
-        napi_set_element(env, made, (uint32_t)i, step);
-        napi_close_handle_scope(env, scope);
-    }
-    napi_set_element(env, made, (uint32_t)i, string_of(env, at, NAPI_AUTO_LENGTH));
-    bcp47_free(steps);
+    napi_create_string_utf8(env, whole, outcome.length, &made);
+    bcp47_free(whole);
     return made;
 }
 
-/* record(registry, number): an array of the fields, each with name and body */
+/* record(registry, number): an array of the names and bodies of its fields, in turn */
 static napi_value record(napi_env env, napi_callback_info info) {
-    napi_value values[2], made, field, text;
+    napi_value values[2], made, text;
     uint32_t number = 0;
     bcp47_field *fields;
     const char *at;
-    if (!takes(env, info, 2, values)) return NULL;
-    holder *it = held(env, values[0]);
+    holder *it = takes_held(env, info, 2, values, NULL);
     if (!it) return NULL;
     napi_get_value_uint32(env, values[1], &number);
     bcp47_outcome outcome = bcp47_record(it->registry, number, &fields, &at);
     if (outcome.status != BCP47_DONE) return refusal(env, outcome);
     napi_create_array(env, &made);
-    for (uint32_t i = 0; i < outcome.place; at += fields[i].name + fields[i].body + 2, i++) {
-        napi_create_object(env, &field);
-        napi_create_string_utf8(env, at, fields[i].name, &text);
-        set(env, field, "name", text);
-        napi_create_string_utf8(env, at + fields[i].name + 1, fields[i].body, &text);
-        set(env, field, "body", text);
-        napi_set_element(env, made, i, field);
+    for (uint32_t i = 0; i < 2 * outcome.place; i++) {
+        size_t length = i % 2 ? fields[i / 2].body : fields[i / 2].name;
+        napi_create_string_utf8(env, at, length, &text);
+        napi_set_element(env, made, i, text);
+        at += length + 1;
     }
     bcp47_free(fields);
-    return made;
-}
-
-/* show(registry, tag): the rows that the program prints, as JSON */
-static napi_value show(napi_env env, napi_callback_info info) {
-    napi_value values[2], made = NULL;
-    char text[ROOM], *rows;
-    size_t length;
-    if (!takes(env, info, 2, values)) return NULL;
-    holder *it = held(env, values[0]);
-    if (!it || !text_of(env, values[1], text, &length)) return NULL;
-    bcp47_outcome outcome = bcp47_show(it->registry, text, length, &rows);
-    if (outcome.status != BCP47_DONE) return refusal(env, outcome);
-    napi_create_string_utf8(env, rows, outcome.length, &made);
-    bcp47_free(rows);
     return made;
 }
 
@@ -261,8 +234,7 @@ static napi_value validate(napi_env env, napi_callback_info info) {
     napi_value values[2];
     char text[ROOM];
     size_t length;
-    if (!takes(env, info, 2, values)) return NULL;
-    holder *it = held(env, values[0]);
+    holder *it = takes_held(env, info, 2, values, NULL);
     if (!it || !text_of(env, values[1], text, &length)) return NULL;
     bcp47_outcome outcome = bcp47_validate(it->registry, text, length);
     return outcome.status == BCP47_DONE ? NULL : refusal(env, outcome);
@@ -274,8 +246,7 @@ static napi_value match(napi_env env, napi_callback_info info) {
     char tag[ROOM];
     size_t length, tag_length;
     int32_t scheme = 0;
-    if (!takes(env, info, 4, values)) return NULL;
-    holder *it = held(env, values[0]);
+    holder *it = takes_held(env, info, 4, values, NULL);
     char *range = it ? whole_text_of(env, values[1], &length) : NULL;
     if (!range || !text_of(env, values[2], tag, &tag_length)) {
         free(range);
@@ -290,21 +261,78 @@ static napi_value match(napi_env env, napi_callback_info info) {
     return made;
 }
 
-/* facts(registry): File-Date, number of entries, SHA-256 in hexadecimal digits */
+/* available(registry, tags): an object that holds the tags of an array, or a refusal */
+static napi_value available(napi_env env, napi_callback_info info) {
+    napi_value values[2], one;
+    uint32_t count = 0, i = 0;
+    holder *it = takes_held(env, info, 2, values, NULL);
+    if (!it || napi_get_array_length(env, values[1], &count) != napi_ok) return NULL;
+    holder *made = calloc(1, sizeof *made);
+    char **tags = calloc(count + 1u, sizeof *tags);
+    size_t *lengths = calloc(count + 1u, sizeof *lengths);
+    bool has_room = made && tags && lengths;
+    bcp47_outcome outcome = no_memory;
+    while (has_room && i < count && napi_get_element(env, values[1], i, &one) == napi_ok && (tags[i] = whole_text_of(env, one, &lengths[i]))) i++;
+    if (has_room && i == count) outcome = bcp47_available_open(&made->available, it->registry, (const char *const *)tags, lengths, count);
+    while (i) free(tags[--i]);
+    free(tags), free(lengths);
+    if (outcome.status == BCP47_DONE) {
+        made->count = count;
+        return object_of(env, made, 0);
+    }
+    free(made);
+    outcome.text = 0;
+    return refusal(env, outcome);
+}
+
+/* best(available, accept) and filter(available, accept): an array of numbers of tags, from 1 on */
+static napi_value served(napi_env env, napi_callback_info info) {
+    napi_value values[2], made;
+    const void *is_filter;
+    size_t length;
+    holder *it = takes_held(env, info, 2, values, &is_filter);
+    char *accept = it ? whole_text_of(env, values[1], &length) : NULL;
+    if (!accept) return NULL;
+    size_t *places = calloc(it->count + 1, sizeof *places);
+    bcp47_outcome outcome = !places     ? no_memory
+                            : is_filter ? bcp47_filter(it->available, accept, length, places, it->count)
+                                        : bcp47_best(it->available, accept, length);
+    if (outcome.status != BCP47_DONE) {
+        made = refusal(env, outcome);
+    } else {
+        napi_create_array(env, &made);
+        if (!is_filter) *places = outcome.place, outcome.place = outcome.place > 0;
+        for (uint32_t i = 0; i < outcome.place; i++) napi_set_element(env, made, i, number_of(env, (double)places[i]));
+    }
+    free(places), free(accept);
+    return made;
+}
+
+/* with(tag, part, value): a tag with another part */
+static napi_value with(napi_env env, napi_callback_info info) {
+    napi_value values[3];
+    char tag[ROOM], value[ROOM], buffer[ROOM];
+    size_t length, value_length;
+    int32_t part = 0;
+    if (!takes(env, info, 3, values, NULL) || !text_of(env, values[0], tag, &length) || !text_of(env, values[2], value, &value_length)) return NULL;
+    napi_get_value_int32(env, values[1], &part);
+    bcp47_outcome outcome = bcp47_with(tag, length, part, value, value_length, buffer, sizeof buffer);
+    return outcome.status == BCP47_DONE ? string_of(env, buffer, outcome.length) : refusal(env, outcome);
+}
+
+/* facts(registry): an array of the File-Date, the number of entries, and the SHA-256 as a buffer */
 static napi_value facts(napi_env env, napi_callback_info info) {
-    static const char digits[] = "0123456789abcdef";
-    napi_value object, made = NULL;
-    char hex[64];
+    napi_value object, made, digest;
     bcp47_info of;
-    holder *it = takes(env, info, 1, &object) ? held(env, object) : NULL;
+    holder *it = takes_held(env, info, 1, &object, NULL);
     if (!it) return NULL;
     bcp47_outcome outcome = bcp47_registry_info(it->registry, &of);
     if (outcome.status != BCP47_DONE) return refusal(env, outcome);
-    for (int i = 0; i < 32; i++) hex[2 * i] = digits[of.sha256[i] >> 4], hex[2 * i + 1] = digits[of.sha256[i] & 15];
-    napi_create_object(env, &made);
-    set(env, made, "fileDate", string_of(env, of.file_date, NAPI_AUTO_LENGTH));
-    set(env, made, "entries", number_of(env, (double)of.entries));
-    set(env, made, "sha256", string_of(env, hex, sizeof hex));
+    napi_create_array(env, &made);
+    napi_set_element(env, made, 0, string_of(env, of.file_date, NAPI_AUTO_LENGTH));
+    napi_set_element(env, made, 1, number_of(env, (double)of.entries));
+    napi_create_buffer_copy(env, sizeof of.sha256, of.sha256, NULL, &digest);
+    napi_set_element(env, made, 2, digest);
     return made;
 }
 
@@ -314,7 +342,7 @@ static napi_value names(napi_env env, napi_callback_info info) {
                                               bcp47_part_kind_name};
     napi_value value, made = NULL;
     uint32_t which = 0;
-    if (!takes(env, info, 1, &value)) return NULL;
+    if (!takes(env, info, 1, &value, NULL)) return NULL;
     napi_get_value_uint32(env, value, &which);
     napi_create_array(env, &made);
     const char *name;
@@ -327,14 +355,19 @@ NAPI_MODULE_INIT() {
     static const struct {
         const char *name;
         napi_callback calls;
+        const void *with;
     } functions[] = {
-        {"open", open_registry}, {"close", close_registry}, {"canonical", canonical}, {"variant", variant}, {"extlang", extlang},
-        {"parts", parts},        {"explain", explain},      {"validate", validate},   {"match", match},     {"facts", facts},
-        {"names", names},        {"show", show},            {"parent", parent},       {"record", record},
+        {"open", open_registry, NULL},       {"close", close_registry, NULL},   {"canonical", text_by, &of_canonical},
+        {"variant", text_by, &of_variant},   {"extlang", text_by, &of_extlang}, {"parent", text_by, &of_parent},
+        {"posix", text_by, &of_posix},       {"parts", text_by, &of_parts},     {"explain", text_given, NULL},
+        {"show", text_given, NULL},          {"record", record, NULL},          {"validate", validate, NULL},
+        {"match", match, NULL},              {"facts", facts, NULL},            {"names", names, NULL},
+        {"available", available, NULL},      {"best", served, NULL},            {"filter", served, &no_memory},
+        {"with", with, NULL},
     };
     for (size_t i = 0; i < sizeof functions / sizeof *functions; i++) {
         napi_value made = NULL;
-        napi_create_function(env, functions[i].name, NAPI_AUTO_LENGTH, functions[i].calls, NULL, &made);
+        napi_create_function(env, functions[i].name, NAPI_AUTO_LENGTH, functions[i].calls, (void *)(uintptr_t)functions[i].with, &made);
         napi_set_named_property(env, exports, functions[i].name, made);
     }
     napi_set_named_property(env, exports, "version", string_of(env, bcp47_version(), NAPI_AUTO_LENGTH));

@@ -3,5 +3,5 @@
 import { load } from './load.mjs';
 
 const bcp47 = await load();
-export const { Refusal, Refused, RefusedRegistry, RefusedTag, Registry, Tag, version } = bcp47;
+export const { Available, Refusal, Refused, RefusedRegistry, RefusedTag, Registry, Tag, version } = bcp47;
 export default bcp47;

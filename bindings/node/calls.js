@@ -4,12 +4,12 @@
 
 // Room for the text of any tag, for its canonical text and for its parts. What is longer is no tag, which the library says of its front.
 const ROOM = 4096, PARTS = 512;
-// What a part takes, in numbers of 32 bits, and a step and a field, in bytes.
-const [PART, STEP, FIELD] = [6, 12, 16];
+// What a part and a field take, in bytes.
+const [PART, FIELD] = [24, 16];
 const [DONE, REPEATS, DIFFERENT] = [0, 3, 6];
 
 function callsOf(wasm) {
-  const encoder = new TextEncoder(), decoder = new TextDecoder();
+  const encoder = new TextEncoder(), decoder = new TextDecoder('utf-8', { ignoreBOM: true });
   const outcome = wasm.bcp47_outcome() / 4;
   let bytes = new Uint8Array(0), words;
   /** Looks at the memory anew where it has grown, which takes older views away. */
@@ -24,14 +24,14 @@ function callsOf(wasm) {
     look();
     return place;
   };
-  const [input, output, parts] = [ROOM, ROOM, 4 * PART * PARTS].map(allocate);
+  const [input, output, parts] = [ROOM, ROOM, PART * PARTS].map(allocate);
 
-  /** A text in memory. Short ones are ASCII. */
+  /** A text in memory. The decoder is slow to begin. */
   const read = (place, length) => {
-    if (length > 32) return decoder.decode(bytes.subarray(place, place + length));
-    let text = '';
-    for (let i = place; i < place + length; i++) text += String.fromCharCode(bytes[i]);
-    return text;
+    const end = place + length;
+    let text = '', i = length > 32 ? end + 1 : place;
+    for (; i < end && bytes[i] < 128; i++) text += String.fromCharCode(bytes[i]);
+    return i === end ? text : decoder.decode(bytes.subarray(place, end));
   };
   const zeroEnded = (place) => read(place, bytes.indexOf(0, place) - place);
   const textOf = (text) => {
@@ -76,12 +76,12 @@ function callsOf(wasm) {
     return text;
   };
 
-  const lost = new FinalizationRegistry((place) => wasm.bcp47_close(place));
-  /** What holds a registry until it is closed or collected. */
+  const lost = new FinalizationRegistry(([closes, place]) => closes(place));
+  /** What holds a registry, or so many tags of which one is served, until it is closed or collected. */
   class Held {
-    constructor(place) {
-      this.place = place;
-      lost.register(this, place, this);
+    constructor(closes, place, count) {
+      Object.assign(this, { closes, place, count });
+      lost.register(this, [closes, place], this);
     }
   }
   const placeOf = (held) => {
@@ -96,10 +96,11 @@ function callsOf(wasm) {
       if (!(file instanceof Uint8Array)) throw new TypeError('a registry is read from a Uint8Array');
       const place = lend(file, (at, size) => wasm.bcp47_open(at, size, output, ROOM));
       look();
-      return place ? new Held(place) : [refusal(), read(output, words[outcome + 4])];
+      return place ? new Held(wasm.bcp47_close, place) : [refusal(), read(output, words[outcome + 4])];
     },
     close(held) {
-      wasm.bcp47_close(placeOf(held));
+      placeOf(held);
+      held.closes(held.place);
       lost.unregister(held);
       held.place = 0;
     },
@@ -107,48 +108,52 @@ function callsOf(wasm) {
     variant: (held, tag) => written(wasm.bcp47_canonical(placeOf(held), input, write(tag, input), output, ROOM), REPEATS),
     extlang: (held, tag) => written(wasm.bcp47_extlang(placeOf(held), input, write(tag, input), output, ROOM)),
     parent: (tag) => written(wasm.bcp47_parent(input, write(tag, input), output, ROOM)),
+    posix: (name) => written(wasm.bcp47_posix(input, write(name, input), output, ROOM)),
+    with: (tag, part, value) => lend(encoder.encode(textOf(value)), (place, size) =>
+      written(wasm.bcp47_with(input, write(tag, input), part, place, size, output, ROOM))),
+    available(held, tags) {
+      const bytesOf = encoder.encode(tags.join('')), table = new BigUint64Array(2 * tags.length);
+      const place = lend(bytesOf, (at) => {
+        tags.forEach((tag, i) => {
+          [table[i], table[tags.length + i]] = [BigInt(at), BigInt(tag.length)];
+          at += tag.length;
+        });
+        return lend(new Uint8Array(table.buffer), (where) => wasm.bcp47_available_open(placeOf(held), where, where + 8 * tags.length, tags.length));
+      });
+      look();
+      return place ? new Held(wasm.bcp47_available_close, place, tags.length) : refusal();
+    },
+    best: (held, accept) => lend(encoder.encode(textOf(accept)), (place, size) => {
+      const status = wasm.bcp47_best(placeOf(held), place, size);
+      look();
+      return status ? refusal() : [words[outcome + 2]].filter(Boolean);
+    }),
+    filter: (held, accept) => lend(encoder.encode(textOf(accept)), (place, size) => lend(new Uint8Array(8 * held.count), (places) => {
+      const status = wasm.bcp47_filter(placeOf(held), place, size, places, held.count);
+      look();
+      return status ? refusal() : Array.from({ length: words[outcome + 2] }, (_, i) => words[places / 4 + 2 * i]);
+    })),
     record(held, number) {
       const place = wasm.bcp47_record(placeOf(held), number);
       look();
       if (words[outcome]) return refusal();
       const count = words[outcome + 2];
       let at = place + FIELD * count;
-      const next = (length) => {
-        const text = read(at, length);
+      const texts = Array.from({ length: 2 * count }, (_, i) => {
+        const length = words[(place + 8 * i) / 4];
         at += length + 1;
-        return text;
-      };
-      const made = Array.from({ length: count }, (_, i) => {
-        const [name, , body] = words.subarray((place + FIELD * i) / 4);
-        return { name: next(name), body: next(body) };
+        return read(at - length - 1, length);
       });
       wasm.bcp47_free(place);
-      return made;
+      return texts;
     },
     parts(tag) {
       const text = written(wasm.bcp47_parts(input, write(tag, input), output, ROOM, parts, PARTS));
       if (typeof text === 'number') return text;
-      const kinds = Array.from({ length: words[outcome + 2] }, (_, i) => 64 + bytes[parts + 4 * PART * i]);
+      const kinds = Array.from({ length: words[outcome + 2] }, (_, i) => 64 + bytes[parts + PART * i]);
       return `${text}.${String.fromCharCode(...kinds)}`;
     },
-    explain(held, tag, most) {
-      const place = wasm.bcp47_steps(placeOf(held), input, write(tag, input), most);
-      look();
-      const [status, , count] = words.subarray(outcome);
-      let at = place + STEP * count;
-      const next = () => {
-        const text = zeroEnded(at);
-        at += text.length + 1;
-        return text;
-      };
-      const step = (_, i) => {
-        const [, where, number] = words.subarray((place + STEP * i) / 4);
-        return { kind: zeroEnded(wasm.bcp47_kind_name(bytes[place + STEP * i])), place: where, number, tag: next() };
-      };
-      const made = status === DONE ? [...Array.from({ length: count }, step), next()] : refusal();
-      wasm.bcp47_free(place);
-      return made;
-    },
+    explain: (held, tag, most) => taken(wasm.bcp47_explanation(placeOf(held), input, write(tag, input), most)),
     show: (held, tag) => taken(wasm.bcp47_show(placeOf(held), input, write(tag, input))),
     validate(held, tag) {
       const status = wasm.bcp47_validate(placeOf(held), input, write(tag, input));
@@ -164,8 +169,7 @@ function callsOf(wasm) {
     }),
     facts(held) {
       if (wasm.bcp47_registry_info(placeOf(held), output)) return refusal();
-      const sha256 = Array.from(bytes.subarray(output + 8, output + 40), (byte) => byte.toString(16).padStart(2, '0')).join('');
-      return { fileDate: zeroEnded(output + 40), entries: words[output / 4], sha256 };
+      return [zeroEnded(output + 40), words[output / 4], bytes.slice(output + 8, output + 40)];
     },
     /** The names of the numbers from 1 on. */
     names(which) {

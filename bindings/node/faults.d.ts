@@ -55,6 +55,8 @@ export type Fault =
   | 'U5'
   | 'U6'
   | 'BadFirst'
+  | 'ExtendedRange'
+  | 'BadWeight'
   | 'ReplacementRepeats'
   | 'TooManySteps'
   | 'NoEntries';

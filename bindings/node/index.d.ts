@@ -57,12 +57,47 @@ export class Tag {
   readonly privateUse: string[];
   /** One part for each subtag, in their order, for example { kind: 'Script', text: 'Hant' }; a grandfathered tag is one part. */
   readonly parts: readonly { readonly kind: string; readonly text: string }[];
+  /** The tag of these parts; `language` has its extlangs too, for example `zh-yue`. @throws RefusedTag */
+  static fromParts(parts: { language: string } & TagParts): Tag;
+  /** The tag that the name of a POSIX locale stands for: `sr-Latn-RS` for `sr_RS.UTF-8@latin`. @throws RefusedTag */
+  static fromPosix(name: string): Tag;
+  /** A tag with other parts. No registry is asked, so that it need not be valid. @throws RefusedTag */
+  with(parts: TagParts): Tag;
   /** The tag to which lookup falls back (RFC 4647, 3.4): without its last subtag, and the singletons before that. */
   readonly parent: Tag | null;
   /** @throws RangeError for a tag that Unicode's locales leave out, for example `x-own` */
   toLocale(): Intl.Locale;
   toString(): string;
   toJSON(): string;
+}
+
+/** Parts for a tag: `null` and what is empty take a part away. */
+export interface TagParts {
+  readonly language?: string;
+  readonly script?: string | null;
+  readonly region?: string | null;
+  readonly variants?: string | Iterable<string> | null;
+  /** All of them, for example `u-co-phonebk`. */
+  readonly extensions?: string | Iterable<string> | null;
+  /** The subtags after `x`. */
+  readonly privateUse?: string | Iterable<string> | null;
+}
+
+/**
+ * The tags of which a service serves one, as they were handed in. A header that is `null` or missing accepts each tag (RFC 9110, 12.5.4).
+ * They are there when the registry is closed, too. Calls throw RefusedTag for a text that is no Accept-Language header.
+ */
+export class Available<T> {
+  private constructor();
+  readonly tags: readonly T[];
+  /**
+   * The tag to serve to the reader of a header, for example `de-CH, de;q=0.8, en;q=0.5`: by lookup (RFC 4647, 3.4) of its ranges from
+   * the greatest weight to the least, else by what a range matches; `other` where no range serves a tag.
+   */
+  best(accept: string | null | undefined): T | null;
+  best<U>(accept: string | null | undefined, other: U): T | U;
+  /** All tags that a header accepts, from the greatest weight to the least. */
+  filter(accept: string | null | undefined): T[];
 }
 
 /** A step: its kind, the place of its subtag, the record that it uses, and the tag to which it leads. */
@@ -117,11 +152,13 @@ export class Registry {
   /** Whether two tags are equivalent: their canonical texts are equal. */
   equivalent(first: string | Tag | Intl.Locale, second: string | Tag | Intl.Locale): boolean;
   /**
-   * Whether a language range matches a tag (RFC 4647), by their canonical forms: by basic filtering (3.3.1), by extended
-   * filtering (3.3.2), or by lookup (3.4), where the range, cut from its end, is the tag. A range that is no valid tag, for
-   * example `zh-*`, is taken as it is written. Throws RefusedTag for the range, or else for the tag.
+   * Whether a language range matches a tag (RFC 4647), by their extlang forms: by basic filtering (3.3.1), by extended
+   * filtering (3.3.2), or by lookup (3.4), where the range, cut from its end, is the tag. Of a range that is no valid tag, for
+   * example `yue-*`, the first subtag has this form. Throws RefusedTag for the range, or else for the tag.
    */
   matches(range: string | Tag | Intl.Locale, tag: string | Tag | Intl.Locale, scheme?: 'basic' | 'extended' | 'lookup'): boolean;
+  /** The tags of which a service serves one, prepared for readers' headers. */
+  available<T extends string | Tag | Intl.Locale>(tags: Iterable<T>): Available<T>;
   /** The steps from a tag to its canonical form, at most so many, else 20,000, and that form. A tag can have 57,000. */
   explain(tag: string | Tag | Intl.Locale, most?: number): { steps: Step[]; canonical: string };
   /** The fields of a record of the file, by its number from 1 on, with the header counted; none where it is not there. */

@@ -65,7 +65,7 @@ const textOf = (tag) => (typeof tag === 'object' && (tag instanceof Tag || tag i
 /** The refusal that a number tells, of one of the tags that were asked. */
 function refusalOf(held, code, ...tags) {
   const tag = tags[Math.floor(code / 32) % 4 === 2 ? 1 : 0];
-  return new Refusal(code, tag, code % 32 === REPEATS ? native.variant(held, textOf(tag)) : undefined);
+  return new Refusal(code, tag, held && code % 32 === REPEATS ? native.variant(held, textOf(tag)) : undefined);
 }
 
 /** Throws what a call refuses. */
@@ -73,6 +73,17 @@ function answered(held, answer, ...tags) {
   if (typeof checked(answer) !== 'number') return answer;
   throw new RefusedTag(refusalOf(held, answer, ...tags));
 }
+
+// The parts that are replaced, in the order of a tag: the number of each, and the text for a value of it.
+const joined = (value) => (value === null || value === undefined ? '' : typeof value === 'string' ? value : [...value].join('-'));
+const REPLACED = {
+  language: [1, joined],
+  script: [3, joined],
+  region: [4, joined],
+  variants: [5, joined],
+  extensions: [6, joined],
+  privateUse: [18, (value) => (joined(value) ? `x-${joined(value)}` : '')],
+};
 
 class Tag {
   #kinds;
@@ -84,6 +95,23 @@ class Tag {
     this.text = shown.slice(0, point);
     this.#kinds = shown.slice(point + 1);
     Object.freeze(this);
+  }
+
+  static fromParts({ language, ...parts }) {
+    return new Tag(joined(language)).with(parts);
+  }
+
+  static fromPosix(name) {
+    return new Tag(answered(null, native.posix(name), name));
+  }
+
+  with(parts) {
+    for (const name of Object.keys(parts)) if (!(name in REPLACED)) throw new TypeError(`a tag has no part ${name}`);
+    const text = Object.entries(REPLACED).filter(([name]) => name in parts).reduce((tag, [name, [part, textFor]]) => {
+      const value = textFor(parts[name]);
+      return answered(null, native.with(tag, part, value), tag, value);
+    }, this.text);
+    return new Tag(text);
   }
 
   get parent() {
@@ -144,6 +172,29 @@ class Tag {
 
   [INSPECT]() {
     return `Tag '${this.text}'`;
+  }
+}
+
+class Available {
+  #held;
+
+  constructor(held, tags) {
+    this.#held = held;
+    this.tags = tags;
+    Object.freeze(this);
+  }
+
+  #served(call, accept) {
+    return answered(null, call(this.#held, accept ?? '*'), accept).map((number) => this.tags[number - 1]);
+  }
+
+  best(accept, other = null) {
+    const [tag = other] = this.#served(native.best, accept);
+    return tag;
+  }
+
+  filter(accept) {
+    return this.#served(native.filter, accept);
   }
 }
 
@@ -209,15 +260,24 @@ class Registry {
     return answered(this.#open, native.match(this.#open, textOf(range), textOf(tag), number), range, tag);
   }
 
+  available(tags) {
+    if (typeof tags === 'string') throw new TypeError('many tags are a list, and not one text');
+    const all = Object.freeze([...tags]);
+    for (const tag of all) this.canonical(tag);
+    return new Available(answered(null, native.available(this.#open, all.map((tag) => `${textOf(tag)}`))), all);
+  }
+
   explain(tag, most = 20_000) {
     if (typeof most !== 'number' || Number.isNaN(most)) throw new TypeError('the most steps are a number');
     const answer = native.explain(this.#open, textOf(tag), Math.min(Math.max(most, 0), 0xffffffff));
-    const steps = answered(this.#open, answer, tag);
-    return { canonical: steps.pop(), steps };
+    const rows = answered(this.#open, answer, tag).split('\n').slice(0, -1).map((line) => line.split(' '));
+    const [, canonical] = rows.pop();
+    return { canonical, steps: rows.map(([kind, place, number, tag]) => ({ kind, place: Number(place), number: Number(number), tag })) };
   }
 
   record(number) {
-    return answered(this.#open, native.record(this.#open, number));
+    const texts = answered(this.#open, native.record(this.#open, number));
+    return texts.filter((_, i) => i % 2 === 0).map((name, i) => ({ name, body: texts[2 * i + 1] }));
   }
 
   show(tag) {
@@ -225,9 +285,10 @@ class Registry {
   }
 
   get info() {
-    return native.facts(this.#open);
+    const [fileDate, entries, digest] = native.facts(this.#open);
+    return { fileDate, entries, sha256: Array.from(digest, (byte) => byte.toString(16).padStart(2, '0')).join('') };
   }
 }
 if (Symbol.dispose) Registry.prototype[Symbol.dispose] = Registry.prototype.close;
 
-module.exports = { Refusal, Refused, RefusedRegistry, RefusedTag, Registry, Tag, version: native.version };
+module.exports = { Available, Refusal, Refused, RefusedRegistry, RefusedTag, Registry, Tag, version: native.version };

@@ -9,21 +9,13 @@
 #include "utils/builtins.h"
 #include "utils/guc.h"
 #include "utils/memutils.h"
-#include "bcp47.h"
+#include "sql.h"
 #include <dirent.h>
-#include <sys/stat.h>
 
 PG_MODULE_MAGIC;
 
-/* The most steps that are told, so that a call ends soon; the most bytes of a registry: IANA's has some 730,000; and the most
-   registries of the folder. */
-enum { STEPS = 20000, LONGEST = 64 << 20, MOST = 64 };
-
-typedef struct {
-    bcp47_registry *registry;
-    bcp47_info info;
-    char digest[65];
-} named_registry;
+/* The most registries of the folder. */
+enum { MOST = 64 };
 
 static char *registry_path = NULL, *folder_path = NULL;
 
@@ -37,24 +29,16 @@ void _PG_init(void);
 
 /* Why a file gives no registry; NULL where it does. */
 static const char *read_registry(const char *path, named_registry *it) {
-    char line[BCP47_LINE] = "";
-    struct stat about;
-    bcp47_outcome outcome = {.status = BCP47_OUT_OF_MEMORY};
-    FILE *file;
-    char *bytes;
+    char line[BCP47_LINE] = "", *bytes;
+    size_t length;
+    bcp47_outcome outcome;
+    const char *why = read_file(path, &bytes, &length);
 
-    /* what is no file, as a pipe, could be read for ever */
-    if (stat(path, &about)) return psprintf("could not read the registry \"%s\": %m", path);
-    if (!S_ISREG(about.st_mode)) return psprintf("\"%s\" is no file", path);
-    if (about.st_size > LONGEST) return psprintf("the registry \"%s\" is too long", path);
-    if (!(file = fopen(path, "rb"))) return psprintf("could not read the registry \"%s\": %m", path);
-    bytes = malloc((size_t)about.st_size + 1);
-    if (bytes) outcome = bcp47_open(&it->registry, bytes, fread(bytes, 1, (size_t)about.st_size, file), line, sizeof line);
+    if (why) return psprintf("could not read the registry \"%s\": %s", path, why);
+    outcome = bcp47_open(&it->registry, bytes, length, line, sizeof line);
     free(bytes);
-    fclose(file);
     if (outcome.status != BCP47_DONE) return psprintf("the registry \"%s\" is refused: %s", path, line);
-    bcp47_registry_info(it->registry, &it->info);
-    for (int i = 0; i < 32; i++) sprintf(it->digest + 2 * i, "%02x", it->info.sha256[i]);
+    take_names(it);
     return NULL;
 }
 
@@ -134,14 +118,9 @@ void _PG_init(void) {
    means there is no matter of bcp47.registry. */
 static const named_registry *named(const text *value) {
     const char *name = text_to_cstring(value);
-    size_t length = strlen(name);
 
-    for (int i = count; i-- > 0;) {
-        const named_registry *it = &registries[i];
-        if (!it->registry || !length) continue;
-        if (!strcmp(name, it->info.file_date)) return it;
-        if (length >= 8 && length <= 64 && !pg_strncasecmp(name, it->digest, length)) return it;
-    }
+    for (int i = count; i-- > 0;)
+        if (registries[i].registry && is_named(&registries[i], name)) return &registries[i];
     ereport(ERROR, (errcode(ERRCODE_UNDEFINED_OBJECT), errmsg("the server has no registry \"%s\"", name),
                     errhint("Put it into the folder that bcp47.folder names, and start the server again.")));
 }
@@ -166,9 +145,6 @@ static void check(bcp47_outcome outcome) {
         ereport(ERROR, (errcode(ERRCODE_INTERNAL_ERROR), errmsg("bcp47: %s", bcp47_status_name(outcome.status))));
 }
 
-/* Room for any canonical text, and more. */
-enum { BUFFER = 2048 };
-
 /* The outcome for the tag of (tag), or (tag, name), whose canonical text or variant goes to the buffer. */
 static bcp47_outcome canonical(FunctionCallInfo fcinfo, char *buffer) {
     text *tag = PG_GETARG_TEXT_PP(0);
@@ -191,13 +167,12 @@ Datum canonical_of(PG_FUNCTION_ARGS) {
 /* The line that the program prints for a refusal, without `! `. */
 PG_FUNCTION_INFO_V1(fault_of);
 Datum fault_of(PG_FUNCTION_ARGS) {
-    char buffer[BUFFER];
+    char buffer[BUFFER], line[2 * BCP47_LINE];
     bcp47_outcome outcome = canonical(fcinfo, buffer);
 
     if (outcome.status == BCP47_DONE) PG_RETURN_NULL();
-    if (outcome.status == BCP47_REPLACEMENT_REPEATS)
-        PG_RETURN_TEXT_P(cstring_to_text(psprintf("ReplacementRepeats %.*s", (int)outcome.length, buffer)));
-    PG_RETURN_TEXT_P(cstring_to_text(psprintf("%s %zu", bcp47_fault_name(outcome.detail), outcome.place)));
+    tell_fault(outcome, buffer, line);
+    PG_RETURN_TEXT_P(cstring_to_text(line));
 }
 
 /* The text of a text of UTF-8 that a call gave. Where the server has another encoding, a letter that is not ASCII is escaped as JSON
@@ -276,37 +251,59 @@ Datum match_of(PG_FUNCTION_ARGS) {
                                            VARDATA_ANY(tag), VARSIZE_ANY_EXHDR(tag), NULL, 0));
 }
 
+/* The tag of a list, with commas between them, to serve to a reader: of (accept, tags), and of (accept, tags, name). */
+PG_FUNCTION_INFO_V1(best_of);
+Datum best_of(PG_FUNCTION_ARGS) {
+    text *accept = PG_GETARG_TEXT_PP(0), *list = PG_GETARG_TEXT_PP(1);
+    const char *tag;
+    bcp47_outcome outcome = find_best(asked(fcinfo, 2)->registry, VARDATA_ANY(accept), VARSIZE_ANY_EXHDR(accept), VARDATA_ANY(list),
+                                      VARSIZE_ANY_EXHDR(list), &tag);
+
+    check(outcome);
+    if (!tag) PG_RETURN_NULL();
+    PG_RETURN_TEXT_P(cstring_to_text_with_len(tag, (int)outcome.length));
+}
+
+static void refuse_kind(const char *name) {
+    ereport(ERROR, (errcode(ERRCODE_INVALID_PARAMETER_VALUE), errmsg("there is no kind of part \"%s\"", name)));
+}
+
 /* The parts of a kind, with hyphens between them: of (tag, kind). */
 PG_FUNCTION_INFO_V1(part_of);
 Datum part_of(PG_FUNCTION_ARGS) {
-    bcp47_part parts[BCP47_PARTS];
-    char shown[BCP47_TEXT], found[BCP47_TEXT + 1];
+    char found[BCP47_TEXT + 1];
     text *tag = PG_GETARG_TEXT_PP(0);
     const char *name = text_to_cstring(PG_GETARG_TEXT_PP(1));
-    size_t length = 0;
+    int kind = kind_of(name);
     bcp47_outcome outcome;
-    int kind = 1;
 
-    while (*bcp47_part_kind_name(kind) && pg_strcasecmp(name, bcp47_part_kind_name(kind))) kind++;
-    if (!*bcp47_part_kind_name(kind))
-        ereport(ERROR, (errcode(ERRCODE_INVALID_PARAMETER_VALUE), errmsg("there is no kind of part \"%s\"", name)));
-    outcome = bcp47_parts(VARDATA_ANY(tag), VARSIZE_ANY_EXHDR(tag), shown, sizeof shown, parts, BCP47_PARTS);
+    if (!kind) refuse_kind(name);
+    outcome = find_parts(VARDATA_ANY(tag), VARSIZE_ANY_EXHDR(tag), kind, found);
+    check(outcome);
+    if (outcome.status != BCP47_DONE || !outcome.length) PG_RETURN_NULL();
+    PG_RETURN_TEXT_P(cstring_to_text_with_len(found, (int)outcome.length));
+}
+
+/* The tag with a part replaced, or taken away where the value is empty: of (tag, kind, value). */
+PG_FUNCTION_INFO_V1(replacement_of);
+Datum replacement_of(PG_FUNCTION_ARGS) {
+    text *tag = PG_GETARG_TEXT_PP(0), *value = PG_GETARG_TEXT_PP(2);
+    const char *name = text_to_cstring(PG_GETARG_TEXT_PP(1));
+    char buffer[BCP47_TEXT];
+    bcp47_outcome outcome = bcp47_with(VARDATA_ANY(tag), VARSIZE_ANY_EXHDR(tag), kind_of(name), VARDATA_ANY(value),
+                                       VARSIZE_ANY_EXHDR(value), buffer, sizeof buffer);
+
+    if (outcome.status == BCP47_BAD_CALL) refuse_kind(name);
     check(outcome);
     if (outcome.status != BCP47_DONE) PG_RETURN_NULL();
-    for (size_t i = 0; i < outcome.place; i++) {
-        if (parts[i].kind != kind) continue;
-        memcpy(found + length, shown + parts[i].start, parts[i].length);
-        length += parts[i].length;
-        found[length++] = '-';
-    }
-    if (!length) PG_RETURN_NULL();
-    PG_RETURN_TEXT_P(cstring_to_text_with_len(found, (int)length - 1));
+    PG_RETURN_TEXT_P(cstring_to_text_with_len(buffer, (int)outcome.length));
 }
 
 /* File-Date, number of entries and SHA-256 of the registry that functions without a name ask. */
 PG_FUNCTION_INFO_V1(registry_of);
 Datum registry_of(PG_FUNCTION_ARGS) {
-    const named_registry *it = asked(fcinfo, 0);
-    PG_RETURN_TEXT_P(cstring_to_text(
-        psprintf("%s %zu %s", *it->info.file_date ? it->info.file_date : "-", it->info.entries, it->digest)));
+    char line[2 * BCP47_LINE];
+
+    tell_registry(asked(fcinfo, 0), line);
+    PG_RETURN_TEXT_P(cstring_to_text(line));
 }

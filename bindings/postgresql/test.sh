@@ -39,11 +39,17 @@ is parts 'HK|1994-nedis|NULL|NULL
 ERROR:  there is no kind of part "regions"' ask -c "SELECT bcp47_part('zh-hant-hk-1994-nedis', 'region'), bcp47_part('zh-hant-hk-1994-nedis', 'Variant'), bcp47_part('en', 'region'), bcp47_part('e_n', 'region')" \
     -c "SELECT bcp47_part('en', 'regions')"
 
+is 'a part is replaced' 'de-AT|zh-Hant-TW|de|NULL|NULL
+ERROR:  there is no kind of part "regions"' ask -c "SELECT bcp47_with('de-CH', 'region', 'AT'), bcp47_with('ZH-tw', 'Script', 'hant'), bcp47_with(tag => 'de-CH', kind => 'region', value => ''), bcp47_with('de', 'region', 'A_'), bcp47_with('de', 'region', NULL)" \
+    -c "SELECT bcp47_with('en', 'regions', 'AT')"
 is matches 't|t|f|t
 NULL|NULL|NULL|NULL|NULL
 t' ask -c "SELECT bcp47_match('zh-yue', 'yue-HK'), bcp47_match('de-DE', 'de-Latn-DE'), bcp47_match('de-DE', 'de'), bcp47_match(tag => 'de-CH', range => '*-CH')" \
     -c "SELECT bcp47_match('en', 'e_n'), bcp47_match('e_n', 'en'), bcp47_match('en', NULL), bcp47_match(NULL, 'en'), bcp47_match('', '')" \
     -c "SELECT bcp47_match('zh-yue', 'yue-HK', '$(sed -n '1s/File-Date: //p' registry)')"
+is 'readers are served' 'de-DE|he|zh-yue|NULL|NULL|NULL
+he' ask -c "SELECT bcp47_best('de, en;q=0.8', 'en,de-DE'), bcp47_best('iw-IL, en;q=0.3', 'en, he'), bcp47_best('zh', string_agg(tag, ', ')), bcp47_best('fr', 'en'), bcp47_best('e_n', 'en'), bcp47_best('en', 'en,e_n') FROM (VALUES ('en'), ('zh-yue')) AS books (tag)" \
+    -c "SELECT bcp47_best(tags => 'en,he', accept => 'iw', registry => '$(sed -n '1s/File-Date: //p' registry)')"
 is shown '3|Modern Greek (1453-)|NULL|NULL
 Modern' ask -c "SELECT json_array_length(bcp47_show('zh-yue')), bcp47_show('EL') -> 0 -> 'fields' -> 0 ->> 'body', bcp47_show('e_n'), bcp47_show(NULL)" \
     -c "SELECT left(bcp47_show('el', registry => '$(sed -n '1s/File-Date: //p' registry)') -> 0 -> 'fields' -> 0 ->> 'body', 6)"
@@ -154,8 +160,8 @@ for flag in "-c bcp47.registry=/no/such/file" "-c bcp47.registry=$folder/bad" "-
     again "$flag" && fail "the server starts with $flag"
 done
 for line in 'could not read the registry "/no/such/file": No such file or directory' 'is refused: jar BadLine line 1' 'has the File-Date "2024-01-01"' \
-    '/long" is too long' '/many" has more than 64 registries' 'could not read the folder "/no/such/folder": No such file or directory' \
-    '/empty" is refused: NoEntries' '/pipe" is no file' '/closed": Permission denied'; do
+    '/long": it is too long' '/many" has more than 64 registries' 'could not read the folder "/no/such/folder": No such file or directory' \
+    '/empty" is refused: NoEntries' '/pipe": it is no file' '/closed": Permission denied'; do
     grep -qF "$line" log || fail "the log has no $line"
 done
 start -c bcp47.registry= || fail "$(cat log)"

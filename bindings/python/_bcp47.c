@@ -255,20 +255,21 @@ static PyObject *registry_facts(PyObject *self, PyObject *none) {
 
 typedef bcp47_outcome writer(const bcp47_registry *, const char *, size_t, char *, size_t);
 
-/* What a call writes for a tag, as a str. */
+/* What was written for a tag, as a str, or else its refusal. The text is let go of. */
+static inline PyObject *written(text *it, bcp47_outcome outcome, const char *buffer) {
+    PyObject *made = outcome.status == BCP47_DONE ? answered(it, buffer, outcome.length) : raise_refusal(REFUSED_TAG, outcome, buffer, it->str);
+    end_text(it);
+    return made;
+}
+
+/* What a call writes for a tag. */
 static inline PyObject *text_by(writer *writes, PyObject *self, PyObject *tag) {
     char buffer[ROOM];
     text it;
-    PyObject *made = NULL;
-    if (!has_text(tag, &it)) return NULL;
-    registry_object *registry = opened(self);
-    if (registry) {
-        bcp47_outcome outcome = writes(registry->registry, it.bytes, it.length, buffer, sizeof buffer);
-        made = outcome.status == BCP47_DONE ? answered(&it, buffer, outcome.length)
-                                            : raise_refusal(REFUSED_TAG, outcome, buffer, it.str);
-    }
-    end_text(&it);
-    return made;
+    registry_object *registry = has_text(tag, &it) ? opened(self) : NULL;
+    if (registry) return written(&it, writes(registry->registry, it.bytes, it.length, buffer, sizeof buffer), buffer);
+    if (it.bytes) end_text(&it);
+    return NULL;
 }
 
 static PyObject *registry_canonical(PyObject *self, PyObject *tag) {
@@ -279,15 +280,83 @@ static PyObject *registry_extlang(PyObject *self, PyObject *tag) {
     return text_by(bcp47_extlang, self, tag);
 }
 
-/* The class and the text of a tag in conventional case, by no registry. */
-static PyObject *module_classify(PyObject *module, PyObject *tag) {
+/* posix(name): the tag of a locale of POSIX, by no registry. */
+static PyObject *module_posix(PyObject *module, PyObject *name) {
     char buffer[ROOM];
     text it;
     (void)module;
+    return has_text(name, &it) ? written(&it, bcp47_posix(it.bytes, it.length, buffer, sizeof buffer), buffer) : NULL;
+}
+
+/* parent(tag): by no registry; no text where nothing is left. */
+static PyObject *module_parent(PyObject *module, PyObject *tag) {
+    char buffer[ROOM];
+    text it;
+    (void)module;
+    return has_text(tag, &it) ? written(&it, bcp47_parent(it.bytes, it.length, buffer, sizeof buffer), buffer) : NULL;
+}
+
+/* read(tag): its text in conventional case, and the number of the kind of each part, by no registry. */
+static PyObject *module_read(PyObject *module, PyObject *tag) {
+    bcp47_part parts[BCP47_PARTS];
+    char buffer[BCP47_TEXT], kinds[BCP47_PARTS];
+    text it;
+    (void)module;
     if (!has_text(tag, &it)) return NULL;
-    bcp47_outcome outcome = bcp47_classify(NULL, it.bytes, it.length, buffer, sizeof buffer);
-    PyObject *made = outcome.status == BCP47_DONE ? Py_BuildValue("is#", outcome.detail, buffer, (Py_ssize_t)outcome.length)
-                                                  : raise_refusal(REFUSED_TAG, outcome, NULL, it.str);
+    bcp47_outcome outcome = bcp47_parts(it.bytes, it.length, buffer, sizeof buffer, parts, BCP47_PARTS);
+    PyObject *shown = written(&it, outcome, buffer);
+    for (size_t i = 0; shown && i < outcome.place; i++) kinds[i] = (char)parts[i].kind;
+    return shown ? Py_BuildValue("Ny#", shown, kinds, (Py_ssize_t)outcome.place) : NULL;
+}
+
+/* Whether a tag is valid: the outcome of the call; not open, with an exception, where it was not made. */
+static bcp47_outcome validated(PyObject *self, text *it, PyObject *tag) {
+    bcp47_outcome outcome = {.status = BCP47_NOT_OPEN};
+    registry_object *registry = has_text(tag, it) ? opened(self) : NULL;
+    if (registry) return bcp47_validate(registry->registry, it->bytes, it->length);
+    if (it->bytes) end_text(it);
+    return outcome;
+}
+
+static PyObject *registry_validate(PyObject *self, PyObject *tag) {
+    text it;
+    bcp47_outcome outcome = validated(self, &it, tag);
+    if (outcome.status == BCP47_NOT_OPEN) return NULL;
+    PyObject *made = outcome.status == BCP47_DONE ? same(Py_None) : raise_refusal(REFUSED_TAG, outcome, NULL, it.str);
+    end_text(&it);
+    return made;
+}
+
+static PyObject *registry_is_valid(PyObject *self, PyObject *tag) {
+    text it;
+    bcp47_outcome outcome = validated(self, &it, tag);
+    if (outcome.status == BCP47_NOT_OPEN) return NULL;
+    end_text(&it);
+    return outcome.status == BCP47_OUT_OF_MEMORY || outcome.status == BCP47_BUSY ? PyErr_NoMemory() : PyBool_FromLong(outcome.status == BCP47_DONE);
+}
+
+/* given(tag, most): the lines of its explanation, with at most so many steps; below 0 what the records say of it, as JSON, for which the
+   first call reads them. */
+static PyObject *registry_given(PyObject *self, PyObject *arguments) {
+    char *whole = NULL;
+    PyObject *tag, *made = NULL;
+    Py_ssize_t most;
+    text it;
+    if (!PyArg_ParseTuple(arguments, "On", &tag, &most) || !has_text(tag, &it)) return NULL;
+    registry_object *registry = opened(self);
+    if (registry) {
+        bcp47_outcome outcome;
+        registry->calls++;
+        Py_BEGIN_ALLOW_THREADS
+        outcome = most < 0 ? bcp47_show(registry->registry, it.bytes, it.length, &whole)
+                           : bcp47_explanation(registry->registry, it.bytes, it.length, (size_t)most, &whole);
+        Py_END_ALLOW_THREADS
+        end_call(registry);
+        made = outcome.status == BCP47_DONE                  ? PyUnicode_FromStringAndSize(whole, (Py_ssize_t)outcome.length)
+               : outcome.status == BCP47_REPLACEMENT_REPEATS ? text_by(bcp47_canonical, self, tag) /* which names the variant */
+                                                             : raise_refusal(REFUSED_TAG, outcome, NULL, it.str);
+        bcp47_free(whole);
+    }
     end_text(&it);
     return made;
 }
@@ -295,116 +364,6 @@ static PyObject *module_classify(PyObject *module, PyObject *tag) {
 /* Puts an object into a list, which takes the reference. */
 static int put(PyObject *list, Py_ssize_t index, PyObject *object) {
     return object && !PyList_SetItem(list, index, object);
-}
-
-/* A list of the parts of a tag, each its kind and its text. */
-static PyObject *listed(const bcp47_part *parts, size_t count, const char *text) {
-    PyObject *list = PyList_New((Py_ssize_t)count);
-    for (size_t i = 0; list && i < count; i++, parts++) {
-        PyObject *part = Py_BuildValue("ss#", bcp47_part_kind_name(parts->kind), text + parts->start, (Py_ssize_t)parts->length);
-        if (!put(list, (Py_ssize_t)i, part)) Py_CLEAR(list);
-    }
-    return list;
-}
-
-/* The parent of a tag, by no registry; no text where nothing is left. */
-static PyObject *module_parent(PyObject *module, PyObject *tag) {
-    char buffer[ROOM];
-    text it;
-    (void)module;
-    if (!has_text(tag, &it)) return NULL;
-    bcp47_outcome outcome = bcp47_parent(it.bytes, it.length, buffer, sizeof buffer);
-    PyObject *made = outcome.status == BCP47_DONE ? PyUnicode_FromStringAndSize(buffer, (Py_ssize_t)outcome.length)
-                                                  : raise_refusal(REFUSED_TAG, outcome, NULL, it.str);
-    end_text(&it);
-    return made;
-}
-
-/* The parts of a tag, by no registry. */
-static PyObject *module_parts(PyObject *module, PyObject *tag) {
-    bcp47_part parts[BCP47_PARTS];
-    char buffer[ROOM];
-    text it;
-    (void)module;
-    if (!has_text(tag, &it)) return NULL;
-    bcp47_outcome outcome = bcp47_parts(it.bytes, it.length, buffer, sizeof buffer, parts, BCP47_PARTS);
-    PyObject *made = outcome.status == BCP47_DONE ? listed(parts, outcome.place, buffer)
-                                                  : raise_refusal(REFUSED_TAG, outcome, NULL, it.str);
-    end_text(&it);
-    return made;
-}
-
-static PyObject *registry_validate(PyObject *self, PyObject *tag) {
-    text it;
-    PyObject *made = NULL;
-    if (!has_text(tag, &it)) return NULL;
-    registry_object *registry = opened(self);
-    if (registry) {
-        bcp47_outcome outcome = bcp47_validate(registry->registry, it.bytes, it.length);
-        made = outcome.status == BCP47_DONE ? same(Py_None) : raise_refusal(REFUSED_TAG, outcome, NULL, it.str);
-    }
-    end_text(&it);
-    return made;
-}
-
-static PyObject *registry_is_valid(PyObject *self, PyObject *tag) {
-    bcp47_outcome outcome = {.status = BCP47_NOT_OPEN};
-    text it;
-    if (!has_text(tag, &it)) return NULL;
-    registry_object *registry = opened(self);
-    if (registry) outcome = bcp47_validate(registry->registry, it.bytes, it.length);
-    end_text(&it);
-    if (!registry) return NULL;
-    return outcome.status == BCP47_OUT_OF_MEMORY || outcome.status == BCP47_BUSY ? PyErr_NoMemory() : PyBool_FromLong(outcome.status == BCP47_DONE);
-}
-
-/* explain_steps(tag, most): a list of the steps, each its kind, place and number and the tag to which it leads, and the canonical text. */
-static PyObject *registry_explain_steps(PyObject *self, PyObject *arguments) {
-    PyObject *tag, *list = NULL, *made = NULL;
-    Py_ssize_t most;
-    text it;
-    if (!PyArg_ParseTuple(arguments, "On", &tag, &most) || !has_text(tag, &it)) return NULL;
-    registry_object *registry = opened(self);
-    if (registry) {
-        bcp47_outcome outcome;
-        bcp47_step *steps;
-        const char *at;
-        registry->calls++;
-        Py_BEGIN_ALLOW_THREADS
-        outcome = bcp47_steps(registry->registry, it.bytes, it.length, most < 0 ? 0 : (size_t)most, &steps, &at);
-        Py_END_ALLOW_THREADS
-        end_call(registry);
-        if (outcome.status != BCP47_DONE) raise_refusal(REFUSED_TAG, outcome, at, it.str);
-        else list = PyList_New((Py_ssize_t)outcome.place);
-        for (size_t i = 0; list && i < outcome.place; i++, at += strlen(at) + 1)
-            if (!put(list, (Py_ssize_t)i, Py_BuildValue("sIIs", bcp47_kind_name(steps[i].kind), steps[i].place, steps[i].number, at))) Py_CLEAR(list);
-        if (list) made = Py_BuildValue("Ns", list, at);
-        bcp47_free(steps);
-    }
-    end_text(&it);
-    return made;
-}
-
-/* show_rows(tag): as JSON. The first call reads the records. */
-static PyObject *registry_show_rows(PyObject *self, PyObject *tag) {
-    char *rows = NULL;
-    PyObject *made = NULL;
-    text it;
-    if (!has_text(tag, &it)) return NULL;
-    registry_object *registry = opened(self);
-    if (registry) {
-        bcp47_outcome outcome;
-        registry->calls++;
-        Py_BEGIN_ALLOW_THREADS
-        outcome = bcp47_show(registry->registry, it.bytes, it.length, &rows);
-        Py_END_ALLOW_THREADS
-        end_call(registry);
-        made = outcome.status == BCP47_DONE ? PyUnicode_FromStringAndSize(rows, (Py_ssize_t)outcome.length)
-                                            : raise_refusal(REFUSED_TAG, outcome, NULL, it.str);
-        bcp47_free(rows);
-    }
-    end_text(&it);
-    return made;
 }
 
 /* A pair of strs, the name and the body of a field; a new reference. */
@@ -441,6 +400,19 @@ static int have_texts(PyObject *one, PyObject *other, text *first, text *second)
     if (has_text(other, second)) return 1;
     end_text(first);
     return 0;
+}
+
+/* replaced(tag, part, value): a tag with another part, by no registry. */
+static PyObject *module_replaced(PyObject *module, PyObject *arguments) {
+    char buffer[ROOM];
+    int part;
+    PyObject *one, *other;
+    text tag, value;
+    (void)module;
+    if (!PyArg_ParseTuple(arguments, "OiO", &one, &part, &other) || !have_texts(one, other, &tag, &value)) return NULL;
+    bcp47_outcome outcome = bcp47_with(tag.bytes, tag.length, part, value.bytes, value.length, buffer, sizeof buffer);
+    end_text(outcome.text == 2 ? &tag : &value);
+    return written(outcome.text == 2 ? &value : &tag, outcome, buffer);
 }
 
 /* Asks of two tags, or of a range and a tag by a scheme. */
@@ -535,6 +507,55 @@ static PyObject *registry_upgrade_to(PyObject *self, PyObject *other) {
     end_call(newer);
     end_call(it);
     return outcome.status == BCP47_DONE ? same(Py_None) : raise_refusal(REFUSED_UPGRADE, outcome, NULL, NULL);
+}
+
+/* ---- tags of which one is served */
+
+#define AVAILABLE "bcp47.available"
+
+static void close_available(PyObject *capsule) {
+    bcp47_available_close(PyCapsule_GetPointer(capsule, AVAILABLE));
+}
+
+/* available(tags): a capsule that holds the tags of a list of strs, which are not refused. */
+static PyObject *registry_available(PyObject *self, PyObject *list) {
+    registry_object *registry = opened(self);
+    Py_ssize_t count = registry ? PyList_Size(list) : -1, i = 0;
+    if (count < 0) return NULL;
+    const char **tags = calloc((size_t)count + 1, sizeof *tags);
+    size_t *lengths = calloc((size_t)count + 1, sizeof *lengths);
+    bcp47_available *available = NULL;
+    for (Py_ssize_t length; tags && lengths && i < count && (tags[i] = PyUnicode_AsUTF8AndSize(PyList_GetItem(list, i), &length)); i++)
+        lengths[i] = (size_t)length;
+    if (tags && lengths && i == count) bcp47_available_open(&available, registry->registry, tags, lengths, (size_t)count);
+    free(tags), free(lengths);
+    PyObject *made = available ? PyCapsule_New(available, AVAILABLE, close_available) : PyErr_Occurred() ? NULL : PyErr_NoMemory();
+    if (!made) bcp47_available_close(available);
+    return made;
+}
+
+/* served(available, accept, count): the numbers of the tags of a list, as many as the count, that the header accepts; of 0 the best. */
+static PyObject *module_served(PyObject *module, PyObject *arguments) {
+    PyObject *capsule, *accept, *made = NULL;
+    Py_ssize_t count;
+    text it;
+    (void)module;
+    if (!PyArg_ParseTuple(arguments, "OOn", &capsule, &accept, &count) || !has_text(accept, &it)) return NULL;
+    bcp47_available *available = PyCapsule_GetPointer(capsule, AVAILABLE);
+    size_t *places = available ? calloc((size_t)count + 1, sizeof *places) : NULL;
+    if (available && !places) PyErr_NoMemory();
+    if (places) {
+        bcp47_outcome outcome = count ? bcp47_filter(available, it.bytes, it.length, places, (size_t)count)
+                                      : bcp47_best(available, it.bytes, it.length);
+        if (!count) *places = outcome.place;
+        size_t found = outcome.status != BCP47_DONE ? 0 : count ? outcome.place : outcome.place > 0;
+        made = outcome.status == BCP47_DONE ? PyList_New((Py_ssize_t)found) : raise_refusal(REFUSED_TAG, outcome, NULL, it.str);
+        for (size_t i = 0; made && i < found; i++)
+            if (!put(made, (Py_ssize_t)i, PyLong_FromSize_t(places[i]))) Py_CLEAR(made);
+    }
+    free(places);
+    end_text(&it);
+    return made;
 }
 
 /* ---- many texts */
@@ -678,15 +699,6 @@ static PyObject *module_setup(PyObject *module, PyObject *all) {
     return PyDict_SetItemString(kept, GIVEN, all) ? NULL : same(Py_None);
 }
 
-/* names(number): a status and what it means, a fault and what it means, and a kind of step. */
-static PyObject *module_names(PyObject *module, PyObject *argument) {
-    long number = PyLong_AsLong(argument);
-    (void)module;
-    if (number == -1 && PyErr_Occurred()) return NULL;
-    return Py_BuildValue("sssss", bcp47_status_name((int)number), bcp47_status_help((int)number), bcp47_fault_name((int)number),
-                         bcp47_fault_help((int)number), bcp47_kind_name((int)number));
-}
-
 static PyMethodDef registry_methods[] = {
     {"canonical", registry_canonical, METH_O,
      "canonical($self, tag, /)\n--\n\nThe canonical text of a tag (RFC 5646, 4.5). Raises RefusedTag."},
@@ -702,8 +714,8 @@ static PyMethodDef registry_methods[] = {
     {"close", registry_close, METH_NOARGS,
      "close($self, /)\n--\n\nFrees the registry, once the calls of other threads have ended. No call but this one may follow."},
     {"_match", registry_match, METH_VARARGS, NULL},
-    {"_explain_steps", registry_explain_steps, METH_VARARGS, NULL},
-    {"_show_rows", registry_show_rows, METH_O, NULL},
+    {"_given", registry_given, METH_VARARGS, NULL},
+    {"_available", registry_available, METH_O, NULL},
     {"_record", registry_record, METH_O, NULL},
     {"_verify_steps", registry_verify_steps, METH_VARARGS, NULL},
     {"_upgrade_to", registry_upgrade_to, METH_O, NULL},
@@ -727,9 +739,10 @@ static PyType_Spec registry_spec = {
 };
 
 static PyMethodDef module_methods[] = {
-    {"setup", module_setup, METH_O, NULL},         {"open", module_open, METH_VARARGS, NULL},
-    {"classify", module_classify, METH_O, NULL},   {"names", module_names, METH_O, NULL},
-    {"parts", module_parts, METH_O, NULL},         {"parent", module_parent, METH_O, NULL},
+    {"setup", module_setup, METH_O, NULL},              {"open", module_open, METH_VARARGS, NULL},
+    {"read", module_read, METH_O, NULL},                {"parent", module_parent, METH_O, NULL},
+    {"posix", module_posix, METH_O, NULL},              {"replaced", module_replaced, METH_VARARGS, NULL},
+    {"served", module_served, METH_VARARGS, NULL},
     {NULL, NULL, 0, NULL},
 };
 

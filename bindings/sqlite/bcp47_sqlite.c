@@ -1,26 +1,16 @@
 /* SPDX-License-Identifier: MIT OR Apache-2.0 */
 /* BCP 47 language tags in SQLite: docs/SQL.md tells of the functions. A connection has one registry. Connections of a process
    that read the same bytes share it. */
-#include "bcp47.h"
+#include "sql.h"
 #include <limits.h>
 #include <sqlite3ext.h>
-#include <stdio.h>
-#include <stdlib.h>
-#include <string.h>
-#include <sys/stat.h>
 SQLITE_EXTENSION_INIT1
-
-/* Room for any canonical text, and more. */
-enum { BUFFER = 4096 };
-
-/* The most steps that are told, so that a call ends soon, and the most bytes of a registry, of which IANA's has some 730,000. */
-enum { STEPS = 20000, LONGEST = 64 << 20 };
 
 /* ---- registries of the process */
 
 typedef struct shared {
-    bcp47_registry *registry;
-    void *bytes; /* what it was read from */
+    named_registry named;
+    char *bytes; /* what it was read from */
     size_t length;
     int users;
     struct shared *next;
@@ -40,7 +30,7 @@ static void leave(shared *it) {
         shared **place = &all;
         while (*place != it) place = &(*place)->next;
         *place = it->next;
-        bcp47_close(it->registry);
+        bcp47_close(it->named.registry);
         free(it->bytes);
         free(it);
     }
@@ -48,7 +38,7 @@ static void leave(shared *it) {
 }
 
 /* The registry of the bytes, which it keeps or frees, with one user more; NULL where they are none, with the line. */
-static shared *join(void *bytes, size_t length, char line[BCP47_LINE]) {
+static shared *join(char *bytes, size_t length, char line[BCP47_LINE]) {
     shared *it;
     sqlite3_mutex_enter(mutex());
     for (it = all; it; it = it->next)
@@ -57,8 +47,9 @@ static shared *join(void *bytes, size_t length, char line[BCP47_LINE]) {
         free(bytes);
         it->users++;
     } else if ((it = calloc(1, sizeof *it))) {
-        bcp47_outcome outcome = bcp47_open(&it->registry, bytes, length, line, BCP47_LINE);
+        bcp47_outcome outcome = bcp47_open(&it->named.registry, bytes, length, line, BCP47_LINE);
         if (outcome.status == BCP47_DONE) {
+            take_names(&it->named);
             it->bytes = bytes, it->length = length, it->users = 1, it->next = all;
             all = it;
         } else {
@@ -78,7 +69,6 @@ static shared *join(void *bytes, size_t length, char line[BCP47_LINE]) {
 typedef struct {
     sqlite3 *database;
     shared *held;
-    bcp47_info info;
     int users;  /* functions and collations that have it */
     int orders; /* collations that it has */
 } connection;
@@ -97,42 +87,17 @@ static void say(sqlite3_context *context, const char *text, const char *more) {
     sqlite3_free(message);
 }
 
-static void write_digest(const bcp47_info *info, char hex[65]) {
-    for (int i = 0; i < 32; i++) sprintf(hex + 2 * i, "%02x", info->sha256[i]);
-}
-
-/* Whether a text names the registry: by its File-Date, or by its digest or at least 8 digits at the front of that. */
-static int is_named(connection *c, sqlite3_value *value) {
-    char hex[65];
-    const char *name = (const char *)sqlite3_value_text(value);
-    size_t length = name ? strlen(name) : 0;
-    write_digest(&c->info, hex);
-    if (length >= 8 && length <= 64 && !sqlite3_strnicmp(name, hex, (int)length)) return 1;
-    return length && !strcmp(name, c->info.file_date);
-}
-
-/* The bytes of a file, for free(); NULL where it is none, can't be read, or is too long. */
-static void *read_file(const char *path, size_t *length) {
-    struct stat about;
-    int is_file = path && !stat(path, &about) && (about.st_mode & S_IFMT) == S_IFREG && about.st_size <= LONGEST;
-    FILE *file = is_file ? fopen(path, "rb") : NULL;
-    void *bytes = file ? malloc((size_t)about.st_size + 1) : NULL;
-    *length = bytes ? fread(bytes, 1, (size_t)about.st_size, file) : 0;
-    int is_read = bytes && *length == (size_t)about.st_size;
-    if (file) fclose(file);
-    if (is_read) return bytes;
-    free(bytes);
-    return NULL;
-}
-
-/* The bytes that a value gives: those of a blob, or of the file that a text names. */
-static void *bytes_of(sqlite3_value *value, size_t *length) {
-    if (sqlite3_value_type(value) == SQLITE_TEXT) return read_file((const char *)sqlite3_value_text(value), length);
+/* The bytes that a value gives, those of a blob or of the file that a text names; or why there are none. */
+static const char *bytes_of(sqlite3_value *value, char **bytes, size_t *length) {
+    if (sqlite3_value_type(value) == SQLITE_TEXT) {
+        const char *path = (const char *)sqlite3_value_text(value);
+        return path ? read_file(path, bytes, length) : "OutOfMemory";
+    }
     const void *blob = sqlite3_value_blob(value);
     *length = (size_t)sqlite3_value_bytes(value);
-    void *bytes = malloc(*length + 1);
-    if (bytes && *length) memcpy(bytes, blob, *length);
-    return bytes;
+    *bytes = malloc(*length + 1);
+    if (*bytes && *length) memcpy(*bytes, blob, *length);
+    return *bytes ? NULL : "OutOfMemory";
 }
 
 static int collate(void *, int, const void *, int, const void *);
@@ -140,10 +105,9 @@ static int collate(void *, int, const void *, int, const void *);
 /* Makes the orders by the connection's registry: BCP47, and for tables and indexes those that name it, by its digest and its date.
    That is not before it is loaded: without it they could not compare, and can't tell an error. Whether all are made. */
 static int make_orders(connection *c) {
-    char names[3][20] = {"BCP47"}, hex[65];
-    const char *date = c->info.file_date;
-    write_digest(&c->info, hex);
-    snprintf(names[1], sizeof *names, "BCP47_%.8s", hex);
+    char names[3][20] = {"BCP47"};
+    const char *date = c->held->named.info.file_date;
+    snprintf(names[1], sizeof *names, "BCP47_%.8s", c->held->named.digest);
     if (*date) snprintf(names[2], sizeof *names, "BCP47_%.4s%.2s%.2s", date, date + 5, date + 8);
     for (; c->orders < 3 && *names[c->orders]; c->orders++, c->users++)
         if (sqlite3_create_collation_v2(c->database, names[c->orders], SQLITE_UTF8, c, collate, release) != SQLITE_OK) return 0;
@@ -153,14 +117,14 @@ static int make_orders(connection *c) {
 /* bcp47_load(path or blob) */
 static void load(sqlite3_context *context, int count, sqlite3_value **values) {
     connection *c = sqlite3_user_data(context);
-    char line[BCP47_LINE] = "";
+    char line[BCP47_LINE] = "", *bytes;
     size_t length;
     int type = sqlite3_value_type(values[0]);
     (void)count;
     if (type == SQLITE_NULL) return;
     if (type != SQLITE_TEXT && type != SQLITE_BLOB) return say(context, "bcp47_load takes a path or a blob", "");
-    void *bytes = bytes_of(values[0], &length);
-    if (!bytes) return say(context, "the file can't be read, or is too long", "");
+    const char *why = bytes_of(values[0], &bytes, &length);
+    if (why) return say(context, "the registry can't be read: ", why);
     shared *it = join(bytes, length, line);
     if (!it) return say(context, line, "");
     if (c->held && it != c->held) {
@@ -168,7 +132,6 @@ static void load(sqlite3_context *context, int count, sqlite3_value **values) {
         return say(context, "another registry is loaded: open a connection of its own for this one", "");
     }
     if (c->held) leave(it);
-    else bcp47_registry_info(it->registry, &c->info);
     c->held = it;
     if (make_orders(c)) return sqlite3_result_int(context, 1);
     say(context, "the collation can't be made: ", sqlite3_errmsg(c->database));
@@ -180,11 +143,10 @@ static void load(sqlite3_context *context, int count, sqlite3_value **values) {
 /* bcp47_registry(): File-Date, number of entries, SHA-256 */
 static void registry(sqlite3_context *context, int count, sqlite3_value **values) {
     connection *c = sqlite3_user_data(context);
-    char hex[65], line[128];
+    char line[2 * BCP47_LINE];
     (void)count, (void)values;
     if (!c->held) return;
-    write_digest(&c->info, hex);
-    snprintf(line, sizeof line, "%s %zu %s", *c->info.file_date ? c->info.file_date : "-", c->info.entries, hex);
+    tell_registry(&c->held->named, line);
     sqlite3_result_text(context, line, -1, SQLITE_TRANSIENT);
 }
 
@@ -198,140 +160,144 @@ static int is_error(sqlite3_context *context, bcp47_outcome outcome) {
     return 1;
 }
 
+/* Whether a call is done, which else is answered, if it is no refusal. */
+static int is_done(sqlite3_context *context, bcp47_outcome outcome) {
+    return !is_error(context, outcome) && outcome.status == BCP47_DONE;
+}
+
 /* A text that a function is asked for. */
 typedef struct {
     const char *bytes;
     size_t length;
 } text;
 
-static text text_of(sqlite3_value *value) {
-    const char *bytes = (const char *)sqlite3_value_text(value);
-    return (text){bytes, (size_t)sqlite3_value_bytes(value)};
-}
-
 /* The registry that a function asks for so many texts, after which there may be its name; NULL where one of the texts is, or where
    there is no such registry, which is then answered. */
-static const bcp47_registry *asked(sqlite3_context *context, int count, sqlite3_value **values, int texts) {
+static bcp47_registry *asked(sqlite3_context *context, int count, sqlite3_value **values, int texts, text *into) {
     connection *c = sqlite3_user_data(context);
-    for (int i = 0; i < texts; i++)
+    for (int i = 0; i < texts; i++) {
         if (sqlite3_value_type(values[i]) == SQLITE_NULL) return NULL;
+        into[i].bytes = (const char *)sqlite3_value_text(values[i]);
+        into[i].length = (size_t)sqlite3_value_bytes(values[i]);
+    }
+    const char *name = count > texts ? (const char *)sqlite3_value_text(values[texts]) : NULL;
     if (!c->held) say(context, "no registry is loaded: call bcp47_load(path) first", "");
-    else if (count > texts && !is_named(c, values[texts])) say(context, "the registry that is loaded has another name", "");
-    else return c->held->registry;
+    else if (count > texts && !(name && is_named(&c->held->named, name))) say(context, "the registry that is loaded has another name", "");
+    else return c->held->named.registry;
     return NULL;
 }
 
 /* bcp47_canonical(tag [, name]) */
 static void canonical(sqlite3_context *context, int count, sqlite3_value **values) {
-    const bcp47_registry *registry = asked(context, count, values, 1);
+    text tag;
     char buffer[BUFFER];
+    bcp47_registry *registry = asked(context, count, values, 1, &tag);
     if (!registry) return;
-    text tag = text_of(values[0]);
     bcp47_outcome outcome = bcp47_canonical(registry, tag.bytes, tag.length, buffer, BUFFER);
-    if (is_error(context, outcome) || outcome.status != BCP47_DONE) return;
-    sqlite3_result_text(context, buffer, (int)outcome.length, SQLITE_TRANSIENT);
+    if (is_done(context, outcome)) sqlite3_result_text(context, buffer, (int)outcome.length, SQLITE_TRANSIENT);
 }
 
 /* bcp47_fault(tag [, name]): the line that the program prints for a refusal, without `! ` */
 static void fault(sqlite3_context *context, int count, sqlite3_value **values) {
-    const bcp47_registry *registry = asked(context, count, values, 1);
+    text tag;
     char buffer[BUFFER], line[2 * BCP47_LINE];
+    bcp47_registry *registry = asked(context, count, values, 1, &tag);
     if (!registry) return;
-    text tag = text_of(values[0]);
     bcp47_outcome outcome = bcp47_canonical(registry, tag.bytes, tag.length, buffer, BUFFER);
     if (is_error(context, outcome) || outcome.status == BCP47_DONE) return;
-    if (outcome.status == BCP47_REPLACEMENT_REPEATS)
-        snprintf(line, sizeof line, "ReplacementRepeats %.*s", (int)outcome.length, buffer);
-    else
-        snprintf(line, sizeof line, "%s %zu", bcp47_fault_name(outcome.detail), outcome.place);
+    tell_fault(outcome, buffer, line);
     sqlite3_result_text(context, line, -1, SQLITE_TRANSIENT);
-}
-
-/* The number of a kind of part, whose name may be in any case; 0 where there is none. */
-static int kind_of(const char *name) {
-    for (int kind = 1; name && *bcp47_part_kind_name(kind); kind++)
-        if (!sqlite3_stricmp(name, bcp47_part_kind_name(kind))) return kind;
-    return 0;
 }
 
 /* bcp47_part(tag, kind): the parts of that kind, with hyphens between them */
 static void part(sqlite3_context *context, int count, sqlite3_value **values) {
-    bcp47_part parts[BCP47_PARTS];
-    char shown[BCP47_TEXT], found[BCP47_TEXT + 1];
-    size_t length = 0;
+    char found[BCP47_TEXT + 1];
+    const char *tag = (const char *)sqlite3_value_text(values[0]), *name = (const char *)sqlite3_value_text(values[1]);
     (void)count;
-    if (sqlite3_value_type(values[0]) == SQLITE_NULL || sqlite3_value_type(values[1]) == SQLITE_NULL) return;
-    int kind = kind_of((const char *)sqlite3_value_text(values[1]));
+    if (!tag || !name) return;
+    int kind = kind_of(name);
     if (!kind) return say(context, "there is no such kind of part", "");
-    text tag = text_of(values[0]);
-    bcp47_outcome outcome = bcp47_parts(tag.bytes, tag.length, shown, sizeof shown, parts, BCP47_PARTS);
-    if (is_error(context, outcome) || outcome.status != BCP47_DONE) return;
-    for (size_t i = 0; i < outcome.place; i++) {
-        if (parts[i].kind != kind) continue;
-        memcpy(found + length, shown + parts[i].start, parts[i].length);
-        length += parts[i].length;
-        found[length++] = '-';
-    }
-    if (length) sqlite3_result_text(context, found, (int)length - 1, SQLITE_TRANSIENT);
+    bcp47_outcome outcome = find_parts(tag, (size_t)sqlite3_value_bytes(values[0]), kind, found);
+    if (is_done(context, outcome) && outcome.length) sqlite3_result_text(context, found, (int)outcome.length, SQLITE_TRANSIENT);
+}
+
+/* bcp47_with(tag, kind, value): the tag with a part replaced, or taken away where the value is empty */
+static void with(sqlite3_context *context, int count, sqlite3_value **values) {
+    char buffer[BCP47_TEXT];
+    const char *of[3];
+    for (int i = 0; i < count; i++)
+        if (!(of[i] = (const char *)sqlite3_value_text(values[i]))) return;
+    bcp47_outcome outcome = bcp47_with(of[0], (size_t)sqlite3_value_bytes(values[0]), kind_of(of[1]), of[2],
+                                       (size_t)sqlite3_value_bytes(values[2]), buffer, sizeof buffer);
+    if (outcome.status == BCP47_BAD_CALL) say(context, "there is no such kind of part", "");
+    else if (is_done(context, outcome)) sqlite3_result_text(context, buffer, (int)outcome.length, SQLITE_TRANSIENT);
 }
 
 /* Answers the front of a text that a call gave. */
 static void answer(sqlite3_context *context, bcp47_outcome outcome, char *given, size_t length) {
-    if (is_error(context, outcome) || outcome.status != BCP47_DONE) return;
+    if (!is_done(context, outcome)) return;
     if (length > INT_MAX) sqlite3_result_error_toobig(context), bcp47_free(given);
     else sqlite3_result_text(context, given, (int)length, bcp47_free);
 }
 
 /* bcp47_show(tag [, name]): what the registry says of a tag, as JSON */
 static void show(sqlite3_context *context, int count, sqlite3_value **values) {
-    const bcp47_registry *registry = asked(context, count, values, 1);
+    text tag;
     char *rows;
+    bcp47_registry *registry = asked(context, count, values, 1, &tag);
     if (!registry) return;
-    text tag = text_of(values[0]);
     bcp47_outcome outcome = bcp47_show(registry, tag.bytes, tag.length, &rows);
     answer(context, outcome, rows, outcome.length);
 }
 
 /* bcp47_explain(tag [, name]): the lines that the program prints, without the line feed of the last */
 static void explain(sqlite3_context *context, int count, sqlite3_value **values) {
-    const bcp47_registry *registry = asked(context, count, values, 1);
+    text tag;
     char *lines;
+    bcp47_registry *registry = asked(context, count, values, 1, &tag);
     if (!registry) return;
-    text tag = text_of(values[0]);
     bcp47_outcome outcome = bcp47_explanation(registry, tag.bytes, tag.length, STEPS, &lines);
     answer(context, outcome, lines, outcome.length - 1);
 }
 
 /* 1 or 0, whether two texts go together; NULL where one of them is refused. */
 static void tell_of_two(sqlite3_context *context, bcp47_outcome outcome) {
-    if (is_error(context, outcome)) return;
-    if (outcome.status == BCP47_DONE || outcome.status == BCP47_DIFFERENT)
-        sqlite3_result_int(context, outcome.status == BCP47_DONE);
+    if (outcome.status == BCP47_DIFFERENT) sqlite3_result_int(context, 0);
+    else if (is_done(context, outcome)) sqlite3_result_int(context, 1);
 }
 
 /* bcp47_equivalent(tag, tag [, name]) */
 static void equivalent(sqlite3_context *context, int count, sqlite3_value **values) {
-    const bcp47_registry *registry = asked(context, count, values, 2);
-    if (!registry) return;
-    text first = text_of(values[0]), second = text_of(values[1]);
-    tell_of_two(context, bcp47_equivalent(registry, first.bytes, first.length, second.bytes, second.length, NULL, 0));
+    text of[2];
+    bcp47_registry *registry = asked(context, count, values, 2, of);
+    if (registry) tell_of_two(context, bcp47_equivalent(registry, of[0].bytes, of[0].length, of[1].bytes, of[1].length, NULL, 0));
 }
 
 /* bcp47_match(range, tag [, name]), by extended filtering */
 static void match(sqlite3_context *context, int count, sqlite3_value **values) {
-    const bcp47_registry *registry = asked(context, count, values, 2);
+    text of[2];
+    bcp47_registry *registry = asked(context, count, values, 2, of);
+    if (registry)
+        tell_of_two(context, bcp47_match(registry, BCP47_EXTENDED, of[0].bytes, of[0].length, of[1].bytes, of[1].length, NULL, 0));
+}
+
+/* bcp47_best(accept, list [, name]): the tag of a list, with commas between them, to serve to a reader */
+static void best(sqlite3_context *context, int count, sqlite3_value **values) {
+    text of[2];
+    const char *tag;
+    bcp47_registry *registry = asked(context, count, values, 2, of);
     if (!registry) return;
-    text range = text_of(values[0]), tag = text_of(values[1]);
-    tell_of_two(context, bcp47_match(registry, BCP47_EXTENDED, range.bytes, range.length, tag.bytes, tag.length, NULL, 0));
+    bcp47_outcome outcome = find_best(registry, of[0].bytes, of[0].length, of[1].bytes, of[1].length, &tag);
+    if (is_done(context, outcome) && tag) sqlite3_result_text(context, tag, (int)outcome.length, SQLITE_TRANSIENT);
 }
 
 /* The canonical text of a text to compare. A collation can't answer an error, and a statement may write by a wrong order before
    it is interrupted: where memory runs out, it asks until there is an answer. */
 static bcp47_outcome canonical_to_compare(connection *c, const void *text, size_t length, char *buffer) {
-    bcp47_outcome outcome = bcp47_canonical(c->held->registry, text, length, buffer, BUFFER);
+    bcp47_outcome outcome = bcp47_canonical(c->held->named.registry, text, length, buffer, BUFFER);
     while (outcome.status == BCP47_OUT_OF_MEMORY || outcome.status == BCP47_BUSY) {
         sqlite3_sleep(5);
-        outcome = bcp47_canonical(c->held->registry, text, length, buffer, BUFFER);
+        outcome = bcp47_canonical(c->held->named.registry, text, length, buffer, BUFFER);
     }
     return outcome;
 }
@@ -376,7 +342,9 @@ int sqlite3_extension_init(sqlite3 *database, char **error, const sqlite3_api_ro
         {"bcp47_show", 1, LOADED, show},             {"bcp47_show", 2, PURE, show},
         {"bcp47_equivalent", 2, LOADED, equivalent}, {"bcp47_equivalent", 3, PURE, equivalent},
         {"bcp47_match", 2, LOADED, match},           {"bcp47_match", 3, PURE, match},
-        {"bcp47_part", 2, PURE, part},               {"bcp47_registry", 0, SQLITE_UTF8, registry},
+        {"bcp47_best", 2, LOADED, best},             {"bcp47_best", 3, PURE, best},
+        {"bcp47_part", 2, PURE, part},               {"bcp47_with", 3, PURE, with},
+        {"bcp47_registry", 0, SQLITE_UTF8, registry},
     };
     (void)error;
     SQLITE_EXTENSION_INIT2(api);

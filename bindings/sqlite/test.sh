@@ -14,7 +14,7 @@ diff "$books/wanted" "$books/got" || exit 1
 got=$(sqlite3 :memory: ".load $1/bcp47_sqlite" "SELECT bcp47_canonical('en');" 2>&1)
 case $got in *"no registry is loaded"*) ;; *) echo "not loaded: $got" && exit 1 ;; esac
 got=$(sqlite3 :memory: ".load $1/bcp47_sqlite" "SELECT bcp47_load('/no/such/file');" 2>&1)
-case $got in *"the file can't be read"*) ;; *) echo "no file: $got" && exit 1 ;; esac
+case $got in *"the registry can't be read: No such file"*) ;; *) echo "no file: $got" && exit 1 ;; esac
 printf 'no registry\n' > "$1/other"
 got=$(sqlite3 :memory: ".load $1/bcp47_sqlite" "SELECT bcp47_load('$1/other');" 2>&1)
 case $got in *"jar BadLine line 1"*) ;; *) echo "refused: $got" && exit 1 ;; esac

@@ -134,8 +134,12 @@ class Habits(unittest.TestCase):
             with self.assertRaisesRegex(sqlite3.OperationalError, "a path or a blob"):
                 connection.execute("SELECT bcp47_load(?)", (wrong,))
         before = memory()
-        for path in ("/dev/zero", "/no/such/file", self.folder):
-            with self.assertRaisesRegex(sqlite3.OperationalError, "can't be read, or is too long"):
+        long = os.path.join(self.folder, "long")
+        with open(long, "wb") as file:
+            file.truncate((64 << 20) + 1)
+        for path, why in (("/dev/zero", "it is no file"), ("/no/such/file", "No such file or directory"), (self.folder, "it is no file"),
+                          (long, "it is too long")):
+            with self.assertRaisesRegex(sqlite3.OperationalError, "the registry can't be read: " + why):
                 connection.execute("SELECT bcp47_load(?)", (path,))
         self.assertLess(memory() - before, 10 << 20)
         with self.assertRaisesRegex(sqlite3.OperationalError, "bcp47: jar NotUtf8 line 1"):
@@ -146,7 +150,7 @@ class Habits(unittest.TestCase):
             with self.assertRaisesRegex(sqlite3.OperationalError, "bcp47: NoEntries"):
                 connection.execute("SELECT bcp47_load(?)", (nothing,))
         os.mkfifo(pipe)
-        with self.assertRaisesRegex(sqlite3.OperationalError, "can't be read, or is too long"):
+        with self.assertRaisesRegex(sqlite3.OperationalError, "can't be read: it is no file"):
             connection.execute("SELECT bcp47_load(?)", (pipe,))
         with self.assertRaisesRegex(sqlite3.OperationalError, "no registry is loaded"):
             connection.execute("SELECT bcp47_canonical('en')")
@@ -221,6 +225,27 @@ class Habits(unittest.TestCase):
         self.assertEqual(value(connection, "SELECT bcp47_part(?, 'PrivateUse')", ("x-" + "-".join(["a"] * 511),)), "-".join(["a"] * 511))
         with self.assertRaisesRegex(sqlite3.OperationalError, "no such kind of part"):
             connection.execute("SELECT bcp47_part('en', 'regions')")
+
+    def test_readers_are_served(self):
+        connection = opened()
+        connection.execute("CREATE TABLE books (tag TEXT)")
+        connection.executemany("INSERT INTO books VALUES (?)", [("en",), ("zh-yue",), ("de-DE",), ("he",)])
+        for accept, best in (("de, en;q=0.8", "de-DE"), ("iw-XA;q=0.5, EN-gb;q=0.3", "he"), ("zh;q=0.2, yue;q=0.1", "zh-yue"), ("en;q=0, *", "zh-yue"),
+                             ("gan, fr", None), ("", None), ("e_n", None), (None, None)):
+            self.assertEqual(value(connection, "SELECT bcp47_best(?, group_concat(tag, ' , ')) FROM books", (accept,)), best, accept)
+        self.assertEqual(connection.execute("SELECT bcp47_best('de', ' en, de '), bcp47_best('de', 'en,de,e_n'), bcp47_best('de', ''), bcp47_best('de', NULL), "
+                                            "bcp47_best('iw', 'he', '2024-01-01')").fetchone(), ("de", None, None, None, "he"))
+        with self.assertRaisesRegex(sqlite3.OperationalError, "has another name"):
+            connection.execute("SELECT bcp47_best('de', 'de', '2024-01-02')")
+
+    def test_parts_are_replaced(self):
+        connection = opened(load=False)
+        self.assertEqual(connection.execute("SELECT bcp47_with('de-CH', 'region', 'AT'), bcp47_with('ZH-tw', 'Script', 'hant'), bcp47_with('de-CH', 'region', ''), "
+                                            "bcp47_with('de', 'region', 'A_'), bcp47_with('de', 'region', NULL)").fetchone(),
+                         ("de-AT", "zh-Hant-TW", "de", None, None))
+        for kind in ("regions", "key"):
+            with self.assertRaisesRegex(sqlite3.OperationalError, "no such kind of part"):
+                connection.execute("SELECT bcp47_with('en', ?, 'AT')", (kind,))
 
     def test_other_types_and_nothing(self):
         connection = opened()

@@ -80,6 +80,14 @@ CALL(int, parent, (TEXT(text), TEXT(buffer)), (BOTH(text), BOTH(buffer))) {
     return told(bcp47_parent(CHARS(text), CHARS(buffer)));
 }
 
+CALL(int, with, (TEXT(tag), int part, TEXT(value), TEXT(buffer)), (BOTH(tag), part, BOTH(value), BOTH(buffer))) {
+    return told(bcp47_with(CHARS(tag), part, CHARS(value), CHARS(buffer)));
+}
+
+CALL(int, posix, (TEXT(name), TEXT(buffer)), (BOTH(name), BOTH(buffer))) {
+    return told(bcp47_posix(CHARS(name), CHARS(buffer)));
+}
+
 /* Where the lengths of the fields are; their names and bodies stand behind as many as the outcome tells. */
 CALL(at, record, (at registry, uint32_t number), (registry, number)) {
     bcp47_field *fields;
@@ -98,6 +106,25 @@ CALL(int, equivalent, (at registry, TEXT(first), TEXT(second), TEXT(buffer)), (r
 
 CALL(int, match, (at registry, int scheme, TEXT(range), TEXT(tag), TEXT(buffer)), (registry, scheme, BOTH(range), BOTH(tag), BOTH(buffer))) {
     return told(bcp47_match(TO(bcp47_registry, registry), scheme, CHARS(range), CHARS(tag), CHARS(buffer)));
+}
+
+/* Where the tags are prepared; the arrays have numbers of 64 bits. */
+CALL(at, available_open, (at registry, at tags, at lengths, uint32_t count), (registry, tags, lengths, count)) {
+    bcp47_available *available;
+    told(bcp47_available_open(&available, TO(bcp47_registry, registry), TO(const char *const, tags), TO(const size_t, lengths), count));
+    return OF(available);
+}
+
+CALL(void, available_close, (at available), (available)) {
+    bcp47_available_close(TO(bcp47_available, available));
+}
+
+CALL(int, best, (at available, TEXT(accept)), (available, BOTH(accept))) {
+    return told(bcp47_best(TO(bcp47_available, available), CHARS(accept)));
+}
+
+CALL(int, filter, (at available, TEXT(accept), at places, uint32_t room), (available, BOTH(accept), places, room)) {
+    return told(bcp47_filter(TO(bcp47_available, available), CHARS(accept), TO(size_t, places), room));
 }
 
 CALL(at, explanation, (at registry, TEXT(text), uint32_t most), (registry, BOTH(text), most)) {

@@ -1,3 +1,38 @@
+// What is said of a tag by its class, of parts that have no records, and of steps.
+const WORDS = {
+  kinds: {
+    langtag: 'language tag',
+    privateuse: 'tag of private use',
+    grandfathered: 'grandfathered tag',
+  },
+  parts: {
+    Singleton: 'begins an extension',
+    ExtensionSubtag: 'belongs to the extension',
+    Attribute: 'an attribute of the extension u (RFC 6067)',
+    Key: 'begins a keyword of the extension u (RFC 6067)',
+    Type: 'belongs to the keyword',
+    Separator: 'begins a field of the extension t (RFC 6497)',
+    Value: 'belongs to the field',
+    PrivateUseSingleton: 'begins what is of private use',
+    PrivateUse: 'means what those who use it agreed on',
+  },
+  steps: {
+    Extlang: 'the extlang, or its preferred value, becomes the language',
+    Language: 'the language is replaced by its preferred value',
+    Script: 'the script is replaced by its preferred value',
+    Region: 'the region is replaced by its preferred value',
+    Variant: 'the variant is replaced by its preferred value',
+    VariantLanguage: 'the preferred value of the variant becomes the language, and the variant goes',
+    Whole: 'the whole tag is replaced by its preferred value',
+    SwapExtensions: 'the extension moves after the next, which has a smaller singleton',
+    DropAttribute: 'the attribute goes, since an equal one comes before it',
+    SwapAttributes: 'the attribute moves after the next, which is smaller',
+    DropKeyword: 'the keyword goes, since one of its key comes before it',
+    SwapKeywords: 'the keyword moves after the next, which has a smaller key',
+    DropTrue: 'true goes, since it is all that the keyword has',
+    SwapFields: 'the field moves after the next, which has a smaller separator',
+  },
+};
 const $ = (id) => document.getElementById(id);
 /** An element with attributes and what is in it. All that was given is text. */
 const el = (name, attributes, ...inside) => {
@@ -39,8 +74,8 @@ const recordOf = ({ record, kind, listing, fields }) => (record
 async function lookAt() {
   const text = $('tag').value, { canonical, why, kind, subtags, steps, meant } = await ask('one', text);
   if (text !== $('tag').value) return;
-  const more = [], kinds = kind === 'langtag' ? 'language tag' : WORDS.kinds[kind], stays = canonical === text;
-  const what = !kind ? 'no language tag' : why?.status === 'Invalid' ? `a ${kinds}, but not valid` : why ? `a valid ${kinds}, but has no canonical form` : `a valid ${kinds}`;
+  const more = [], kinds = WORDS.kinds[kind], stays = canonical === text;
+  const what = !kind ? 'not a language tag' : why?.status === 'Invalid' ? `a ${kinds}, but not valid` : why ? `a valid ${kinds}, but has no canonical form` : `a valid ${kinds}`;
   $('tag').setAttribute('aria-invalid', Boolean(why));
   $('tag-said').replaceChildren(shown(text, why), ` is ${what}`, ...why ? ['. ', ...said(why).flat()] : stays ? [', and it is its own canonical form.'] : ['. Its canonical form is ', shown(canonical), '.']);
   if (meant) {
@@ -108,8 +143,8 @@ async function compare() {
   for (const { id, why } of both) $(id).setAttribute('aria-invalid', Boolean(why));
   const [first, second] = both, wrong = both.filter((it) => it.why);
   $('equal-said').replaceChildren(...wrong.length ? wrong.map(({ id, text, why, meant }) => el('span', {}, `The ${id} tag, `, shown(text, why), ', is refused. ', said(why), meant ? [' Write ', shown(meant), ' instead. '] : ' '))
-    : first.canonical === second.canonical ? [el('strong', {}, 'Yes, they are one'), ': both are ', shown(first.canonical), '.']
-      : [el('strong', {}, 'No, they are two'), ': ', shown(first.canonical), ' and ', shown(second.canonical), '.']);
+    : first.canonical === second.canonical ? [el('strong', {}, 'Yes, they mean the same'), ': both are ', shown(first.canonical), '.']
+      : [el('strong', {}, 'No, they are different'), ': ', shown(first.canonical), ' and ', shown(second.canonical), '.']);
 }
 
 /** Shows which registry answers what a call gives. */

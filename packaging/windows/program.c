@@ -58,6 +58,14 @@ int linux_statx(int folder, const char *path, int flags, unsigned mask, uint16_t
     return 0;
 }
 
+/* No path of the program is told, so that the registry @ is only what LANGTAG_REGISTRY names. */
+int64_t linux_readlink(const char *path, char *buffer, size_t room) LINUX(readlink);
+int64_t linux_readlink(const char *path, char *buffer, size_t room) {
+    (void)path, (void)buffer, (void)room;
+    errno = ENOENT;
+    return -1;
+}
+
 /* NUL is no terminal, though _isatty says so. */
 int linux_isatty(int file) LINUX(isatty);
 int linux_isatty(int file) {
@@ -105,15 +113,24 @@ size_t rattle_arg_count(void) {
     return (size_t)count;
 }
 
-/* The length of a word, whose front is written; -1 where there is none, and -2 where it does not fit. */
+/* The length of a text, whose front is written; -1 where there is none, and -2 where it does not fit. */
+static int64_t give(const wchar_t *text, char *buffer, size_t room) {
+    char given[3 * 32768];
+    int length = text ? WideCharToMultiByte(CP_UTF8, 0, text, -1, given, sizeof given, NULL, NULL) - 1 : -1;
+    if (length < 0) return -1;
+    memcpy(buffer, given, (size_t)length < room ? (size_t)length : room);
+    return (size_t)length <= room ? length : -2;
+}
+
 int64_t rattle_arg(size_t i, char *buffer, size_t room);
 int64_t rattle_arg(size_t i, char *buffer, size_t room) {
-    char word[3 * 32768];
-    if (i >= (size_t)count) return -1;
-    int length = WideCharToMultiByte(CP_UTF8, 0, words[i], -1, word, sizeof word, NULL, NULL) - 1;
-    if (length < 0) return -1;
-    memcpy(buffer, word, (size_t)length < room ? (size_t)length : room);
-    return (size_t)length <= room ? length : -2;
+    return give(i < (size_t)count ? words[i] : NULL, buffer, room);
+}
+
+int64_t rattle_env(const char *name, char *buffer, size_t room);
+int64_t rattle_env(const char *name, char *buffer, size_t room) {
+    wchar_t wide[256];
+    return give(MultiByteToWideChar(CP_UTF8, MB_ERR_INVALID_CHARS, name, -1, wide, 256) ? _wgetenv(wide) : NULL, buffer, room);
 }
 
 __attribute__((constructor)) static void begin(void) {

@@ -103,6 +103,90 @@ static void parents(void) {
     CHECK(is_ended(bcp47_parent(NULL, 1, buffer, 9), BCP47_BAD_CALL));
 }
 
+static bcp47_outcome with(const char *tag, int part, const char *value) {
+    return bcp47_with(tag, strlen(tag), part, value, strlen(value), buffer, sizeof buffer);
+}
+
+static int is_fault(bcp47_outcome o, int text, const char *name, size_t place) {
+    return is_refused(o, BCP47_NOT_A_TAG, text, place) && !strcmp(bcp47_fault_name(o.detail), name) && !o.length;
+}
+
+/* The tags are those of RFC 5646, 2.2 and appendix A. */
+static void changed(void) {
+    static const struct {
+        const char *tag;
+        int part;
+        const char *value, *made;
+    } rows[] = {
+        {"ZH-tw", BCP47_PART_SCRIPT, "hANT", "zh-Hant-TW"},
+        {"zh-Hant-TW", BCP47_PART_SCRIPT, "", "zh-TW"},
+        {"zh-cmn-Hans-CN", BCP47_PART_LANGUAGE, "zh-gan", "zh-gan-Hans-CN"},
+        {"zh-cmn-Hans-CN", BCP47_PART_LANGUAGE, "CMN", "cmn-Hans-CN"},
+        {"en-US-x-twain", BCP47_PART_REGION, "gb", "en-GB-x-twain"},
+        {"es-419", BCP47_PART_REGION, "", "es"},
+        {"sl-IT", BCP47_PART_VARIANT, "rozaj-biske", "sl-IT-rozaj-biske"},
+        {"sl-rozaj-biske-1994", BCP47_PART_VARIANT, "NEDIS", "sl-nedis"},
+        {"de-1996", BCP47_PART_VARIANT, "", "de"},
+        {"de-DE-u-co-phonebk-x-own", BCP47_PART_SINGLETON, "T-IT-u-kn", "de-DE-t-it-u-kn-x-own"},
+        {"de-DE-u-co-phonebk-x-own", BCP47_PART_SINGLETON, "", "de-DE-x-own"},
+        {"az-Arab", BCP47_PART_PRIVATE_USE_SINGLETON, "x-AZE-derbend", "az-Arab-x-aze-derbend"},
+        {"az-Arab-x-aze", BCP47_PART_PRIVATE_USE_SINGLETON, "", "az-Arab"},
+        {"art-Latn-lojban", BCP47_PART_SCRIPT, "", "art-lojban"},
+    };
+    for (size_t i = 0; i < sizeof rows / sizeof *rows; i++) CHECK(is_text(with(rows[i].tag, rows[i].part, rows[i].value), rows[i].made));
+    CHECK(is_fault(with("en_US", BCP47_PART_SCRIPT, "Latn"), 1, "BadByte", 1));
+    CHECK(is_fault(with("i-klingon", BCP47_PART_REGION, "US"), 1, "BadLanguage", 1));
+    CHECK(is_fault(with("zh-min-nan", BCP47_PART_REGION, "US"), 1, "BadLanguage", 1));
+    CHECK(is_fault(with("x-own", BCP47_PART_REGION, "U_S"), 1, "BadLanguage", 1));
+    CHECK(is_fault(with("zh", BCP47_PART_SCRIPT, "La_n"), 2, "BadByte", 1));
+    CHECK(is_fault(with("zh", BCP47_PART_SCRIPT, "TW"), 2, "Misplaced", 1));
+    CHECK(is_fault(with("zh", BCP47_PART_SCRIPT, "Hant-TW"), 2, "Misplaced", 2));
+    CHECK(is_fault(with("de", BCP47_PART_VARIANT, "1996-1901-DE"), 2, "Misplaced", 3));
+    CHECK(is_fault(with("de", BCP47_PART_SINGLETON, "u-co-x-own"), 2, "Misplaced", 3));
+    CHECK(is_fault(with("de", BCP47_PART_SINGLETON, "u"), 2, "Unfinished", 2));
+    CHECK(is_fault(with("de", BCP47_PART_PRIVATE_USE_SINGLETON, "own"), 2, "Misplaced", 1));
+    CHECK(is_fault(with("de", BCP47_PART_LANGUAGE, ""), 2, "EmptySubtag", 1));
+    CHECK(is_fault(with("de", BCP47_PART_LANGUAGE, "en-US"), 2, "Misplaced", 2));
+    CHECK(is_fault(with("de", BCP47_PART_LANGUAGE, "x-own"), 2, "BadLanguage", 1));
+    /* 1,021 bytes of private use fit a tag of three bytes more, and no other. */
+    static char longest[1023] = "x-";
+    memset(longest + 2, 'a', 1020);
+    for (int i = 8; i < 1020; i += 7) longest[i] = '-';
+    longest[1021] = 0;
+    CHECK(with("de", BCP47_PART_PRIVATE_USE_SINGLETON, longest).length == 1024 && !strcmp(buffer + 3, longest));
+    CHECK(is_fault(with("gsw", BCP47_PART_PRIVATE_USE_SINGLETON, longest), 0, "TooLong", 0));
+    longest[1021] = 'a';
+    CHECK(is_fault(with("de", BCP47_PART_PRIVATE_USE_SINGLETON, longest), 2, "TooLong", 0));
+    static const int none[] = {-1, 0, BCP47_PART_EXTLANG, BCP47_PART_EXTENSION_SUBTAG, BCP47_PART_PRIVATE_USE, 21};
+    for (size_t i = 0; i < sizeof none / sizeof *none; i++) CHECK(is_ended(with("de", none[i], "DE"), BCP47_BAD_CALL));
+    memset(buffer, '#', sizeof buffer);
+    bcp47_outcome o = bcp47_with("de", 2, BCP47_PART_REGION, "DE", 2, buffer, 4);
+    CHECK(o.status == BCP47_BUFFER_TOO_SMALL && o.length == 5 && buffer[0] == '#');
+    CHECK(bcp47_with("de", 2, BCP47_PART_REGION, "DE", 2, buffer, 5).length == 5 && !memcmp(buffer, "de-DE#", 6));
+    CHECK(is_text(bcp47_with("de-DE", 5, BCP47_PART_REGION, NULL, 0, buffer, sizeof buffer), "de"));
+    CHECK(bcp47_with("de", 2, BCP47_PART_REGION, "DE", 2, NULL, 0).status == BCP47_BUFFER_TOO_SMALL);
+    CHECK(is_ended(bcp47_with(NULL, 1, BCP47_PART_REGION, "DE", 2, buffer, 9), BCP47_BAD_CALL));
+    CHECK(is_ended(bcp47_with("de", 2, BCP47_PART_REGION, NULL, 1, buffer, 9), BCP47_BAD_CALL));
+    CHECK(is_ended(bcp47_with("de", 2, BCP47_PART_REGION, buffer, 2, buffer, 9), BCP47_BAD_CALL));
+    CHECK(is_ended(bcp47_with(buffer, 2, BCP47_PART_REGION, "DE", 2, buffer, 9), BCP47_BAD_CALL));
+}
+
+/* Names of the GNU C Library, and forms of ICU. */
+static void locales(void) {
+    static const char *const rows[][2] = {
+        {"en_US.UTF-8", "en-US"}, {"de_DE@euro", "de-DE"}, {"sr_RS.UTF-8@latin", "sr-Latn-RS"}, {"tt_RU@iqtelif", "tt-Latn-RU"},
+        {"uz_UZ@cyrillic", "uz-Cyrl-UZ"}, {"ks_IN@devanagari", "ks-Deva-IN"}, {"ca_ES@valencia", "ca-ES-valencia"},
+        {"aa_ER@saaho", "ssy-ER"}, {"gez_ET@abegede", "gez-ET"}, {"ber_MA", "ber-MA"}, {"eo", "eo"}, {"sr_Latn_RS", "sr-Latn-RS"},
+        {"C", "en-US-u-va-posix"}, {"C.UTF-8", "en-US-u-va-posix"}, {"POSIX", "en-US-u-va-posix"}, {"zh_Hant-TW", "zh-Hant-TW"},
+    };
+    for (size_t i = 0; i < sizeof rows / sizeof *rows; i++) CHECK(is_text(ALONE(bcp47_posix, rows[i][0]), rows[i][1]));
+    CHECK(is_fault(ALONE(bcp47_posix, "en_US@quot"), 0, "BadByte", 0) && is_fault(ALONE(bcp47_posix, "sr_RS@latin.UTF-8"), 0, "BadByte", 0));
+    CHECK(is_fault(ALONE(bcp47_posix, "en_U S"), 0, "BadByte", 2) && is_fault(ALONE(bcp47_posix, "@euro"), 0, "EmptySubtag", 1));
+    CHECK(is_fault(ALONE(bcp47_posix, ".UTF-8@latin"), 0, "EmptySubtag", 1) && is_fault(ALONE(bcp47_posix, "c"), 0, "BadLanguage", 1));
+    CHECK(bcp47_posix("en_US", 5, NULL, 0).status == BCP47_BUFFER_TOO_SMALL);
+    CHECK(is_ended(bcp47_posix(NULL, 1, buffer, 9), BCP47_BAD_CALL));
+}
+
 static void canonical(void) {
     CHECK(is_text(ASK(bcp47_canonical, "zh-yue"), "yue"));
     CHECK(is_text(ASK(bcp47_canonical, "I-KLINGON"), "tlh"));
@@ -179,7 +263,11 @@ static void match(void) {
         {BCP47_BASIC, "*", "x-own", BCP47_DONE},
         {BCP47_BASIC, "*-DE", "en", BCP47_DONE},
         {BCP47_BASIC, "zh-yue", "yue-GB", BCP47_DONE},
-        {BCP47_BASIC, "zh", "zh-yue", BCP47_DIFFERENT},
+        {BCP47_BASIC, "zh", "zh-yue", BCP47_DONE},
+        {BCP47_BASIC, "zh", "yue-GB", BCP47_DONE},
+        {BCP47_BASIC, "yue-*", "zh-yue-GB", BCP47_DONE},
+        {BCP47_BASIC, "iw-*", "he-GB", BCP47_DONE},
+        {BCP47_BASIC, "yue", "zh-GB", BCP47_DIFFERENT},
         {BCP47_BASIC, "iw", "he", BCP47_DONE},
         {BCP47_BASIC, "xx", "en", BCP47_DIFFERENT},
         {BCP47_EXTENDED, "de-*-DE", "de-DE", BCP47_DONE},
@@ -199,6 +287,7 @@ static void match(void) {
         {BCP47_LOOKUP, "zh-Hans-XA-x-private1-private2", "zh", BCP47_DONE},
         {BCP47_LOOKUP, "zh-Hans-XA-x-private1-private2", "zh-XA", BCP47_DIFFERENT},
         {BCP47_LOOKUP, "zh-yue-GB", "yue", BCP47_DONE},
+        {BCP47_LOOKUP, "yue-GB", "zh", BCP47_DONE},
         {BCP47_LOOKUP, "de", "de-DE", BCP47_DIFFERENT},
         {BCP47_LOOKUP, "*", "de", BCP47_DIFFERENT},
     };
@@ -206,7 +295,7 @@ static void match(void) {
         if (!is_ended(MATCH(rows[i].scheme, rows[i].range, rows[i].tag), rows[i].status)) fprintf(stderr, "%s %s\n", rows[i].range, rows[i].tag);
         CHECK(is_ended(MATCH(rows[i].scheme, rows[i].range, rows[i].tag), rows[i].status));
     }
-    CHECK(is_ended(bcp47_match(registry, BCP47_BASIC, "zh", 2, "yue", 3, NULL, 0), BCP47_DIFFERENT));
+    CHECK(is_ended(bcp47_match(registry, BCP47_BASIC, "zh", 2, "yue", 3, NULL, 0), BCP47_DONE));
 }
 
 static int is_no_range(const char *range, const char *fault) {
@@ -234,6 +323,106 @@ static void match_refused(void) {
     o = bcp47_match(registry, BCP47_BASIC, "ja", 2, REPEATS, strlen(REPEATS), buffer, 6);
     CHECK(is_refused(o, BCP47_REPLACEMENT_REPEATS, 2, 0) && o.length == 7 && buffer[0] == '#');
     for (size_t i = 0; i < sizeof wrong / sizeof *wrong; i++) CHECK(is_ended(MATCH(wrong[i], "en", "en_US"), BCP47_BAD_CALL));
+}
+
+/* ---- tags of which one is served */
+
+#define BEST(available, header) bcp47_best(available, header, strlen(header))
+
+static bcp47_available *prepared(const char *const *tags, size_t count) {
+    bcp47_available *available = NULL;
+    size_t lengths[16];
+    for (size_t i = 0; i < count; i++) lengths[i] = strlen(tags[i]);
+    CHECK(is_ended(bcp47_available_open(&available, registry, tags, lengths, count), BCP47_DONE));
+    return available;
+}
+
+static int is_served(bcp47_available *available, const char *header, size_t place) {
+    bcp47_outcome o = BEST(available, header);
+    return o.status == BCP47_DONE && o.place == place && !o.detail && !o.length && !o.text && !o.reserved;
+}
+
+static int is_bad_header(bcp47_outcome o, size_t place, const char *fault) {
+    return o.status == BCP47_BAD_HEADER && o.place == place && !strcmp(bcp47_fault_name(o.detail), fault) && !o.length && !o.text;
+}
+
+/* The header of RFC 9110, 12.5.4, and others, over tags that are equivalent to what they ask for. */
+static void best(void) {
+    static const char *const tags[] = {"en-GB", "zh-yue", "iw", "de", "ja"};
+    static const struct {
+        const char *header;
+        size_t place;
+    } rows[] = {
+        {"da, en-gb;q=0.8, en;q=0.7", 1}, {"de-DE, en;q=0.5", 4}, {"yue", 2}, {"zh", 2}, {"zh-yue-GB, en", 2}, {"he", 3},
+        {"en", 1},       {"fr", 0},       {"", 0},            {"*", 1},          {"*, en;q=0", 2},
+        {"*;q=0.1, ja;q=0.5", 5}, {"de;q=0, de-DE", 0}, {"de;q=0, de-DE, *;q=0.1", 1},
+    };
+    bcp47_available *available = prepared(tags, 5);
+    for (size_t i = 0; i < sizeof rows / sizeof *rows; i++) {
+        if (!is_served(available, rows[i].header, rows[i].place)) fprintf(stderr, "%s\n", rows[i].header);
+        CHECK(is_served(available, rows[i].header, rows[i].place));
+    }
+    CHECK(is_bad_header(BEST(available, "de, en_US"), 2, "BadByte") && is_bad_header(BEST(available, "de;q=2"), 1, "BadWeight"));
+    CHECK(is_bad_header(BEST(available, "de, , de-*"), 3, "ExtendedRange"));
+    CHECK(is_ended(BEST(available, REPEATS), BCP47_REPLACEMENT_REPEATS));
+    CHECK(is_ended(bcp47_best(available, NULL, 1), BCP47_BAD_CALL) && is_ended(bcp47_best(NULL, "de", 2), BCP47_NOT_OPEN));
+    CHECK(is_ended(bcp47_best(available, NULL, 0), BCP47_DONE));
+    bcp47_available_close(available);
+}
+
+static void accepted(void) {
+    static const char *const tags[] = {"en-GB", "zh-yue", "iw", "de", "ja"};
+    bcp47_available *available = prepared(tags, 5);
+    size_t places[5] = {9, 9, 9, 9, 9};
+    static const char header[] = "ja;q=0.2, zh, en;q=0.5, de;q=0";
+    bcp47_outcome o = bcp47_filter(available, header, strlen(header), places, 5);
+    CHECK(o.status == BCP47_DONE && o.place == 3 && places[0] == 2 && places[1] == 1 && places[2] == 5 && places[3] == 9);
+    o = bcp47_filter(available, header, strlen(header), places, 2);
+    CHECK(o.status == BCP47_BUFFER_TOO_SMALL && o.place == 3 && places[0] == 2);
+    o = bcp47_filter(available, "fr", 2, NULL, 0);
+    CHECK(is_ended(o, BCP47_DONE));
+    CHECK(is_bad_header(bcp47_filter(available, "de;q", 4, places, 5), 1, "BadWeight"));
+    CHECK(is_ended(bcp47_filter(available, "de", 2, NULL, 1), BCP47_BAD_CALL));
+    CHECK(is_ended(bcp47_filter(available, NULL, 1, places, 5), BCP47_BAD_CALL));
+    CHECK(is_ended(bcp47_filter(NULL, "de", 2, places, 5), BCP47_NOT_OPEN));
+    bcp47_available_close(available);
+}
+
+/* Lists that are refused, one of no tags, and one whose registry is closed before. */
+static void lists(const char *bytes, size_t length) {
+    static const char *const wrong[] = {"de", "en_US"}, *const invalid[] = {"de", "ja", "xx"}, *const repeats[] = {REPEATS};
+    static const size_t lengths[] = {2, 5}, short_ones[] = {2, 2, 2}, long_ones[] = {sizeof REPEATS - 1}, no_length[] = {SIZE_MAX};
+    static const char *const empty[] = {"de", NULL, NULL};
+    static const size_t of_empty[] = {2, 0, 1};
+    bcp47_available *available = NULL;
+    bcp47_registry *other;
+    bcp47_outcome o = bcp47_available_open(&available, registry, wrong, lengths, 2);
+    CHECK(o.status == BCP47_NOT_A_TAG && o.text == 2 && o.place == 1 && !strcmp(bcp47_fault_name(o.detail), "BadByte") && !available);
+    o = bcp47_available_open(&available, registry, invalid, short_ones, 3);
+    CHECK(o.status == BCP47_INVALID && o.text == 3 && o.place == 1 && !strcmp(bcp47_fault_name(o.detail), "UnknownLanguage") && !available);
+    o = bcp47_available_open(&available, registry, repeats, long_ones, 1);
+    CHECK(o.status == BCP47_REPLACEMENT_REPEATS && o.text == 1 && !o.length && !available);
+    o = bcp47_available_open(&available, registry, &(const char *){"de\nja"}, lengths + 1, 1);
+    CHECK(o.status == BCP47_NOT_A_TAG && o.text == 1 && o.place == 1 && !strcmp(bcp47_fault_name(o.detail), "BadByte") && !available);
+    o = bcp47_available_open(&available, registry, empty, of_empty, 3);
+    CHECK(o.status == BCP47_NOT_A_TAG && o.text == 2 && o.place == 1 && !strcmp(bcp47_fault_name(o.detail), "EmptySubtag") && !available);
+    CHECK(is_ended(bcp47_available_open(&available, registry, empty + 2, no_length, 1), BCP47_BAD_CALL) && !available);
+    CHECK(is_ended(bcp47_available_open(&available, registry, wrong, no_length, 1), BCP47_BAD_CALL) && !available);
+    CHECK(is_ended(bcp47_available_open(&available, registry, NULL, lengths, 1), BCP47_BAD_CALL));
+    CHECK(is_ended(bcp47_available_open(&available, registry, wrong, NULL, 1), BCP47_BAD_CALL));
+    CHECK(is_ended(bcp47_available_open(NULL, registry, wrong, lengths, 1), BCP47_BAD_CALL));
+    CHECK(is_ended(bcp47_available_open(&available, NULL, wrong, lengths, 1), BCP47_NOT_OPEN));
+    available = prepared(NULL, 0);
+    size_t place;
+    CHECK(is_served(available, "*", 0) && is_bad_header(BEST(available, "de;"), 1, "BadWeight"));
+    CHECK(is_ended(bcp47_filter(available, "*", 1, &place, 1), BCP47_DONE));
+    bcp47_available_close(available);
+    CHECK(is_ended(bcp47_open(&other, bytes, length, NULL, 0), BCP47_DONE));
+    CHECK(is_ended(bcp47_available_open(&available, other, wrong, lengths, 1), BCP47_DONE));
+    bcp47_close(other);
+    CHECK(is_served(available, "de", 1));
+    bcp47_available_close(available);
+    bcp47_available_close(NULL);
 }
 
 static void others(void) {
@@ -269,7 +458,7 @@ static void shown(void) {
         "[{\"place\":1,\"kind\":\"Language\",\"text\":\"zh\",\"listing\":\"Record\",\"record\":2,\"fields\":[{\"name\":\"Description\",\"body\":"
         "\"Chinese\"},{\"name\":\"Scope\",\"body\":\"macrolanguage\"}]},{\"place\":2,\"kind\":\"Extlang\",\"text\":\"yue\",\"listing\":\"Record\","
         "\"record\":3,\"fields\":[{\"name\":\"Description\",\"body\":\"Yue Chinese\"},{\"name\":\"Description\",\"body\":\"\\\"Cantonese\\\"\"},"
-        "{\"name\":\"Preferred-Value\",\"body\":\"yue\"}]}]";
+        "{\"name\":\"Preferred-Value\",\"body\":\"yue\"},{\"name\":\"Prefix\",\"body\":\"zh\"}]}]";
     static const char hant[] =
         "[{\"place\":1,\"kind\":\"Whole\",\"text\":\"zh-Hant\",\"listing\":\"Record\",\"record\":6,\"fields\":[{\"name\":\"Description\",\"body\":"
         "\"traditional\"}]},{\"place\":1,\"kind\":\"Language\",\"text\":\"zh\",\"listing\":\"Record\",\"record\":2,\"fields\":[{\"name\":\"Description\","
@@ -536,6 +725,7 @@ static void names(void) {
     CHECK(!strcmp(bcp47_version(), BCP47_VERSION));
     CHECK(!strcmp(bcp47_status_name(BCP47_INVALID), "Invalid") && !strcmp(bcp47_status_name(BCP47_NO_ENTRIES), "NoEntries"));
     CHECK(!strcmp(bcp47_fault_name(1), "TooLong") && !strcmp(bcp47_fault_name(52), "U6") && !strcmp(bcp47_fault_name(53), "BadFirst"));
+    CHECK(!strcmp(bcp47_fault_name(55), "BadWeight") && !strcmp(bcp47_status_name(BCP47_BAD_HEADER), "BadHeader"));
     CHECK(!strcmp(bcp47_kind_name(BCP47_EXTLANG), "Extlang") && !strcmp(bcp47_kind_name(BCP47_SWAP_FIELDS), "SwapFields"));
     CHECK(!strcmp(bcp47_fault_help(9), "The registry lacks the extlang: correct it, or get a newer registry."));
     CHECK(strstr(bcp47_status_help(BCP47_NOT_OPEN), "open it first") != NULL);
@@ -543,7 +733,7 @@ static void names(void) {
     for (size_t i = 0; i < sizeof none / sizeof *none; i++)
         CHECK(!*bcp47_status_name(none[i]) && !*bcp47_fault_name(none[i]) && !*bcp47_kind_name(none[i]) &&
               !*bcp47_status_help(none[i]) && !*bcp47_fault_help(none[i]));
-    CHECK(!*bcp47_status_name(18) && !*bcp47_status_help(18) && !*bcp47_fault_name(54) && !*bcp47_fault_help(54));
+    CHECK(!*bcp47_status_name(19) && !*bcp47_status_help(19) && !*bcp47_fault_name(56) && !*bcp47_fault_help(56));
     CHECK(!*bcp47_kind_name(0) && !*bcp47_kind_name(15));
     CHECK(!*bcp47_part_kind_name(-1) && !*bcp47_part_kind_name(0) && !*bcp47_part_kind_name(21));
     CHECK(!strcmp(bcp47_part_kind_name(BCP47_PART_GRANDFATHERED), "Grandfathered"));
@@ -630,9 +820,14 @@ int main(int count, char **words) {
     equal();
     match();
     match_refused();
+    best();
+    accepted();
+    lists(bytes, length);
     others();
     shown();
     parents();
+    changed();
+    locales();
     records();
     explanations();
     steps();

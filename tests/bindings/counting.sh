@@ -6,6 +6,11 @@ registry=$root/examples/iana-2025-05-15.txt
 python=/usr/bin/python3
 passed=0
 failed=0
+# How tests in C are compiled: over the library's files, with what refuses growths, and under sanitizers.
+flags="-std=c11 -D_GNU_SOURCE -g -Wall -Wextra -Werror -pthread -Ibindings/c"
+wrapped="-Wl,--wrap=malloc,--wrap=calloc,--wrap=realloc"
+files="bindings/c/bcp47.c bindings/c/names.c build/proved.o"
+memory="-O1 -fsanitize=address,undefined -fno-sanitize-recover=all"
 cd "$root" || exit 1
 
 # passes NAME COMMAND..: runs a command, and counts it.
@@ -29,6 +34,19 @@ writes() {
     "$@" > "$folder/written" 2> "$folder/told" || status=$?
     [ "$status" -lt 126 ] || echo "$name ended with $status" >> "$folder/written"
     passes "$name" cmp "$wanted" "$folder/written" || head -n 20 "$folder/told"
+}
+
+# made NAME SOURCE FLAG..: compiles a test in C to $folder/NAME.
+made() {
+    local name=$1 source=$2
+    shift 2
+    # shellcheck disable=SC2086
+    passes "compile $name" gcc $flags -o "$folder/$name" "$source" "$@"
+}
+
+# program_of PAGE LANGUAGE N: the program in a language that a page has, by its number.
+program_of() {
+    awk -v begin="\`\`\`$2" -v n="$3" '$0 == begin { is_it = ++i == n; next } /^```$/ { is_it = 0 } is_it' "docs/$1"
 }
 
 # missing WHAT: what tests/packages.sh installs is not there, and so not tested.

@@ -20,6 +20,14 @@ if command -v go > /dev/null; then
     passes "Go: a program" env -C bindings/go go build -o "$folder/canon" ./cmd/canon
     writes "Go answers as the program" "$shared/wanted" sh -c '"$1/canon" "$2" < "$3"' - "$folder" "$registry" "$shared/tags"
     writes "Go explains as the program" "$shared/explained" sh -c '"$1/canon" -explain "$2" < "$3"' - "$folder" "$registry" "$shared/explained-tags"
+    passes "Go: a middleware" env -C bindings/go go build -o "$folder/serve" ./cmd/serve
+    passes "Go: it answers browsers" tests/bindings/browsers.sh "$folder/serve"
+    mkdir "$folder/best"
+    cp bench/peers/best/main.go "$folder/best"
+    text=/usr/share/gocode/src/golang.org/x/text
+    printf 'module best\n\ngo 1.19\n\nrequire (\n\t%s v0.0.0\n\tgolang.org/x/text v0.0.0\n)\n\nreplace %s => %s/bindings/go\n\nreplace golang.org/x/text => %s\n' \
+        "$module" "$module" "$root" "$text" > "$folder/best/go.mod"
+    passes "x/text serves alike but for known causes" env -C "$folder/best" go run . "$registry" 20000 "$text"/language/testdata/*.txt
     # a new library is seen: here one that tells another version
     cp -r bindings/go bindings/c "$folder"
     tells() {
@@ -37,7 +45,7 @@ if command -v go > /dev/null; then
     sed -n '/^```go$/,/^```$/{/^```/!p}' docs/GO.md > "$folder/page/main.go"
     cp "$sample" "$folder/page/registry.txt"
     printf 'module page\n\ngo 1.19\n\nrequire %s v0.0.0\n\nreplace %s => %s/bindings/go\n' "$module" "$module" "$root" > "$folder/page/go.mod"
-    printf '%s\n' yue true true 'BadByte 1 true' 'BadByte 1 en_US' 'zh-Hant-TW Hant TW' > "$folder/page/wanted"
+    printf '%s\n' yue true true de 'BadByte 1 true' 'BadByte 1 en_US' 'zh-Hant-TW Hant TW' > "$folder/page/wanted"
     writes "Go: docs/GO.md's program" "$folder/page/wanted" env -C "$folder/page" go run .
     chmod -R u+w "$folder"
 else

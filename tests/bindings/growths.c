@@ -26,7 +26,7 @@ void *__wrap_realloc(void *old, size_t size) {
 static const char *const tags[] = {"zh-yue", "en-us", "I-KLINGON", "sgn-dd", "en-t-iw-m0-names", "en-u-nu-latn-ca-buddhist-foo",
                                    "en_US", "xx", "de-1901-1901", "x-own-use", "en-a-bbb-x-own"};
 #define TAGS (sizeof tags / sizeof *tags)
-#define CALLS 16
+#define CALLS 19
 static char buffer[4096];
 static bcp47_part parts[BCP47_PARTS];
 static char wanted[CALLS * TAGS][2048];
@@ -86,6 +86,12 @@ static void ask(const bcp47_registry *registry, int is_first, size_t at, const c
     before = growths;
     kept(is_first, at + 15, bcp47_parent(text, n, buffer, sizeof buffer), buffer, before);
     before = growths;
+    kept(is_first, at + 16, bcp47_with(text, n, BCP47_PART_VARIANT, "a2345-b2345", 11, buffer, sizeof buffer), buffer, before);
+    before = growths;
+    kept(is_first, at + 17, bcp47_posix(text, n, buffer, sizeof buffer), buffer, before);
+    before = growths;
+    kept(is_first, at + 18, bcp47_posix("sr_RS@latin", 11, buffer, sizeof buffer), buffer, before);
+    before = growths;
     kept(is_first, at + 8, bcp47_classify(NULL, text, n, buffer, sizeof buffer), buffer, before);
     before = growths;
     kept(is_first, at + 9, bcp47_parts(text, n, buffer, sizeof buffer, parts, BCP47_PARTS), buffer, before);
@@ -100,6 +106,27 @@ static void ask(const bcp47_registry *registry, int is_first, size_t at, const c
     bcp47_free(lines);
 }
 
+/* A list of tags is prepared, asked and closed; or a growth of the call was refused. */
+static void serve(bcp47_registry *registry) {
+    static const char *const offered[] = {"en-u-nu-latn-ca-buddhist", "zh-yue"};
+    static const size_t lengths[] = {24, 6};
+    bcp47_available *available;
+    size_t places[2];
+    long before = growths;
+    bcp47_outcome o = bcp47_available_open(&available, registry, offered, lengths, 2);
+    CHECK((o.status == BCP47_DONE) == (available != NULL) && !o.text);
+    if (o.status) CHECK(o.status == BCP47_OUT_OF_MEMORY && was_refused(before));
+    if (!available) return;
+    before = growths;
+    o = bcp47_best(available, "yue, en;q=0.5", 13);
+    CHECK(o.status == BCP47_DONE ? o.place == 2 : o.status == BCP47_OUT_OF_MEMORY && was_refused(before));
+    before = growths;
+    o = bcp47_filter(available, "en;q=0.5, yue", 13, places, 2);
+    if (o.status == BCP47_DONE) CHECK(o.place == 2 && places[0] == 2 && places[1] == 1);
+    else CHECK(o.status == BCP47_OUT_OF_MEMORY && was_refused(before));
+    bcp47_available_close(available);
+}
+
 /* All calls, with the growth of this number refused; answers whether one was. */
 static int run(const char *bytes, size_t length, long number) {
     bcp47_registry *registry;
@@ -111,6 +138,7 @@ static int run(const char *bytes, size_t length, long number) {
         CHECK(!registry && o.length == strlen("OutOfMemory") && !strcmp(buffer, "OutOfMemory"));
         return growths >= number;
     }
+    serve(registry);
     for (size_t i = 0; i < TAGS; i++) ask(registry, !number, CALLS * i, tags[i], strlen(tags[i]));
     long before = growths;
     o = bcp47_upgrade_check(registry, registry);
@@ -129,7 +157,8 @@ static void first_answers(void) {
         {CALLS + 4, "! UnknownRegion 2\n12"}, {3 * CALLS + 4, "\n6"}, {3 * CALLS + 5, "\n0"}, {3 * CALLS + 6, "\n0"},
         {6 * CALLS + 5, "! BadByte 1\n1"}, {7 * CALLS + 5, "! UnknownLanguage 1\n2"}, {7 * CALLS + 6, "! UnknownLanguage 1\n12"},
         {8 * CALLS + 5, "! DuplicateVariant 3\n2"}, {9, "zh-yue\n0"}, {2 * CALLS + 9, "i-klingon\n0"}, {6 * CALLS + 9, "! BadByte 1\n1"},
-        {13, "yue\n0"}, {14, "Type\n0"}, {15, "zh\n0"}, {10, "\n0"}, {11, "\n0"}, {3 * CALLS + 10, "\n6"}, {6 * CALLS + 10, "! BadByte 1\n21"}, {6 * CALLS + 11, "! BadByte 0\n11"},
+        {13, "yue\n0"}, {14, "Type\n0"}, {15, "zh\n0"}, {16, "zh-yue-a2345-b2345\n0"}, {6 * CALLS + 16, "! BadByte 1\n11"},
+        {6 * CALLS + 17, "en-US\n0"}, {18, "sr-Latn-RS\n0"}, {10, "\n0"}, {11, "\n0"}, {3 * CALLS + 10, "\n6"}, {6 * CALLS + 10, "! BadByte 1\n21"}, {6 * CALLS + 11, "! BadByte 0\n11"},
         {7 * CALLS + 10, "! UnknownLanguage 1\n22"}, {7 * CALLS + 11, "\n6"}, {6 * CALLS + 12, "! BadByte 1\n1"},
         {7 * CALLS + 12, "[{\"place\":1,\"kind\":\"Language\",\"text\":\"xx\",\"listing\":\"Unregistered\",\"record\":null,\"fields\":[]}]\n0"},
     };

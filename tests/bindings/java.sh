@@ -31,9 +31,11 @@ if command -v javac > /dev/null; then
         -Djava.library.path="$folder/checked/native/bcp47/linux-amd64" -cp "$jar:$folder/tests" bcp47.Calls "$sample"
     writes "Java answers as the program" "$shared/wanted" java -cp "$jar:$folder/tests" bcp47.Answers "$registry" "$shared/tags"
     writes "Java explains as the program" "$shared/explained" java -cp "$jar:$folder/tests" bcp47.Answers "$registry" "$shared/explained-tags" explain
+    passes "Java: a filter answers browsers" tests/bindings/browsers.sh java -cp "$jar:$folder/tests" bcp47.Serve
+    passes "java.util.Locale serves alike but for known causes" java -cp "$jar" bench/peers/Best.java "$registry" 20000
     sed -n '/^```java$/,/^```$/{/^```/!p}' docs/JAVA.md > "$folder/page/Page.java"
     cp "$sample" "$folder/page/registry.txt"
-    printf '%s\n' yue true true 'BadByte 1 BAD_BYTE 1' '[he, ! BadByte 1]' 'zh-Hant-TW Hant' > "$folder/page/wanted"
+    printf '%s\n' yue true true de 'BadByte 1 BAD_BYTE 1' '[he, ! BadByte 1]' 'zh-Hant-TW Hant' > "$folder/page/wanted"
     writes "Java: docs/JAVA.md's program" "$folder/page/wanted" env -C "$folder/page" java -cp "$jar" Page.java
     # Each other Java that is here, from 17 on.
     for other in /usr/lib/jvm/*/bin/java; do

@@ -18,6 +18,7 @@ void *__wrap_malloc(size_t), *__wrap_calloc(size_t, size_t);
 static bcp47_registry *registry;
 static int depth = 0, is_over = 0, is_first = 1, does_show = 0, is_each_refused = 0;
 static long refused_at = 0, growths = 0;
+static bcp47_available *available;
 static void (*within)(void) = NULL;
 
 static int is_refused(void) {
@@ -82,6 +83,8 @@ static void be_busy(void) {
     CHECK(BUSY(bcp47_match(registry, BCP47_BASIC, "yue", 3, "yue", 3, NULL, 0)));
     CHECK(BUSY(bcp47_verify(registry, "yue", 3, &step, 1, "yue", 3)));
     CHECK(BUSY(bcp47_upgrade_check(registry, registry)));
+    CHECK(BUSY(bcp47_available_open(&available, registry, NULL, NULL, 0)) && !available);
+    CHECK(BUSY(bcp47_available_open(&available, registry, &(const char *){"yue"}, &(size_t){3}, 1)) && !available);
     refused_at = 0;
     CHECK(bcp47_classify(NULL, "EN", 2, buffer, sizeof buffer).status == BCP47_DONE);
 }
@@ -137,6 +140,41 @@ static void show_within(void) {
     CHECK(!ask());
 }
 
+/* The status of a call that asks the list, which has the answer of a call alone. */
+static int ask_list(void) {
+    depth++;
+    bcp47_outcome o = bcp47_best(available, "zh-yue", 6);
+    depth--;
+    if (!o.status) CHECK(o.place == 1);
+    return o.status;
+}
+
+/* As many calls of a list as it has handles for, and one that finds none. The list is closed in their midst, which ends none of them. */
+static void serve_within(void) {
+    if (is_over) return;
+    if (depth < DEEPEST - 1) {
+        CHECK(!ask_list());
+        return;
+    }
+    is_over = 1;
+    CHECK(ask_list() == BCP47_BUSY);
+    bcp47_available_close(available);
+    CHECK(ask_list() == BCP47_NOT_OPEN);
+    bcp47_available_close(available);
+}
+
+static void serve(const char *path) {
+    static const char *const tags[] = {"yue"};
+    static const size_t lengths[] = {3};
+    registry = opened(path);
+    CHECK(!bcp47_available_open(&available, registry, tags, lengths, 1).status);
+    bcp47_close(registry);
+    within = serve_within;
+    is_over = 0;
+    CHECK(!ask_list() && is_over);
+    within = NULL;
+}
+
 /* The child of a fork in the midst of so many calls goes on, and closes the registry. */
 static void fork_within(void) {
     if (is_over) return;
@@ -153,6 +191,7 @@ static void fork_within(void) {
         /* The calls that are under way here never end. */
         bcp47_close(registry);
         if (!does_show) CHECK(bcp47_validate(registry, usual, strlen(usual)).status == BCP47_NOT_OPEN);
+        if (!does_show) CHECK(bcp47_show(registry, NULL, 1, &(char *){NULL}).status == BCP47_NOT_OPEN);
         if (!does_show) bcp47_close(registry);
         exit(failures ? 1 : 7);
     }
@@ -232,6 +271,7 @@ int main(int count, char **words) {
     }
     ask_within(words[1], 1, show_within);
     does_show = 0;
+    serve(words[1]);
     open_and_write_over(words[1]);
     ask_after_jumps(words[1]);
     if (!failures) printf("nested: %d calls at once\n", DEEPEST + 1);

@@ -22,12 +22,23 @@ if command -v node > /dev/null && command -v npm > /dev/null && [ -e "${NODE_HEA
     mkdir "$folder/page"
     passes "Node.js: npm pack" env -C bindings/node npm pack --silent --pack-destination "$folder/page"
     passes "Node.js: npm install" env -C "$folder/page" npm install --silent --offline --no-audit --no-fund "$folder"/page/bcp47-*.tgz
-    sed -n '/^```js$/,/^```$/{/^```/!p}' docs/NODE.md > "$folder/page/page.mjs"
+    program_of NODE.md js 1 > "$folder/page/page.mjs"
+    mkdir "$folder/page/service"
+    cp "$registry" "$folder/page/service/registry.txt"
+    program_of NODE.md js 2 > "$folder/page/service/service.mjs"
     cp "$sample" "$folder/page/registry.txt"
-    printf "%s\n" yue true true "BadByte 1 BadByte 1" he null "A byte" "Tag 'zh-Hant-TW' Hant" "2 gsg" > "$folder/page/wanted"
+    printf "%s\n" yue true true "BadByte 1 BadByte 1" he null "A byte" "Tag 'zh-Hant-TW' Hant" zh-Hant-HK de "2 gsg" > "$folder/page/wanted"
     writes "Node.js: docs/NODE.md's program" "$folder/page/wanted" env -C "$folder/page" node page.mjs
+    echo served > "$folder/served"
+    writes "Node.js: headers of browsers, and Intl beside it" "$folder/served" env -C "$folder/page/service" \
+        node "$root/bindings/node/test/serving.mjs" "$folder/page/service/service.mjs" "$registry"
     passes "Node.js: its licence" cmp LICENSE-MIT "$folder/page/node_modules/bcp47/LICENSE-MIT"
     passes "Node.js: by require" env -C "$folder/page" node -e 'process.exit(`${new (require("bcp47").Tag)("EN")}` === "en" ? 0 : 1)'
+    passes "Node.js: bundled, without its package" env -C "$folder/page" \
+        node -e 'try { require("bcp47").Registry.bundled() } catch ({ code }) { process.exit(code === "MODULE_NOT_FOUND" ? 0 : 1) }; process.exit(1)'
+    passes "Node.js: npm pack, the registry" env -C bindings/node/registry npm pack --silent --pack-destination "$folder/page"
+    passes "Node.js: npm install, the registry" env -C "$folder/page" npm install --silent --offline --no-audit --no-fund "$folder"/page/bcp47-*.tgz
+    passes "Node.js: bundled" env -C "$folder/page" node -e 'process.exit(require("bcp47").Registry.bundled().canonical("zh-yue") === "yue" ? 0 : 1)'
     if command -v tsc > /dev/null; then
         cp bindings/node/test/types.ts "$folder/page"
         passes "Node.js: types" env -C "$folder/page" tsc --noEmit --strict --module node16 --moduleResolution node16 --target es2020 --lib es2020,dom types.ts

@@ -17,7 +17,7 @@ static void compare(writer *proved, namer *name, int first, int last) {
 }
 
 int main(void) {
-    compare(bcp47_write_status_name, bcp47_status_name, BCP47_NOT_OPEN, BCP47_NO_ENTRIES);
+    compare(bcp47_write_status_name, bcp47_status_name, BCP47_NOT_OPEN, BCP47_BAD_HEADER);
     compare(bcp47_write_fault_name, bcp47_fault_name, 1, 0);
     compare(bcp47_write_kind_name, bcp47_kind_name, 1, 0);
     compare(bcp47_write_part_kind_name, bcp47_part_kind_name, 1, 0);

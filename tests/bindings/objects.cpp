@@ -71,11 +71,24 @@ static void refusals(const bcp47::registry &registry) {
     CHECK(registry.verify("sgn-DD", {{BCP47_REGION, 3, 27}}, "gsg").error().line() == "NoSuchStep 1");
     CHECK(bcp47::registry::from_bytes("no registry\n").error().line() == "jar BadLine line 1");
     CHECK(bcp47::registry::from_bytes("").error().line() == "NoEntries" && bcp47::registry::from_bytes("").error().status() == BCP47_NO_ENTRIES);
-    CHECK(bcp47::parts("e").error().line() == "BadLanguage 1");
     auto other = bcp47::registry::from_bytes("File-Date: 2000-01-01\n%%\nType: language\nSubtag: en\n");
     CHECK(registry.upgrade_check(*other).error().line() == "U1 2" && registry.upgrade_check(*other).error().name() == "U1");
     CHECK(bcp47::classify("e").error().line() == "BadLanguage 1");
     CHECK(registry.canonical(std::string(2000, 'a')).error().line() == "TooLong 0");
+}
+
+/* Tags of which one is served: they outlive the result, and a registry that ended. */
+static void available(const bcp47::registry &registry) {
+    auto made = registry.available({"en-GB", "zh-yue", "de"});
+    bcp47::available tags = std::move(*made);
+    CHECK(**tags.best("de-CH, de;q=0.8, en;q=0.5") == 2 && **tags.best("YUE-HK") == 1 && **tags.best("en") == 0);
+    CHECK(!*tags.best("fr") && !*tags.best("de;q=0") && **tags.best("*") == 0);
+    CHECK(*tags.filter("de, en;q=0.5") == (std::vector<std::size_t>{2, 0}) && tags.filter("fr")->empty());
+    CHECK(tags.best("de;q=2").error().status() == BCP47_BAD_HEADER && tags.best("en, de;q=2").error().line() == "BadWeight 2");
+    CHECK(tags.filter("e_n").error().name() == "BadByte");
+    CHECK(!*registry.available({})->best("de") && registry.available({})->filter("*")->empty());
+    auto refused = registry.available({"en", "e_n"});
+    CHECK(refused.error().line() == "BadByte 1" && refused.error().outcome.text == 2);
 }
 
 static int answer(const bcp47::registry &registry, bool is_explained, const char *path) {
@@ -116,7 +129,7 @@ int main(int count, char **words) {
     CHECK(registry.extlang("yue").value() == "zh-yue" && registry.extlang("yue")->size() == 6);
     CHECK(registry.is_valid("zh-yue") && !registry.is_valid("") && !registry.is_valid(std::string_view()) && registry.validate("en"));
     CHECK(registry.equivalent("zh-yue", "YUE").value() && !registry.equivalent("zh-yue", "zh").value());
-    CHECK(registry.match("zh-yue", "yue-GB").value() && !registry.match("zh", "yue-GB").value());
+    CHECK(registry.match("zh-yue", "yue-GB").value() && registry.match("zh", "yue-GB").value() && !registry.match("yue", "zh-GB").value());
     CHECK(registry.match("de-DE", "de-Latn-DE").value() && !registry.match("de-DE", "de-Latn-DE", BCP47_BASIC).value());
     CHECK(registry.show("YUE").value() ==
           R"([{"place":1,"kind":"Language","text":"yue","listing":"Record","record":16,"fields":[]}])");
@@ -130,12 +143,21 @@ int main(int count, char **words) {
     auto header = registry.record(1);
     CHECK(header->size() == 1 && header->front() == std::make_pair(std::string("File-Date"), std::string(words[2])));
     CHECK(registry.record(UINT32_MAX)->empty());
-    auto parts = bcp47::parts("zh-hant-hk");
-    CHECK(parts->size() == 3 && (*parts)[1].kind == BCP47_PART_SCRIPT && (*parts)[1].text == "Hant");
+    auto told = bcp47::classify("zh-yue-hant-hk-1994-x-own");
+    CHECK(told->parts.size() == 7 && told->parts[2].kind == BCP47_PART_SCRIPT && told->kind() == BCP47_LANGTAG);
+    CHECK(told->language() == "zh" && told->script() == "Hant" && told->region() == "HK" && bcp47::classify("x-own")->kind() == BCP47_PRIVATE_USE);
+    CHECK(told->extlangs() == std::vector<std::string>{"yue"} && told->variants() == std::vector<std::string>{"1994"});
+    CHECK(!bcp47::classify("i-klingon")->language() && told->all(BCP47_PART_PRIVATE_USE) == std::vector<std::string>{"own"});
+    CHECK(*bcp47::with("zh-tw", BCP47_PART_SCRIPT, "hant") == "zh-Hant-TW" && *bcp47::with("de-AT", BCP47_PART_REGION, "") == "de");
+    CHECK(bcp47::with("en", BCP47_PART_SCRIPT, "Latin").error().outcome.text == 2);
+    CHECK(bcp47::with("x-own", BCP47_PART_SCRIPT, "Latn").error().outcome.text == 1);
+    CHECK(*bcp47::posix("sr_RS.UTF-8@latin") == "sr-Latn-RS" && *bcp47::posix("C") == "en-US-u-va-posix");
+    CHECK(bcp47::posix("en_US@klingon").error().line() == "BadByte 0");
+    available(registry);
     CHECK(registry.verify("sgn-DD", {{BCP47_REGION, 2, 27}, {BCP47_WHOLE, 1, 44}}, "gsg") && registry.verify("en", {}, "EN"));
     CHECK(registry.upgrade_check(registry).has_value());
     auto tag = bcp47::classify("EN-gb-OED");
-    CHECK(tag && tag->text == "en-GB-oed" && tag->kind == BCP47_GRANDFATHERED);
+    CHECK(tag && tag->text == "en-GB-oed" && tag->kind() == BCP47_GRANDFATHERED);
     std::string longest = "en-x";
     while (longest.size() < 1000) longest += "-abcdefgh";
     CHECK(registry.canonical(longest).value() == longest && bcp47::classify(longest)->text == longest);

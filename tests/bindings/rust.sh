@@ -28,10 +28,12 @@ if command -v cargo > /dev/null; then
     }
     writes "Rust answers as the program" "$shared/wanted" answers "$shared/tags" one
     writes "Rust explains as the program" "$shared/explained" answers "$shared/explained-tags" explain
+    passes "Rust: a service answers browsers" sh -c 'cargo build --offline -q --manifest-path bindings/rust/Cargo.toml --example serve &&
+        tests/bindings/browsers.sh "$CARGO_TARGET_DIR/debug/examples/serve"'
     mkdir -p "$folder/page/src"
     printf '[package]\nname = "page"\nversion = "1.0.0"\nedition = "2021"\n[dependencies]\nbcp47 = { path = "%s/bindings/rust/bcp47" }\n' "$root" > "$folder/page/Cargo.toml"
     sed -n '/^```rust$/,/^```$/{/^```/!p}' docs/RUST.md > "$folder/page/src/main.rs"
-    printf '%s\n' yue true true 'BadByte 1' 'zh-Hant-TW Some("Hant")' 'Region 2 27 sgn-DE' 'Whole 1 44 gsg' '= gsg' > "$folder/page/wanted"
+    printf '%s\n' yue true true 'Some("de")' 'BadByte 1' 'zh-Hant-TW Some("Hant")' 'Region 2 27 sgn-DE' 'Whole 1 44 gsg' '= gsg' > "$folder/page/wanted"
     cp "$sample" "$folder/page/registry.txt"
     passes "Rust: docs/RUST.md's program" env -C "$folder/page" BCP47_LIB_DIR="$root/build" cargo build --offline -q
     writes "Rust: what it prints" "$folder/page/wanted" env -C "$folder/page" "$CARGO_TARGET_DIR/debug/page"

@@ -52,6 +52,7 @@ static const struct {
     {"SELECT bcp47_canonical('en')", NULL},
     {"SELECT bcp47_match('en', 'en')", NULL},
     {"SELECT bcp47_show('en')", NULL},
+    {"SELECT bcp47_best('en', 'en')", NULL},
     {"SELECT bcp47_registry()", "NULL"},
     {"SELECT bcp47_load(?)", "1"},
     {"SELECT bcp47_load(?)", "1"},
@@ -72,12 +73,17 @@ static const struct {
     {"SELECT bcp47_match('de', 'en-u-ca-buddhist-nu-latn', '2024-01-01')", "0"},
     {"SELECT bcp47_match('en', 'e_n') IS NULL AND bcp47_match('e_n', 'en') IS NULL AND bcp47_match(NULL, 'en') IS NULL AND "
      "bcp47_match('en', NULL) IS NULL", "1"},
+    {"SELECT bcp47_best('de-DE;q=0.5, iw', 'en, de , he', '2024-01-01')", "he"},
+    {"SELECT bcp47_best('de', 'en') IS NULL AND bcp47_best('e_n', 'en') IS NULL AND bcp47_best('en', 'e_n') IS NULL AND bcp47_best(NULL, 'en') IS NULL", "1"},
     {"SELECT bcp47_part('zh-hant-hk', 'script')", "Hant"},
     {"SELECT substr(bcp47_registry(), 1, 10)", "2024-01-01"},
     {"SELECT bcp47_canonical(NULL) IS NULL AND bcp47_fault(NULL) IS NULL AND bcp47_explain(NULL) IS NULL AND bcp47_equivalent(NULL, 'en') "
      "IS NULL AND bcp47_equivalent('en', NULL) IS NULL AND bcp47_part(NULL, 'key') IS NULL AND bcp47_part('en', NULL) IS NULL", "1"},
     {"SELECT bcp47_canonical('e_n') IS NULL AND bcp47_fault('en') IS NULL AND bcp47_explain('e_n') IS NULL AND bcp47_equivalent('en', 'e_n') "
      "IS NULL AND bcp47_part('e_n', 'key') IS NULL AND bcp47_part('en', 'key') IS NULL AND bcp47_equivalent('en', 'de') = 0", "1"},
+    {"SELECT bcp47_with('de-CH', 'region', 'AT') || ' ' || bcp47_with('ZH-tw', 'Script', 'hant')", "de-AT zh-Hant-TW"},
+    {"SELECT bcp47_with('de', 'region', 'A_') IS NULL AND bcp47_with('x-a', 'region', 'AT') IS NULL AND bcp47_with(NULL, 'region', 'AT') IS NULL", "1"},
+    {"SELECT bcp47_with('de', 'regions', 'AT')", NULL},
     {"SELECT bcp47_part('en', 'regions')", NULL},
     {"SELECT bcp47_canonical('en', '0123456789' || hex(zeroblob(32)))", NULL},
     {"SELECT bcp47_load(NULL)", "NULL"},

@@ -72,6 +72,8 @@ static void ask_others(void) {
         bcp47_match(registry, scheme, text, strlen(text), text, strlen(text), NULL, 0);
     bcp47_verify(registry, text, strlen(text), &step, 1, text, strlen(text));
     bcp47_parent(text, strlen(text), buffer, room);
+    bcp47_with(text, strlen(text), BCP47_PART_VARIANT, "rozaj-biske", 11, buffer, room);
+    bcp47_posix("ca_ES.UTF-8@valencia", 20, buffer, room);
 }
 
 static void ask_parts(void) {

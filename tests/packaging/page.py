@@ -102,7 +102,7 @@ def by_keys(browser) -> None:
         assert seen == ["solid", "3px"], (order, seen)
         if order[-1] == "jar":
             break
-    assert order == ["One tag", "A list or a file", "Are these one?", "The registry", "tag", "Look at the tag", "tags", "Look at the list", "file", "first",
+    assert order == ["One tag", "A list or a file", "Do two tags mean the same?", "The registry", "tag", "Look at the tag", "tags", "Look at the list", "file", "first",
                      "second", "Compare the two", "jar"], order
     browser.run("document.getElementById('tag').select()")
     for key in "iw":
@@ -202,7 +202,7 @@ def by_many(browser, folder: Path, big: Path):
 
 def by_two(browser) -> None:
     """Whether two tags are one."""
-    for first, second, wanted in (("zh-cmn-Hans", "cmn-hans", "Yes, they are one: both are cmn-Hans."), ("en-GB", "en-US", "No, they are two: en-GB and en-US."),
+    for first, second, wanted in (("zh-cmn-Hans", "cmn-hans", "Yes, they mean the same: both are cmn-Hans."), ("en-GB", "en-US", "No, they are different: en-GB and en-US."),
                                   ("eng", "de", "The first tag, eng, is refused. UnknownLanguage at subtag 1"), ("de", "en_US", "The second tag, en_US, is refused. BadByte")):
         browser.run("document.getElementById('equal-said').textContent = '';"
                     + "".join(f"document.getElementById('{key}').value = {json.dumps(it)};" for key, it in (("first", first), ("second", second)))

@@ -29,7 +29,7 @@ const same = (name, [theirs, ours], ...given) => {
 const open = (bytes) => [addon, wasm].map((by) => by.open(bytes));
 const ask = (held, tag) => {
   for (const name of ['canonical', 'variant', 'extlang', 'validate']) same(name, held, tag);
-  same('parts', [], tag);
+  for (const name of ['parts', 'parent']) same(name, [], tag);
   same('explain', held, tag, 100);
   for (const scheme of [0, 1, 2, 3]) same('match', held, 'zh-yue', tag, scheme);
   same('match', held, tag, 'de-DE', 2);
@@ -38,7 +38,8 @@ const ask = (held, tag) => {
 assert.equal(wasm.version, addon.version);
 for (let which = 0; which < 5; which++) assert.deepEqual(wasm.names(which), addon.names(which));
 const held = open(readFileSync(path));
-assert.deepEqual(wasm.facts(held[1]), addon.facts(held[0]));
+assert.deepEqual(wasm.facts(held[1]).map(String), addon.facts(held[0]).map((it) => String(Buffer.isBuffer(it) ? [...it] : it)));
+for (let number = 0; number < 10000; number += 7) same('record', held, number);
 const tags = readFileSync(lines, 'utf8').split('\n').slice(0, -1);
 for (const tag of tags) ask(held, tag);
 for (const tag of tags.slice(0, 5000)) same('show', held, tag);
@@ -47,6 +48,16 @@ const odd = ['', '-', 'en-', 'a'.repeat(31), 'a'.repeat(32), 'a'.repeat(33), 'en
 for (const tag of odd) ask(held, tag);
 for (const wrong of ['bytes', new Uint16Array(3), null, undefined, {}]) same('open', [], wrong);
 for (const name of ['canonical', 'variant', 'extlang', 'validate', 'explain', 'facts', 'close', 'show']) same(name, [], {}, 'en', 3);
+for (const offered of [[], ['de'], ['en-GB', 'zh-yue', 'de'], tags.filter((tag) => typeof addon.canonical(held[0], tag) === 'string').slice(0, 300)]) {
+  const available = [addon, wasm].map((by, i) => by.available(held[i], offered));
+  for (const accept of ['de-CH, de;q=0.8, en;q=0.5', '*', '', 'zh', 'de;q=0, *', 'e_n', 'en;q=2', 'é', '\ud800', 7, null, ...tags.slice(0, 300)])
+    for (const name of ['best', 'filter']) same(name, available, accept);
+  available.forEach((it, i) => [addon, wasm][i].close(it));
+}
+for (const part of [0, 1, 3, 4, 5, 6, 18]) for (const value of ['', 'de', 'Latn', 'AT', 'x-a', 'u-co-phonebk', 'é', 7]) for (const tag of tags.slice(0, 50)) same('with', [], tag, part, value);
+for (const name of ['C', 'de_AT', 'sr_RS.UTF-8@latin', 'x@y', '', 7]) same('posix', [], name);
+same('available', [], {}, ['en']);
+for (const name of ['best', 'filter']) same(name, [], {}, 'en');
 console.log(`beside.mjs: ${tags.length} tags by each call`);
 
 // registries: a byte that is another, a line that is lost, said twice or put elsewhere

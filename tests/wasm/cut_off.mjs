@@ -10,7 +10,7 @@ const held = calls.open(readFileSync(path));
 const BUSY = 15;
 let cut = 0, busy = 0;
 const asks = [
-  [() => calls.canonical(held, 'zh-yue'), 'yue'], [() => calls.canonical(held, 'i-klingon'), 'tlh'], [() => [].concat(calls.explain(held, 'sgn-dd', 9)).at(-1), 'gsg'],
+  [() => calls.canonical(held, 'zh-yue'), 'yue'], [() => calls.canonical(held, 'i-klingon'), 'tlh'], [() => calls.explain(held, 'sgn-dd', 9), /= gsg\n$/],
   [() => calls.show(held, 'de-Latn'), /^\[\{"place":1,/], [() => calls.match(held, 'zh-yue', 'yue-GB', 1), true], [() => calls.parts('en-x-a'), /^en-x-a\./],
 ];
 function check([ask, wanted]) {

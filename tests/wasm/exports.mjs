@@ -46,6 +46,9 @@ for (let at = 0, end; (end = lines.indexOf(10, at)) >= 0; at = end + 1, tested++
   written(of.bcp47_classify(...asked));
   for (const count of [0, 2]) told(of.bcp47_verify(registry, ...tag, steps, count, ...tag));
   written(of.bcp47_parent(...tag, to, ROOM));
+  const value = put(Buffer.from('gsw-x-own'), given + 2048)[0];
+  for (const part of [1, 0]) written(of.bcp47_with(...tag, part, value, 3, to, ROOM));
+  written(of.bcp47_posix(...tag, to, ROOM));
   told(of.bcp47_validate(registry, ...tag));
   const range = put(Buffer.from('zh-yue'), given + 2048);
   told(of.bcp47_equivalent(registry, ...tag, ...range, to, ROOM));
@@ -79,6 +82,21 @@ for (let number = 0; number < 10000; number++) {
   add(fields, whole);
   of.bcp47_free(fields);
 }
+put(Buffer.from('en-GBzh-yuede'), given);
+for (const [i, [from, length]] of [[0, 5], [5, 6], [11, 2]].entries()) {
+  const numbers = new DataView(of.memory.buffer);
+  numbers.setBigUint64(given + 1024 + 8 * i, BigInt(given + from), true);
+  numbers.setBigUint64(given + 1048 + 8 * i, BigInt(length), true);
+}
+const available = of.bcp47_available_open(registry, given + 1024, given + 1048, 3);
+told(word(outcome));
+for (const text of ['de-CH, de;q=0.8, en;q=0.5', 'zh', 'fr', '*', '', 'en, de;q=2']) {
+  const header = put(Buffer.from(text), given + 2048);
+  told(of.bcp47_best(available, ...header));
+  const status = told(of.bcp47_filter(available, ...header, given + 1072, 3));
+  add(given + 1072, status ? 0 : 8 * word(outcome + 8));
+}
+of.bcp47_available_close(available);
 told(of.bcp47_upgrade_check(registry, registry));
 const names = ['status_name', 'fault_name', 'kind_name', 'part_kind_name', 'status_help', 'fault_help'].map((name) => of[`bcp47_${name}`]);
 for (let i = -1; i < 70; i++) {

@@ -32,7 +32,11 @@ int wasm_canonical(address, address, uint32_t, address, uint32_t), wasm_extlang(
 int wasm_classify(address, address, uint32_t, address, uint32_t);
 int wasm_parts(address, uint32_t, address, uint32_t, address, uint32_t);
 int wasm_parent(address, uint32_t, address, uint32_t), wasm_validate(address, address, uint32_t);
+int wasm_with(address, uint32_t, int, address, uint32_t, address, uint32_t), wasm_posix(address, uint32_t, address, uint32_t);
 address wasm_record(address, uint32_t);
+address wasm_available_open(address, address, address, uint32_t);
+void wasm_available_close(address);
+int wasm_best(address, address, uint32_t), wasm_filter(address, address, uint32_t, address, uint32_t);
 int wasm_equivalent(address, address, uint32_t, address, uint32_t, address, uint32_t);
 int wasm_match(address, int, address, uint32_t, address, uint32_t, address, uint32_t);
 address wasm_explanation(address, address, uint32_t, uint32_t), wasm_steps(address, address, uint32_t, uint32_t), wasm_show(address, address, uint32_t);
@@ -185,6 +189,31 @@ static void test_given(address said, char *lines) {
     wasm_free(said), bcp47_free(lines);
 }
 
+/* Tags of which one is served. */
+static void test_available(address registry) {
+    static const char *const headers[] = {"de-CH, de;q=0.8, en;q=0.5", "zh", "fr", "*", "", "en, de;q=2"};
+    const char **tags = (const char **)(void *)(given + 1024);
+    size_t *lengths = (size_t *)(void *)(given + 1048), *places = (size_t *)(void *)(given + 1072), by_c[3];
+    bcp47_available *available;
+    tags[0] = memcpy(given, "en-GBzh-yuede", 13), tags[1] = given + 5, tags[2] = given + 11;
+    lengths[0] = 5, lengths[1] = 6, lengths[2] = 2;
+    lengths[0] = 0;
+    CHECK(!wasm_available_open(registry, OF(tags), OF(lengths), 3) && told->status == BCP47_NOT_A_TAG && told->text == 1);
+    lengths[0] = 5;
+    address at = wasm_available_open(registry, OF(tags), OF(lengths), 3);
+    SAME(told->status, bcp47_available_open(&available, AT(bcp47_registry, registry), tags, lengths, 3));
+    for (size_t i = 0; i < sizeof headers / sizeof *headers; i++) {
+        uint32_t length = (uint32_t)strlen(strcpy(given + 2048, headers[i]));
+        SAME(wasm_best(at, OF(given + 2048), length), bcp47_best(available, headers[i], length));
+        SAME(wasm_filter(at, OF(given + 2048), length, OF(places), 3), bcp47_filter(available, headers[i], length, by_c, 3));
+        size_t found = told->status == BCP47_DONE ? told->place : 0;
+        CHECK(!memcmp(places, by_c, found * sizeof *places));
+        add(places, found * sizeof *places);
+    }
+    wasm_available_close(at), bcp47_available_close(available);
+    CHECK(wasm_best(at, OF(given), 1) == BCP47_NOT_OPEN);
+}
+
 static void test_tag(address at, const char *text, uint32_t length) {
     bcp47_registry *registry = AT(bcp47_registry, at);
     address tag = OF(given), to = OF(buffer);
@@ -197,6 +226,10 @@ static void test_tag(address at, const char *text, uint32_t length) {
     for (uint32_t two = 0; two < 3; two += 2)
         SAME(wasm_verify(at, tag, length, OF(steps), two, tag, length), bcp47_verify(registry, text, length, steps, two, text, length));
     SAME_TEXT(wasm_parent(tag, length, to, 4096), bcp47_parent(text, length, wanted_text, 4096));
+    address value = OF(memcpy(given + 2048, "gsw-x-own", 9));
+    SAME_TEXT(wasm_with(tag, length, BCP47_PART_LANGUAGE, value, 3, to, 4096), bcp47_with(text, length, BCP47_PART_LANGUAGE, "gsw", 3, wanted_text, 4096));
+    SAME_TEXT(wasm_with(tag, length, 0, value, 3, to, 4096), bcp47_with(text, length, 0, "gsw", 3, wanted_text, 4096));
+    SAME_TEXT(wasm_posix(tag, length, to, 4096), bcp47_posix(text, length, wanted_text, 4096));
     SAME(wasm_validate(at, tag, length), bcp47_validate(registry, text, length));
     SAME(wasm_equivalent(at, tag, length, OF(memcpy(given + 2048, "zh-yue", 6)), 6, to, 4096), bcp47_equivalent(registry, text, length, "zh-yue", 6, wanted_text, 4096));
     for (int scheme = 0; scheme < 4; scheme++)
@@ -294,6 +327,7 @@ int main(int count, char **words) {
         add(fields, whole);
         wasm_free(said), bcp47_free(fields);
     }
+    test_available(registry);
     SAME(wasm_upgrade_check(registry, registry), bcp47_upgrade_check(AT(bcp47_registry, registry), AT(bcp47_registry, registry)));
     for (int i = -1; i < 70; i++) {
         const char *const names[] = {bcp47_status_name(i), bcp47_fault_name(i), bcp47_kind_name(i), bcp47_part_kind_name(i), bcp47_status_help(i), bcp47_fault_help(i)};

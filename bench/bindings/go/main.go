@@ -65,6 +65,24 @@ func main() {
 			read.Parts()
 		}
 	})
+	available, err := registry.Available("en", "de", "fr", "es", "pt-BR", "zh-Hans", "zh-Hant", "ja", "ko", "nb", "he", "sr-Latn")
+	if err != nil {
+		log.Fatal(err)
+	}
+	matcher := language.NewMatcher([]language.Tag{language.English, language.German, language.French, language.Spanish, language.BrazilianPortuguese,
+		language.SimplifiedChinese, language.TraditionalChinese, language.Japanese, language.Korean, language.Norwegian, language.Hebrew,
+		language.MustParse("sr-Latn")})
+	const header, times = "de-CH,de;q=0.9,en;q=0.8", 100_000
+	measure("Available.Best, headers of three ranges over twelve", times, func() {
+		for i := 0; i < times; i++ {
+			available.Best(header)
+		}
+	})
+	measure("x/text's Matcher, the same", times, func() {
+		for i := 0; i < times; i++ {
+			language.MatchStrings(matcher, header)
+		}
+	})
 	measure("x/text", len(tags), func() {
 		for _, tag := range tags {
 			if read, err := language.All.Parse(tag); err == nil {

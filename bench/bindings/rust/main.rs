@@ -35,6 +35,13 @@ fn main() -> Result<(), Box<dyn std::error::Error>> {
         let parts = |tag: &&str| tag.parse::<bcp47::Tag>().map_or(0, |tag| tag.parts().count());
         valid.iter().map(parts).sum()
     });
+    let available = registry.available(&[
+        "en", "de", "fr", "es", "pt-BR", "zh-Hans", "zh-Hant", "ja", "ko", "nb", "he", "sr-Latn",
+    ])?;
+    measure("Available::best, headers of three ranges over twelve", 100_000, || {
+        let best = |_| available.best("de-CH,de;q=0.9,en;q=0.8").map_or(0, |tag| tag.map_or(0, str::len));
+        (0..100_000).map(best).sum()
+    });
     #[cfg(feature = "peer")]
     measure("oxilangtag, letter case alone", tags.len(), || {
         let cased = |tag: &&str| oxilangtag::LanguageTag::parse_and_normalize(tag);

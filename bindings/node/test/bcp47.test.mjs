@@ -41,6 +41,47 @@ test('ranges match', () => {
   assert.throws(() => registry.matches(undefined, 'en'), TypeError);
 });
 
+test('the tag that is served', () => {
+  const tags = ['en-GB', new Tag('zh-yue'), 'de'], available = registry.available(tags);
+  assert.equal(available.best('de-CH, de;q=0.8, en;q=0.5'), 'de');
+  assert.equal(available.best('YUE-HK'), tags[1]);
+  assert.deepEqual(['en', '*', null, undefined, 'fr', 'de;q=0', ''].map((accept) => available.best(accept)), ['en-GB', 'en-GB', 'en-GB', 'en-GB', null, null, null]);
+  assert.equal(available.best('fr', 'none'), 'none');
+  assert.deepEqual(available.filter('de, en;q=0.5'), ['de', 'en-GB']);
+  assert.deepEqual([available.filter('fr'), available.tags], [[], tags]);
+  for (const ask of ['best', 'filter']) {
+    assert.throws(() => available[ask]('en, de;q=2'), { name: 'RefusedTag', status: 'BadHeader', fault: 'BadWeight', place: 2, tag: 'en, de;q=2' });
+    assert.throws(() => available[ask]('de, e_n'), { fault: 'BadByte' });
+    assert.throws(() => available[ask](7), TypeError);
+  }
+  const none = registry.available([]);
+  assert.deepEqual([none.best('de'), none.filter('*')], [null, []]);
+  assert.throws(() => registry.available(['en', 'e_n']), { message: 'BadByte 1', tag: 'e_n' });
+  for (const wrong of ['en', null, 7, [7]]) assert.throws(() => registry.available(wrong), TypeError);
+});
+
+test('tags that are served outlive their registry', () => {
+  const own = Registry.fromFile(sample), available = own.available(['de', 'en']);
+  own.close();
+  assert.equal(available.best('en'), 'en');
+  assert.throws(() => own.available(['de']), { message: 'the registry is closed' });
+});
+
+test('tags with other parts', () => {
+  const tag = new Tag('zh-yue-TW-x-a');
+  assert.equal(`${tag.with({ script: 'HANT', region: 'hk' })}`, 'zh-yue-Hant-HK-x-a');
+  assert.equal(`${tag.with({ region: null, privateUse: [], language: 'de' })}`, 'de');
+  assert.equal(`${Tag.fromParts({ language: 'sl', variants: ['rozaj', 'biske'], extensions: 'u-co-phonebk', privateUse: ['own'] })}`, 'sl-rozaj-biske-u-co-phonebk-x-own');
+  assert.throws(() => tag.with({ script: 'Latin' }), { tag: 'Latin' });
+  assert.throws(() => new Tag('x-own').with({ script: 'Latn' }), { tag: 'x-own' });
+  assert.throws(() => tag.with({ scripts: 'Latn' }), TypeError);
+});
+
+test('tags of POSIX', () => {
+  assert.deepEqual(['sr_RS.UTF-8@latin', 'C', 'de_AT'].map((name) => `${Tag.fromPosix(name)}`), ['sr-Latn-RS', 'en-US-u-va-posix', 'de-AT']);
+  assert.throws(() => Tag.fromPosix('en_US@klingon'), { message: 'BadByte 0' });
+});
+
 test('refusals in a list are answers', () => {
   const repeats = 'ja-Latn-hepburn-alalc97-heploc';
   const [bad, repeated] = registry.canonicalMany(['en_US', repeats]);
@@ -201,6 +242,9 @@ test('records have fields', () => {
   const registry = Registry.fromFile(sample);
   assert.deepEqual(registry.record(1), [{ name: 'File-Date', body: '2024-01-01' }]);
   assert.deepEqual(registry.record(4e9), []);
+  const own = new Registry(Buffer.from('Type: language\nSubtag: nb\nDescription: Norsk bokmål\nDescription: \ufeffb\n'));
+  assert.deepEqual(own.record(1).map(({ body }) => body), ['language', 'nb', 'Norsk bokmål', '\ufeffb']);
+  own.close();
 });
 
 test('CommonJS', () => {

@@ -1,6 +1,6 @@
 // The types of the package, by the compiler of TypeScript: each use has to compile, but those that are told to fail.
 import { load } from 'bcp47/load';
-import { Fault, Info, Refusal, Refused, RefusedTag, Registry, Step, Tag, version } from 'bcp47';
+import { Available, Fault, Info, Refusal, Refused, RefusedTag, Registry, Step, Tag, version } from 'bcp47';
 
 const registry: Registry = Registry.fromFile(new URL('file:///registry.txt'));
 const loaded: Promise<Registry> = load(fetch('bcp47.wasm')).then(({ Registry: Loaded }) => new Loaded(new Uint8Array()));
@@ -9,6 +9,10 @@ const many: (string | Refusal | null)[] = registry.canonicalMany(new Set(['iw', 
 const refusals: Refusal[] = many.filter((answer): answer is Refusal => answer instanceof Refusal);
 const bytes: boolean = refusals.some(({ fault }) => fault === 'BadByte');
 const { steps } = registry.explain('sgn-dd', 100);
+const available: Available<string | Tag> = registry.available(['en', new Tag('de')]);
+const best: (string | Tag | null)[] = [available.best('de-CH, de;q=0.8'), available.best(undefined), ...available.filter(null)];
+const other: 'en' | 7 = registry.available(['en'] as const).best('de', 7 as const);
+const made: string[] = [Tag.fromParts({ language: 'zh', script: 'Hant' }), Tag.fromPosix('C'), new Tag('de').with({ region: null, variants: ['1996'] })].map((tag) => tag.text);
 const parent: Tag | null = new Tag('zh-TW').parent;
 const field: string = registry.record(1)[0].name;
 const names: string[] = registry.show('sgn-dd').flatMap(({ fields }) => fields.map(({ body }) => body));
@@ -30,6 +34,8 @@ registry.canonical(7);
 // @ts-expect-error
 registry.matches('en', 'en', 'exact');
 // @ts-expect-error
+new Tag('de').with({ scripts: 'Latn' });
+// @ts-expect-error
 info.entries = 3;
 // @ts-expect-error
 new Tag('en').text = 'de';
@@ -38,4 +44,4 @@ new Registry('text');
 // @ts-expect-error
 const wrong: Fault = 'BadBytes';
 export { loaded, names };
-export { bytes, field, isOne, kinds, matched, parent, parts, scripts, step, wrong };
+export { best, bytes, field, isOne, kinds, made, matched, other, parent, parts, scripts, step, wrong };

@@ -14,23 +14,27 @@ import importlib.resources
 import itertools
 import json
 import os
-from typing import (TYPE_CHECKING, Any, Dict, Iterable, Iterator, List, Literal, NamedTuple, NoReturn, Optional, Tuple, Type, TypeVar, Union,
-                    overload)
+from typing import (TYPE_CHECKING, Any, Dict, Generic, Iterable, Iterator, List, Literal, Mapping, NamedTuple, NoReturn, Optional, Tuple, Type,
+                    TypeVar, Union, overload)
 
 from . import _bcp47
+from .numbers import PARTS, STEPS, Fault
 
-__all__ = ["Explanation", "Info", "Part", "Refused", "RefusedRegistry", "RefusedTag", "RefusedTrace", "RefusedUpgrade", "Registry",
+__all__ = ["Available", "Explanation", "Fault", "Info", "Part", "Refused", "RefusedRegistry", "RefusedTag", "RefusedTrace", "RefusedUpgrade", "Registry",
            "Row", "Step", "Tag", "__version__"]
 
 __version__: str = _bcp47.version
 
-_CLASSES = {1: "langtag", 2: "privateuse", 3: "grandfathered"}
+_CLASSES = {"PrivateUseSingleton": "privateuse", "Grandfathered": "grandfathered"}
 _OF_EXTENSIONS = ("ExtensionSubtag", "Attribute", "Key", "Type", "SourceLanguage", "SourceExtlang", "SourceScript", "SourceRegion",
                   "SourceVariant", "Separator", "Value")
 _SCHEMES = {"basic": 1, "extended": 2, "lookup": 3}
 # What a Tag keeps of its parts, and the kinds of these.
 _ONE = (("language", "Language"), ("script", "Script"), ("region", "Region"))
 _MANY = (("extlangs", "Extlang"), ("variants", "Variant"), ("attributes", "Attribute"), ("private", "PrivateUse"))
+# The number of each part that is replaced, in the order of a tag.
+_REPLACED = (("language", 1), ("script", 3), ("region", 4), ("variants", 5), ("extensions", 6), ("private", 18))
+_Subtags = Union[str, Iterable[str]]
 Missing = TypeVar("Missing")
 AnyTag = TypeVar("AnyTag", bound="Union[str, Tag]")
 AnyRegistry = TypeVar("AnyRegistry", bound="Registry")
@@ -46,9 +50,9 @@ class Refused(ValueError):
         return str(self.args[1])
 
     @property
-    def fault(self) -> str:
+    def fault(self) -> Fault:
         """What is wrong, as "UnknownScript"."""
-        return str(self.args[2])
+        return Fault[self.args[2]]
 
     @property
     def place(self) -> int:
@@ -141,16 +145,18 @@ class Info(NamedTuple):
     sha256: str
 
 
-# The number of each kind of step.
-_KINDS = {_bcp47.names(number)[4]: number for number in range(1, 15)}
-
-
 def _numbers(step: Step) -> Tuple[int, int, int]:
     """A step in numbers. One that has none, as no kind has its name, gets zeros, which lead nowhere."""
-    kind = _KINDS.get(step.kind, 0)
-    if not all(isinstance(number, int) and 0 <= number < 2**32 for number in (step.place, step.number)):
+    if step.kind not in STEPS or not all(isinstance(number, int) and 0 <= number < 2**32 for number in (step.place, step.number)):
         return 0, 0, 0
-    return kind, step.place, step.number
+    return STEPS.index(step.kind), step.place, step.number
+
+
+def _joined(value: Union[_Subtags, Mapping[str, _Subtags], None]) -> str:
+    """The text of a part."""
+    if isinstance(value, Mapping):
+        return "-".join(f"{singleton}-{_joined(subtags)}" for singleton, subtags in value.items())
+    return value if isinstance(value, str) else "-".join(value or ())
 
 
 @functools.total_ordering
@@ -169,6 +175,7 @@ class Tag:
         "variants": "The variants (RFC 5646, 2.2.5).",
         "attributes": "The attributes of the `u` extension (RFC 6067, 2.1).",
         "private": "The subtags of private use (RFC 5646, 2.2.7).",
+        "_kinds": "The number of the kind of each part.",
         "__weakref__": "For weakref.",
     }
     __match_args__ = ("text",)
@@ -182,11 +189,35 @@ class Tag:
     variants: Tuple[str, ...]
     attributes: Tuple[str, ...]
     private: Tuple[str, ...]
+    _kinds: bytes
 
     def __init__(self, text: Union[str, Tag]) -> None:
-        number, shown = _bcp47.classify(text)
-        object.__setattr__(self, "kind", _CLASSES[number])
+        shown, kinds = _bcp47.read(text)
         object.__setattr__(self, "text", shown)
+        object.__setattr__(self, "_kinds", kinds)
+
+    @classmethod
+    def from_parts(cls, language: _Subtags, **parts: Union[_Subtags, Mapping[str, _Subtags], None]) -> Tag:
+        """The tag of these parts, which `replace` names."""
+        return Tag(_joined(language)).replace(**parts)
+
+    @classmethod
+    def from_posix(cls, name: str) -> Tag:
+        """The tag that the name of a POSIX locale stands for: `sr-Latn-RS` for `sr_RS.UTF-8@latin`. Raises RefusedTag."""
+        return Tag(_bcp47.posix(name))
+
+    def replace(self, **parts: Union[_Subtags, Mapping[str, _Subtags], None]) -> Tag:
+        """A tag with other parts: `language` (with its extlangs, as `zh-yue`), `script`, `region`, `variants`, `extensions` and
+        `private`. Each is a text, subtags, or of `extensions` a mapping as the property gives it; None and what is empty take it
+        away. No registry is asked, so that the tag need not be valid. Raises RefusedTag, also where the tag has no language."""
+        if not {*parts} <= {name for name, _ in _REPLACED}:
+            raise TypeError(f"a part is one of {', '.join(name for name, _ in _REPLACED)}")
+        text = self.text
+        for name, number in _REPLACED:
+            if name in parts:
+                value = _joined(parts[name])
+                text = _bcp47.replaced(text, number, f"x-{value}" if value and name == "private" else value)
+        return Tag(text)
 
     @property
     def parent(self) -> Optional[Tag]:
@@ -198,14 +229,16 @@ class Tag:
     if not TYPE_CHECKING:
         def __getattr__(self, name: str) -> object:
             """The parts are read when the first of them is asked for, and kept."""
-            if name in ("kind", "text") or name not in Tag.__slots__:
+            if name in ("text", "_kinds") or name not in Tag.__slots__:
                 raise AttributeError(f"a Tag has no {name!r}")
-            parts = _bcp47.parts(self.text)
-            kept = {}
-            for kind, text in parts:
+            # a grandfathered tag is one part
+            texts = [self.text] if len(self._kinds) == 1 else self.text.split("-")
+            kept, keep = {}, object.__setattr__
+            kinds = [PARTS[kind] for kind in self._kinds]
+            for kind, text in zip(kinds, texts):
                 kept.setdefault(kind, []).append(text)
-            keep = object.__setattr__
-            keep(self, "parts", tuple(map(Part._make, parts)))
+            keep(self, "parts", tuple(map(Part, kinds, texts)))
+            keep(self, "kind", _CLASSES.get(kinds[0], "langtag"))
             for slot, kind in _ONE:
                 keep(self, slot, kept.get(kind, (None,))[0])
             for slot, kind in _MANY:
@@ -335,51 +368,28 @@ class Registry(_bcp47.Registry):
 
     def matches(self, range: Union[str, Tag], tag: Union[str, Tag],
                 scheme: Literal["basic", "extended", "lookup"] = "extended") -> bool:
-        """Whether a language range matches a tag (RFC 4647), by their canonical forms: by basic filtering (3.3.1), by extended
-        filtering (3.3.2), or by lookup (3.4), where the range, cut from its end, is the tag. A range that is no valid tag, as
-        `zh-*`, is taken as it is written. Raises RefusedTag for the range, or else for the tag."""
+        """Whether a language range matches a tag (RFC 4647), by their extlang forms: by basic filtering (3.3.1), by extended
+        filtering (3.3.2), or by lookup (3.4), where the range, cut from its end, is the tag. Of a range that is no valid tag, for
+        example `yue-*`, the first subtag has this form. Raises RefusedTag for the range, or else for the tag."""
         if scheme not in _SCHEMES:
             raise ValueError(f"a scheme is basic, extended or lookup, not {scheme!r}")
         return self._match(_SCHEMES[scheme], range, tag)
 
-    def filter(self, ranges: Iterable[Union[str, Tag]], tags: Iterable[AnyTag],
-               scheme: Literal["basic", "extended"] = "extended") -> List[AnyTag]:
-        """The tags that a list of ranges by priority matches (RFC 4647, 3.3): those that its first range matches, in their order,
-        then of the others those that its second matches, and so on. Raises RefusedTag where any range or tag is refused, unless
-        one of the lists is empty."""
-        ranges = list(_listed(ranges))
-        found: List[Tuple[int, AnyTag]] = []
-        for tag in _listed(tags):
-            answers = [self.matches(it, tag, scheme) for it in ranges]
-            if True in answers:
-                found.append((answers.index(True), tag))
-        return [tag for _, tag in sorted(found, key=lambda it: it[0])]
-
-    @overload
-    def lookup(self, ranges: Iterable[Union[str, Tag]], tags: Iterable[AnyTag]) -> Optional[AnyTag]: ...
-    @overload
-    def lookup(self, ranges: Iterable[Union[str, Tag]], tags: Iterable[AnyTag], default: Missing) -> Union[AnyTag, Missing]: ...
-
-    def lookup(self, ranges: Iterable[Union[str, Tag]], tags: Iterable[Any], default: Any = None) -> Any:
-        """The tag that is found by a list of ranges by priority (RFC 4647, 3.4): by the first range that finds one, cut from its
-        end as little as it takes, and of equivalent tags the first; else the default. Raises RefusedTag where any range or tag is
-        refused, unless one of the lists is empty."""
-        tags = list(_listed(tags))
-        found = [[tag for tag in tags if self.matches(it, tag, "lookup")] for it in _listed(ranges)]
-        # What ranges find are fronts of them: the longest text has the most subtags.
-        return next((max(those, key=lambda tag: len(self.canonical(tag))) for those in found if those), default)
+    def available(self, tags: Iterable[AnyTag]) -> Available[AnyTag]:
+        """The tags of which a service serves one, prepared for readers' Accept-Language headers. Raises RefusedTag where one is refused."""
+        return Available(self, tags)
 
     def explain(self, tag: Union[str, Tag], most: int = 20_000) -> Explanation:
         """The steps from a tag to its canonical form. Raises RefusedTag, also where there are more than `most`."""
-        steps, canonical = self._explain_steps(tag, most)
-        return Explanation(tuple(map(Step._make, steps)), canonical)
+        *steps, (_, canonical) = (line.split(" ") for line in self._given(tag, max(most, 0)).splitlines())
+        return Explanation(tuple(Step(kind, int(place), int(number), to) for kind, place, number, to in steps), canonical)
 
     def show(self, tag: Union[str, Tag]) -> List[Row]:
         """What the registry has for the parts of a tag, in order, with the fields of their records (RFC 5646, 3.1.2): Description,
-        Deprecated, Preferred-Value, Suppress-Script, Macrolanguage, Scope and Comments. A tag that is registered as redundant has a
-        row for the whole of it first. The tag need not be valid. Raises RefusedTag where the text is no tag."""
+        Deprecated, Preferred-Value, Prefix, Suppress-Script, Macrolanguage, Scope and Comments. A tag that is registered as redundant
+        has a row for the whole of it first. The tag need not be valid. Raises RefusedTag where the text is no tag."""
         return [Row(row["place"], row["kind"], row["text"], row["listing"], row["record"],
-                    tuple((field["name"], field["body"]) for field in row["fields"])) for row in json.loads(self._show_rows(tag))]
+                    tuple((field["name"], field["body"]) for field in row["fields"])) for row in json.loads(self._given(tag, -1))]
 
     def record(self, number: int) -> Tuple[Tuple[str, str], ...]:
         """The fields of a record of the file, each its name and its body, by its number from 1 on, with the header counted; no fields
@@ -406,6 +416,34 @@ class Registry(_bcp47.Registry):
     def upgrade_check(self, newer: Registry) -> None:
         """Returns where a newer registry keeps what this one promised. Raises RefusedUpgrade where it does not."""
         self._upgrade_to(newer)
+
+
+class Available(Generic[AnyTag]):
+    """The tags of which a service serves one, as they were handed in. Any number of threads may ask it, also when the registry is
+    closed. A header that is None accepts each tag (RFC 9110, 12.5.4). Raises RefusedTag for a text that is no such header."""
+
+    __slots__ = ("tags", "_held", "__weakref__")
+
+    def __init__(self, registry: Registry, tags: Iterable[AnyTag]) -> None:
+        self.tags: Tuple[AnyTag, ...] = tuple(_listed(tags))
+        for tag in self.tags:
+            registry.canonical(tag)
+        self._held = registry._available([str(tag) for tag in self.tags])
+
+    @overload
+    def best(self, accept: Optional[str]) -> Optional[AnyTag]: ...
+    @overload
+    def best(self, accept: Optional[str], default: Missing) -> Union[AnyTag, Missing]: ...
+
+    def best(self, accept: Optional[str], default: Any = None) -> Any:
+        """The tag to serve to the reader of a header, for example `de-CH, de;q=0.8, en;q=0.5`: by lookup (RFC 4647, 3.4) of its ranges
+        from the greatest weight to the least, else by what a range matches; the default where no range serves a tag."""
+        found = _bcp47.served(self._held, "*" if accept is None else accept, 0)
+        return self.tags[found[0] - 1] if found else default
+
+    def filter(self, accept: Optional[str]) -> List[AnyTag]:
+        """All tags that a header accepts, from the greatest weight to the least."""
+        return [self.tags[number - 1] for number in _bcp47.served(self._held, "*" if accept is None else accept, len(self.tags))]
 
 
 _bcp47.setup((RefusedTag, RefusedRegistry, RefusedUpgrade, RefusedTrace, Tag, _bcp47.Registry, {}))

@@ -1,17 +1,13 @@
 # SPDX-License-Identifier: MIT OR Apache-2.0
 """What the package does at a command line."""
 import argparse
-import functools
 import os
 import sys
-from pathlib import Path
 from typing import BinaryIO, NoReturn
 
 from . import RefusedRegistry, Registry, __version__
 from .lines import answer_lines, rewrite_table, table_of
-from .page import Page
 from .report import BadTable, NoColumn, page_of
-from .server import serve
 
 _STATUSES = """status:
   0  all was done
@@ -42,10 +38,10 @@ def _delimiter(word: str) -> str:
     return word
 
 
-def _number(most: int, word: str) -> int:
-    """A number from 1 on."""
-    if not (word.isascii() and word.isdigit() and len(word) <= len(str(most)) and 1 <= int(word) <= most):
-        raise argparse.ArgumentTypeError(f"it is a number from 1 to {most}")
+def _number(word: str) -> int:
+    """A number of rows."""
+    if not (word.isascii() and word.isdigit() and len(word) <= 4 and int(word)):
+        raise argparse.ArgumentTypeError("it is a number from 1 to 9999")
     return int(word)
 
 
@@ -60,19 +56,11 @@ def _write(text: str) -> None:
 
 
 def _report(words: argparse.Namespace) -> bool:
-    with _opened(words.file) as file:
+    with Registry.from_file(words.registry) as registry, _opened(words.file) as file:
         name = "the standard input" if words.file == "-" else os.path.basename(words.file)
-        page = page_of(Path(words.registry).read_bytes(), file, name, words.column, words.delimiter, words.most)
+        page = page_of(registry, file, name, words.column, words.delimiter, words.most)
     with open(words.output or 1, "w", encoding="utf-8", closefd=bool(words.output)) as output:
         output.write(page)
-    return True
-
-
-def _page(words: argparse.Namespace) -> bool:
-    try:
-        serve(Page(Path(words.registry).read_bytes()), words.port)
-    except KeyboardInterrupt:
-        pass
     return True
 
 
@@ -106,8 +94,7 @@ def _parser() -> _Parser:
             ("canon", _canon, "print the canonical form of each line of the standard input"),
             ("csv", _csv, "make the tags in one column of CSV canonical"),
             ("show", _show, "print what the registry says of tags"),
-            ("report", _report, "write a web page about the tags in one column of CSV"),
-            ("page", _page, "serve a web page that answers for a tag or a list of tags, until Ctrl-C")):
+            ("report", _report, "write a web page about the tags in one column of CSV")):
         command = commands.add_parser(name, help=text, description=text.capitalize() + ".", epilog=_STATUSES,
                                       formatter_class=argparse.RawDescriptionHelpFormatter)
         command.set_defaults(run=run, command=command)
@@ -120,10 +107,7 @@ def _parser() -> _Parser:
     report = commands.choices["report"]
     report.add_argument("file", metavar="FILE", nargs="?", default="-", help="the CSV, in UTF-8 and with a heading; else the standard input")
     report.add_argument("-o", "--output", metavar="PAGE", help="the file of the page; else the standard output")
-    report.add_argument("--most", metavar="N", type=functools.partial(_number, 9999), default=50,
-                        help="the most rows of a table that are kept; else 50")
-    commands.choices["page"].add_argument("--port", metavar="N", type=functools.partial(_number, 65535), default=0,
-                                          help="the port; else one that is free")
+    report.add_argument("--most", metavar="N", type=_number, default=50, help="the most rows of a table that are kept; else 50")
     return parser
 
 

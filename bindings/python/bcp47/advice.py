@@ -3,27 +3,28 @@
 from __future__ import annotations
 
 import re
-from typing import Dict, Iterator, List, Optional
+from typing import Dict, Iterator, Optional
 
 from . import RefusedTag, Registry
 from .codes import CODES
-from .records import Record
 
 # Codes of ISO 639-2 that were withdrawn, with what stands for them.
 _WITHDRAWN = {"mol": "ro", "scc": "sr", "scr": "hr"}
 
 
 class Advice:
-    """Proposals by a registry and its records."""
+    """Proposals by a registry."""
 
-    def __init__(self, registry: Registry, records: List[Record]) -> None:
+    def __init__(self, registry: Registry) -> None:
         self._registry = registry
         self._names: Dict[str, str] = {}
-        for record in records:
-            if record.kind == "language" and not record.first("deprecated"):
-                for name, body in record.fields:
-                    if name.lower() == "description":
-                        self._names.setdefault(body.casefold(), record.name)
+        for record in registry.records():
+            fields = [(name.lower(), body) for name, body in record]
+            first = dict(reversed(fields))
+            if first.get("type", "").lower() == "language" and "deprecated" not in first:
+                for name, body in fields:
+                    if name == "description":
+                        self._names.setdefault(body.casefold(), first["subtag"])
 
     def of(self, text: str) -> Optional[str]:
         """The canonical tag to write for a refused text, or None where nothing can be proposed."""

@@ -1,5 +1,5 @@
 # SPDX-License-Identifier: MIT OR Apache-2.0
-"""What pages in HTML share: their style, texts that are shown as text, and tables of what became of many texts."""
+"""What a report is made of: its style, which langtag.html has too, texts that are shown as text, and tables of what became of many texts."""
 from __future__ import annotations
 
 import html
@@ -7,18 +7,18 @@ import operator
 import re
 from typing import Callable, Dict, List, NamedTuple, Optional, Sequence, TypeVar
 
-from . import Registry, _bcp47
+from . import Fault, Registry
 
 LONGEST = 200
-HELPS = {name: help for number in range(64) for name, help in (_bcp47.names(number)[:2], _bcp47.names(number)[2:4])}
-HELPS = {**HELPS, "NoColumn": "The row has too few fields: name another column, or mend the row."}
+HELPS = {fault.value: fault.help for fault in Fault}
+HELPS["NoColumn"] = "The row has too few fields: name another column, or mend the row."
 STYLE = """
 :root {--ink: #1a1a1a; --page: #fff; --line: #999; --bar: #2b6cb0}
 @media screen {:root {color-scheme: light dark}}
 @media screen and (prefers-color-scheme: dark) {:root {--ink: #e8e8e8; --page: #161616; --line: #777; --bar: #6ea8e0}}
 body {background: var(--page); color: var(--ink); font: 1rem/1.5 system-ui, sans-serif; margin: 2rem auto; max-width: 60rem;
   padding: 0 1rem}
-h1, h2, h3, h4 {line-height: 1.2; margin: 1.5rem 0 .5rem; break-after: avoid}
+h1, h2, h3 {line-height: 1.2; margin: 1.5rem 0 .5rem; break-after: avoid}
 h2 {margin-top: 2rem}
 h1, h3, dd {overflow-wrap: anywhere}
 dl {display: grid; grid-template-columns: max-content 1fr; gap: 0 1rem}
@@ -84,9 +84,9 @@ def answers_of(registry: Registry, rows: Dict[Text, int]) -> Answers:
     return Answers(canonical, why, _grouped(canonical, rows), _grouped({text: it.split()[0] for text, it in why.items()}, rows))
 
 
-def escaped(text: str, kept: str = "") -> str:
-    """A text for HTML: what can't be printed, and is not kept, is a backslash and a number."""
-    return html.escape("".join(it if it.isprintable() or it in kept else ascii(it)[1:-1] for it in text))
+def escaped(text: str) -> str:
+    """A text for HTML: what can't be printed is a backslash and a number."""
+    return html.escape("".join(it if it.isprintable() else ascii(it)[1:-1] for it in text))
 
 
 def breaking(name: str) -> str:
@@ -94,16 +94,12 @@ def breaking(name: str) -> str:
     return re.sub("(?<=[a-z])(?=[A-Z])", "<wbr/>", name)
 
 
-def tag_text(markup: str) -> str:
-    """Markup of a tag, or of what stands in its place, which is of no language."""
-    return f'<bdi lang="" translate="no">{markup}</bdi>'
-
-
-def shown(text: Text, most: int = LONGEST) -> str:
-    """A text that was given. What is longer than most texts is cut."""
+def shown(text: Text) -> str:
+    """A text that was given, which is of no language. What is longer than most texts is cut."""
     if not text:
         return "<i>empty</i>"
-    return tag_text(escaped(text[:most])) + (f" … ({len(text):,} characters)" if len(text) > most else "")
+    more = f" … ({len(text):,} characters)" if len(text) > LONGEST else ""
+    return f'<bdi lang="" translate="no">{escaped(text[:LONGEST])}</bdi>{more}'
 
 
 def cell(number: int, words: str = "") -> str:
@@ -123,11 +119,12 @@ def table(caption: str, heads: Sequence[str], bodies: Sequence[str]) -> str:
             f"<thead><tr>{marked}</tr></thead>\n" + "\n".join(bodies) + "\n</table>\n</div>\n")
 
 
-def document(title: str, body: str, style: str = STYLE, head: str = "") -> str:
-    """A page, which is well-formed as XML too."""
-    return (f'<!DOCTYPE html>\n<html lang="en">\n<head>\n<meta charset="utf-8"/>\n{head}'
+def document(title: str, body: str) -> str:
+    """A page, which is well-formed as XML too. What is loaded, or runs, is none of it."""
+    return ('<!DOCTYPE html>\n<html lang="en">\n<head>\n<meta charset="utf-8"/>\n'
+            """<meta http-equiv="Content-Security-Policy" content="default-src 'none'; style-src 'unsafe-inline'"/>\n"""
             f'<meta name="viewport" content="width=device-width, initial-scale=1"/>\n<title>{title}</title>\n'
-            f"<style>{style}</style>\n</head>\n<body>\n<main>\n{body}</main>\n</body>\n</html>\n")
+            f"<style>{STYLE}</style>\n</head>\n<body>\n<main>\n{body}</main>\n</body>\n</html>\n")
 
 
 def facts_of(registry: Registry) -> str:
@@ -138,24 +135,19 @@ def facts_of(registry: Registry) -> str:
 
 
 class Tables(NamedTuple):
-    """Tables about what became of the texts of rows, below headings of a level. A unit is the word for a row."""
+    """Tables about what became of the texts of rows."""
 
     rows: Dict[Text, int]  # how many have each text; None is the text of a row without one
     firsts: Dict[Text, int]  # the number of the first that has it
     answers: Answers
-    unit: str
-    level: int
     most: int  # rows of a table that are kept
-
-    def heading(self, title: str) -> str:
-        return f"<h{self.level}>{title}</h{self.level}>\n"
 
     def section(self, title: str, caption: str, heads: List[str], those: List[One], body: Callable[[One], str]) -> str:
         """A heading and a table with a body for each of the first, with how many more there are."""
         if not those:
-            return self.heading(title) + "<p>There are none.</p>\n"
+            return f"<h2>{title}</h2>\n<p>There are none.</p>\n"
         more = f"<p>{len(those) - self.most:,} more are not shown.</p>\n" if len(those) > self.most else ""
-        return self.heading(title) + table(caption, heads, [body(one) for one in those[:self.most]]) + more
+        return f"<h2>{title}</h2>\n{table(caption, heads, [body(one) for one in those[:self.most]])}{more}"
 
     def verdict(self) -> str:
         """In a sentence, how many rows changed and how many are refused."""
@@ -165,7 +157,7 @@ class Tables(NamedTuple):
         def counted(rows: int) -> str:
             return f"<strong>{rows:,}</strong> ({rows / max(of_all, 1):.1%})"
 
-        return (f"<p>Of {of_all:,} {self.unit}s, {counted(changed)} changed, and {counted(of_all - of_tags)} need a look, since their "
+        return (f"<p>Of {of_all:,} rows, {counted(changed)} changed, and {counted(of_all - of_tags)} need a look, since their "
                 "tag is refused.</p>\n")
 
     def refused(self, advice: Callable[[str], Optional[str]]) -> str:
@@ -177,20 +169,20 @@ class Tables(NamedTuple):
             return (f'<tr><th scope="row" class="text">{shown(text)}</th>{cell(self.rows[text])}{numbered(self.firsts[text])}'
                     f'<td>{breaking(why)}</td><td class="sentence">{said}</td></tr>')
 
-        heads = ["Text", f"#{self.unit.title()}s", f"#First {self.unit}", "Fault, and the subtag", "What to write"]
+        heads = ["Text", "#Rows", "#First row", "Fault, and the subtag", "What to write"]
         texts = sorted(self.answers.why, key=lambda text: -self.rows[text])
-        return self.section("Refused texts", f"{self.unit.title()}s that need a look, by their text", heads, texts, body)
+        return self.section("Refused texts", "Rows that need a look, by their text", heads, texts, body)
 
     def summary(self, caption: str) -> str:
         """What became of the rows. A tag stays where it is canonical."""
-        rows, tags, unit = self.rows, self.answers.tags, self.unit
+        rows, tags = self.rows, self.answers.tags
         stays = [tag.answer for tag in tags if tag.answer in rows]
         of_stays, of_tags, of_all = sum(rows[text] for text in stays), sum(tag.rows for tag in tags), sum(rows.values())
         before, distinct = sum(len(tag.texts) for tag in tags), len(rows) - (None in rows)
         kinds = [("The tag stays", of_stays, len(stays)), ("The tag is made canonical", of_tags - of_stays, before - len(stays)),
-                 ("The tag is refused", of_all - of_tags, distinct - before), (f"All {unit}s read", of_all, distinct)]
+                 ("The tag is refused", of_all - of_tags, distinct - before), ("All rows read", of_all, distinct)]
         bodies = [f'<tr><th scope="row">{name}</th>{cell(count)}{cell(texts)}</tr>' for name, count, texts in kinds]
-        return (self.heading(f"{unit.title()}s") + table(caption, [f"{unit.title()}s", "#How many", "#Distinct texts"], bodies)
+        return ("<h2>Rows</h2>\n" + table(caption, ["Rows", "#How many", "#Distinct texts"], bodies)
                 + f"<p>Distinct tags that are not refused: {before:,} before, {len(tags):,} after.</p>\n")
 
     def faults(self) -> str:
@@ -200,12 +192,12 @@ class Tables(NamedTuple):
             return (f'<tr><th scope="row">{breaking(fault.answer)}</th>{cell(fault.rows)}{numbered(self.firsts[first])}'
                     f'<td class="text">{shown(first)}</td><td class="sentence">{html.escape(HELPS[fault.answer])}</td></tr>')
 
-        heads = ["Fault", f"#{self.unit.title()}s", f"#First {self.unit}", "Example", "What to do"]
-        return self.section("Faults", f"{self.unit.title()}s that are refused, by the fault", heads, self.answers.faults, body)
+        heads = ["Fault", "#Rows", "#First row", "Example", "What to do"]
+        return self.section("Faults", "Rows that are refused, by the fault", heads, self.answers.faults, body)
 
     def joined(self, title: str, caption: str, tags: List[Group]) -> str:
         """Canonical tags, each with the texts that became it."""
-        heads = ["Canonical tag", f"#{self.unit.title()}s", "Text before", f"#Its {self.unit}s"]
+        heads = ["Canonical tag", "#Rows", "Text before", "#Its rows"]
         return self.section(title, caption, heads, tags, self._joined)
 
     def became_one(self) -> str:

@@ -11,10 +11,6 @@ from typing import BinaryIO, Dict, Iterator, List, NamedTuple
 from . import Registry, __version__
 from .advice import Advice
 from .pages import LONGEST, Group, Tables, Text, answers_of, cell, document, escaped, facts_of, shown
-from .records import read
-
-# What is loaded, or runs, is none of the page.
-_POLICY = """<meta http-equiv="Content-Security-Policy" content="default-src 'none'; style-src 'unsafe-inline'"/>\n"""
 
 
 class NoColumn(Exception):
@@ -100,14 +96,11 @@ def _page(column: _Column, registry: Registry, advice: Advice, tables: Tables, n
         + facts_of(registry)
         + f"<h2>About this page</h2>\n<p>It was made on {time.strftime('%Y-%m-%d')} of {shown(name)} by bcp47 {__version__}. "
         "Rows have the numbers that a spreadsheet shows: 1 is the heading. Where no field has a "
-        f"line break, they are the lines of the file. Each table keeps {tables.most:,} at most.</p>\n",
-        head=_POLICY)
+        f"line break, they are the lines of the file. Each table keeps {tables.most:,} at most.</p>\n")
 
 
-def page_of(content: bytes, file: BinaryIO, name: str, word: str, delimiter: str, most: int) -> str:
-    """The page about a column, by its name or else its number from 1, of CSV in UTF-8 in a file with a name, by the registry whose
-    text the bytes are. Raises NoColumn, BadTable, RefusedRegistry."""
-    with Registry.from_bytes(content) as registry:
-        column = _read(file, word, delimiter)
-        tables = Tables(column.rows, column.firsts, answers_of(registry, column.rows), "row", 2, most)
-        return _page(column, registry, Advice(registry, read(content)), tables, name)
+def page_of(registry: Registry, file: BinaryIO, name: str, word: str, delimiter: str, most: int) -> str:
+    """The page about a column, by its name or else its number from 1, of CSV in UTF-8 in a file with a name. Raises NoColumn, BadTable."""
+    column = _read(file, word, delimiter)
+    tables = Tables(column.rows, column.firsts, answers_of(registry, column.rows), most)
+    return _page(column, registry, Advice(registry), tables, name)

@@ -148,7 +148,7 @@ class Calls(unittest.TestCase):
         with bcp47.Registry.from_bytes(DESCRIBED) as registry:
             chinese = bcp47.Row(1, "Language", "zh", "Record", 2, (("Description", "Chinese"), ("Scope", "macrolanguage")))
             yue = bcp47.Row(2, "Extlang", "yue", "Record", 3, (("Description", "Yue Chinese"), ("description", '"Cantonese" 粵'),
-                                                             ("Preferred-Value", "yue")))
+                                                             ("Preferred-Value", "yue"), ("Prefix", "zh")))
             self.assertEqual(registry.show("ZH-YUE"), [chinese, yue])
             self.assertEqual((yue.bodies("description"), yue.bodies("Scope")), (("Yue Chinese", '"Cantonese" 粵'), ()))
             self.assertEqual(registry.show(bcp47.Tag("zh-hant-x-own")),
@@ -237,7 +237,8 @@ class Calls(unittest.TestCase):
     def test_matches(self):
         self.assertTrue(self.registry.matches("zh-yue", "yue-GB"))
         self.assertTrue(self.registry.matches(bcp47.Tag("zh-yue"), bcp47.Tag("yue-GB"), scheme="basic"))
-        self.assertFalse(self.registry.matches("zh", "yue-GB"))
+        self.assertTrue(self.registry.matches("zh", "yue-GB"))
+        self.assertFalse(self.registry.matches("yue", "zh-GB"))
         self.assertTrue(self.registry.matches("de-DE", "de-Latn-DE"))
         self.assertFalse(self.registry.matches("de-DE", "de-Latn-DE", "basic"))
         self.assertTrue(self.registry.matches("de-Latn-DE", "de", "lookup"))
@@ -252,54 +253,77 @@ class Calls(unittest.TestCase):
             with self.assertRaises(bcp47.RefusedTag) as raised:
                 self.registry.matches(range, tag)
             self.assertEqual((raised.exception.tag, str(raised.exception), raised.exception.variant), (refused, line, variant))
-        with self.assertRaises(bcp47.RefusedTag) as raised:
-            self.registry.filter(["1de"], ["en"])
-        self.assertEqual((raised.exception.status, raised.exception.fault), ("NotATag", "BadFirst"))
-        self.assertIn("begin with a language of letters", raised.exception.help)
         for wrong in ("", "Basic", None, 1):
             self.assertRaises(ValueError, self.registry.matches, "en", "en", wrong)
-            self.assertRaises(ValueError, self.registry.filter, ["en"], ["en"], wrong)
         for wrong in (1, b"en", None):
             self.assertRaises(TypeError, self.registry.matches, wrong, "en")
             self.assertRaises(TypeError, self.registry.matches, "en", wrong)
-        for wrong in ("en", bcp47.Tag("en"), b"en", None):
-            for call in (self.registry.filter, self.registry.lookup):
-                self.assertRaises(TypeError, call, wrong, ["en"])
-                self.assertRaises(TypeError, call, ["en"], wrong)
 
-    def test_filter_and_lookup(self):
-        tags = ["zh", "cmn-Hans-GB", "he-GB", "yue", bcp47.Tag("zh-yue-GB")]
-        self.assertEqual(self.registry.filter(["zh-cmn", "iw"], tags), ["cmn-Hans-GB", "he-GB"])
-        self.assertEqual(self.registry.filter(iter(["iw", "cmn-gb", "*-GB"]), iter(tags)), ["he-GB", "cmn-Hans-GB", tags[4]])
-        self.assertEqual(self.registry.filter(["cmn-gb"], tags, "basic"), [])
-        self.assertEqual(self.registry.filter(["*", "zh"], tags, scheme="basic"), tags)
-        self.assertEqual((self.registry.filter([], tags), self.registry.filter(["*"], [])), ([], []))
-        self.assertEqual(self.registry.lookup(["cmn-gb", "iw-GB-x-own"], tags), "he-GB")
-        self.assertIs(self.registry.lookup(["zh-yue-GB-x-own"], tags), tags[4])
-        self.assertEqual(self.registry.lookup(["yue-Hans-GB"], ["de", "zh-yue", "yue"]), "zh-yue")
-        self.assertIsNone(self.registry.lookup(["*", "cmn"], tags))
-        self.assertEqual(self.registry.lookup(["*"], tags, default="en"), "en")
-        self.assertEqual(self.registry.lookup([], [], 7), 7)
-        for call in (self.registry.filter, self.registry.lookup):
-            self.assertRaises(bcp47.RefusedTag, call, ["zh", "e_n"], tags)
-            self.assertRaises(bcp47.RefusedTag, call, ["zh"], [*tags, "e_n"])
+    def test_the_tag_that_is_served(self):
+        tags = ["en-GB", bcp47.Tag("zh-yue"), "de"]
+        available = self.registry.available(iter(tags))
+        self.assertEqual(available.best("de-CH, de;q=0.8, en;q=0.5"), "de")
+        self.assertIs(available.best("YUE-HK"), tags[1])
+        self.assertEqual([available.best(accept) for accept in ("en", "*", None, "fr", "de;q=0", "")], ["en-GB"] * 3 + [None] * 3)
+        self.assertEqual((available.best("fr", "none"), available.best("fr", default=7)), ("none", 7))
+        self.assertEqual((available.filter("de, en;q=0.5"), available.filter("fr"), available.filter(None)), (["de", "en-GB"], [], tags))
+        for call in (available.best, available.filter):
+            with self.assertRaises(bcp47.RefusedTag) as raised:
+                call("en, de;q=2")
+            refused = raised.exception
+            self.assertEqual((refused.status, refused.fault, refused.place, refused.tag), ("BadHeader", "BadWeight", 2, "en, de;q=2"))
+            self.assertRaises(TypeError, call, 7)
+        none = self.registry.available([])
+        self.assertEqual((none.best("de"), none.filter("*")), (None, []))
+        with self.assertRaises(bcp47.RefusedTag) as raised:
+            self.registry.available(["en", "e_n"])
+        self.assertEqual(raised.exception.tag, "e_n")
+        for wrong in ("en", bcp47.Tag("en"), b"en", None, [7]):
+            self.assertRaises(TypeError, self.registry.available, wrong)
+        own = bcp47.Registry.from_file(SAMPLE)
+        kept = own.available(["de", "en"])
+        own.close()
+        self.assertEqual(kept.best("en"), "en")
+        self.assertRaises(ValueError, own.available, ["de"])
+
+    def test_tags_with_other_parts(self):
+        tag = bcp47.Tag("zh-yue-TW-x-a")
+        self.assertEqual(str(tag.replace(script="HANT", region="hk")), "zh-yue-Hant-HK-x-a")
+        self.assertEqual(str(tag.replace(region=None, private=(), language="de")), "de")
+        made = bcp47.Tag.from_parts("sl", variants=["rozaj", "biske"], extensions={"u": ("co", "phonebk"), "t": "it"}, private=["own"])
+        self.assertEqual(str(made), "sl-rozaj-biske-u-co-phonebk-t-it-x-own")
+        self.assertEqual(made.replace(extensions=made.extensions, variants=made.variants, private=made.private), made)
+        for call, refused in ((lambda: tag.replace(script="Latin"), "Latin"), (lambda: bcp47.Tag("x-own").replace(script="Latn"), "x-own")):
+            with self.assertRaises(bcp47.RefusedTag) as raised:
+                call()
+            self.assertEqual(raised.exception.tag, refused)
+        self.assertRaises(TypeError, tag.replace, scripts="Latn")
+
+    def test_tags_of_posix(self):
+        for name, wanted in (("sr_RS.UTF-8@latin", "sr-Latn-RS"), ("C", "en-US-u-va-posix"), ("de_AT", "de-AT")):
+            self.assertEqual(str(bcp47.Tag.from_posix(name)), wanted)
+        with self.assertRaisesRegex(bcp47.RefusedTag, "BadByte 0"):
+            bcp47.Tag.from_posix("en_US@klingon")
 
     def test_examples_of_rfc_4647(self):
         with bcp47.Registry.from_file(IANA) as registry:
             self.assertTrue(registry.matches("zh-yue", "yue-HK"))
+            def filtered(range, tags, scheme):
+                return [tag for tag in tags if registry.matches(range, tag, scheme)]
+
             # 3.3.1
-            self.assertEqual(registry.filter(["de-de"], ["de-DE-1996", "de-Deva", "de-Latn-DE"], "basic"), ["de-DE-1996"])
-            self.assertEqual(registry.filter(["de-ch"], ["de-CH-1996", "de-CH", "de-DE", "de"], "basic"), ["de-CH-1996", "de-CH"])
+            self.assertEqual(filtered("de-de", ["de-DE-1996", "de-Deva", "de-Latn-DE"], "basic"), ["de-DE-1996"])
+            self.assertEqual(filtered("de-ch", ["de-CH-1996", "de-CH", "de-DE", "de"], "basic"), ["de-CH-1996", "de-CH"])
             # 3.3.2
             found = ["de-DE", "de-de", "de-Latn-DE", "de-Latf-DE", "de-DE-x-goethe", "de-Latn-DE-1996", "de-Deva-DE"]
             for range in ("de-*-DE", "de-DE"):
-                self.assertEqual(registry.filter([range], [*found, "de", "de-x-DE", "de-Deva"]), found)
+                self.assertEqual(filtered(range, [*found, "de", "de-x-DE", "de-Deva"], "extended"), found)
             # 3.4
             tags = ["zh", "zh-Hant", "zh-Hant-CN", "zh-Hant-CN-x-private1", "zh-Hant-CN-x-private1-private2"]
             while tags:
-                self.assertEqual(registry.lookup(["zh-Hant-CN-x-private1-private2"], tags), tags.pop())
-            self.assertEqual(registry.lookup(["fr-FR", "zh-Hant"], ["fr", "zh", "ja"]), "fr")
-            self.assertEqual(registry.lookup(["de-CH", "zh-Hant"], ["fr", "zh", "ja"], "ja-JP"), "zh")
+                self.assertEqual(registry.available(tags).best("zh-Hant-CN-x-private1-private2"), tags.pop())
+            self.assertEqual(registry.available(["fr", "zh", "ja"]).best("fr-FR, zh-Hant"), "fr")
+            self.assertEqual(registry.available(["fr", "zh", "ja"]).best("de-CH, zh-Hant", "ja-JP"), "zh")
 
     def test_iana(self):
         with bcp47.Registry.from_bytes(Path(IANA).read_bytes()) as registry:

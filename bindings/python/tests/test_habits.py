@@ -109,8 +109,8 @@ class Parts(unittest.TestCase):
         self.assertEqual((tag.language, tag.parts), (None, (("Grandfathered", "i-klingon"),)))
         self.assertEqual(bcp47.Tag("en-u-co-co-aaa").keywords, {"co": ()})
         for wrong in ("e", "en_US"):
-            self.assertRaises(bcp47.RefusedTag, bcp47._bcp47.parts, wrong)
-        self.assertRaises(TypeError, bcp47._bcp47.parts, 7)
+            self.assertRaises(bcp47.RefusedTag, bcp47.Tag, wrong)
+        self.assertRaises(TypeError, bcp47.Tag, 7)
         self.assertIs(tag.parts, tag.parts)
         for name in ("regions", "_text", "__wrapped__"):
             self.assertFalse(hasattr(tag, name))
@@ -139,6 +139,16 @@ class Refusals(unittest.TestCase):
             bcp47.Registry.from_bytes(b"")
         self.assertEqual((str(caught.exception), caught.exception.status), ("NoEntries", "NoEntries"))
         self.assertEqual(caught.exception.__notes__, [caught.exception.help])
+
+    def test_faults_are_names_that_are_known(self):
+        with self.assertRaises(bcp47.RefusedTag) as caught:
+            registry.canonical("en_US")
+        fault = caught.exception.fault
+        self.assertIs(fault, bcp47.Fault.BadByte)
+        self.assertEqual((fault, str(fault), f"{fault:>8}", fault.help), ("BadByte", "BadByte", " BadByte", caught.exception.help))
+        self.assertIs(pickle.loads(pickle.dumps(fault)), fault)
+        self.assertTrue(all(it.name == it and it.help.endswith(".") for it in bcp47.Fault))
+        self.assertLess(50, len(bcp47.Fault))
 
     def test_in_a_list_they_have_no_trace(self):
         one, other = registry.canonical_many(["en_US", "de_DE"])
@@ -413,20 +423,22 @@ class Growths(unittest.TestCase):
             from _testcapi import remove_mem_hooks, set_nomemory
         except ImportError:
             self.skipTest("this Python has no _testcapi")
-        tag, steps = bcp47.Tag("zh-yue"), ((4, 2, 27), (7, 1, 44))
+        tag, steps, available = bcp47.Tag("zh-yue"), ((4, 2, 27), (7, 1, 44)), registry.available(["de"])
         calls = [
             (lambda: registry.canonical("zh-yue"), "yue"), (lambda: registry.extlang("yue"), "zh-yue"),
             (lambda: registry.canonical(tag), "yue"), (lambda: registry.is_valid("en_US"), False),
-            (lambda: str(bcp47.Tag("EN-us")), "en-US"), (lambda: bcp47._bcp47.parts("yue"), [("Language", "yue")]),
-            (lambda: registry.equivalent("zh-yue", tag), True), (lambda: registry._explain_steps("en", 9), ([], "en")),
-            (lambda: bcp47._bcp47.parent("zh-TW"), "zh"),
+            (lambda: str(bcp47.Tag("EN-us")), "en-US"), (lambda: bcp47._bcp47.read("YUE-hk"), ("yue-HK", b"\1\4")),
+            (lambda: registry.equivalent("zh-yue", tag), True), (lambda: registry._given("en", 9), "= en\n"),
+            (lambda: bcp47._bcp47.parent("zh-TW"), "zh"), (lambda: bcp47._bcp47.posix("de_AT"), "de-AT"),
+            (lambda: bcp47._bcp47.replaced("de", 4, "AT"), "de-AT"), (lambda: available.filter("de, en"), ["de"]),
+            (lambda: available.best("en, de"), "de"), (lambda: registry.available(["de"]).best("de"), "de"),
             (lambda: registry._record(2), registry._record(2)),
             (lambda: registry.matches("zh-yue", "yue-GB"), True), (lambda: registry.matches(tag, "en", "basic"), False),
             (lambda: registry._verify_steps("sgn-dd", steps, "gsg"), None), (lambda: registry.upgrade_check(registry), None),
             (lambda: registry.info.entries, registry.info.entries),
             (lambda: registry.canonical_many(["iw", None, tag]), ["he", None, "yue"]),
             (lambda: registry.canonical_columns(["e_n", "iw"]), ([None, "he"], ["BadByte 1", None])),
-            (lambda: registry._show_rows("x-a"), registry._show_rows("x-a")),
+            (lambda: registry._given("x-a", -1), registry._given("x-a", -1)),
             (lambda: bcp47.Registry.from_bytes(b"Type: language\nSubtag: en").info.entries, 1), (lambda: tag.region, None),
             (lambda: str(registry.canonical_many(["e_n", "xx"])[1]), "UnknownLanguage 1"),
         ]

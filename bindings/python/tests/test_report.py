@@ -272,12 +272,24 @@ class Commands(unittest.TestCase):
     def test_show(self):
         self.assertEqual(self.said("", "show", SAMPLE, "ZH-yue", "zh-hans-x-a"),
                          "zh-yue\n1    Language  zh   record 17\n2    Extlang   yue  record 23\n     Preferred-Value  yue\n"
-                         "Extlang 2 23 yue\n= yue\n\n"
+                         "     Prefix           zh\nExtlang 2 23 yue\n= yue\n\n"
                          "zh-Hans-x-a\n1    Language             zh    record 17\n2    Script               Hans  record 24\n"
                          "3    PrivateUseSingleton  x\n4    PrivateUse           a\n= zh-Hans-x-a\n\n")
         self.assertEqual(self.said("", "show", SAMPLE, "de-foobar", "en\x1bUS", status=1),
                          "de-foobar\n1    Language  de      record 2\n2    Variant   foobar  not registered\n! UnknownVariant 2\n\n"
                          "en US\n! BadByte 1\n\n")
+
+    def test_it_is_imported_by_tools(self):
+        with tempfile.TemporaryDirectory() as folder:
+            path = Path(folder) / "tool.py"
+            path.write_text("import bcp47.__main__\nprint(callable(bcp47.__main__.main))\n")
+            self.assertEqual(subprocess.run([*COMMAND[:-2], path], stdout=subprocess.PIPE).stdout, b"True\n")
+
+    def test_faults_are_shown_by_their_names(self):
+        with tempfile.TemporaryDirectory() as folder:
+            path = Path(folder) / "tool.py"
+            path.write_text("import bcp47\nprint(bcp47.Fault.BadByte, f'{bcp47.Fault.BadByte:>9}')\n")
+            self.assertEqual(subprocess.run([*COMMAND[:-2], path], stdout=subprocess.PIPE).stdout, b"BadByte   BadByte\n")
 
     def test_version(self):
         self.assertRegex(self.said("", "--version"), r"^bcp47 [0-9]+\.[0-9]+\.[0-9]+\n$")

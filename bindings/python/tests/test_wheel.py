@@ -15,8 +15,7 @@ os.environ["SOURCE_DATE_EPOCH"] = "1700000000"
 sys.path.insert(0, str(Path(__file__).resolve().parent.parent))
 import wheel_of_package as package
 
-NAMES = ("__init__.py", "__main__.py", "_bcp47.pyi", "advice.py", "codes.py", "lines.py", "page.py", "pages.py", "py.typed", "records.py",
-         "report.py", "server.py")
+NAMES = ("__init__.py", "__main__.py", "_bcp47.pyi", "advice.py", "codes.py", "lines.py", "numbers.py", "pages.py", "py.typed", "report.py")
 
 
 class Wheels(unittest.TestCase):

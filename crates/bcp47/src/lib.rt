@@ -11,15 +11,14 @@ mod readings;
 mod registries;
 
 pub use errors::RegistryError;
-pub use lt_accept::{AcceptFault, AcceptFaultKind, AcceptLanguage, WeightedRange};
 pub use lt_canon::{Refusal, TextRefusal, Trace, TraceFault};
 pub use lt_check::{Condition, Finding};
 pub use lt_jar::{Device, Jar, JarFault, JarFaultKind, JarField, Record, read_jar};
-pub use lt_match::RangeRefusal;
 pub use lt_parts::{Part, PartKind, parts};
 pub use lt_range::{
-    LanguageRange, Preference, RangeFault, TagSubtags, best, filter_accepted, filter_basic,
-    filter_extended, lookup, weight_of,
+    AcceptFault, AcceptFaultKind, AcceptLanguage, Available, AvailableRefusal, HeaderRefusal,
+    LanguageRange, Preference, RangeFault, RangeRefusal, TagSubtags, WeightedRange, best,
+    filter_accepted, filter_basic, filter_extended, lookup, weight_of,
 };
 pub use lt_registry::{
     Entry, EntryName, EntryValue, Kind, Prefix, RecordFault, RecordFaultKind, ValidFault,

@@ -1,5 +1,5 @@
 //! A registry that passes the check, and what it says of tags.
-ghost use Rattle.std.specs.Prelude.{◌≡◌, ◌≢◌, ◌++◌, Ok, OnOk, OnErr, IfOk, IfErr, IfSome, Err, Some};
+ghost use Rattle.std.specs.Prelude.{◌≡◌, ◌≢◌, ◌++◌, Ok, OnOk, OnErr, IfOk, IfErr, IfSome, Err, Some, length, map};
 ghost use Rattle.std.specs.Option.{option_copied};
 ghost use Rattle.lt_registry.specs.Entries as listed;
 ghost use Rattle.lt_registry.specs.Faults as validity;
@@ -13,8 +13,10 @@ ghost use Rattle.lt_canon.specs.ExplanationTexts.{IsExplanationTextOf};
 ghost use Rattle.lt_canon.specs.ExtlangForm.{IsExtlangFormOf};
 ghost use Rattle.lt_canon.specs.Texts.{AppendsCanonicalText, IsCanonicalTextOf, IsTextRefusal, RefusesTextOnlyRepeats};
 ghost use Rattle.lt_canon.specs.Traces.{IsTraceFault, IsValidTrace, no_trace_memory};
-ghost use Rattle.lt_match.specs.Matched.{HasCanonicalList, IsCanonicalRange};
-ghost use Rattle.lt_match.specs.Refusals.{IsRangeRefusal};
+ghost use Rattle.lt_range.specs.Asked.{Asks, IsHeaderRefusal};
+ghost use Rattle.lt_range.specs.Available.{AreAvailable, IsAvailableRefusal};
+ghost use Rattle.lt_range.specs.Matched.{HasExtlangList, HasSubtags, IsExtlangRange};
+ghost use Rattle.lt_range.specs.Refusals.{IsRangeRefusal};
 ghost use Rattle.lt_show.specs.Json.{rows_value};
 ghost use Rattle.lt_show.specs.Rows.{rows_of};
 ghost use Rattle.lt_upgrade.specs.Laws.{UpgradeKeepsTags};
@@ -29,8 +31,9 @@ use lt_canon::laws::confluence;
 use lt_canon::{Refusal, TextRefusal, Trace, TraceFault};
 use lt_check::{Checked, RejectedCause};
 use lt_jar::{Device, Record};
-use lt_match::RangeRefusal;
-use lt_range::{LanguageRange, TagSubtags};
+use lt_range::{
+    Available, AvailableRefusal, HeaderRefusal, LanguageRange, Preference, RangeRefusal, TagSubtags,
+};
 use lt_registry::{Entry, Kind, Lookup, Registry as Entries, SortedTable, ValidRefusal};
 use lt_show::Row;
 use lt_subtag::Subtag;
@@ -293,31 +296,66 @@ impl Registry {
         lt_canon::verify(alloc, &self.checked, tag, trace)
     }
 
-    /// The language range by which a text matches (RFC 4647, 2): where the text is a valid tag, the range of the
-    /// subtags of its canonical form (RFC 5646, 4.5), and else the range that it is, as it is written. So `iw` finds
-    /// what `he` finds, and `zh-*` stays. [`LanguageRange`](crate::LanguageRange) has the three ways of matching,
-    /// and a list of ranges in order of priority is what [`filter_basic`](crate::filter_basic),
-    /// [`filter_extended`](crate::filter_extended) and [`lookup`](crate::lookup) ask for.
+    /// The language range by which a text matches (RFC 4647, 2): where the text is a valid tag, the range of the subtags
+    /// of its extlang form (RFC 5646, 4.5); else the range that it is, with its first subtag in its extlang form, if it
+    /// alone is a valid tag. So `iw` finds what `he` finds, `yue-*` finds `zh-yue-HK`, and `zh-*` stays.
+    /// [`LanguageRange`](crate::LanguageRange) has the three ways of matching, and a list of ranges in order of priority
+    /// is what [`filter_basic`](crate::filter_basic), [`filter_extended`](crate::filter_extended) and
+    /// [`lookup`](crate::lookup) ask for.
     ///
     /// - `NotARange`, with the fault that `LanguageRange::read` answers, exactly where the text is neither.
     /// - `ReplacementRepeats` where the text is a valid tag that `canonical` refuses so.
     /// - `OutOfMemory` where memory runs out.
     pub fn range(&self, alloc: Global, text: &[u8]) -> Result<LanguageRange, RangeRefusal>
-        ensures range { IfOk result (λ range. IsCanonicalRange self.now text.now range) }
+        ensures range { IfOk result (λ range. IsExtlangRange self.now text.now range) }
         ensures refusal { IfErr result (λ refusal. IsRangeRefusal self.now text.now refusal) }
     {
-        lt_match::canonical_range(alloc, &self.checked, text)
+        lt_range::extlang_range(alloc, &self.checked, text)
     }
 
-    /// The subtags by which ranges match a tag: those of its canonical form (RFC 5646, 4.5), as `he` and `IL` for
-    /// `iw-IL`. So equivalent tags match the same ranges. It is refused as `canonical` refuses.
+    /// The subtags by which ranges match a tag: those of its extlang form (RFC 5646, 4.5), as `zh`, `yue` and `HK` for
+    /// `yue-HK`. So equivalent tags match the same ranges, and `zh` finds `yue`. It is refused as `canonical` refuses.
     pub fn subtags(&self, alloc: Global, tag: &Tag) -> Result<TagSubtags, Refusal>
-        ensures subtags { IfOk result (λ subtags. HasCanonicalList self.now tag.now subtags) }
-        ensures repeats { IfErr result (λ refusal. RefusesOnlyRepeats self.now tag.now refusal) }
-        ensures invalid { IfErr result (λ refusal. NamesFault self.now tag.now refusal) }
-        ensures named { IfErr result (λ refusal. NamesRepeat self.now tag.now refusal) }
+        ensures subtags { IfOk result (λ subtags. HasExtlangList self.now tag.now subtags) }
+        ensures refusal { IfErr result (λ refusal. IsRefusedWith self.now tag.now refusal) }
     {
-        lt_match::canonical_subtags(alloc, &self.checked, tag)
+        lt_range::extlang_subtags(alloc, &self.checked, tag)
+    }
+
+    /// The [`subtags`](Registry::subtags) of the tag that a text is read as. It is refused as `canonical_text` refuses.
+    pub fn subtags_of_text(&self, alloc: Global, text: &[u8]) -> Result<TagSubtags, TextRefusal>
+        ensures subtags { IfOk result (λ subtags. HasSubtags self.now text.now subtags) }
+        ensures refusal { IfErr result (λ refusal. IsTextRefusal self.now text.now refusal) }
+    {
+        lt_range::subtags_of_text(alloc, &self.checked, text)
+    }
+
+    /// What an Accept-Language header asks for (RFC 9110, 12.5.4): each of its ranges, as [`range`](Registry::range) gives
+    /// it, with its weight. Those that are acceptable come first, from the greatest weight to the least, and then the
+    /// others, in the order of the header. `da, en-gb;q=0.8` gives `da` with 1,000 thousandths and `en-gb` with 800.
+    ///
+    /// - `NotAHeader`, with the fault that `AcceptLanguage::read` answers, exactly where the text is no header.
+    /// - `BadRange`, with the refusal of `range`, where that refuses one of the ranges.
+    /// - `OutOfMemory` where memory runs out.
+    pub fn preferences(
+        &self,
+        alloc: Global,
+        header: &[u8],
+    ) -> Result<Vec<Preference>, HeaderRefusal>
+        ensures preferences { IfOk result (λ all. Asks self.now header.now all.items) }
+        ensures refusal { IfErr result (λ refusal. IsHeaderRefusal self.now header.now refusal) }
+    {
+        lt_range::header_preferences(alloc, &self.checked, header)
+    }
+
+    /// The tags that texts are read as, in their order, prepared for [`Available::best`](crate::Available::best): a
+    /// service has one such list, and asks it once for each reader. It is refused at the first text that
+    /// `subtags_of_text` refuses, with its refusal and the number of the text, from 1.
+    pub fn available(&self, alloc: Global, texts: &[&[u8]]) -> Result<Available, AvailableRefusal>
+        ensures available { IfOk result (λ lists. AreAvailable self.now (map (λ text. text.now) texts.now) (length texts.now) lists) }
+        ensures refusal { IfErr result (IsAvailableRefusal self.now (map (λ text. text.now) texts.now)) }
+    {
+        Available::of_texts(alloc, &self.checked, texts)
     }
 
     /// What the registry has for the parts of a tag, in order: of each its place, what it is, where it is in the text that

@@ -4,3 +4,5 @@ pub mod Fronts
 pub mod KindNumbers
 pub mod PartKindNumbers
 pub mod MatchAnswers
+pub mod Replaced
+pub mod Locales

@@ -6,31 +6,31 @@ use Rattle.lt_registry.specs.Parts.{EntryParts}
 use Rattle.lt_check.specs.Conditions.{IsChecked}
 use Rattle.lt_canon.specs.Texts.{ReadsAs}
 use Rattle.lt_range.specs.Ranges.{RangeParts}
-use Rattle.lt_match.specs.Matched.{HasCanonicalList, IsCanonicalRange, MatchesBy, MatchesTag}
-use Rattle.lt_match.specs.Laws.{MatchingIsDetermined}
-use Rattle.lt_match.proofs.MatchLaws.{determined}
+use Rattle.lt_range.specs.Matched.{HasExtlangList, IsExtlangRange, MatchesBy, MatchesTag}
+use Rattle.lt_range.specs.Laws.{MatchingIsDetermined}
+use Rattle.lt_range.proofs.MatchLaws.{determined}
 use Rattle.bcp47_c.specs.Matches.{IsMatchOf, matching, TellsMatch}
 use Rattle.bcp47_c.specs.Outcomes.{ended, IsDelivered}
 use Rattle.bcp47_c.specs.declared.matching.Scheme.{Scheme}
 use Rattle.bcp47_c.specs.declared.outcomes.Outcome.{Outcome}
 use Rattle.bcp47_c.specs.declared.outcomes.Said.{Said}
 
--- A range and a tag have one canonical form each: if they match, they match by the range's `parts` and the tag's `list`
+-- A range and a tag have one extlang form each: if they match, they match by the range's `parts` and the tag's `list`
 -- of subtags, which are such forms.
 by_parts : (R : List EntryParts) → IsChecked R → (scheme : Scheme) (range : List ℕ) (parts : RangeParts) (tag : TagForm)
-    (list : List (List ℕ)) → IsCanonicalRange R range parts → HasCanonicalList R tag list
+    (list : List (List ℕ)) → IsExtlangRange R range parts → HasExtlangList R tag list
     → MatchesTag R (matching scheme) range tag → MatchesBy (matching scheme) parts list
 by_parts R C scheme range parts tag list p l m =
     let D : MatchingIsDetermined R = determined R C in
     let listed = subst (λ (x : List (List ℕ)). MatchesBy (matching scheme) m.range x)
-    (D.list tag m.list list m.canonical l) m.matches in
+    (D.list tag m.list list m.extlang l) m.matches in
     subst (λ (x : RangeParts). MatchesBy (matching scheme) x list) (D.range range m.range parts m.is_range p) listed
 
--- if `answer` is whether the range's `parts` match the tag's `list` of subtags, which are their canonical forms, it is
+-- if `answer` is whether the range's `parts` match the tag's `list` of subtags, which are their extlang forms, it is
 -- whether the range matches the tag
 pub told_by_parts : (R : List EntryParts) → IsChecked R → (scheme : Scheme) (range text : List ℕ) (parts : RangeParts)
-    (list : List (List ℕ)) (answer : Bool) → IsCanonicalRange R range parts
-    → ReadsAs text (λ tag. HasCanonicalList R tag list) → IsTrue answer ↔ MatchesBy (matching scheme) parts list
+    (list : List (List ℕ)) (answer : Bool) → IsExtlangRange R range parts
+    → ReadsAs text (λ tag. HasExtlangList R tag list) → IsTrue answer ↔ MatchesBy (matching scheme) parts list
     → IsMatchOf R scheme range text answer
 told_by_parts R C scheme range text parts list answer p q d = record {
   parts = parts;
@@ -38,9 +38,9 @@ told_by_parts R C scheme range text parts list answer p q d = record {
   tag = q.tag;
   read = q.read;
   list = list;
-  canonical = q.holds;
+  extlang = q.holds;
   matches = (
-    λ h. record { range = parts; is_range = p; list = list; canonical = q.holds; matches = d.0 h },
+    λ h. record { range = parts; is_range = p; list = list; extlang = q.holds; matches = d.0 h },
     λ m. d.1 (by_parts R C scheme range parts q.tag list p q.holds m),
   );
 }

@@ -1,5 +1,5 @@
 -- A kind of part has a number of its own.
-use Rattle.std.proofs.Common.{◌≡◌, ℕ, List, [], ◌∷◌, refl, sym, ap, ◌∙◌, get_or}
+use Rattle.std.proofs.Common.{◌≡◌, List, [], ◌∷◌, refl, sym, ap, ◌∙◌, get_or}
 use Rattle.lt_parts.specs.declared.kinds.PartKind.{PartKind}
 use Rattle.lt_parts.specs.declared.kinds.PartKind.TheVariants as kinds
 use Rattle.bcp47_c.specs.Parts.{part_kind}

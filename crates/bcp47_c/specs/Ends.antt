@@ -23,7 +23,7 @@ use Rattle.bcp47.specs.declared.errors.RegistryError.TheVariants as errors
 use Rattle.bcp47_c.specs.Handles.{Held}
 use Rattle.bcp47_c.specs.Numbers.{class, condition, file_fault, record_fault, upgrade_condition}
 use Rattle.bcp47_c.specs.Outcomes.{ended, outcome, IsDelivered, IsRefusedAsOwed}
-use Rattle.bcp47_c.specs.Records.{Kept}
+use Rattle.bcp47_c.specs.Records.{Kept, alone, with_records}
 use Rattle.lt_canon.specs.TextAnswers.{IsEqualityOf, IsPairRefusal, IsValidityRefusal}
 use Rattle.bcp47_c.specs.Texts.{IsReadingRefusal, IsStepCount, IsValidText}
 use Rattle.bcp47_c.specs.declared.outcomes.Outcome.{Outcome}
@@ -39,11 +39,11 @@ error_said (errors.Record fault) = record { status = 8; detail = record_fault fa
 error_said (errors.Check finding) = record { status = 9; detail = condition finding.condition; place = finding.number }
 error_said errors.OutOfMemory = ended 4
 
--- the handle holds the registry whose text the bytes are, with no records, and the status is Done (0); the buffer was
--- `before` and is `after`
+-- the handle holds the registry whose text the bytes are, with nothing kept with it, and the status is Done (0); the
+-- buffer was `before` and is `after`
 pub record IsOpened (held : Held) (bytes before after : List ℕ) (o : Outcome) : Type 0 where
   pub registry : List EntryParts
-  pub holds : held ≡ Some (registry, [])
+  pub holds : held ≡ Some (alone registry)
   pub read : ReadsBytes bytes (Ok registry)
   pub delivered : IsDelivered (ended 0) [] before after o
 
@@ -77,7 +77,7 @@ Shares registry held status = ((status ≡ 0) × (held ≡ Some registry)) ⊎ (
 pub record IsKept (registry : Kept) (held : Held) (bytes : List ℕ) : Type 0 where
   pub records : List (List Field)
   pub read : HasRecords bytes records
-  pub holds : held ≡ Some (registry.0, records)
+  pub holds : held ≡ Some (with_records registry records)
 
 -- the bytes are not in the record-jar format: they have a fault, which is not lack of memory
 pub record HasNoRecords (bytes : List ℕ) : Type 0 where

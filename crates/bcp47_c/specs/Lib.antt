@@ -7,7 +7,10 @@ pub mod Names
 pub mod Texts
 pub mod Parts
 pub mod Parents
+pub mod Replacing
+pub mod Posix
 pub mod Steps
 pub mod Traces
 pub mod Ends
 pub mod Matches
+pub mod Serving

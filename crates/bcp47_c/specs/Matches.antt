@@ -5,11 +5,11 @@ use Rattle.lt_tag.specs.Parts.{TagForm}
 use Rattle.lt_registry.specs.Parts.{EntryParts}
 use Rattle.lt_canon.specs.Texts.{IsTextRefusal}
 use Rattle.lt_range.specs.Ranges.{RangeParts}
-use Rattle.lt_match.specs.Matched.{BasicFiltering, ExtendedFiltering, HasCanonicalList, IsCanonicalRange, Lookup}
-use Rattle.lt_match.specs.Matched.{MatchesTag, MatchingScheme}
-use Rattle.lt_match.specs.Refusals.{IsRangeRefusal}
-use Rattle.lt_match.specs.declared.refusals.RangeRefusal.{RangeRefusal}
-use Rattle.lt_match.specs.declared.refusals.RangeRefusal.TheVariants as refusals
+use Rattle.lt_range.specs.Matched.{BasicFiltering, ExtendedFiltering, HasExtlangList, IsExtlangRange, Lookup}
+use Rattle.lt_range.specs.Matched.{MatchesTag, MatchingScheme}
+use Rattle.lt_range.specs.Refusals.{IsRangeRefusal}
+use Rattle.lt_range.specs.declared.refusals.RangeRefusal.{RangeRefusal}
+use Rattle.lt_range.specs.declared.refusals.RangeRefusal.TheVariants as refusals
 use Rattle.bcp47_c.specs.Numbers.{range_fault}
 use Rattle.bcp47_c.specs.Outcomes.{ended, of_text, IsDelivered, IsRefusedAsOwed}
 use Rattle.bcp47_c.specs.declared.matching.Scheme.{Scheme}
@@ -38,15 +38,15 @@ matching schemes.Lookup = Lookup
 
 -- ---- what is answered
 
--- The range and the tag of `text` both have a canonical form, and `answer` is whether they match (RFC 5646, 4.5; RFC
+-- The range and the tag of `text` both have an extlang form, and `answer` is whether they match (RFC 5646, 4.5; RFC
 -- 4647, 3).
 pub record IsMatchOf (R : List EntryParts) (scheme : Scheme) (range text : List ℕ) (answer : Bool) : Type 0 where
   pub parts : RangeParts
-  pub is_range : IsCanonicalRange R range parts
+  pub is_range : IsExtlangRange R range parts
   pub tag : TagForm
   pub read : HasTag text tag
   pub list : List (List ℕ)
-  pub canonical : HasCanonicalList R tag list
+  pub extlang : HasExtlangList R tag list
   pub matches : IsTrue answer ↔ MatchesTag R (matching scheme) range tag
 
 -- the status says whether the range matches the tag of `text`: Done (0) if so, Different (6) if not; the buffer was
@@ -80,11 +80,11 @@ pub record IsRangeRefused (R : List EntryParts) (range before after : List ℕ) 
   pub delivered : IsDelivered (range_said refusal) (range_text refusal) before after alone
   pub told : o ≡ of_text 1 alone
 
--- The range has a canonical form, and why the tag of `text` is refused is answered, with the number of its text, 2.
+-- The text of the range is one, and why the tag of `text` is refused is answered, with the number of its text, 2.
 -- `alone` is the outcome without that number; the buffer was `before` and is `after`.
 pub record IsTagRefused (R : List EntryParts) (range text before after : List ℕ) (o : Outcome) : Type 0 where
   pub parts : RangeParts
-  pub is_range : IsCanonicalRange R range parts
+  pub is_range : IsExtlangRange R range parts
   pub alone : Outcome
   pub refused : IsRefusedAsOwed (IsTextRefusal R text) before after alone
   pub told : o ≡ of_text 2 alone

@@ -8,8 +8,8 @@ status_names =
     codes "BufferTooSmall" ∷ codes "Different" ∷ codes "BadFile" ∷ codes "BadRecord" ∷ codes "Rejected" ∷
     codes "NoUpgrade" ∷ codes "NoSuchStep" ∷ codes "WrongEnd" ∷ []
 
--- the names of the faults 0 to 53: none, then those of a text, a tag, the bytes of a registry, a record, the check, an
--- upgrade and a language range
+-- the names of the faults 0 to 55: none, then those of a text, a tag, the bytes of a registry, a record, the check, an
+-- upgrade, a language range and a header
 unfoldable pub fault_names : List (List ℕ)
 fault_names =
     codes "None" ∷ codes "TooLong" ∷ codes "EmptySubtag" ∷ codes "BadByte" ∷ codes "LongSubtag" ∷
@@ -22,4 +22,5 @@ fault_names =
     codes "BadRange" ∷ codes "BadSubtag" ∷ codes "BadTag" ∷ codes "BadPreferred" ∷ codes "BadPrefix" ∷
     codes "C1" ∷ codes "C2" ∷ codes "C3" ∷ codes "C4" ∷ codes "C5" ∷ codes "C6" ∷ codes "C7" ∷ codes "C8" ∷
     codes "C9" ∷ codes "C10" ∷ codes "C11" ∷ codes "C12" ∷ codes "U1" ∷ codes "U2" ∷ codes "U3" ∷ codes "U4" ∷
-    codes "U5" ∷ codes "U6" ∷ codes "BadFirst" ∷ []
+    codes "U5" ∷ codes "U6" ∷ codes "BadFirst" ∷ codes "ExtendedRange" ∷
+    codes "BadWeight" ∷ []

@@ -5,6 +5,8 @@ use Rattle.lt_subtag.specs.declared.SubtagFault.{SubtagFault}
 use Rattle.lt_subtag.specs.declared.SubtagFault.TheVariants as subtag_kinds
 use Rattle.lt_tag.specs.declared.faults.TagFaultKind.{TagFaultKind}
 use Rattle.lt_tag.specs.declared.faults.TagFaultKind.TheVariants as tag_kinds
+use Rattle.lt_range.specs.declared.accept_faults.AcceptFaultKind.{AcceptFaultKind}
+use Rattle.lt_range.specs.declared.accept_faults.AcceptFaultKind.TheVariants as accept_kinds
 use Rattle.lt_range.specs.declared.faults.RangeFault.{RangeFault}
 use Rattle.lt_range.specs.declared.faults.RangeFault.TheVariants as range_kinds
 use Rattle.lt_registry.specs.declared.faults.ValidFaultKind.{ValidFaultKind}
@@ -108,6 +110,13 @@ abbrev pub range_fault : RangeFault → ℕ
 range_fault (range_kinds.BadSubtag fault) = subtag_fault fault
 range_fault range_kinds.BadFirst = 53
 range_fault range_kinds.OutOfMemory = 0
+
+-- the number of the fault of a list element of the header Accept-Language
+abbrev pub accept_fault : AcceptFaultKind → ℕ
+accept_fault (accept_kinds.BadRange fault) = range_fault fault
+accept_fault accept_kinds.ExtendedRange = 54
+accept_fault accept_kinds.BadWeight = 55
+accept_fault accept_kinds.OutOfMemory = 0
 
 -- the number of a class of tag (RFC 5646, 2.1)
 abbrev pub class : Class → ℕ

@@ -70,7 +70,7 @@ pub record IsRefusedAsOwed (IsOwed : TextRefusal → Type 0) (before after : Lis
 abbrev pub Answers : (List ℕ → Type 0) → (TextRefusal → Type 0) → List ℕ → List ℕ → Outcome → Type 0
 Answers IsText IsRefusal before after o = IsWritten IsText before after o ⊎ IsRefusedAsOwed IsRefusal before after o
 
--- the outcome, with the number of the text that it is about, 1 or 2
+-- the outcome, with the number of the text that it is about
 abbrev pub told_of : ℕ → Outcome → Outcome
 told_of number o =
     record {

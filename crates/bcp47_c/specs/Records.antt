@@ -1,4 +1,4 @@
--- A registry and the records that are kept with it, and the rows of a tag by both.
+-- What a handle holds: a registry and what is kept with it; and the rows of a tag by a registry and records.
 use Rattle.std.specs.Prelude.{ℕ, ◌≡◌, ◌⊎◌, List, [], ◌∷◌, ◌++◌, flat_map, length, map}
 use Rattle.lt_jar.specs.Records.{Field}
 use Rattle.lt_registry.specs.Parts.{EntryParts}
@@ -9,13 +9,28 @@ use Rattle.bcp47_c.specs.Outcomes.{AreDelivered, ended, IsDelivered}
 use Rattle.bcp47_c.specs.declared.outcomes.Outcome.{Outcome}
 use Rattle.bcp47_c.specs.declared.records.FieldLengths.{FieldLengths}
 
--- a registry, as its entries, and the records that are kept with it
-abbrev pub Kept : Type 0
-Kept = List EntryParts × List (List Field)
+-- a registry, as its entries, and what is kept with it: records, and the lists of subtags of the tags of which one is
+-- served
+pub record Kept : Type 0 where
+  pub entries : List EntryParts
+  pub records : List (List Field)
+  pub lists : List (List (List ℕ))
 
--- the text is read as a tag, and `rows` are that tag's rows as a JSON array
-abbrev pub AreRowsOf : Kept → (text rows : List ℕ) → Type 0
-AreRowsOf registry text rows = ReadsAs text (λ tag. rows ≡ rows_value registry.0 registry.1 tag)
+-- a registry with which nothing is kept
+abbrev pub alone : List EntryParts → Kept
+alone R = record { entries = R; records = []; lists = [] }
+
+-- the same, with these records in place of those that were kept
+abbrev pub with_records : Kept → List (List Field) → Kept
+with_records registry records = record { entries = registry.entries; records = records; lists = registry.lists }
+
+-- the same, with these lists in place of those that were kept
+abbrev pub with_lists : Kept → List (List (List ℕ)) → Kept
+with_lists registry lists = record { entries = registry.entries; records = registry.records; lists = lists }
+
+-- the text is read as a tag, and `rows` are that tag's rows by these entries and records, as a JSON array
+abbrev pub AreRowsOf : List EntryParts → List (List Field) → (text rows : List ℕ) → Type 0
+AreRowsOf R records text rows = ReadsAs text (λ tag. rows ≡ rows_value R records tag)
 
 -- ---- the fields of a record
 

@@ -11,8 +11,8 @@ use std::marker::Model;
 use std::mem::replace;
 use std::ptr::null_mut;
 
-/// What C holds: a registry, or nothing, as bytes do that are all zero. A contract sees its entries, and the records that are
-/// kept with them. `bcp47_handle_open` and `bcp47_handle_share` open it, `bcp47_handle_close` closes it.
+/// What C holds: a registry, or nothing, as bytes do that are all zero. A contract sees its entries, and what is kept with
+/// them. `bcp47_handle_open` and `bcp47_handle_share` open it, `bcp47_handle_close` closes it.
 #[repr(C)]
 pub struct Handle {
     place: *mut u8,

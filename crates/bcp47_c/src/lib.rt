@@ -18,6 +18,7 @@ ghost use Rattle.bcp47_c.specs.Names.{fault_names, status_names};
 ghost use Rattle.bcp47_c.specs.Numbers as number_of;
 ghost use Rattle.bcp47_c.specs.Outcomes.{Answers, IsDelivered, ended};
 ghost use Rattle.bcp47_c.specs.Records.{AreRowsOf, Kept, TellsRecord};
+ghost use Rattle.bcp47_c.specs.Serving.{Accepts, Lists, Serves, texts_of};
 ghost use Rattle.bcp47_c.specs.Texts.{IsReadingRefusal};
 ghost use Rattle.bcp47_c.specs.Traces.{Verifies};
 
@@ -31,7 +32,10 @@ mod opened;
 mod outcomes;
 mod parents;
 mod parts;
+mod posix;
 mod records;
+mod replacing;
+mod serving;
 mod steps;
 mod texts;
 mod traces;
@@ -46,7 +50,9 @@ pub use outcomes::Outcome;
 use outcomes::{deliver, ended};
 pub use parents::bcp47_write_parent;
 pub use parts::{PartNumbers, bcp47_write_part_kind_name, bcp47_write_parts};
+pub use posix::bcp47_write_posix;
 pub use records::FieldLengths;
+pub use replacing::bcp47_write_with;
 use sha2::{Digest, Sha256};
 use std::alloc::Global;
 pub use steps::StepNumbers;
@@ -76,8 +82,8 @@ pub extern "C" fn bcp47_handle_open(
     }
 }
 
-/// Lets another handle, `other`, which holds nothing, hold the registry of `handle` too, with the records that are kept
-/// with it: status 0, or 4 where memory runs out.
+/// Lets another handle, `other`, which holds nothing, hold the registry of `handle` too, with the records and the list of tags
+/// that are kept with it: status 0, or 4 where memory runs out.
 #[unsafe(no_mangle)]
 pub extern "C" fn bcp47_handle_share(alloc: Global, handle: &mut Handle, other: &mut Handle) -> u8
     ghost registry: { Kept }
@@ -130,7 +136,7 @@ pub extern "C" fn bcp47_handle_entries(alloc: Global, handle: &mut Handle) -> us
     ghost registry: { Kept }
     requires { handle.old.held ≡ Some registry }
     ensures kept { handle.new.held ≡ Some registry }
-    ensures count { result ≡ length registry.0 }
+    ensures count { result ≡ length registry.entries }
 {
     let opened = take(alloc, handle);
     let count = opened.count();
@@ -162,7 +168,7 @@ pub extern "C" fn bcp47_handle_canonical(
     ghost registry: { Kept }
     requires { handle.old.held ≡ Some registry }
     ensures kept { handle.new.held ≡ Some registry }
-    ensures answer { Answers (IsCanonicalTextOf registry.0 text.now) (IsTextRefusal registry.0 text.now) buffer.old buffer.new result }
+    ensures answer { Answers (IsCanonicalTextOf registry.entries text.now) (IsTextRefusal registry.entries text.now) buffer.old buffer.new result }
 {
     let mut opened = take(alloc, handle);
     let outcome = opened.canonical(alloc, text, buffer);
@@ -182,7 +188,7 @@ pub extern "C" fn bcp47_handle_extlang(
     ghost registry: { Kept }
     requires { handle.old.held ≡ Some registry }
     ensures kept { handle.new.held ≡ Some registry }
-    ensures answer { Answers (IsExtlangTextOf registry.0 text.now) (IsTextRefusal registry.0 text.now) buffer.old buffer.new result }
+    ensures answer { Answers (IsExtlangTextOf registry.entries text.now) (IsTextRefusal registry.entries text.now) buffer.old buffer.new result }
 {
     let mut opened = take(alloc, handle);
     let outcome = opened.extlang(alloc, text, buffer);
@@ -232,7 +238,7 @@ pub extern "C" fn bcp47_handle_explain(
     ghost registry: { Kept }
     requires { handle.old.held ≡ Some registry }
     ensures kept { handle.new.held ≡ Some registry }
-    ensures answer { Answers (IsExplanationTextOf registry.0 text.now) (IsTextRefusal registry.0 text.now) buffer.old buffer.new result }
+    ensures answer { Answers (IsExplanationTextOf registry.entries text.now) (IsTextRefusal registry.entries text.now) buffer.old buffer.new result }
 {
     let opened = take(alloc, handle);
     let outcome = opened.explain(alloc, text, buffer);
@@ -256,7 +262,7 @@ pub extern "C" fn bcp47_handle_show(
     ghost registry: { Kept }
     requires { handle.old.held ≡ Some registry }
     ensures kept { handle.new.held ≡ Some registry }
-    ensures answer { Answers (AreRowsOf registry text.now) (IsReadingRefusal text.now) buffer.old buffer.new result }
+    ensures answer { Answers (AreRowsOf registry.entries registry.records text.now) (IsReadingRefusal text.now) buffer.old buffer.new result }
 {
     let opened = take(alloc, handle);
     let outcome = opened.show(alloc, text, buffer);
@@ -276,7 +282,7 @@ pub extern "C" fn bcp47_handle_count_steps(
     ghost registry: { Kept }
     requires { handle.old.held ≡ Some registry }
     ensures kept { handle.new.held ≡ Some registry }
-    ensures answer { CountsSteps registry.0 text.now buffer.old buffer.new result }
+    ensures answer { CountsSteps registry.entries text.now buffer.old buffer.new result }
 {
     let opened = take(alloc, handle);
     let outcome = opened.count_steps(alloc, text, buffer);
@@ -300,7 +306,7 @@ pub extern "C" fn bcp47_handle_record(
     ghost registry: { Kept }
     requires { handle.old.held ≡ Some registry }
     ensures kept { handle.new.held ≡ Some registry }
-    ensures answer { TellsRecord registry.1 number room.old room.new buffer.old buffer.new result }
+    ensures answer { TellsRecord registry.records number room.old room.new buffer.old buffer.new result }
 {
     let opened = take(alloc, handle);
     let outcome = opened.record(alloc, number, buffer, room);
@@ -324,7 +330,7 @@ pub extern "C" fn bcp47_handle_verify(
     ghost registry: { Kept }
     requires { handle.old.held ≡ Some registry }
     ensures kept { handle.new.held ≡ Some registry }
-    ensures answer { Verifies registry.0 text.now steps.now last.now result }
+    ensures answer { Verifies registry.entries text.now steps.now last.now result }
 {
     let opened = take(alloc, handle);
     let outcome = opened.verify(alloc, text, steps, last);
@@ -339,7 +345,7 @@ pub extern "C" fn bcp47_handle_validate(alloc: Global, handle: &mut Handle, text
     ghost registry: { Kept }
     requires { handle.old.held ≡ Some registry }
     ensures kept { handle.new.held ≡ Some registry }
-    ensures answer { Validates registry.0 text.now result }
+    ensures answer { Validates registry.entries text.now result }
 {
     let opened = take(alloc, handle);
     let outcome = opened.validate(alloc, text);
@@ -363,7 +369,7 @@ pub extern "C" fn bcp47_handle_equal(
     ghost registry: { Kept }
     requires { handle.old.held ≡ Some registry }
     ensures kept { handle.new.held ≡ Some registry }
-    ensures answer { Compares registry.0 first.now second.now buffer.old buffer.new result }
+    ensures answer { Compares registry.entries first.now second.now buffer.old buffer.new result }
 {
     let opened = take(alloc, handle);
     let outcome = opened.equal(alloc, first, second, buffer);
@@ -373,8 +379,8 @@ pub extern "C" fn bcp47_handle_equal(
 
 /// Whether a language range matches a tag (RFC 4647), by the scheme of a number: 1 for basic filtering (3.3.1), 2 for
 /// extended filtering (3.3.2), 3 for lookup (3.4), where the range, cut from its end, is the tag. Status 0, or 6 where it
-/// does not. Both are matched by their canonical forms (RFC 5646, 4.5), so that `zh-yue` matches `yue-HK`; a range that is
-/// no valid tag, as `zh-*`, is taken as it is written.
+/// does not. Both are matched by their extlang forms (RFC 5646, 4.5), so that `zh` and `zh-yue` match `yue-HK`; of a range that
+/// is no valid tag, for example `yue-*`, the first subtag is, where it alone is a valid tag.
 ///
 /// Where one of the two is refused, the outcome's `text` says which, 1 for the range and 2 for the tag:
 ///
@@ -394,10 +400,72 @@ pub extern "C" fn bcp47_handle_match(
     ghost registry: { Kept }
     requires { handle.old.held ≡ Some registry }
     ensures kept { handle.new.held ≡ Some registry }
-    ensures answer { Matches registry.0 scheme range.now tag.now buffer.old buffer.new result }
+    ensures answer { Matches registry.entries scheme range.now tag.now buffer.old buffer.new result }
 {
     let opened = take(alloc, handle);
     let outcome = opened.matches(alloc, scheme, range, tag, buffer);
+    put(handle, opened);
+    outcome
+}
+
+/// Keeps a list of tags with a registry, in place of the one that was kept: status 0. The tags are texts of these lengths,
+/// which stand one after another in `texts`.
+///
+/// Status 1, 2 or 3 says of the first tag that is refused what `bcp47_handle_canonical` says of it, with its number from 1 as
+/// the outcome's `text`; nothing is written. Status 4 says that memory ran out. What was held is held then.
+#[unsafe(no_mangle)]
+pub extern "C" fn bcp47_handle_list(
+    alloc: Global,
+    handle: &mut Handle,
+    texts: &[u8],
+    lengths: &[usize],
+) -> Outcome
+    ghost registry: { Kept }
+    requires { handle.old.held ≡ Some registry }
+    ensures { Lists registry (texts_of lengths.now texts.now) handle.new.held result }
+{
+    let mut opened = take(alloc, handle);
+    let outcome = opened.list(alloc, texts, lengths);
+    put(handle, opened);
+    outcome
+}
+
+/// Which tag of the list that is kept is served to the reader of an Accept-Language header (RFC 9110, 12.5.4): status 0, with 1
+/// as the detail and the place of the tag, counted from 0; or with 0 as the detail where no range serves a tag. Ranges and tags
+/// are matched by their extlang forms (RFC 5646, 4.5).
+///
+/// Status 18 says that the text is no header, with the number of the fault and of the list element from 1. Status 3 says
+/// that steps can repeat a variant of one of its ranges, and 4 that memory ran out.
+#[unsafe(no_mangle)]
+pub extern "C" fn bcp47_handle_best(alloc: Global, handle: &mut Handle, header: &[u8]) -> Outcome
+    ghost registry: { Kept }
+    requires { handle.old.held ≡ Some registry }
+    ensures kept { handle.new.held ≡ Some registry }
+    ensures answer { Serves registry.entries registry.lists header.now result }
+{
+    let opened = take(alloc, handle);
+    let outcome = opened.best(alloc, header);
+    put(handle, opened);
+    outcome
+}
+
+/// The places, counted from 0, of the tags of the list that is kept which an Accept-Language header accepts, from the greatest
+/// weight to the least (RFC 9110, 12.5.4): status 0, and how many there are as the place. Where they do not fit the room,
+/// none is written, and the status is 5. The other statuses are those of `bcp47_handle_best`.
+#[unsafe(no_mangle)]
+pub extern "C" fn bcp47_handle_filter(
+    alloc: Global,
+    handle: &mut Handle,
+    header: &[u8],
+    places: &mut [usize],
+) -> Outcome
+    ghost registry: { Kept }
+    requires { handle.old.held ≡ Some registry }
+    ensures kept { handle.new.held ≡ Some registry }
+    ensures answer { Accepts registry.entries registry.lists header.now places.old places.new result }
+{
+    let opened = take(alloc, handle);
+    let outcome = opened.accepted(alloc, header, places);
     put(handle, opened);
     outcome
 }
@@ -407,7 +475,7 @@ fn check_newer(alloc: Global, older: &Opened, newer: &mut Handle) -> Outcome
     ghost registry: { Kept }
     requires { newer.old.held ≡ Some registry }
     ensures kept { newer.new.held ≡ Some registry }
-    ensures answer { ChecksUpgrade older.now.0 registry.0 result }
+    ensures answer { ChecksUpgrade older.now.entries registry.entries result }
 {
     let opened = take(alloc, newer);
     let outcome = older.upgrade_check(alloc, &opened);
@@ -428,7 +496,7 @@ pub extern "C" fn bcp47_handle_upgrade_check(
     requires newer { newer.old.held ≡ Some registry.1 }
     ensures kept { older.new.held ≡ Some registry.0 }
     ensures kept_newer { newer.new.held ≡ Some registry.1 }
-    ensures answer { ChecksUpgrade registry.0.0 registry.1.0 result }
+    ensures answer { ChecksUpgrade registry.0.entries registry.1.entries result }
 {
     let opened = take(alloc, older);
     let outcome = check_newer(alloc, &opened, newer);
@@ -450,11 +518,11 @@ pub extern "C" fn bcp47_write_status_name(status: u8, buffer: &mut [u8]) -> Outc
     deliver(ended(DONE), name.as_bytes(), buffer)
 }
 
-/// Writes the name of a fault, 0 to 53, as the program prints it: `BadByte` for 3; nothing for another number.
+/// Writes the name of a fault, 0 to 55, as the program prints it: `BadByte` for 3; nothing for another number.
 #[unsafe(no_mangle)]
 pub extern "C" fn bcp47_write_fault_name(fault: u8, buffer: &mut [u8]) -> Outcome
-    ensures named { fault ≤ 53 → IsDelivered (ended 0) (slice_index_or fault_names fault []) buffer.old buffer.new result }
-    ensures none { 53 < fault → IsDelivered (ended 0) [] buffer.old buffer.new result }
+    ensures named { fault ≤ 55 → IsDelivered (ended 0) (slice_index_or fault_names fault []) buffer.old buffer.new result }
+    ensures none { 55 < fault → IsDelivered (ended 0) [] buffer.old buffer.new result }
 {
     let name = if fault <= LAST_FAULT {
         fault_name(fault)

@@ -1,14 +1,13 @@
 //! Whether a language range matches a tag, both by their texts.
-ghost use Rattle.std.specs.Prelude.{◌≡◌, ◌↔◌, IsTrue, IfOk, IfErr};
-ghost use Rattle.lt_canon.specs.Texts.{IsTextRefusal, ReadsAs};
-ghost use Rattle.lt_match.specs.Matched.{HasCanonicalList, MatchesBy};
+ghost use Rattle.std.specs.Prelude.{◌≡◌, ◌↔◌, IsTrue};
+ghost use Rattle.lt_range.specs.Matched.{MatchesBy};
 ghost use Rattle.bcp47_c.specs.Matches as spec;
 ghost use Rattle.bcp47_c.specs.Matches.{IsSchemeOf, TellsMatch, matching};
 ghost use Rattle.bcp47_c.specs.Outcomes.{IsDelivered};
 
 use crate::numbers::{DIFFERENT, DONE, NOT_A_TAG, OUT_OF_MEMORY, REPLACEMENT_REPEATS, range_fault};
 use crate::outcomes::{Outcome, Said, deliver, ended, of_text, refuse};
-use bcp47::{LanguageRange, RangeRefusal, Registry, Tag, TagSubtags, TextRefusal};
+use bcp47::{LanguageRange, RangeRefusal, Registry, TagSubtags};
 use std::alloc::Global;
 
 /// The schemes of matching (RFC 4647, 3.3.1, 3.3.2 and 3.4).
@@ -43,22 +42,8 @@ fn is_matched(scheme: Scheme, range: &LanguageRange, tag: &TagSubtags) -> bool
     }
 }
 
-/// The subtags of the canonical form of the tag that a text is read as (RFC 5646, 4.5), or why there is none.
-#[tactic(auto, using(lt_canon::proofs::CanonicalForms::refused))]
-fn subtags_of_text(
-    alloc: Global,
-    registry: &Registry,
-    text: &[u8],
-) -> Result<TagSubtags, TextRefusal>
-    ensures subtags { IfOk result (λ subtags. ReadsAs text.now (λ tag. HasCanonicalList registry.now tag subtags)) }
-    ensures refusal { IfErr result (λ refusal. IsTextRefusal registry.now text.now refusal) }
-{
-    let tag = Tag::read(alloc, text)?;
-    Ok(registry.subtags(alloc, &tag)?)
-}
-
 /// What an outcome says of a range that is refused: the status, and the number of the fault.
-fn range_said(refusal: &RangeRefusal) -> Said
+pub(crate) fn range_said(refusal: &RangeRefusal) -> Said
     ensures { result ≡ spec.range_said refusal.now }
 {
     match refusal {
@@ -103,15 +88,15 @@ pub(crate) fn answer_match(
 {
     // For the proof alone: what holds of every registry.
     registry.promise();
-    let canonical = match registry.range(alloc, range) {
-        Ok(canonical) => canonical,
+    let known = match registry.range(alloc, range) {
+        Ok(known) => known,
         Err(refusal) => return of_text(1, refuse_range(&refusal, buffer)),
     };
-    let subtags = match subtags_of_text(alloc, registry, text) {
+    let subtags = match registry.subtags_of_text(alloc, text) {
         Ok(subtags) => subtags,
         Err(refusal) => return of_text(2, refuse(&refusal, buffer)),
     };
-    if is_matched(scheme, &canonical, &subtags) {
+    if is_matched(scheme, &known, &subtags) {
         deliver(ended(DONE), &[], buffer)
     } else {
         deliver(ended(DIFFERENT), &[], buffer)

@@ -11,7 +11,7 @@ use crate::numbers::step_kind;
 pub(crate) const LAST_STATUS: u8 = 12;
 
 /// The greatest number of a fault.
-pub(crate) const LAST_FAULT: u8 = 53;
+pub(crate) const LAST_FAULT: u8 = 55;
 
 /// The name of a status, 0 to 12, as `NotATag` for 1.
 #[tactic(auto, unfolding(crate::specs::Names::status_names))]
@@ -37,10 +37,10 @@ pub(crate) fn status_name(status: u8) -> &'static str
     }
 }
 
-/// The name of the fault of a number, 0 to 53, as the program prints it.
+/// The name of the fault of a number, 0 to 55, as the program prints it.
 #[tactic(auto, unfolding(crate::specs::Names::fault_names))]
 pub(crate) fn fault_name(fault: u8) -> &'static str
-    requires { fault ≤ 53 }
+    requires { fault ≤ 55 }
     ensures { result.now ≡ slice_index_or fault_names fault [] }
 {
     match fault {
@@ -98,6 +98,8 @@ pub(crate) fn fault_name(fault: u8) -> &'static str
         51 => "U5",
         52 => "U6",
         53 => "BadFirst",
+        54 => "ExtendedRange",
+        55 => "BadWeight",
         _ => unreachable!(),
     }
 }

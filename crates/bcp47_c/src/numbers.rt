@@ -3,8 +3,8 @@ ghost use Rattle.std.specs.Prelude.{◌≡◌};
 ghost use Rattle.bcp47_c.specs.Numbers as numbers;
 
 use bcp47::{
-    Class, Condition, JarFaultKind, RangeFault, RecordFaultKind, StepKind, SubtagFault,
-    TagFaultKind, UpgradeCondition, ValidFaultKind,
+    AcceptFaultKind, Class, Condition, JarFaultKind, RangeFault, RecordFaultKind, StepKind,
+    SubtagFault, TagFaultKind, UpgradeCondition, ValidFaultKind,
 };
 
 /// What was asked is done.
@@ -33,8 +33,10 @@ pub(crate) const NO_UPGRADE: u8 = 10;
 pub(crate) const NO_SUCH_STEP: u8 = 11;
 /// The steps of a trace lead to another tag than its last.
 pub(crate) const WRONG_END: u8 = 12;
-/// The call is wrong: a number is that of no scheme.
+/// The call is wrong: a number is that of no scheme or section.
 pub(crate) const BAD_CALL: u8 = 14;
+/// The text is no Accept-Language header.
+pub(crate) const BAD_HEADER: u8 = 18;
 
 /// The number that tells a fault for which a text is no tag, or 0 where memory ran out.
 pub(crate) fn tag_fault(kind: TagFaultKind) -> u8
@@ -159,6 +161,18 @@ pub(crate) fn range_fault(fault: RangeFault) -> u8
         RangeFault::BadSubtag(fault) => subtag_fault(fault),
         RangeFault::BadFirst => 53,
         RangeFault::OutOfMemory => 0,
+    }
+}
+
+/// The number that tells a fault of a list element of a header, or 0 where memory ran out.
+pub(crate) fn accept_fault(kind: AcceptFaultKind) -> u8
+    ensures { result ≡ numbers.accept_fault kind }
+{
+    match kind {
+        AcceptFaultKind::BadRange(fault) => range_fault(fault),
+        AcceptFaultKind::ExtendedRange => 54,
+        AcceptFaultKind::BadWeight => 55,
+        AcceptFaultKind::OutOfMemory => 0,
     }
 }
 

@@ -1,12 +1,13 @@
 //! What a handle holds.
-ghost use Rattle.std.specs.Prelude.{◌≡◌, IfOk, IfErr, Ok, Err, Some, [], length};
+ghost use Rattle.std.specs.Prelude.{◌≡◌, IfOk, IfErr, Ok, Err, Some, length};
 ghost use Rattle.lt_canon.specs.ExplanationTexts.{IsExplanationTextOf};
 ghost use Rattle.lt_canon.specs.Texts.{IsCanonicalTextOf, IsTextRefusal};
 ghost use Rattle.bcp47.specs.Promise.{ReadsBytes};
 ghost use Rattle.bcp47_c.specs.Ends.{ChecksUpgrade, Classifies, Compares, CountsSteps, Keeps, Validates};
 ghost use Rattle.bcp47_c.specs.Matches.{Matches};
 ghost use Rattle.bcp47_c.specs.Outcomes.{Answers};
-ghost use Rattle.bcp47_c.specs.Records.{AreRowsOf, TellsRecord};
+ghost use Rattle.bcp47_c.specs.Records.{AreRowsOf, TellsRecord, alone};
+ghost use Rattle.bcp47_c.specs.Serving.{Accepts, Lists, Serves, texts_of};
 ghost use Rattle.bcp47_c.specs.Texts.{IsReadingRefusal};
 ghost use Rattle.lt_canon.specs.TextAnswers.{IsExtlangTextOf};
 ghost use Rattle.bcp47_c.specs.Traces.{Verifies};
@@ -16,11 +17,13 @@ use crate::matching::{answer_match, scheme_of};
 use crate::numbers::{BAD_CALL, BAD_FILE, DIFFERENT, DONE, OUT_OF_MEMORY};
 use crate::outcomes::{Outcome, Said, deliver, deliver_rows, ended, refuse};
 use crate::records::{FieldLengths, read_fields};
+use crate::serving::{answer_accepted, answer_best, list_tags, refuse_tag};
 use crate::steps::StepNumbers;
 use crate::texts::{classify, equality, read_pair, rows_text, step_count, validity, write_extlang};
 use crate::traces::{judge, trace_said};
 use bcp47::{
-    Jar, JarFaultKind, OutOfMemory, Registry, RegistryError, TextRefusal, fields_of, read_jar,
+    Available, Jar, JarFaultKind, OutOfMemory, Registry, RegistryError, TextRefusal, fields_of,
+    read_jar,
 };
 use std::alloc::Global;
 use std::marker::Model;
@@ -29,12 +32,13 @@ use std::sync::Arc;
 /// The bytes for which `texts` has room from the first: those of the longest text that is read as a tag.
 const TEXT_ROOM: usize = 1024;
 
-/// A registry and the records that are kept with it, both of which other handles may hold too, and room for the text of one
-/// call after another.
+/// A registry, and the records and the list of tags that are kept with it, all of which other handles may hold too; and room
+/// for the text of one call after another.
 #[derive(Drop)]
 pub(crate) struct Opened {
     registry: Arc<Registry>,
     records: Arc<Jar>,
+    available: Arc<Available>,
     /// Room for the text of a call, so that a call need not take memory for it. No contract sees it.
     texts: Vec<u8>,
 }
@@ -44,42 +48,46 @@ impl Model for Opened {
 
     ghost Value = { Kept };
 
-    ghost view = { λ o. (o.registry.value, o.records.value) };
+    ghost view = { λ o. record { entries = o.registry.value; records = o.records.value; lists = o.available.value } };
 }
 
 impl Opened {
-    /// What a handle holds for a registry and the records that are kept with it, in a box. Refused only where memory
-    /// runs out.
+    /// What a handle holds for a registry and what is kept with it, in a box. Refused only where memory runs out.
     fn hold(
         alloc: Global,
         registry: Arc<Registry>,
         records: Arc<Jar>,
+        available: Arc<Available>,
     ) -> Result<Box<Opened>, OutOfMemory>
-        ensures { IfOk result (λ opened. opened.value ≡ (registry.value, records.value)) }
+        ensures { IfOk result (λ opened. opened.value ≡ record { entries = registry.value; records = records.value; lists = available.value }) }
     {
         let texts = Vec::with_capacity(alloc, TEXT_ROOM)?;
         let opened = Opened {
             registry,
             records,
+            available,
             texts,
         };
         Ok(Box::new(alloc, opened)?)
     }
 
-    /// What a handle holds for a registry with which no records are kept, in a box. Refused only where memory runs out.
+    /// What a handle holds for a registry with which nothing is kept, in a box. Refused only where memory runs out.
     fn hold_alone(alloc: Global, registry: Registry) -> Result<Box<Opened>, OutOfMemory>
-        ensures { IfOk result (λ opened. opened.value ≡ (registry, [])) }
+        ensures { IfOk result (λ opened. opened.value ≡ alone registry) }
     {
+        let Ok(no_tags) = registry.available(alloc, &[]) else {
+            return Err(OutOfMemory);
+        };
         let records = Vec::new(alloc);
-        let none = Arc::new(alloc, Jar { records })?;
-        Opened::hold(alloc, Arc::new(alloc, registry)?, none)
+        let no_records = Arc::new(alloc, Jar { records })?;
+        let available = Arc::new(alloc, no_tags)?;
+        Opened::hold(alloc, Arc::new(alloc, registry)?, no_records, available)
     }
 
-    /// What a handle holds for the registry whose text the bytes are, or why they are none. No records are kept with
-    /// it.
+    /// What a handle holds for the registry whose text the bytes are, or why they are none. Nothing is kept with it.
     pub(crate) fn read(alloc: Global, bytes: &[u8]) -> Result<Box<Opened>, RegistryError>
-        ensures read { IfOk result (λ opened. ReadsBytes bytes.now (Ok opened.value.0)) }
-        ensures none { IfOk result (λ opened. opened.value.1 ≡ []) }
+        ensures read { IfOk result (λ opened. ReadsBytes bytes.now (Ok opened.value.entries)) }
+        ensures none { IfOk result (λ opened. opened.value ≡ alone opened.value.entries) }
         ensures error { IfErr result (λ error. ReadsBytes bytes.now (Err error)) }
     {
         let registry = Registry::from_bytes(alloc, bytes)?;
@@ -107,26 +115,42 @@ impl Opened {
         }
     }
 
+    /// Keeps the list of the tags that texts are, in place of the one that was kept, and answers the status 0; or answers why
+    /// one of them is refused, and nothing changes then. The texts have these lengths, and stand one after another in a text.
+    pub(crate) fn list(&mut self, alloc: Global, text: &[u8], lengths: &[usize]) -> Outcome
+        ensures { Lists self.old (texts_of lengths.now text.now) (Some self.new) result }
+    {
+        match list_tags(alloc, &self.registry, text, lengths) {
+            Ok(available) => {
+                self.available = available;
+                deliver(ended(DONE), &[], &mut [])
+            }
+            Err(refused) => refuse_tag(&refused),
+        }
+    }
+
     /// How many entries the registry has.
     pub(crate) fn count(&self) -> usize
-        ensures { result ≡ length self.now.0 }
+        ensures { result ≡ length self.now.entries }
     {
         self.registry.entries().len()
     }
 
-    /// What another handle holds for the same registry and records, which are not copied. Refused only where memory
-    /// runs out.
+    /// What another handle holds for the same registry and what is kept with it, which is not copied. Refused only where
+    /// memory runs out.
     pub(crate) fn share(&self, alloc: Global) -> Result<Box<Opened>, OutOfMemory>
         ensures { IfOk result (λ opened. opened.value ≡ self.now) }
     {
         let registry = Arc::try_clone(&self.registry)?;
-        Opened::hold(alloc, registry, Arc::try_clone(&self.records)?)
+        let records = Arc::try_clone(&self.records)?;
+        let available = Arc::try_clone(&self.available)?;
+        Opened::hold(alloc, registry, records, available)
     }
 
     /// Writes the canonical text of the tag that a text is read as, or answers why there is none.
     pub(crate) fn canonical(&mut self, alloc: Global, text: &[u8], buffer: &mut [u8]) -> Outcome
         ensures kept { self.new ≡ self.old }
-        ensures answer { Answers (IsCanonicalTextOf self.old.0 text.now) (IsTextRefusal self.old.0 text.now) buffer.old buffer.new result }
+        ensures answer { Answers (IsCanonicalTextOf self.old.entries text.now) (IsTextRefusal self.old.entries text.now) buffer.old buffer.new result }
     {
         self.texts.clear();
         match self
@@ -141,7 +165,7 @@ impl Opened {
     /// Writes the text of the extlang form of the tag that a text is read as, or answers why there is none.
     pub(crate) fn extlang(&mut self, alloc: Global, text: &[u8], buffer: &mut [u8]) -> Outcome
         ensures kept { self.new ≡ self.old }
-        ensures answer { Answers (IsExtlangTextOf self.old.0 text.now) (IsTextRefusal self.old.0 text.now) buffer.old buffer.new result }
+        ensures answer { Answers (IsExtlangTextOf self.old.entries text.now) (IsTextRefusal self.old.entries text.now) buffer.old buffer.new result }
     {
         if let Err(refusal) = write_extlang(alloc, &self.registry, text, &mut self.texts) {
             return refuse(&refusal, buffer);
@@ -160,7 +184,7 @@ impl Opened {
 
     /// Tells whether the tag that a text is read as is valid, or why not.
     pub(crate) fn validate(&self, alloc: Global, text: &[u8]) -> Outcome
-        ensures { Validates self.now.0 text.now result }
+        ensures { Validates self.now.entries text.now result }
     {
         match validity(alloc, &self.registry, text) {
             Ok(()) => deliver(ended(DONE), &[], &mut []),
@@ -178,7 +202,7 @@ impl Opened {
         second: &[u8],
         buffer: &mut [u8],
     ) -> Outcome
-        ensures { Compares self.now.0 first.now second.now buffer.old buffer.new result }
+        ensures { Compares self.now.entries first.now second.now buffer.old buffer.new result }
     {
         match equality(alloc, &self.registry, first, second) {
             Ok(true) => deliver(ended(DONE), &[], buffer),
@@ -198,7 +222,7 @@ impl Opened {
         tag: &[u8],
         buffer: &mut [u8],
     ) -> Outcome
-        ensures { Matches self.now.0 scheme range.now tag.now buffer.old buffer.new result }
+        ensures { Matches self.now.entries scheme range.now tag.now buffer.old buffer.new result }
     {
         match scheme_of(scheme) {
             Some(known) => answer_match(alloc, &self.registry, known, range, tag, buffer),
@@ -206,9 +230,23 @@ impl Opened {
         }
     }
 
+    /// Tells which of the tags that are kept is served to the reader of a header, or why the header is refused.
+    pub(crate) fn best(&self, alloc: Global, header: &[u8]) -> Outcome
+        ensures { Serves self.now.entries self.now.lists header.now result }
+    {
+        answer_best(alloc, &self.registry, &self.available, header)
+    }
+
+    /// Tells which of the tags that are kept the reader of a header accepts, or why the header is refused.
+    pub(crate) fn accepted(&self, alloc: Global, header: &[u8], room: &mut [usize]) -> Outcome
+        ensures { Accepts self.now.entries self.now.lists header.now room.old room.new result }
+    {
+        answer_accepted(alloc, &self.registry, &self.available, header, room)
+    }
+
     /// Writes the explanation of the tag that a text is read as, or answers why there is none.
     pub(crate) fn explain(&self, alloc: Global, text: &[u8], buffer: &mut [u8]) -> Outcome
-        ensures { Answers (IsExplanationTextOf self.now.0 text.now) (IsTextRefusal self.now.0 text.now) buffer.old buffer.new result }
+        ensures { Answers (IsExplanationTextOf self.now.entries text.now) (IsTextRefusal self.now.entries text.now) buffer.old buffer.new result }
     {
         match self.registry.explanation_text(alloc, text) {
             Ok(lines) => deliver(ended(DONE), &lines, buffer),
@@ -219,7 +257,7 @@ impl Opened {
     /// Writes, as an array of JSON, what the registry and the records that are kept with it have for the parts of the tag that
     /// a text is read as, or answers why it is no tag.
     pub(crate) fn show(&self, alloc: Global, text: &[u8], buffer: &mut [u8]) -> Outcome
-        ensures { Answers (AreRowsOf self.now text.now) (IsReadingRefusal text.now) buffer.old buffer.new result }
+        ensures { Answers (AreRowsOf self.now.entries self.now.records text.now) (IsReadingRefusal text.now) buffer.old buffer.new result }
     {
         match rows_text(alloc, &self.registry, self.records.records(), text) {
             Ok(rows) => deliver(ended(DONE), &rows, buffer),
@@ -230,7 +268,7 @@ impl Opened {
     /// Tells how many steps the explanation of the tag has that a text is read as, or answers why there is none. The
     /// buffer is for the variant that steps can repeat, where the tag is refused for that.
     pub(crate) fn count_steps(&self, alloc: Global, text: &[u8], buffer: &mut [u8]) -> Outcome
-        ensures { CountsSteps self.now.0 text.now buffer.old buffer.new result }
+        ensures { CountsSteps self.now.entries text.now buffer.old buffer.new result }
     {
         match step_count(alloc, &self.registry, text) {
             Ok(count) => {
@@ -253,7 +291,7 @@ impl Opened {
         buffer: &mut [u8],
         room: &mut [FieldLengths],
     ) -> Outcome
-        ensures { TellsRecord self.now.1 number room.old room.new buffer.old buffer.new result }
+        ensures { TellsRecord self.now.records number room.old room.new buffer.old buffer.new result }
     {
         match read_fields(alloc, fields_of(self.records.records(), number)) {
             Ok((lengths, texts)) => deliver_rows(&lengths, &texts, room, buffer),
@@ -270,7 +308,7 @@ impl Opened {
         steps: &[StepNumbers],
         last: &[u8],
     ) -> Outcome
-        ensures { Verifies self.now.0 text.now steps.now last.now result }
+        ensures { Verifies self.now.entries text.now steps.now last.now result }
     {
         let (tag, last) = match read_pair(alloc, text, last) {
             Ok(pair) => pair,
@@ -284,7 +322,7 @@ impl Opened {
 
     /// Tells whether a newer registry upgrades this one, or which condition fails and the record at fault.
     pub(crate) fn upgrade_check(&self, alloc: Global, newer: &Opened) -> Outcome
-        ensures { ChecksUpgrade self.now.0 newer.now.0 result }
+        ensures { ChecksUpgrade self.now.entries newer.now.entries result }
     {
         match self.registry.upgrade_check(alloc, &newer.registry) {
             Ok(()) => deliver(ended(DONE), &[], &mut []),

@@ -14,9 +14,9 @@ use bcp47::TextRefusal;
 #[derive(Clone, Copy, Drop)]
 pub struct Outcome {
     /// How the call ended: a status, 0 to 12, whose name `bcp47_write_status_name` writes; or 14 for a wrong number of a
-    /// scheme.
+    /// scheme or a section, or 18 for a header that is refused.
     pub status: u32,
-    /// The number of the fault, 1 to 53, whose name `bcp47_write_fault_name` writes, or that of the class of a tag;
+    /// The number of the fault, 1 to 55, whose name `bcp47_write_fault_name` writes, or that of the class of a tag;
     /// else 0.
     pub detail: u32,
     /// The place of the fault: a subtag, a line, a record or a step, each counted from 1; of rows that are
@@ -24,8 +24,8 @@ pub struct Outcome {
     pub place: u64,
     /// How many bytes the text has, also where it does not fit the buffer.
     pub length: usize,
-    /// Where `bcp47_handle_match` refuses one of its two texts, which, 1 or 2; else 0. For the other calls of two texts
-    /// `bindings/c/bcp47.c` tells it.
+    /// Where `bcp47_handle_match`, `bcp47_write_with` or `bcp47_handle_list` refuses one of its texts, which, from 1; else 0.
+    /// For the other calls of two texts `bindings/c/bcp47.c` tells it.
     pub text: u32,
     /// Always 0.
     pub reserved: u32,
@@ -78,7 +78,7 @@ pub(crate) fn deliver(said: Said, text: &[u8], buffer: &mut [u8]) -> Outcome
 }
 
 /// What an outcome says of a refusal: the status, the number of the fault, and its place.
-fn refusal_said(refusal: &TextRefusal) -> Said
+pub(crate) fn refusal_said(refusal: &TextRefusal) -> Said
     ensures { result ≡ spec.refusal_said refusal.now }
 {
     match refusal {
@@ -149,8 +149,7 @@ pub(crate) fn deliver_rows<T: Copy>(
     counted(DONE, count, length)
 }
 
-/// The outcome, with the number of the text that is refused, 1 or 2. Where memory ran out, no
-/// text is named.
+/// The outcome, with the number of the text that is refused. Where memory ran out, no text is named.
 pub(crate) fn of_text(number: u32, outcome: Outcome) -> Outcome
     ensures { result ≡ spec.of_text number outcome }
 {

@@ -79,7 +79,7 @@ pub(crate) fn rows_text(
     records: &[Record],
     text: &[u8],
 ) -> Result<Vec<u8>, TextRefusal>
-    ensures rows { IfOk result (λ rows. AreRowsOf (registry.now, records.now) text.now rows.items) }
+    ensures rows { IfOk result (λ rows. AreRowsOf registry.now records.now text.now rows.items) }
     ensures refusal { IfErr result (IsReadingRefusal text.now) }
 {
     let tag = Tag::read(alloc, text)?;

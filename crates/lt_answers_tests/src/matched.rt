@@ -4,7 +4,7 @@ mod lines;
 mod matching;
 
 use lt_check::Checked;
-use lt_match::{LanguageRange, RangeRefusal, TagSubtags, canonical_range, canonical_subtags};
+use lt_range::{LanguageRange, RangeRefusal, TagSubtags, extlang_range, extlang_subtags};
 use lt_registry::SortedTable;
 use lt_tag::read_tag;
 use lt_testing::{again, sorted_sample};
@@ -26,7 +26,7 @@ fn range_of(
     checked: &Checked<SortedTable>,
     text: &str,
 ) -> Result<LanguageRange, RangeRefusal> {
-    again!(canonical_range(alloc, checked, text.as_bytes()))
+    again!(extlang_range(alloc, checked, text.as_bytes()))
 }
 
 /// The subtags by which the tag is matched that a text is read as.
@@ -36,5 +36,5 @@ fn subtags_of(
     text: &str,
 ) -> Result<TagSubtags, Fail> {
     let tag = again!(read_tag(alloc, text.as_bytes()))?;
-    Ok(again!(canonical_subtags(alloc, checked, &tag))?)
+    Ok(again!(extlang_subtags(alloc, checked, &tag))?)
 }

@@ -14,3 +14,4 @@ mod TextRunLemmas
 mod TextEndLemmas
 pub mod RunLemmas
 pub mod FaultLemmas
+pub mod TagLemmas

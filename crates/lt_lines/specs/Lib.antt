@@ -7,3 +7,4 @@ pub mod Answering
 pub mod Marked
 pub mod Reading
 pub mod Running
+pub mod TagLines

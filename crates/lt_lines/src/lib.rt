@@ -17,4 +17,4 @@ pub use answer_lines::append_refusal;
 pub use bases::Basis;
 pub use forms::{LineForm, RowForm};
 pub use lt_stream::{Tallies, Tally, ToolFault, write_fault, write_text};
-pub use runs::{Counts, run_lines};
+pub use runs::{Counts, run_lines, run_tallied};

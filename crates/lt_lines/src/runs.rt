@@ -4,10 +4,12 @@ ghost use Rattle.lt_lines.specs.Answering.{one_if};
 ghost use Rattle.lt_lines.specs.Reading as spec;
 ghost use Rattle.lt_lines.specs.Owed.{ground_of, terms};
 ghost use Rattle.lt_lines.specs.Running.{RunsLines};
+ghost use Rattle.lt_lines.specs.TagLines.{RunsTags};
 
 use crate::bases::Basis;
 use crate::forms::LineForm;
 use crate::marked::Marked;
+use lt_canon::Checked;
 use lt_jar::Device;
 use lt_registry::Lookup;
 use lt_stream::{Pieces, Tallies, ToolFault, run_pieces};
@@ -94,7 +96,7 @@ impl<'a, L: Lookup, W: Write> Pieces<Device<W>> for Reading<'a, L> {
 /// - `TooManyTurns`, if all 10,000,000 reads were made and the last gave bytes: the same has been written.
 /// - `Write`, if a write fails or takes none of some bytes, and `OutOfMemory`: a front of what is owed was
 ///   written.
-pub fn run_lines<L: Lookup, R: Read, W: Write>(
+pub fn run_tallied<L: Lookup, R: Read, W: Write>(
     alloc: Global,
     basis: &Basis<'_, L>,
     form: LineForm,
@@ -112,4 +114,27 @@ pub fn run_lines<L: Lookup, R: Read, W: Write>(
     let end = run_pieces(alloc, &mut reading, input, output);
     mem::swap(tallies, &mut reading.text.answering.tallies);
     end
+}
+
+/// Answers each line of a reader, which is a tag, by one line, in order, each ended by a line feed: its canonical text, or
+/// `! `, the name of the fault and its place, or `! ReplacementRepeats ` and the variant in lower case. It is
+/// [`run_tallied`] for tags, without a table of codes, and forgets the tallies.
+///
+/// - `Read`, if a read fails: what is owed for each line whose line feed was read has been written.
+/// - `TooManyTurns`, if all 10,000,000 reads were made and the last gave bytes: the same has been written.
+/// - `Write`, if a write fails or takes none of some bytes, and `OutOfMemory`: a front of what is owed was written.
+pub fn run_lines<L: Lookup, R: Read, W: Write>(
+    alloc: Global,
+    checked: &Checked<L>,
+    input: &mut Device<R>,
+    output: &mut Device<W>,
+) -> Result<Counts, ToolFault>
+    ensures { RunsTags (L.listed checked.now) R.remaining W.contents input.old input.new output.old output.new result }
+{
+    let basis = Basis {
+        checked,
+        codes: None,
+    };
+    let mut tallies = Tallies::new(alloc);
+    run_tallied(alloc, &basis, LineForm::Tag, input, output, &mut tallies)
 }

@@ -15,7 +15,7 @@ use Rattle.lt_tag.specs.Lists.{pieces}
 use Rattle.lt_tag.proofs.ListedLemmas.{subtag_is}
 use Rattle.lt_range.specs.Ranges.{RangeForm, RangeParts, IsLanguageRange, is_first, written, named_of, parts_of}
 use Rattle.lt_range.specs.Reading.{is_star, of_subtag, of_first, later_piece, first_piece, with_piece, later_pieces, begun, range_of_pieces, range_of}
-use Rattle.lt_range.specs.Laws.{IsRangeOf}
+use Rattle.lt_range.specs.Ranges.{IsRangeOf}
 use Rattle.lt_range.specs.declared.faults.RangeFault.{RangeFault}
 use Rattle.lt_range.specs.declared.faults.RangeFault.TheVariants as faults
 

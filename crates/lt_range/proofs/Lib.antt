@@ -5,3 +5,15 @@ pub mod FilterLemmas
 pub mod GrammarLaws
 pub mod PreferenceLemmas
 pub mod PreferenceLaws
+pub mod ServingLemmas
+pub mod WordLemmas
+pub mod RangeLemmas
+pub mod ElementLemmas
+pub mod WeightLemmas
+pub mod HeaderLaws
+pub mod HeaderLemmas
+pub mod PriorityLemmas
+pub mod MatchLaws
+pub mod PlainRanges
+pub mod AskedLemmas
+pub mod AvailableLemmas

@@ -151,6 +151,31 @@ IsBest all tags best =
     ((place : ℕ) × FirstServes false all tags place × (best ≡ Some place))
     ⊎ (NoneServesOf (length all) false all tags × ServesInTurn true all tags best)
 
+-- ---- the first range that serves a tag
+
+-- a range falls back to a tag, or matches it by basic filtering
+abbrev pub Reaches : RangeParts → List (List ℕ) → Type 0
+Reaches range tag = FallsBackTo range tag ⊎ MatchesBasic range tag
+
+-- the range at a place takes part in the turn, and reaches the tag
+pub record ReachesAt (wild : Bool) (all : List Preference) (tag : List (List ℕ)) (index : ℕ) : Type 0 where
+  pub takes : TakesTurn wild (at all index)
+  pub reaches : Reaches (at all index).range tag
+
+-- in the turn the range at `index` reaches the tag at `place`, which is not refused
+pub record ServesAt (wild : Bool) (all : List Preference) (tags : List (List (List ℕ))) (place index : ℕ)
+    : Type 0 where
+  pub reached : ReachesAt wild all (tag_at tags place) index
+  pub allowed : IsRefused all (tag_at tags place) → ⊥
+
+-- in the turn the range at `first` is the first that serves one of the first `count` tags; it is past the last where
+-- none does
+pub record IsFirstServing (wild : Bool) (all : List Preference) (tags : List (List (List ℕ))) (count first : ℕ)
+    : Type 0 where
+  pub within : first ≤ length all
+  pub before : (place : ℕ) → place < count → NoneOf (ServesAt wild all tags place) first
+  pub serves : first < length all → (place : ℕ) × (place < count) × ServesAt wild all tags place first
+
 -- preferences serve one of given tags at most
 abbrev pub BestIsDetermined : Type 0
 BestIsDetermined =
@@ -162,6 +187,17 @@ BestIsDetermined =
 pub record Accepts (all : List Preference) (place : ℕ) (tag : List (List ℕ)) : Type 0 where
   pub decides : Decides all tag place
   pub weighty : 0 < (at all place).weight
+
+-- the range that decides the weight of the tag, if one does
+abbrev pub MayDecide : List Preference → List (List ℕ) → Option ℕ → Type 0
+MayDecide all tag None = NoneDecides all tag
+MayDecide all tag (Some place) = Decides all tag place
+
+-- of each of the first `count` tags the range that decides its weight, if one does
+pub record AreDeciding (all : List Preference) (tags : List (List (List ℕ))) (count : ℕ) (found : List (Option ℕ))
+    : Type 0 where
+  pub counted : length found ≡ count
+  pub each : (place : ℕ) → place < count → MayDecide all (tag_at tags place) (slice_index_or found place None)
 
 -- the places of the tags that are accepted, by the ranges from `place` on, of which there are `count`
 abbrev pub AreAcceptedFrom : List Preference → ℕ → List Preference → List (List (List ℕ)) → List ℕ → Type 0

@@ -55,3 +55,9 @@ parts_of form = record { wild = begins_wild form; named = named_of form }
 -- the range of a tag's subtags, which has no `*` (RFC 4647, 2.1)
 abbrev pub range_of_tag : List (List ℕ) → RangeParts
 range_of_tag list = record { wild = false; named = list }
+
+-- `range` is the parts of the range that the text is (RFC 4647, 2)
+pub record IsRangeOf (text : List ℕ) (range : RangeParts) : Type 0 where
+  pub form : RangeForm
+  pub has : HasRange text form
+  pub is : range ≡ parts_of form

@@ -1,8 +1,13 @@
-//! The laws of language ranges. Nothing is computed here: each contract is a law.
+//! The laws of language ranges, of the header, and of matching, for every registry that passes the check. Nothing is computed here: each contract is a law.
 ghost use Rattle.std.specs.Prelude.{◌≡◌, ◌↔◌, ℕ, List, Ok};
-ghost use Rattle.lt_range.specs.Ranges.{RangeParts};
+ghost use Rattle.lt_registry.specs.Parts.{EntryParts};
+ghost use Rattle.lt_check.specs.Conditions.{IsChecked};
+ghost use Rattle.lt_range.specs.Elements.{ElementParts};
+ghost use Rattle.lt_range.specs.Grammar.{IsAcceptLanguage};
+ghost use Rattle.lt_range.specs.Headers.{elements_of};
+ghost use Rattle.lt_range.specs.Laws.{EquivalentListsServeAlike, EquivalentTagsMatchAlike, EquivalentRangesMatchAlike, MatchesOnlyAsSpelled, MatchingIsDetermined};
+ghost use Rattle.lt_range.specs.Ranges.{IsRangeOf, RangeParts};
 ghost use Rattle.lt_range.specs.Reading.{range_of};
-ghost use Rattle.lt_range.specs.Laws.{IsRangeOf};
 ghost use Rattle.lt_range.specs.Preferences.{BestIsDetermined};
 
 /// A text is read exactly if it is a range by the grammar (RFC 4647, 2.2), and as the range that it is there.
@@ -10,7 +15,47 @@ pub fn ranges_are_read_by_their_grammar()
     ensures { (text : List ℕ) (range : RangeParts) → (range_of text ≡ Ok range) ↔ IsRangeOf text range }
 {}
 
+/// A text is read exactly if it is in the grammar of the header (RFC 9110, 12.5.4), and of the value that it has there.
+#[tactic(auto, using(crate::proofs::HeaderLaws::read_by_grammar))]
+pub fn headers_are_read_by_their_grammar()
+    ensures { (text : List ℕ) (elements : List ElementParts) → (elements_of text ≡ Ok elements) ↔ IsAcceptLanguage text elements }
+{}
+
 /// Preferences serve one of given tags, or none.
 pub fn best_is_determined()
     ensures { BestIsDetermined }
+{}
+
+/// Equivalent tags match the same ranges, in each of the three schemes: what matches a tag matches each valid tag that
+/// is equivalent to it.
+#[tactic(auto, using(crate::proofs::MatchLaws::equivalent_tags))]
+pub fn equivalent_tags_match_alike()
+    ensures { (R : List EntryParts) → IsChecked R → EquivalentTagsMatchAlike R }
+{}
+
+/// Equivalent ranges match the same tags, in each of the three schemes: what a range that is a valid tag matches, each
+/// range matches that is a valid tag equivalent to it.
+#[tactic(auto, using(crate::proofs::MatchLaws::equivalent_ranges))]
+pub fn equivalent_ranges_match_alike()
+    ensures { (R : List EntryParts) → IsChecked R → EquivalentRangesMatchAlike R }
+{}
+
+/// What a range that is a valid tag matches, it matches as the RFC says of texts (RFC 4647, 3), for some valid tag that
+/// is equivalent to the range and some that is equivalent to the tag.
+#[tactic(auto, using(crate::proofs::MatchLaws::only_as_spelled))]
+pub fn ranges_match_only_as_spelled()
+    ensures { (R : List EntryParts) → IsChecked R → MatchesOnlyAsSpelled R }
+{}
+
+/// The tag to serve, and the tags that are accepted, do not depend on how the tags of a list are spelled: the lists of
+/// tags that are equivalent one by one are equal.
+#[tactic(auto, using(crate::proofs::AvailableLemmas::serve_alike))]
+pub fn equivalent_lists_serve_alike()
+    ensures { (R : List EntryParts) → IsChecked R → EquivalentListsServeAlike R }
+{}
+
+/// A tag is matched by one list of subtags, and a text matches by one range.
+#[tactic(auto, using(crate::proofs::MatchLaws::determined))]
+pub fn matching_is_determined()
+    ensures { (R : List EntryParts) → IsChecked R → MatchingIsDetermined R }
 {}

@@ -1,19 +1,38 @@
-//! Language ranges (RFC 4647): reading them, and the three ways in which they match tags. Which tags are equivalent
-//! is nothing here: the crate `lt_match` matches canonical forms.
+//! Language ranges (RFC 4647) and the Accept-Language header (RFC 9110, 12.5.4): reading them, which tags they match,
+//! and which tag they serve. Ranges and tags are matched by their extlang forms (RFC 5646, 4.5), so that equivalent
+//! tags match the same ranges, equivalent ranges the same tags, and `zh` finds `yue`. A program begins with the crate
+//! `bcp47`, whose `Registry` has these calls as methods.
 #![tactic(auto)]
 
+mod accept_faults;
+mod asked;
+mod available;
+mod basic_ranges;
+mod elements;
 mod faults;
 mod filters;
+mod headers;
 pub mod laws;
 mod lookups;
+mod matched;
 mod matching;
 mod preferences;
 mod ranges;
+mod refusals;
 mod tag_subtags;
+mod weights;
+mod words;
 
+pub use accept_faults::{AcceptFault, AcceptFaultKind};
+pub use asked::{HeaderRefusal, header_preferences};
+pub use available::{Available, AvailableRefusal};
+pub use elements::WeightedRange;
 pub use faults::RangeFault;
 pub use filters::{filter_basic, filter_extended};
+pub use headers::AcceptLanguage;
 pub use lookups::lookup;
+pub use matched::{extlang_range, extlang_subtags, known_subtags, subtags_of_text};
 pub use preferences::{Preference, best, filter_accepted, weight_of};
 pub use ranges::LanguageRange;
+pub use refusals::RangeRefusal;
 pub use tag_subtags::TagSubtags;

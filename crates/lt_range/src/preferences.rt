@@ -1,5 +1,5 @@
 //! What a reader prefers: language ranges with weights.
-ghost use Rattle.std.specs.Prelude.{◌≡◌, ◌++◌, ◌↔◌, ◌<◌, ℕ, List, IsTrue, IfOk, IfSome, MatchOption, OnOk, length};
+ghost use Rattle.std.specs.Prelude.{◌≡◌, ◌++◌, ◌↔◌, ◌<◌, ◌≤◌, ℕ, List, IsTrue, IfOk, IfSome, MatchOption, OnOk, length};
 ghost use Rattle.lt_range.specs.Filtering.{ArePlaces};
 ghost use Rattle.lt_range.specs.Preferences as spec;
 
@@ -36,7 +36,7 @@ fn takes_over(all: &[Preference], tag: &TagSubtags, best: Option<usize>, place: 
 /// The place of the range that decides the weight of a tag. None if no range matches it.
 #[tactic(auto, using(crate::proofs::PreferenceLemmas::longest_next, crate::proofs::PreferenceLemmas::longest_same))]
 fn deciding(all: &[Preference], tag: &TagSubtags) -> Option<usize>
-    ensures { MatchOption result (spec.NoneDecides all.now tag.now) (spec.Decides all.now tag.now) }
+    ensures { spec.MayDecide all.now tag.now result }
 {
     let mut best: Option<usize> = None;
     for place in 0..all.len() {
@@ -148,29 +148,55 @@ fn takes_turn(wild: bool, preference: &Preference) -> bool
     preference.weight != 0 && preference.range.begins_wild() == wild
 }
 
-/// The place of the tag that the range at a place serves, if it takes part in the turn.
-fn served_by(all: &[Preference], wild: bool, index: usize, tags: &[TagSubtags]) -> Option<usize>
-    requires { index < length all.now }
-    ensures { spec.ServesBy wild all.now index tags.now result }
+/// Whether a range falls back to a tag, or matches it by basic filtering.
+fn reaches(range: &LanguageRange, tag: &TagSubtags) -> bool
+    ensures { IsTrue result ↔ spec.Reaches range.now tag.now }
 {
-    if takes_turn(wild, &all[index]) {
-        served(all, &all[index].range, tags)
-    } else {
-        None
+    range.falls_back_to(tag) || range.matches_basic(tag)
+}
+
+/// The place of the first range that takes part in the turn and reaches a tag, of the first `count` ranges; `count` if
+/// none does.
+fn first_reaching(all: &[Preference], wild: bool, count: usize, tag: &TagSubtags) -> usize
+    requires { count ≤ length all.now }
+    ensures within { result ≤ count }
+    ensures before { spec.NoneOf (spec.ReachesAt wild all.now tag.now) result }
+    ensures reaches { result < count → spec.ReachesAt wild all.now tag.now result }
+{
+    for place in 0..count {
+        if takes_turn(wild, &all[place]) && reaches(&all[place].range, tag) {
+            return place;
+        }
     }
+    count
+}
+
+/// The place of the first range that serves a tag in the turn; the number of all ranges if none does. Each tag is asked
+/// once whether it is refused, so that the time grows with the ranges and the tags, and not with the square of either.
+fn first_serving(all: &[Preference], wild: bool, tags: &[TagSubtags]) -> usize
+    ensures { spec.IsFirstServing wild all.now tags.now (length tags.now) result }
+{
+    let mut first = all.len();
+    for place in 0..tags.len() {
+        let tag = &tags[place];
+        let index = first_reaching(all, wild, first, tag);
+        if index < first && !is_refused(all, tag) {
+            first = index;
+        }
+    }
+    first
 }
 
 /// The place of the tag that is served in the turn of the ranges that begin with `*`, or of those that don't.
 fn served_in_turn(all: &[Preference], wild: bool, tags: &[TagSubtags]) -> Option<usize>
     ensures { spec.ServesInTurn wild all.now tags.now result }
 {
-    for index in 0..all.len() {
-        match served_by(all, wild, index, tags) {
-            Some(place) => return Some(place),
-            None => {}
-        }
+    let index = first_serving(all, wild, tags);
+    if index < all.len() {
+        served(all, &all[index].range, tags)
+    } else {
+        None
     }
-    None
 }
 
 /// The place, counted from 0, of the tag to serve (RFC 9110, 12.5.4). No tag is served that is not acceptable. The
@@ -187,31 +213,47 @@ pub fn best(all: &[Preference], tags: &[TagSubtags]) -> Option<usize>
     }
 }
 
-/// Whether a tag's weight is decided by the range at a place, and is not 0.
-#[tactic(auto, using(crate::proofs::PreferenceLemmas::one_decides, crate::proofs::PreferenceLemmas::none_accepts))]
-fn accepts(all: &[Preference], place: usize, tag: &TagSubtags) -> bool
-    requires { place < length all.now }
-    ensures { IsTrue result ↔ spec.Accepts all.now place tag.now }
+/// Of each tag the place of the range that decides its weight. The only refusal is running out of memory.
+fn all_deciding(
+    alloc: Global,
+    all: &[Preference],
+    tags: &[TagSubtags],
+) -> Result<Vec<Option<usize>>, OutOfMemory>
+    ensures { IfOk result (λ found. spec.AreDeciding all.now tags.now (length tags.now) found.items) }
 {
-    match deciding(all, tag) {
-        Some(decided) => decided == place && all[place].weight != 0,
+    let mut found = Vec::new(alloc);
+    for place in 0..tags.len() {
+        found.push(deciding(all, &tags[place]))?;
+    }
+    Ok(found)
+}
+
+/// Whether the range at a place accepts a tag, of which `decided` is the range that decides its weight.
+fn accepts(all: &[Preference], decided: Option<usize>, place: usize) -> bool
+    requires { place < length all.now }
+    ensures { (tag : List (List ℕ)) → spec.MayDecide all.now tag decided → IsTrue result ↔ spec.Accepts all.now place tag }
+{
+    match decided {
+        Some(other) => other == place && all[place].weight != 0,
         None => false,
     }
 }
 
-/// Adds the places of the tags whose weight is decided by the range at `index`, if it is not 0. The only refusal is
-/// running out of memory.
+/// Adds the places of the tags that the range at `index` accepts, of which `decided` are the ranges that decide their
+/// weights. The only refusal is running out of memory.
 fn append_accepted(
     all: &[Preference],
-    places: &mut Vec<usize>,
+    decided: &[Option<usize>],
     index: usize,
     tags: &[TagSubtags],
+    places: &mut Vec<usize>,
 ) -> Result<(), OutOfMemory>
-    requires { index < length all.now }
+    requires index { index < length all.now }
+    requires decided { spec.AreDeciding all.now tags.now (length tags.now) decided.now }
     ensures { OnOk result ((found : List ℕ) × (places.new.items ≡ places.old.items ++ found) × ArePlaces (spec.Accepts all.now index) 0 tags.now found) }
 {
-    for (place, tag) in tags.iter().enumerate() {
-        if accepts(all, index, tag) {
+    for place in 0..tags.len() {
+        if accepts(all, decided[place], index) {
             places.push(place)?;
         }
     }
@@ -228,9 +270,10 @@ pub fn filter_accepted(
 ) -> Result<Vec<usize>, OutOfMemory>
     ensures { IfOk result (λ places. spec.AreAccepted all.now tags.now places.items) }
 {
+    let decided = all_deciding(alloc, all, tags)?;
     let mut places = Vec::new(alloc);
     for index in 0..all.len() {
-        append_accepted(all, &mut places, index, tags)?;
+        append_accepted(all, &decided, index, tags, &mut places)?;
     }
     Ok(places)
 }

@@ -1,5 +1,5 @@
 //! Language ranges, and the reading of them.
-ghost use Rattle.std.specs.Prelude.{◌≡◌, Ok, IfOk, IfErr, OnOk};
+ghost use Rattle.std.specs.Prelude.{◌≡◌, ◌++◌, Ok, IfOk, IfErr, OnOk};
 ghost use Rattle.lt_subtag.specs.Shapes as shapes;
 ghost use Rattle.lt_tag.specs.Rest.{pieces_left};
 ghost use Rattle.lt_range.specs.Ranges.{range_of_tag};
@@ -31,7 +31,7 @@ impl Model for LanguageRange {
 }
 
 /// Whether a piece is the special subtag `*`.
-fn is_star(piece: &[u8]) -> bool
+pub(crate) fn is_star(piece: &[u8]) -> bool
     ensures { result ≡ reading.is_star piece.now }
 {
     match piece {
@@ -117,12 +117,25 @@ impl LanguageRange {
         Ok(LanguageRange { wild, named })
     }
 
-    /// The range that a tag is: it has the subtags of the tag (RFC 4647, 2.1). The only refusal is running out of
-    /// memory.
-    pub fn of_tag(alloc: Global, tag: &TagSubtags) -> Result<LanguageRange, OutOfMemory>
-        ensures { IfOk result (λ range. range ≡ range_of_tag tag.now) }
+    /// The range that a tag is: it has the subtags of the tag (RFC 4647, 2.1).
+    pub fn of_subtags(tag: TagSubtags) -> LanguageRange
+        ensures { result ≡ range_of_tag tag }
     {
-        let named = copy_subtags(alloc, tag.subtags())?;
+        let named = tag.into_subtags();
+        LanguageRange { wild: false, named }
+    }
+
+    /// The range that has the subtags of a tag, and others after them. The only refusal is running out of memory.
+    pub(crate) fn of_front(
+        alloc: Global,
+        tag: TagSubtags,
+        others: &[Subtag],
+    ) -> Result<LanguageRange, OutOfMemory>
+        ensures { IfOk result (λ range. range ≡ range_of_tag (tag ++ others.now)) }
+    {
+        let mut named = tag.into_subtags();
+        let mut more = copy_subtags(alloc, others)?;
+        named.append(&mut more)?;
         Ok(LanguageRange { wild: false, named })
     }
 

@@ -65,4 +65,12 @@ impl TagSubtags {
     {
         &self.subtags
     }
+
+    /// The subtags in their order, as a list of their own.
+    pub(crate) fn into_subtags(self) -> Vec<Subtag>
+        ensures { result.items ≡ self }
+    {
+        let TagSubtags { subtags } = self;
+        subtags
+    }
 }

@@ -1,16 +1,13 @@
 //! Records with their faults, and entries with their parts.
 mod answers;
 mod distinct;
-mod failing;
 mod growths;
-mod hostile;
-mod reading;
 mod tables;
 
-use lt_registry::{Entry, EntryName, Kind};
+use lt_registry::{Entry, EntryName, EntryValue, Kind, Lookup};
 use std::alloc::Global;
 use std::test::Fail;
-use tables::registry_of;
+use tables::list_table;
 
 /// Texts of one record with the names of their faults.
 const RECORD_FAULTS: &[(&str, &str)] = &[
@@ -33,14 +30,6 @@ const RECORD_FAULTS: &[(&str, &str)] = &[
     ("Type: variant\nSubtag: 1901\nPrefix:", "BadPrefix"),
 ];
 
-/// Whether the first record of a text has the fault of this name.
-fn has_record_fault(alloc: Global, text: &str, name: &str) -> Result<bool, Fail> {
-    Ok(match registry_of(alloc, text.as_bytes())? {
-        Ok(_) => false,
-        Err(fault) => fault.kind.name() == name && fault.number == 1,
-    })
-}
-
 /// Whether an entry is that of a second record, of the language `en` alone.
 fn is_english(entry: &Entry) -> bool {
     let named = match entry.name() {
@@ -54,18 +43,19 @@ fn is_english(entry: &Entry) -> bool {
         && entry.prefixes().is_empty()
 }
 
-/// Whether a text has one entry.
-fn has_one_entry(alloc: Global, text: &str) -> Result<bool, Fail> {
-    Ok(match registry_of(alloc, text.as_bytes())? {
-        Ok(registry) => registry.entries().len() == 1,
-        Err(_) => false,
-    })
+/// Whether an entry has the value `he`.
+fn has_hebrew_value(entry: &Entry) -> bool {
+    match entry.value() {
+        Some(EntryValue::One(value)) => value.bytes() == b"he".as_slice(),
+        _ => false,
+    }
 }
 
 #[test]
-fn a_tag_beside_a_subtag(rt: HostRuntime) -> Result<(), Fail> {
-    let tagged = "Type: language\nSubtag: aa\nTag: --";
-    assert!(rt; has_one_entry(rt.alloc(), tagged)?);
+fn value_of_an_entry(rt: HostRuntime) -> Result<(), Fail> {
+    let text = b"Type: language\nSubtag: iw\nPreferred-Value: he";
+    let table = list_table(rt.alloc(), text)?;
+    assert!(rt; matches!(table.entries(), [entry] if has_hebrew_value(entry)));
     Ok(())
 }
 
@@ -85,10 +75,8 @@ fn has_japanese_prefix(entry: &Entry) -> bool {
 #[test]
 fn prefix_of_an_entry(rt: HostRuntime) -> Result<(), Fail> {
     let text = b"Type: variant\nSubtag: hepburn\nPrefix: ja-Latn";
-    let Ok(registry) = registry_of(rt.alloc(), text)? else {
-        return Err(Fail::from("the registry is refused"));
-    };
-    assert!(rt; matches!(registry.entries(), [entry] if has_japanese_prefix(entry)));
+    let table = list_table(rt.alloc(), text)?;
+    assert!(rt; matches!(table.entries(), [entry] if has_japanese_prefix(entry)));
     Ok(())
 }
 
@@ -111,13 +99,9 @@ const COMPARED: [(&str, bool); 4] = [
 
 /// Whether two texts of a record give equal entries.
 fn are_equal(alloc: Global, left: &str, right: &str) -> Result<bool, Fail> {
-    match (
-        registry_of(alloc, left.as_bytes())?,
-        registry_of(alloc, right.as_bytes())?,
-    ) {
-        (Ok(left), Ok(right)) => Ok(left.entries() == right.entries()),
-        _ => Err(Fail::from("a registry is refused")),
-    }
+    let left = list_table(alloc, left.as_bytes())?;
+    let right = list_table(alloc, right.as_bytes())?;
+    Ok(left.entries() == right.entries())
 }
 
 #[test]

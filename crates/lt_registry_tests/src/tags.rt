@@ -1,13 +1,9 @@
-//! Subtags, tags and language ranges, by their topics.
-mod accept_language;
+//! Subtags and tags, by their topics.
 mod cores;
 mod displays;
 mod growths;
 mod parts;
 mod plain_langtags;
-mod ranges;
 mod reading;
 mod subtags;
 mod tags;
-mod words;
-mod writing;

@@ -11,7 +11,8 @@ use Rattle.lt_range.specs.Matching.{FallsBackTo}
 use Rattle.lt_range.specs.Lookup.{Finds, FindsNone, tag_at}
 use Rattle.lt_range.proofs.FrontLemmas.{parted}
 use Rattle.lt_select.specs.Closest.{ClosestAmong, FallsFirst, Holds, IsCloser, IsClosest, NoneFalls, TakesLine, TakesSubtags, line_at, range_at}
-use Rattle.lt_select.specs.LookedUp.{FindsLine, FindsNoLine, HasNoSubtags, HasSubtags, LineHas, LinesHave}
+use Rattle.lt_range.specs.Matched.{HasNoSubtags, HasSubtags}
+use Rattle.lt_select.specs.LookedUp.{FindsLine, FindsNoLine, LineHas, LinesHave}
 use Rattle.lt_select.specs.Selection.{longest_kept}
 use Rattle.lt_select.proofs.MatchedLemmas.{content-length}
 use Rattle.lt_jar.specs.Lines.{content_of}

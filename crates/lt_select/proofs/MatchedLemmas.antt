@@ -7,14 +7,9 @@ use Rattle.lt_tag.specs.Faults.{HasTag}
 use Rattle.lt_tag.specs.Parts.{TagForm}
 use Rattle.lt_tag.proofs.OneTagLemmas.{one_tag_of_text}
 use Rattle.lt_registry.specs.Parts.{EntryParts}
-use Rattle.lt_canon.specs.Texts.{IsTextRefusal}
-use Rattle.lt_canon.specs.declared.refusals.TextRefusal.{TextRefusal}
-use Rattle.lt_canon.specs.declared.refusals.TextRefusal.TheVariants as refusals
-use Rattle.lt_canon.proofs.CanonicalForms.{text_repeats_answered}
 use Rattle.lt_range.specs.Ranges.{RangeParts}
-use Rattle.lt_match.specs.Laws.{MatchingIsDetermined}
-use Rattle.lt_match.specs.Matched.{HasCanonicalList}
-use Rattle.lt_select.specs.LookedUp.{HasNoSubtags, HasSubtags}
+use Rattle.lt_range.specs.Laws.{MatchingIsDetermined}
+use Rattle.lt_range.specs.Matched.{HasExtlangList, HasNoSubtags, HasSubtags}
 use Rattle.lt_select.specs.Selection.{AnyMatches, IsMatched, IsSelected, Selection, longest_kept, scheme_of}
 use Rattle.lt_select.specs.declared.schemes.Scheme.{Scheme}
 
@@ -23,35 +18,19 @@ use Rattle.lt_select.specs.declared.schemes.Scheme.{Scheme}
 -- a text that is to be matched, by the entries of a registry
 module _ (R : List EntryParts) (text : List ℕ) where
   -- the subtags that a text has are those of the tag that it is read as
-  same_tag : (tag : TagForm) → HasTag text tag → (list : List (List ℕ)) → HasSubtags R text list → HasCanonicalList R tag list
-  same_tag tag read list h = subst (λ (t : TagForm). HasCanonicalList R t list) (one_tag_of_text text h.tag tag h.read read) h.holds
-
-  -- a text that is refused is no tag with a canonical form, and has no subtags to match
-  refused_none : (refusal : TextRefusal) → IsTextRefusal R text refusal → (refusal ≡ refusals.OutOfMemory → ⊥) → HasNoSubtags R text
-  refused_none (refusals.NotATag fault) owed other = λ list h. text_repeats_answered R text (refusals.NotATag fault) owed h.tag h.read
-  refused_none (refusals.Invalid fault) owed other = λ list h.
-      let a = text_repeats_answered R text (refusals.Invalid fault) owed in
-      a.2 (same_tag a.0 a.1 list h).is_form.valid
-  refused_none (refusals.ReplacementRepeats v) owed other = λ list h.
-      let a = text_repeats_answered R text (refusals.ReplacementRepeats v) owed in
-      (same_tag a.0 a.1 list h).is_form.repeats_none a.3
-  refused_none refusals.OutOfMemory owed other = absurd (other refl)
-
-  -- a text that is refused, but not for lack of memory, has no subtags; `kind` is the refusal as the program tells it
-  -- apart
-  pub none_of : (refusal kind : TextRefusal) → refusal ≡ kind → IsTextRefusal R text refusal → (kind ≡ refusals.OutOfMemory → ⊥) → HasNoSubtags R text
-  none_of refusal kind is owed other = refused_none refusal owed (λ e. other (sym is ∙ e))
+  same_tag : (tag : TagForm) → HasTag text tag → (list : List (List ℕ)) → HasSubtags R text list → HasExtlangList R tag list
+  same_tag tag read list h = subst (λ (t : TagForm). HasExtlangList R t list) (one_tag_of_text text h.tag tag h.read read) h.holds
 
   module _ (scheme : Scheme) (ranges : List RangeParts) where
     -- a text that is matched has the subtags that are matched
     has_subtags : (m : IsMatched R scheme ranges text) → HasSubtags R text m.list
-    has_subtags m = record { tag = m.tag; read = m.read; holds = m.canonical }
+    has_subtags m = record { tag = m.tag; read = m.read; holds = m.extlang }
 
     -- a text with these subtags is matched where some range matches them; `matched` is what the program tells
     pub matched_as : (list : List (List ℕ)) (matched : Bool) → MatchingIsDetermined R → HasSubtags R text list → IsTrue matched ↔ AnyMatches (scheme_of scheme) ranges list
         → IsTrue matched ↔ IsMatched R scheme ranges text
     matched_as list matched one reads tells = (
-      λ is. record { tag = reads.tag; read = reads.read; list = list; canonical = reads.holds; matches = tells.0 is },
+      λ is. record { tag = reads.tag; read = reads.read; list = list; extlang = reads.holds; matches = tells.0 is },
       λ m. tells.1 (subst (AnyMatches (scheme_of scheme) ranges) (one.list reads.tag m.list list (same_tag reads.tag reads.read m.list (has_subtags m)) reads.holds) m.matches),
     )
 

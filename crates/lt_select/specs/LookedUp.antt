@@ -12,21 +12,12 @@ use Rattle.lt_stream.specs.Running.{HasRead}
 use Rattle.lt_stream.specs.declared.faults.ToolFault.{ToolFault}
 use Rattle.lt_stream.specs.declared.faults.ToolFault.TheVariants as faults
 use Rattle.lt_registry.specs.Parts.{EntryParts}
-use Rattle.lt_canon.specs.Texts.{ReadsAs}
 use Rattle.lt_range.specs.Ranges.{RangeParts}
 use Rattle.lt_range.specs.Lookup.{IsDefault, IsFound}
-use Rattle.lt_match.specs.Matched.{HasCanonicalList}
+use Rattle.lt_range.specs.Matched.{HasNoSubtags, HasSubtags}
 
--- the text is a tag that has a canonical form, and `list` is that form's subtags (RFC 5646, 4.5)
-abbrev pub HasSubtags : List EntryParts → List ℕ → List (List ℕ) → Type 0
-HasSubtags R text list = ReadsAs text (λ tag. HasCanonicalList R tag list)
-
--- the text is no tag that has a canonical form
-abbrev pub HasNoSubtags : List EntryParts → List ℕ → Type 0
-HasNoSubtags R text = (list : List (List ℕ)) → HasSubtags R text list → ⊥
-
--- The subtags by which a line is looked up: those of the canonical form of its tag. A carriage return (13) that ends
--- the line is no part of the tag. A line without a canonical form has none, and no range finds it.
+-- The subtags by which a line is looked up: those of the extlang form of its tag. A carriage return (13) that ends
+-- the line is no part of the tag. A line without an extlang form has none, and no range finds it.
 abbrev pub LineHas : List EntryParts → List ℕ → List (List ℕ) → Type 0
 LineHas R line list = HasSubtags R (content_of line) list ⊎ (HasNoSubtags R (content_of line) × (list ≡ []))
 

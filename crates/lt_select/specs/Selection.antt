@@ -6,7 +6,7 @@ use Rattle.lt_tag.specs.Parts.{TagForm}
 use Rattle.lt_tag.specs.Faults.{HasTag}
 use Rattle.lt_registry.specs.Parts.{EntryParts}
 use Rattle.lt_range.specs.Ranges.{RangeParts}
-use Rattle.lt_match.specs.Matched.{BasicFiltering, ExtendedFiltering, HasCanonicalList, MatchesBy, MatchingScheme}
+use Rattle.lt_range.specs.Matched.{BasicFiltering, ExtendedFiltering, HasExtlangList, MatchesBy, MatchingScheme}
 use Rattle.lt_select.specs.declared.schemes.Scheme.{Scheme}
 use Rattle.lt_select.specs.declared.schemes.Scheme.TheVariants as schemes
 
@@ -20,13 +20,13 @@ abbrev pub AnyMatches : MatchingScheme → List RangeParts → List (List ℕ) �
 AnyMatches scheme [] list = ⊥
 AnyMatches scheme (range ∷ ranges) list = MatchesBy scheme range list ⊎ AnyMatches scheme ranges list
 
--- The text is a tag, and one of the ranges matches the subtags of its canonical form (RFC 5646, 4.5). No range matches
--- a text that has no canonical form.
+-- The text is a tag, and one of the ranges matches the subtags of its extlang form (RFC 5646, 4.5). No range matches
+-- a text that has no extlang form.
 pub record IsMatched (R : List EntryParts) (scheme : Scheme) (ranges : List RangeParts) (text : List ℕ) : Type 0 where
   pub tag : TagForm
   pub read : HasTag text tag
   pub list : List (List ℕ)
-  pub canonical : HasCanonicalList R tag list
+  pub extlang : HasExtlangList R tag list
   pub matches : AnyMatches (scheme_of scheme) ranges list
 
 -- the line is selected by ranges; a carriage return (13) that ends it is no part of the tag

@@ -2,9 +2,9 @@
 ghost use Rattle.std.specs.Prelude.{◌≡◌, ◌↔◌, IsTrue, IfOk, MatchOption, OnOk, length};
 ghost use Rattle.lt_select.specs.Closest as spec;
 
-use crate::matching::{subtags_of, without_return};
+use crate::matching::without_return;
 use lt_canon::Checked;
-use lt_match::{LanguageRange, TagSubtags};
+use lt_range::{LanguageRange, TagSubtags, known_subtags};
 use lt_registry::Lookup;
 use lt_tag::OutOfMemory;
 use std::alloc::Global;
@@ -73,7 +73,7 @@ fn take_subtags(
     Ok(())
 }
 
-/// Makes a line the closest one if it is a tag whose canonical form is found by an earlier range than the line so far,
+/// Makes a line the closest one if it is a tag whose extlang form is found by an earlier range than the line so far,
 /// or by the same range and has more subtags. The caller cuts a long line to LONGEST_KEPT bytes: what follows them
 /// changes nothing.
 pub(crate) fn take_line<L: Lookup>(
@@ -85,7 +85,7 @@ pub(crate) fn take_line<L: Lookup>(
 ) -> Result<(), OutOfMemory>
     ensures { OnOk result (spec.TakesLine (L.listed checked.now) ranges.now line.now closest.old closest.new) }
 {
-    match subtags_of(alloc, checked, without_return(line))? {
+    match known_subtags(alloc, checked, without_return(line))? {
         Some(subtags) => take_subtags(alloc, ranges, &subtags, line, closest),
         None => Ok(()),
     }

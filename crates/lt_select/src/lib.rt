@@ -1,5 +1,5 @@
-//! Selects lines of a reader, each a tag, by language ranges (RFC 4647, 3.3 and 3.4) over canonical forms, so that
-//! `zh-yue` selects `yue-HK`. A program that handles tags one by one begins with the crate `bcp47`.
+//! Selects lines of a reader, each a tag, by language ranges (RFC 4647, 3.3 and 3.4) over extlang forms, so that
+//! `zh` and `zh-yue` select `yue-HK`. A program that handles tags one by one begins with the crate `bcp47`.
 #![tactic(auto)]
 
 mod closest;

@@ -10,7 +10,7 @@ use crate::closest::{Closest, take_line};
 use crate::runs;
 use lt_canon::Checked;
 use lt_jar::Device;
-use lt_match::LanguageRange;
+use lt_range::LanguageRange;
 use lt_registry::Lookup;
 use lt_stream::{Lines, ToolFault, run_text};
 use lt_tag::OutOfMemory;
@@ -77,8 +77,8 @@ fn in_memory(end: Result<(), ToolFault>) -> Result<(), ToolFault>
 
 /// The line of a reader that lookup finds by a language priority list (RFC 4647, 3.4), as it stands. The first range that
 /// finds a line counts, and of its lines the one to which it is cut the least; of equal ones the first. A line is looked up
-/// as the tag that it is, by the subtags of its canonical form (RFC 5646, 4.5): the range of `yue-HK` finds `zh-yue`. No
-/// range finds a line that is no valid tag, or a tag that `canonical` refuses, and a range that begins with `*` finds none.
+/// as the tag that it is, by the subtags of its extlang form (RFC 5646, 4.5): the range of `yue-HK` finds `zh-yue`, and then `zh`. No
+/// range finds a line that is no valid tag, or a tag that has no extlang form, and a range that begins with `*` finds none.
 /// None if no range finds a line: the caller takes a default then.
 ///
 /// A byte order mark of UTF-8 before the first line is passed over. A line feed ends a line, and what follows the last one

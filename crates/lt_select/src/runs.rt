@@ -7,7 +7,7 @@ use crate::matching::is_selected;
 use crate::schemes::Scheme;
 use lt_canon::Checked;
 use lt_jar::Device;
-use lt_match::LanguageRange;
+use lt_range::LanguageRange;
 use lt_registry::Lookup;
 use lt_stream::{Lines, ToolFault, run_text};
 use lt_tag::OutOfMemory;
@@ -57,9 +57,9 @@ impl<'a, L: Lookup> Lines for Selecting<'a, L> {
 }
 
 /// Writes the lines of a reader that one of the ranges matches by the scheme, in their order and as they stand, each ended
-/// by a line feed, and tells how many there are. A line is matched as the tag that it is, by the subtags of its canonical
-/// form (RFC 5646, 4.5; RFC 4647, 3.3): the range of `yue` selects `zh-yue-HK`. No range matches a line that is no valid
-/// tag, or a tag that `canonical` refuses.
+/// by a line feed, and tells how many there are. A line is matched as the tag that it is, by the subtags of its extlang
+/// form (RFC 5646, 4.5; RFC 4647, 3.3): the ranges of `zh` and `yue` select `yue-HK`. No range matches a line that is no valid
+/// tag, or a tag that has no extlang form.
 ///
 /// A byte order mark of UTF-8 before the first line is passed over. A line feed ends a line, and what follows the last one
 /// is a line if it is anything. A carriage return that ends a line is no part of the tag, and is written with the line.

@@ -1,9 +1,9 @@
 //! The two schemes of filtering.
 ghost use Rattle.std.specs.Prelude.{◌↔◌, IsTrue};
-ghost use Rattle.lt_match.specs.Matched.{MatchesBy};
+ghost use Rattle.lt_range.specs.Matched.{MatchesBy};
 ghost use Rattle.lt_select.specs.Selection.{AnyMatches, scheme_of};
 
-use lt_match::{LanguageRange, TagSubtags};
+use lt_range::{LanguageRange, TagSubtags};
 
 /// The schemes of filtering (RFC 4647, 3.3).
 #[derive(Clone, Copy, Debug, PartialEq, Eq)]

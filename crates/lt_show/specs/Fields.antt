@@ -16,9 +16,9 @@ abbrev pub is_shown : List ℕ → Bool
 is_shown name =
     str_eq_ignore_ascii_case name (codes "Description") || (str_eq_ignore_ascii_case name (codes "Deprecated")
     || (str_eq_ignore_ascii_case name (codes "Preferred-Value")
-    || (str_eq_ignore_ascii_case name (codes "Suppress-Script")
+    || (str_eq_ignore_ascii_case name (codes "Prefix") || (str_eq_ignore_ascii_case name (codes "Suppress-Script")
     || (str_eq_ignore_ascii_case name (codes "Macrolanguage") || (str_eq_ignore_ascii_case name (codes "Scope")
-    || str_eq_ignore_ascii_case name (codes "Comments"))))))
+    || str_eq_ignore_ascii_case name (codes "Comments")))))))
 
 -- the fields of a record that are shown, in the order of the file
 abbrev pub shown_fields : List Field → List Field

@@ -40,13 +40,14 @@ pub(crate) fn is_kept(field: &JarField) -> bool
 }
 
 /// Whether the fields of a name are shown, in either case of its letters: `Description`, `Deprecated`,
-/// `Preferred-Value`, `Suppress-Script`, `Macrolanguage`, `Scope` and `Comments` are (RFC 5646, 3.1.2).
+/// `Preferred-Value`, `Prefix`, `Suppress-Script`, `Macrolanguage`, `Scope` and `Comments` are (RFC 5646, 3.1.2).
 pub fn is_shown(name: &str) -> bool
     ensures { result ≡ spec.is_shown name.now }
 {
     name.eq_ignore_ascii_case("Description")
         || name.eq_ignore_ascii_case("Deprecated")
         || name.eq_ignore_ascii_case("Preferred-Value")
+        || name.eq_ignore_ascii_case("Prefix")
         || name.eq_ignore_ascii_case("Suppress-Script")
         || name.eq_ignore_ascii_case("Macrolanguage")
         || name.eq_ignore_ascii_case("Scope")

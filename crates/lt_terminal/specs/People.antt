@@ -21,16 +21,17 @@ is_asked at_terminal (Err fault) = false
 
 -- the command that the words name was run; or they name none, nothing was opened or read, and the run says why
 abbrev pub ComesTo : {P F I O E : Type 0} → (P → List ℕ → Result F Error → P → Type 0) → (F → Option (List ℕ))
-    → Result Command WordsFault → (before after : P) → Stream I → Stream O → Stream E → Outcome → Type 0
-ComesTo calls bytes (Ok command) before after input output errors outcome =
-    RunsProgram calls bytes command before after input output errors outcome
-ComesTo calls bytes (Err fault) before after input output errors outcome =
+    → Result Command WordsFault → (registry : List ℕ) → (before after : P) → Stream I → Stream O → Stream E → Outcome
+    → Type 0
+ComesTo calls bytes (Ok command) registry before after input output errors outcome =
+    RunsProgram calls bytes command registry before after input output errors outcome
+ComesTo calls bytes (Err fault) registry before after input output errors outcome =
     (after ≡ before) × IsUntouched input × Reports fault output errors outcome
 
--- a run of the program by its words, and its exit status
+-- a run of the program by its words, and its exit status; `registry` is the path of the file that `@` means
 pub record RunsWords {P F I O E : Type 0} (calls : P → List ℕ → Result F Error → P → Type 0)
-    (bytes : F → Option (List ℕ)) (words : Result Command WordsFault) (before after : P) (input : Stream I)
-    (output : Stream O) (errors : Stream E) (status : ℕ) : Type 0 where
+    (bytes : F → Option (List ℕ)) (words : Result Command WordsFault) (registry : List ℕ) (before after : P)
+    (input : Stream I) (output : Stream O) (errors : Stream E) (status : ℕ) : Type 0 where
   pub outcome : Outcome
-  pub comes_to : ComesTo calls bytes words before after input output errors outcome
+  pub comes_to : ComesTo calls bytes words registry before after input output errors outcome
   pub status_is : status ≡ code_of (status_at outcome.end)

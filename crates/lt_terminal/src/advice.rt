@@ -1,7 +1,8 @@
 //! What to do about a fault that refused a text.
 
 use crate::codes::CODES;
-use crate::meanings::{first_of, message_of};
+use crate::meanings::{first_of, meaning_of, message_of};
+use crate::wrapped::append_wrapped;
 use lt_tag::first_hyphen;
 use std::alloc::AllocError;
 
@@ -27,7 +28,7 @@ fn code_message(code: &[u8]) -> Option<&'static str> {
 
 /// What is before the first hyphen of a text, or all of it if it has none.
 #[tactic(auto, using(lt_lines::proofs::FaultLemmas::before_found, lt_lines::proofs::FaultLemmas::before_none))]
-fn first_subtag(text: &[u8]) -> &[u8] {
+pub(crate) fn first_subtag(text: &[u8]) -> &[u8] {
     match first_hyphen(text) {
         Some(end) => &text[..end],
         None => text,
@@ -58,6 +59,15 @@ fn region_advice(text: &[u8]) -> Option<&'static str> {
     }
 }
 
+/// What to do about a text that is no tag; None unless it begins with a byte order mark of UTF-16.
+fn mark_advice(text: &[u8]) -> Option<&'static str> {
+    if text.starts_with(b"\xff\xfe") || text.starts_with(b"\xfe\xff") {
+        meaning_of(b"Utf16")
+    } else {
+        None
+    }
+}
+
 /// What to do about `text`, which the fault with the name `fault` refuses. None if there is no advice but that for the
 /// fault.
 fn advice_for(fault: &[u8], text: &[u8]) -> Option<&'static str> {
@@ -65,35 +75,51 @@ fn advice_for(fault: &[u8], text: &[u8]) -> Option<&'static str> {
         language_advice(first_subtag(text))
     } else if fault == b"UnknownRegion".as_slice() {
         region_advice(text)
+    } else if fault == b"BadByte".as_slice() {
+        mark_advice(text)
     } else {
         None
     }
 }
 
-/// Appends a line of advice, after two spaces, by which it stands under the line on its fault.
-fn append_line(told: &mut Vec<u8>, advice: &[u8]) -> Result<(), AllocError> {
-    told.extend_from_slice(b"  ")?;
-    told.extend_from_slice(advice)?;
-    told.push(b'\n')?;
-    Ok(())
+/// What to do about a text that may be refused for its language or its region. None if no more can be said.
+fn likely_advice(text: &[u8]) -> Option<&'static str> {
+    match language_advice(first_subtag(text)) {
+        Some(advice) => Some(advice),
+        None => region_advice(text),
+    }
 }
 
-/// Appends a line that says what to do about the fault with the name `fault`, which refused `text`: advice for that
-/// text, or else what the fault means. Nothing for a fault without a message.
+/// Appends what to do about a text that may be refused for its language or its region. Nothing if no more can be said.
+pub(crate) fn append_likely(told: &mut Vec<u8>, text: &[u8]) -> Result<(), AllocError> {
+    match likely_advice(text) {
+        Some(advice) => append_wrapped(told, "", advice),
+        None => Ok(()),
+    }
+}
+
+/// Appends what to do about the only text of a run, which the fault with the name `fault` refused: advice for that text, or
+/// else the message for the fault. Nothing for a fault without a message.
+pub(crate) fn append_refused(
+    told: &mut Vec<u8>,
+    fault: &[u8],
+    text: &[u8],
+) -> Result<(), AllocError> {
+    match advice_for(fault, text).or(message_of(fault)) {
+        Some(advice) => append_wrapped(told, "", advice),
+        None => Ok(()),
+    }
+}
+
+/// Appends what to do about the fault with the name `fault`, which refused `text`, below the line on that fault: advice for
+/// that text, or else what the fault means. Nothing for a fault without a message.
 pub(crate) fn append_advice(
     told: &mut Vec<u8>,
     fault: &[u8],
     text: &[u8],
 ) -> Result<(), AllocError> {
-    if let Some(advice) = advice_for(fault, text) {
-        return append_line(told, advice.as_bytes());
-    }
-    match message_of(fault) {
-        Some(message) => {
-            // The message begins with the fault's name, a colon and a space, which are left out; it is never shorter.
-            let after = (fault.len() + 2).min(message.len());
-            append_line(told, &message.as_bytes()[after..])
-        }
+    match advice_for(fault, text).or(meaning_of(fault)) {
+        Some(advice) => append_wrapped(told, "  ", advice),
         None => Ok(()),
     }
 }

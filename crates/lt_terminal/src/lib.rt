@@ -4,12 +4,14 @@
 
 mod advice;
 mod codes;
+mod hints;
 mod meanings;
 mod progress;
 mod records;
 mod run;
 mod table;
 mod telling;
+mod wrapped;
 
 pub use progress::Progress;
 pub use run::{People, run_for_people};

@@ -93,3 +93,9 @@ pub(crate) fn first_of(messages: &[&'static str], word: &[u8]) -> Option<&'stati
 pub(crate) fn message_of(word: &[u8]) -> Option<&'static str> {
     first_of(&MESSAGES, word)
 }
+
+/// What a person is told of the fault that a word names, without its name. None if the word names no fault.
+pub(crate) fn meaning_of(word: &[u8]) -> Option<&'static str> {
+    let (_, meaning) = message_of(word)?.split_once(": ")?;
+    Some(meaning)
+}

@@ -5,34 +5,44 @@ ghost use Rattle.std.specs.Io.{WritesAtMost};
 ghost use Rattle.lt_jar.specs.Devices.{HasFailed, failures_of, inner_of};
 
 use crate::telling::say;
+use crate::wrapped::append_number;
 use lt_jar::Device;
 use lt_rows::count_of;
-use std::alloc::Global;
-use std::io::{self, Write};
+use std::alloc::{AllocError, Global};
+use std::cell::Cell;
+use std::io::{self, ErrorKind, Write};
 
 /// A person is told the lines of a run each time that so many are full.
 const MILLION: u64 = 1_000_000;
 
 /// A writer that hands on what it takes, and tells a person how many lines that were, each time that a million more
-/// is full.
+/// is full. It notes that nobody reads the output any more, as behind a pipe whose reader ended.
 #[derive(Drop)]
-pub struct Progress<W, T> {
+pub struct Progress<'a, W, T> {
     alloc: Global,
+    is_unread: &'a Cell<bool>,
     inner: Device<W>,
     people: Device<T>,
     is_told: bool,
     lines: u64,
 }
 
-impl<W, T> Progress<W, T> {
+impl<'a, W, T> Progress<'a, W, T> {
     /// A writer that took nothing so far. Where the output is a terminal itself, its lines tell how far the run is, and
-    /// `is_told` is false.
-    pub fn new(alloc: Global, inner: W, people: T, is_told: bool) -> Progress<W, T>
+    /// `is_told` is false. `is_unread` is set once a write finds that the output has no reader.
+    pub fn new(
+        alloc: Global,
+        inner: W,
+        people: T,
+        is_told: bool,
+        is_unread: &'a Cell<bool>,
+    ) -> Progress<'a, W, T>
         ensures inner { (inner_of result.inner ≡ inner) × (failures_of result.inner ≡ 0) }
         ensures told { result.is_told ≡ is_told }
     {
         Progress {
             alloc,
+            is_unread,
             inner: Device::new(inner),
             people: Device::new(people),
             is_told,
@@ -41,16 +51,24 @@ impl<W, T> Progress<W, T> {
     }
 }
 
+/// The line that tells how many lines were answered, which the next one overwrites.
+fn progress_line(alloc: Global, lines: u64) -> Result<Vec<u8>, AllocError> {
+    let mut line = Vec::new(alloc);
+    append_number(&mut line, alloc, lines)?;
+    line.extend_from_slice(b" lines\r")?;
+    Ok(line)
+}
+
 /// Tells a person that `after` lines are answered, if a multiple of a million was reached since there were `before`.
 fn tell_progress<T: Write>(alloc: Global, before: u64, after: u64, people: &mut Device<T>) {
     if after / MILLION != before / MILLION {
-        if let Ok(line) = format!(in alloc; "{after} lines\r") {
-            say(line.as_bytes(), people);
+        if let Ok(line) = progress_line(alloc, after) {
+            say(&line, people);
         }
     }
 }
 
-impl<W: Write, T: Write> Write for Progress<W, T> {
+impl<'a, W: Write, T: Write> Write for Progress<'a, W, T> {
     ghost contents = { λ progress. W.contents (inner_of progress.inner) };
 
     /// Writes once to the writer, and counts the lines that it took, if a person is told of them.
@@ -70,7 +88,12 @@ impl<W: Write, T: Write> Write for Progress<W, T> {
                 }
                 Ok(count)
             }
-            Err(error) => Err(error),
+            Err(error) => {
+                if error.kind() == ErrorKind::BrokenPipe {
+                    self.is_unread.set(true);
+                }
+                Err(error)
+            }
         }
     }
 

@@ -9,15 +9,20 @@ use crate::telling::tell;
 use lt_jar::Device;
 use lt_tool::{Command, Outcome, Streams, WordsFault, report, run_program};
 use std::alloc::Global;
+use std::cell::Cell;
 use std::io::{self, Read, Write};
 
 /// Who is told what a run came to.
 #[derive(Drop)]
-pub struct People<T> {
+pub struct People<'a, T, Q> {
     /// Where they are told.
     pub device: Device<T>,
     /// Whether that is a terminal: else they are told only if the words ask for a summary.
     pub at_terminal: bool,
+    /// Opens a file of the command again, in which a record of a registry is looked for.
+    pub again: Q,
+    /// Whether the output has no reader any more: then a write that failed needs no advice.
+    pub is_unread: &'a Cell<bool>,
 }
 
 /// Whether people are told of the run of a command: at a terminal, or if the words ask for a summary.
@@ -27,29 +32,29 @@ fn is_told(at_terminal: bool, command: &Command) -> bool
     at_terminal || command.has_summary()
 }
 
-/// Tells people what the run of a command came to, if they are to be told.
+/// Tells people what the run of a command came to, if they are to be told. `registry` is the path that `@` means.
 fn tell_people<F: Read + Drop, Q: FnMut(&str) -> io::Result<F>, T: Write>(
     alloc: Global,
     command: &Command,
+    registry: &str,
     outcome: &Outcome,
-    again: &mut Q,
-    people: &mut People<T>,
+    people: &mut People<'_, T, Q>,
 )
-    requires { Q.IsAlwaysCallable again.old }
+    requires { Q.IsAlwaysCallable people.old.again }
     ensures { spec.is_told people.old.at_terminal command.now ≡ false → people.new ≡ people.old }
 {
     if !is_told(people.at_terminal, command) {
         return;
     }
-    tell(alloc, command, outcome, again, &mut people.device);
+    tell(alloc, command, registry, outcome, people);
 }
 
-/// Runs the program by its words as [`run_program`] does, and answers the exit status. At a terminal, or where the words ask
-/// for a summary, it then tells people what the run came to. Of `canon`, `codes`, `tsv` and `csv` it tells how many lines or
-/// records were answered and how many refused, if all of them were answered; and for each fault how many it refused, which
-/// was the first, and what to do. Of what was refused or failed it tells what that means, and what to do; where it is a record
-/// of a registry, what the record is and where it begins, for which `again` opens the file again; and where a file can't be
-/// opened, which and why.
+/// Runs the program by its words as [`run_program`] does, and answers the exit status. `registry` is the path of the file
+/// that the name `@` means. At a terminal, or where the words ask for a summary, it then tells people what the run came to.
+/// Of `canon`, `codes`, `tsv` and `csv` it tells how many lines or records were answered and how many refused, if all of
+/// them were answered; and for each fault how many it refused, which was the first, and what to do. Of what was refused or
+/// failed it tells what that means, and what to do; which file was refused or can't be opened; and where it is a record of a
+/// registry, what the record is and where it begins, for which the file is opened again.
 pub fn run_for_people<
     F: Read + Drop,
     P: FnMut(&str) -> io::Result<F>,
@@ -62,13 +67,13 @@ pub fn run_for_people<
     alloc: Global,
     words: Result<Command, WordsFault>,
     opener: &mut P,
-    again: &mut Q,
+    registry: &str,
     streams: &mut Streams<I, O, E>,
-    people: &mut People<T>,
+    people: &mut People<'_, T, Q>,
 ) -> u8
     requires opens { P.IsAlwaysCallable opener.old }
-    requires again { Q.IsAlwaysCallable again.old }
-    ensures runs { RunsWords (CalledAt P.FnMut) F.remaining words opener.old opener.new (stream I.remaining streams.old.input streams.new.input)
+    requires again { Q.IsAlwaysCallable people.old.again }
+    ensures runs { RunsWords (CalledAt P.FnMut) F.remaining words registry.now opener.old opener.new (stream I.remaining streams.old.input streams.new.input)
         (stream O.contents streams.old.output streams.new.output) (stream E.contents streams.old.errors streams.new.errors) result }
     ensures tells { is_asked people.old.at_terminal words ≡ false → people.new ≡ people.old }
 {
@@ -76,7 +81,7 @@ pub fn run_for_people<
         Ok(command) => command,
         Err(fault) => return report(alloc, fault, streams).status().code(),
     };
-    let outcome = run_program(alloc, &command, opener, streams);
-    tell_people(alloc, &command, &outcome, again, people);
+    let outcome = run_program(alloc, &command, opener, registry, streams);
+    tell_people(alloc, &command, registry, &outcome, people);
     outcome.status().code()
 }

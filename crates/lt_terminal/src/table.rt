@@ -1,13 +1,9 @@
 //! What a person is told of the lines that a run refused.
 
 use crate::advice::append_advice;
+use crate::wrapped::append_number;
 use lt_lines::{Counts, Tallies, Tally};
 use std::alloc::{AllocError, Global};
-
-/// Appends a number in decimal.
-fn append_number(told: &mut Vec<u8>, alloc: Global, number: u64) -> Result<(), AllocError> {
-    told.extend_from_slice(format!(in alloc; "{number}")?.as_bytes())
-}
 
 /// Appends a number of units, as `1 line` or `2 lines`.
 fn append_counted(
@@ -72,9 +68,7 @@ fn append_first(
     first: u64,
 ) -> Result<(), AllocError> {
     told.extend_from_slice(b", first in ")?;
-    told.extend_from_slice(unit.as_bytes())?;
-    told.push(b' ')?;
-    append_number(told, alloc, first)
+    told.extend_from_slice(format!(in alloc; "{unit} {first}")?.as_bytes())
 }
 
 /// Appends the line that tells how many lines a fault refused, which was the first, and its text. `unit` names what is

@@ -3,13 +3,13 @@ use Rattle.std.proofs.Common.{◌≡◌, ◌<◌, ◌+◌, ◌++◌, ◌∷◌, 
 use Rattle.std.proofs.lemmas.List.{drop_more, length-map, length-take-le, map-append, take-append-drop, take_more}
 use Rattle.lt_registry.specs.Parts.{EntryParts}
 use Rattle.lt_range.specs.Ranges.{RangeParts}
-use Rattle.lt_match.specs.Matched.{IsCanonicalRange}
-use Rattle.lt_match.specs.Refusals.{IsRangeRefusal}
+use Rattle.lt_range.specs.Matched.{IsExtlangRange}
+use Rattle.lt_range.specs.Refusals.{IsRangeRefusal}
 use Rattle.lt_tool.specs.declared.ranges.RefusedRange.{RefusedRange}
 use Rattle.lt_tool.specs.Selected.{AreRanges, RefusesRange}
 
 -- `ranges` are those of `texts`: with the range of one text more they are those of all
-ranges_more : (R : List EntryParts) (texts : List (List ℕ)) (ranges : List RangeParts) (text : List ℕ) (range : RangeParts) → AreRanges R texts ranges → IsCanonicalRange R text range
+ranges_more : (R : List EntryParts) (texts : List (List ℕ)) (ranges : List RangeParts) (text : List ℕ) (range : RangeParts) → AreRanges R texts ranges → IsExtlangRange R text range
     → AreRanges R (texts ++ text ∷ []) (ranges ++ range ∷ [])
 ranges_more R [] ranges text range none is = rw none (range, [], is, refl, refl)
 ranges_more R (first ∷ texts) ranges text range (one, more, here, split, are) is =
@@ -27,7 +27,7 @@ module _ {X : Type 0} (f : X → List ℕ) (xs : List X) (i : ℕ) (x : X) (with
       ∙ ap (λ (l : List X). map f (take i xs) ++ map f l) (drop_more xs i x within ∙ ap (λ (y : X). y ∷ drop (i + 1) xs) (sym is))
 
   -- the texts up to the index `i` are read as ranges, where those before it are, and that of it is
-  pub next_range : (R : List EntryParts) (ranges : List RangeParts) (range : RangeParts) → AreRanges R (map f (take i xs)) ranges → IsCanonicalRange R (f x) range → AreRanges R (map f (take (i + 1) xs)) (ranges ++ range ∷ [])
+  pub next_range : (R : List EntryParts) (ranges : List RangeParts) (range : RangeParts) → AreRanges R (map f (take i xs)) ranges → IsExtlangRange R (f x) range → AreRanges R (map f (take (i + 1) xs)) (ranges ++ range ∷ [])
   next_range R ranges range are is_range = subst (λ (l : List (List ℕ)). AreRanges R l (ranges ++ range ∷ [])) (sym front_more) (ranges_more R (map f (take i xs)) ranges (f x) range are is_range)
 
   -- the text of the index `i` is the first that is refused as a range

@@ -22,7 +22,6 @@ entries_line count = codes "ok " ++ decimal count ++ 10 ∷ []
 -- what is printed for an answer at the end of a run
 abbrev pub line_of : Answer → List ℕ
 line_of (answers.Text line) = line.items
-line_of (answers.Shown lines refused) = lines.items
 line_of (answers.Equal true) = codes "equal" ++ 10 ∷ []
 line_of (answers.Equal false) = codes "different" ++ 10 ∷ []
 line_of answers.Passed = codes "ok" ++ 10 ∷ []
@@ -38,7 +37,6 @@ status_if false = status.Done
 -- the status of a run that gives an answer
 abbrev pub status_of : Answer → Status
 status_of (answers.Text line) = status.Done
-status_of (answers.Shown lines refused) = status_if refused
 status_of (answers.Equal true) = status.Done
 status_of (answers.Equal false) = status.Refused
 status_of answers.Passed = status.Done

@@ -62,6 +62,7 @@ verdict_line (verdicts.BadStep n) = codes "! BadStep " ++ decimal n ++ 10 ∷ []
 -- the line that is printed for a fault; nothing is for one that the errors tell
 abbrev pub IsFaultLine : Fault → List ℕ → Type 0
 IsFaultLine (faults.Text refusal) line = IsRefusalLine refusal line
+IsFaultLine (faults.OtherText refusal) line = IsRefusalLine refusal line
 IsFaultLine (faults.Registry role refusal) line = IsRegistryLine role refusal line
 IsFaultLine (faults.Table fault) line = IsTableLine fault line
 IsFaultLine (faults.Upgrade condition number) line = line ≡ upgrade_line condition number
@@ -76,6 +77,7 @@ table_end kind = status.RegistryRefused
 -- the status of a run that ends with a fault
 abbrev pub status_of : Fault → Status
 status_of (faults.Text refusal) = status.Refused
+status_of (faults.OtherText refusal) = status.Refused
 status_of (faults.Registry role refusal) = refused_end refusal
 status_of (faults.Table fault) = table_end fault.kind
 status_of (faults.Upgrade condition number) = status.RegistryRefused

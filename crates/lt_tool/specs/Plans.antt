@@ -1,13 +1,12 @@
 -- What each command reads before it answers, and what is then left to do.
-use Rattle.std.specs.Prelude.{◌≡◌, ℕ, Bool, true, false, List, Option, Result, Ok, string_bytes}
-use Rattle.lt_registry.specs.Parts.{EntryParts}
+use Rattle.std.specs.Prelude.{◌≡◌, ℕ, true, false, List, Option, Result, Ok, string_bytes}
 use Rattle.lt_rows.specs.declared.rows.Separator.TheVariants as separators
 use Rattle.lt_words.specs.declared.commands.Command.{Command}
 use Rattle.lt_words.specs.declared.commands.Command.TheVariants as command
 use Rattle.lt_tool.specs.Registries.{ByRegistry}
 use Rattle.lt_tool.specs.Rows.{PlansRows, PlansTags}
 use Rattle.lt_tool.specs.Selected.{PlansMatch}
-use Rattle.lt_tool.specs.Shown.{AnswersShown}
+use Rattle.lt_tool.specs.Shown.{PlansShown}
 use Rattle.lt_tool.specs.Streams.{IsUntouched, Stream, bytes_of, stream}
 use Rattle.lt_tool.specs.TagCommands.{Checks, Classifies, Compares, FormsExtlang, PlansExplanation, PlansVerifying}
 use Rattle.lt_tool.specs.TagCommands.{UpgradesFiles}
@@ -56,6 +55,6 @@ Plans bytes (command.Verify name tag) before after input result =
 Plans bytes (command.Upgrade old new) before after input result =
     IsUntouched input × UpgradesFiles bytes before after result
 Plans bytes (command.Show name tags) before after input result =
-    ReadsFirst bytes before after input (λ file. AnswersShown file tags result)
+    ReadsFirst bytes before after input (λ file. PlansShown file tags result)
 Plans bytes (command.Json name) before after input result =
     ReadsFirst bytes before after input (λ file. PlansJson file result)

@@ -26,12 +26,13 @@ use Rattle.lt_tool.specs.declared.streams.Files.{Files}
 use Rattle.lt_tool.specs.declared.streams.Source.{Source}
 use Rattle.lt_tool.specs.declared.streams.Source.TheVariants as sources
 
--- the path of the file that a name on the command line means: `-` is the standard input, unless the command reads that
--- as its lines (`taken`)
-abbrev pub IsPath : (taken : Bool) → (name path : List ℕ) → Type 0
-IsPath taken name path =
-    ((taken ≡ false) × (name ≡ codes "-") × (path ≡ codes "/dev/stdin"))
-    ⊎ (((taken ≡ true) ⊎ (name ≢ codes "-")) × (path ≡ name))
+-- the path of the file that a name on the command line means: `@` is the file with the path `registry`, and `-` is the
+-- standard input, unless the command reads that as its lines (`taken`)
+abbrev pub IsPath : (taken : Bool) → (registry name path : List ℕ) → Type 0
+IsPath taken registry name path =
+    ((name ≡ codes "@") × (path ≡ registry))
+    ⊎ ((taken ≡ false) × (name ≡ codes "-") × (path ≡ codes "/dev/stdin"))
+    ⊎ ((name ≢ codes "@") × ((taken ≡ true) ⊎ (name ≢ codes "-")) × (path ≡ name))
 
 -- the fault of a file that can't be opened, by the kind of the error
 abbrev pub IsFileFault : ErrorKind → Fault → Type 0
@@ -46,18 +47,19 @@ IsOpened (Err error) result = (fault : Fault) × IsFileFault (error_kind error) 
 -- the file that a name means is opened by one call; `calls` relates the opener's state, a path, the answer and the next
 -- state
 pub record OpensNamed {P F : Type 0} (calls : P → List ℕ → Result F Error → P → Type 0) (before after : P)
-    (taken : Bool) (name : List ℕ) (result : Result (Source F) Fault) : Type 0 where
+    (taken : Bool) (registry name : List ℕ) (result : Result (Source F) Fault) : Type 0 where
   pub path : List ℕ
-  pub is_path : IsPath taken name path
+  pub is_path : IsPath taken registry name path
   pub answer : Result F Error
   pub called : calls before path answer after
   pub is_opened : IsOpened answer result
 
 -- the file of a name is opened, if there is a name
 abbrev pub OpensFile : {P F : Type 0} → (P → List ℕ → Result F Error → P → Type 0) → (before after : P)
-    → (taken : Bool) → Option (List ℕ) → Result (Source F) Fault → Type 0
-OpensFile calls before after taken None result = (after ≡ before) × (result ≡ Ok sources.Empty)
-OpensFile calls before after taken (Some name) result = OpensNamed calls before after taken name result
+    → (taken : Bool) → (registry : List ℕ) → Option (List ℕ) → Result (Source F) Fault → Type 0
+OpensFile calls before after taken registry None result = (after ≡ before) × (result ≡ Ok sources.Empty)
+OpensFile calls before after taken registry (Some name) result =
+    OpensNamed calls before after taken registry name result
 
 -- a device of `inner` that was not read or written so far
 pub record IsNew {T : Type 0} (inner : T) (device : Device T) : Type 0 where
@@ -71,22 +73,23 @@ pub record AreOpen {F : Type 0} (first second : Source F) (files : Files F) : Ty
   pub is_second : IsNew second files.second
 
 -- after the first file, which is `first`, the second was opened
-abbrev pub OpensSecond : {P F : Type 0} → (P → List ℕ → Result F Error → P → Type 0) → Command → (between after : P)
-    → (first : Source F) → Result (Files F) Fault → Type 0
-OpensSecond calls command between after first (Ok files) = (second : Source _)
-    × OpensFile calls between after (reads_input_of command) (second_file_of command) (Ok second)
+abbrev pub OpensSecond : {P F : Type 0} → (P → List ℕ → Result F Error → P → Type 0) → Command → (registry : List ℕ)
+    → (between after : P) → (first : Source F) → Result (Files F) Fault → Type 0
+OpensSecond calls command registry between after first (Ok files) = (second : Source _)
+    × OpensFile calls between after (reads_input_of command) registry (second_file_of command) (Ok second)
     × AreOpen first second files
-OpensSecond calls command between after first (Err fault) =
-    OpensFile calls between after (reads_input_of command) (second_file_of command) (Err fault)
+OpensSecond calls command registry between after first (Err fault) =
+    OpensFile calls between after (reads_input_of command) registry (second_file_of command) (Err fault)
 
 -- the files that a command names were opened, the second only where the first could be
-abbrev pub OpensFiles : {P F : Type 0} → (P → List ℕ → Result F Error → P → Type 0) → Command → (before after : P)
-    → Result (Files F) Fault → Type 0
-OpensFiles {P} {F} calls command before after result =
+abbrev pub OpensFiles : {P F : Type 0} → (P → List ℕ → Result F Error → P → Type 0) → Command → (registry : List ℕ)
+    → (before after : P) → Result (Files F) Fault → Type 0
+OpensFiles {P} {F} calls command registry before after result =
     ((between : P) × (first : Source F)
-    × OpensFile calls before between (reads_input_of command) (first_file_of command) (Ok first)
-    × OpensSecond calls command between after first result)
-    ⊎ ((fault : Fault) × OpensFile calls before after (reads_input_of command) (first_file_of command) (Err fault)
+    × OpensFile calls before between (reads_input_of command) registry (first_file_of command) (Ok first)
+    × OpensSecond calls command registry between after first result)
+    ⊎ ((fault : Fault)
+    × OpensFile calls before after (reads_input_of command) registry (first_file_of command) (Err fault)
     × (result ≡ Err fault))
 
 -- the input was read once, into a buffer of no bytes, with this answer, and it counts a failure if the answer is an
@@ -111,11 +114,11 @@ AsksIf true input result = (answer : Result ℕ Error) × Asks input answer × (
 
 -- what is done before a command is performed: where the input can be read, if it is to be, the files are opened
 pub record Prepares {P F I : Type 0} (calls : P → List ℕ → Result F Error → P → Type 0) (command : Command)
-    (before after : P) (input : Stream I) (result : Result (Files F) Fault) : Type 0 where
+    (registry : List ℕ) (before after : P) (input : Stream I) (result : Result (Files F) Fault) : Type 0 where
   pub asks : Result (Unit {0}) Fault
   pub is_asked : AsksIf (reads_input_of command) input asks
   pub unopened : IfErr asks (λ fault. after ≡ before)
-  pub goes_on : Then (λ done result. OpensFiles calls command before after result) asks result
+  pub goes_on : Then (λ done result. OpensFiles calls command registry before after result) asks result
 
 -- the command was performed on its files; or it has none, and the run ends with that fault
 abbrev pub GoesOnTo : {F I O E : Type 0} → (F → Option (List ℕ)) → Command → Stream I → Stream O → Stream E
@@ -128,11 +131,11 @@ GoesOnTo bytes command input output errors outcome (Err fault) =
 -- a run of the program: which files it opened, what it read and wrote, and what it came to; `bytes` gives the bytes of a
 -- file, where they are known
 pub record RunsProgram {P F I O E : Type 0} (calls : P → List ℕ → Result F Error → P → Type 0)
-    (bytes : F → Option (List ℕ)) (command : Command) (before after : P) (input : Stream I) (output : Stream O)
-    (errors : Stream E) (outcome : Outcome) : Type 0 where
+    (bytes : F → Option (List ℕ)) (command : Command) (registry : List ℕ) (before after : P) (input : Stream I)
+    (output : Stream O) (errors : Stream E) (outcome : Outcome) : Type 0 where
   pub files : Result (Files F) Fault
   pub between : Device I
-  pub prepares : Prepares calls command before after (stream input.bytes input.before between) files
+  pub prepares : Prepares calls command registry before after (stream input.bytes input.before between) files
   pub goes_on : GoesOnTo bytes command (stream input.bytes between input.after) output errors outcome files
 
 -- what a run comes to whose words name no command (help, version, wrong usage, no memory)

@@ -1,7 +1,6 @@
 -- Which lines a command is to answer, and by what: tags, or rows with a column of tags.
 use Rattle.std.specs.Prelude.{◌≡◌, ◌-◌, ℕ, Bool, true, false, List, Option, Some, None, Result, Ok, Err, IfErr, is_some}
 use Rattle.std.specs.Prelude.{string_bytes}
-use Rattle.lt_jar.specs.declared.devices.Device.{Device}
 use Rattle.lt_registry.specs.Parts.{EntryParts}
 use Rattle.lt_codes.specs.Reading.{ReadsTable}
 use Rattle.lt_codes.specs.declared.codes.Code.{Code}

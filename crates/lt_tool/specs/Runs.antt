@@ -1,4 +1,5 @@
--- What is done with the lines of the input, and what is written of an explanation, before a run ends.
+-- What is done with the lines of the input, and what is written of an explanation and of tags that are shown, before a
+-- run ends.
 use Rattle.std.specs.Prelude.{◌≡◌, ◌⊎◌, ◌==◌, ℕ, Bool, List, [], ◌∷◌, ◌++◌, Option, Some, None, Result, Ok, Err, Vec}
 use Rattle.std.specs.Prelude.{if◌then◌else◌}
 use Rattle.std.specs.Borrow.{Bor, MutBor}
@@ -36,11 +37,10 @@ use Rattle.lt_verify.specs.declared.verdicts.Verdict.TheVariants as verdicts
 use Rattle.lt_tool.specs.Answers.{status_if}
 use Rattle.lt_tool.specs.Ends.{End}
 use Rattle.lt_tool.specs.Results.{Gives}
+use Rattle.lt_tool.specs.Shown.{ShowsTexts}
 use Rattle.lt_tool.specs.Streams.{IsUntouched, Stream, stream}
 use Rattle.lt_tool.specs.Written.{WritesAll}
-use Rattle.lt_tool.specs.declared.answers.Answer.{Answer}
 use Rattle.lt_tool.specs.declared.answers.Answer.TheVariants as answers
-use Rattle.lt_tool.specs.declared.faults.Fault.{Fault}
 use Rattle.lt_tool.specs.declared.faults.Fault.TheVariants as faults
 use Rattle.lt_tool.specs.declared.plans.Ground.{Ground}
 use Rattle.lt_tool.specs.declared.plans.LinesPlan.{LinesPlan}
@@ -188,4 +188,6 @@ Runs (plans.Explain R text) input output before after result =
     IsUntouched input × (after ≡ before) × ExplainsText R text.now output result
 Runs (plans.Verify R text) input output before after result =
     IsUntouched output × (after ≡ before) × VerifiesText R text.now input result
+Runs (plans.Show R records tags) input output before after result =
+    IsUntouched input × (after ≡ before) × ShowsTexts R records tags.now output result
 Runs (plans.Json R) input output before after result = (after ≡ before) × AnswersInJson R input output result

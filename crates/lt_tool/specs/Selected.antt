@@ -1,13 +1,13 @@
 -- Which language ranges the lines of the input are to be matched by (RFC 4647).
-use Rattle.std.specs.Prelude.{◌≡◌, ◌⊎◌, ◌+◌, ℕ, List, [], ◌∷◌, ◌++◌, Option, Some, None, Result, Ok, Err, String, Vec, codes}
+use Rattle.std.specs.Prelude.{◌≡◌, ◌⊎◌, ◌+◌, ℕ, List, [], ◌∷◌, ◌++◌, Option, Some, None, Result, String, Vec, codes}
 use Rattle.std.specs.Prelude.{length, map, string_bytes}
 use Rattle.std.specs.Fmt.{decimal}
 use Rattle.std.specs.declared.alloc.Global.{Global}
 use Rattle.lt_registry.specs.Parts.{EntryParts}
 use Rattle.lt_range.specs.Ranges.{RangeParts}
-use Rattle.lt_match.specs.Matched.{IsCanonicalRange}
-use Rattle.lt_match.specs.Refusals.{IsRangeRefusal, name_of}
-use Rattle.lt_match.specs.declared.refusals.RangeRefusal.{RangeRefusal}
+use Rattle.lt_range.specs.Matched.{IsExtlangRange}
+use Rattle.lt_range.specs.Refusals.{IsRangeRefusal, name_of}
+use Rattle.lt_range.specs.declared.refusals.RangeRefusal.{RangeRefusal}
 use Rattle.lt_select.specs.declared.schemes.Scheme.{Scheme}
 use Rattle.lt_select.specs.declared.schemes.Scheme.TheVariants as schemes
 use Rattle.lt_words.specs.declared.commands.Matching.{Matching}
@@ -20,11 +20,11 @@ use Rattle.lt_tool.specs.declared.plans.Plan.{Plan}
 use Rattle.lt_tool.specs.declared.plans.Plan.TheVariants as plans
 use Rattle.lt_tool.specs.declared.ranges.RefusedRange.{RefusedRange}
 
--- `ranges` are the canonical ranges of the texts, in their order
+-- `ranges` are those by which the texts match, in their order
 abbrev pub AreRanges : List EntryParts → List (List ℕ) → List RangeParts → Type 0
 AreRanges R [] ranges = ranges ≡ []
 AreRanges R (text ∷ texts) ranges =
-    (range : RangeParts) × (more : List RangeParts) × IsCanonicalRange R text range × (ranges ≡ range ∷ more)
+    (range : RangeParts) × (more : List RangeParts) × IsExtlangRange R text range × (ranges ≡ range ∷ more)
     × AreRanges R texts more
 
 -- the first of the texts that is refused as a range: its number, counted from 1, and why; running out of memory aside

@@ -1,8 +1,9 @@
--- What `show` prints of tags, and how it ends.
-use Rattle.std.specs.Prelude.{◌≡◌, ◌⊎◌, ◌||◌, ℕ, Bool, true, false, List, [], ◌∷◌, ◌++◌, map, Result, Ok, Err, Vec}
+-- What `show` reads, what it writes of tags, and how it ends.
+use Rattle.std.specs.Prelude.{◌≡◌, ◌⊎◌, ◌||◌, ℕ, Bool, true, false, List, [], ◌∷◌, ◌++◌, map, Result, Ok, Err}
 use Rattle.std.specs.Prelude.{string_bytes}
-use Rattle.std.specs.declared.alloc.Global.{Global}
+use Rattle.std.specs.Borrow.{Bor}
 use Rattle.lt_jar.specs.Records.{Field}
+use Rattle.lt_jar.specs.declared.devices.Device.{Device}
 use Rattle.lt_tag.specs.Faults.{HasFault, HasTag}
 use Rattle.lt_tag.specs.Parts.{TagForm}
 use Rattle.lt_tag.specs.declared.faults.TagFault.{TagFault}
@@ -13,7 +14,10 @@ use Rattle.lt_canon.specs.Explaining.{IsExplanation}
 use Rattle.lt_canon.specs.ExplanationTexts.{IsExplanationTextOf}
 use Rattle.lt_canon.specs.Refusals.{IsRefusedWith}
 use Rattle.lt_canon.specs.declared.refusals.Refusal.{Refusal}
+use Rattle.lt_canon.specs.declared.refusals.TextRefusal.{TextRefusal}
 use Rattle.lt_canon.specs.declared.refusals.TextRefusal.TheVariants as refusals
+use Rattle.lt_stream.specs.declared.faults.ToolFault.{ToolFault}
+use Rattle.lt_stream.specs.declared.faults.ToolFault.TheVariants as tool_faults
 use Rattle.lt_lines.specs.Owed.{RefusesText}
 use Rattle.lt_lines.specs.Refusals.{IsRefusalLine}
 use Rattle.lt_show.specs.Reading as kept
@@ -22,9 +26,11 @@ use Rattle.lt_show.specs.Tables.{shown_byte, table_of}
 use Rattle.lt_show.specs.declared.reading.RecordsFault.{RecordsFault}
 use Rattle.lt_show.specs.declared.reading.RecordsFault.TheVariants as kept_faults
 use Rattle.lt_words.specs.declared.commands.Tags.{Tags}
+use Rattle.lt_tool.specs.Answers.{status_if}
+use Rattle.lt_tool.specs.Ends.{End}
 use Rattle.lt_tool.specs.Registries.{IsRegistryRefusal}
-use Rattle.lt_tool.specs.Results.{Gives}
-use Rattle.lt_tool.specs.Streams.{Stream}
+use Rattle.lt_tool.specs.Streams.{IsUntouched, Stream, stream}
+use Rattle.lt_tool.specs.Written.{WritesAll}
 use Rattle.lt_tool.specs.declared.answers.Answer.TheVariants as answers
 use Rattle.lt_tool.specs.declared.faults.Fault.{Fault}
 use Rattle.lt_tool.specs.declared.faults.Fault.TheVariants as faults
@@ -41,11 +47,15 @@ abbrev pub EndsShown : List EntryParts → (text ending : List ℕ) → (refused
 EndsShown R text ending false = IsExplanationTextOf R text ending
 EndsShown R text ending true = RefusesText R text ending
 
--- the lines that end what is shown of a text were appended
-pub record AppendsEnding (R : List EntryParts) (text old new : List ℕ) (refused : Bool) : Type 0 where
-  pub ending : List ℕ
-  pub ends : EndsShown R text ending refused
-  pub grown : new ≡ old ++ ending
+-- what is shown of a text that is a tag, after the bytes `head`: its explanation or why it is refused, and an empty line
+abbrev pub EndsBlock : List EntryParts → (text head block : List ℕ) → (refused : Bool) → Type 0
+EndsBlock R text head block refused =
+    (ending : List ℕ) × EndsShown R text ending refused × (block ≡ head ++ (ending ++ 10 ∷ []))
+
+-- what is shown of a text that is refused so, after the bytes `head`: the line of the refusal, and an empty line
+abbrev pub EndsRefused : TextRefusal → (head block : List ℕ) → (refused : Bool) → Type 0
+EndsRefused refusal head block refused =
+    (line : List ℕ) × IsRefusalLine refusal line × (block ≡ head ++ (line ++ 10 ∷ [])) × (refused ≡ true)
 
 -- what is shown of a text that is a tag: its table, its explanation or why it is refused, and an empty line
 pub record ShowsTag (R : List EntryParts) (records : List (List Field)) (text block : List ℕ)
@@ -86,36 +96,68 @@ abbrev pub ShowsAs : (json : Bool) → List EntryParts → List (List Field) →
 ShowsAs false R records text block refused = ShowsTag R records text block refused ⊎ ShowsFault text block refused
 ShowsAs true R records text block refused = ShowsObject R text refused
 
--- what is shown of a text was appended
-pub record AppendsShown (json : Bool) (R : List EntryParts) (records : List (List Field))
-    (text old new : List ℕ) (refused : Bool) : Type 0 where
-  pub block : List ℕ
-  pub shows : ShowsAs json R records text block refused
-  pub grown : new ≡ old ++ block
+-- whether a text is refused whose block was written, or why the run ended before all of it was
+abbrev pub told : (refused : Bool) → Result (Unit {0}) ToolFault → Result Bool ToolFault
+told refused (Ok done) = Ok refused
+told refused (Err fault) = Err fault
 
--- the first of several texts was shown as `Shows` says, and then the others as `Others` says; `any` is whether one of
--- them all is refused
-pub record ShowsFirst (Shows : (text block : List ℕ) → Bool → Type 0) (Others : List ℕ → Bool → Type 0)
-    (text bytes : List ℕ) (any : Bool) : Type 0 where
-  pub block : List ℕ
-  pub refused : Bool
-  pub shows : Shows text block refused
-  pub rest : List ℕ
-  pub more : Bool
-  pub others : Others rest more
-  pub bytes_are : bytes ≡ block ++ rest
-  pub any_is : any ≡ (refused || more)
+-- a block was written to the output, or a front of it where a write failed or memory ran out; `refused` is whether its
+-- text is refused
+abbrev pub WritesTold : {O : Type 0} → (block : List ℕ) → (refused : Bool) → Stream O → Result Bool ToolFault → Type 0
+WritesTold block refused output result =
+    (end : Result (Unit {0}) ToolFault) × WritesAll output block end × (result ≡ told refused end)
 
--- the texts were shown one after another, each as the first parameter says; `any` is whether one of them is refused
-abbrev pub AreShown : ((text block : List ℕ) → Bool → Type 0) → List (List ℕ) → (bytes : List ℕ) → (any : Bool) → Type 0
-AreShown Shows [] bytes any = (bytes ≡ []) × (any ≡ false)
-AreShown Shows (text ∷ texts) bytes any = ShowsFirst Shows (AreShown Shows texts) text bytes any
+-- a block was written of which, and of whether its text is refused, `Shows` is true, or a front of it where the run
+-- ended; or memory ran out before that
+abbrev pub WritesBlock : {O : Type 0} → ((block : List ℕ) → (refused : Bool) → Type 0) → Stream O → Result Bool ToolFault
+    → Type 0
+WritesBlock Shows output result =
+    ((result ≡ Err tool_faults.OutOfMemory) × IsUntouched output)
+    ⊎ ((block : List ℕ) × (refused : Bool) × Shows block refused × WritesTold block refused output result)
 
--- what `show` gives for the tags on its command line, by the entries of a registry and its records
-abbrev pub ShowsAll : Tags → List EntryParts → List (List Field) → Result Plan Fault → Type 0
-ShowsAll tags R records = Gives (λ plan. (lines : Vec ℕ Global) × (any : Bool)
-    × AreShown (ShowsAs tags.json R records) (map string_bytes tags.texts.items) lines.items any
-    × (plan ≡ plans.Print (answers.Shown lines any))) (λ fault. ⊥)
+-- whether one of several texts is refused, by whether the first is, and by what came of the others
+abbrev pub with_first : (refused : Bool) → Result Bool ToolFault → Result Bool ToolFault
+with_first refused (Ok more) = Ok (refused || more)
+with_first refused (Err fault) = Err fault
+
+-- what came of several texts, of whose first `first` came: the output was `between` then, and of what is written after
+-- that and of what comes of the other texts `Others` is true; a fault ends the run
+abbrev pub GoesOn : {O : Type 0} → (Stream O → Result Bool ToolFault → Type 0) → Stream O → (between : Device O)
+    → (first result : Result Bool ToolFault) → Type 0
+GoesOn Others output between (Ok refused) result = (rest : Result Bool ToolFault)
+    × Others (stream output.bytes between output.after) rest × (result ≡ with_first refused rest)
+GoesOn Others output between (Err fault) result = (output.after ≡ between) × (result ≡ Err fault)
+
+-- the block of the first of several texts was written, of which `Shows` is true, and what of the others `Others` says
+pub record WritesFirst {O : Type 0} (Shows : (block : List ℕ) → (refused : Bool) → Type 0)
+    (Others : Stream O → Result Bool ToolFault → Type 0) (output : Stream O) (result : Result Bool ToolFault) : Type 0 where
+  pub between : Device O
+  pub first : Result Bool ToolFault
+  pub writes : WritesBlock Shows (stream output.bytes output.before between) first
+  pub goes_on : GoesOn Others output between first result
+
+-- the blocks of texts were written one after another, each as the first parameter says, up to the first that was not
+-- written whole; the result is whether one of the texts is refused, or why the run ended before
+abbrev pub WritesBlocks : {O : Type 0} → ((text block : List ℕ) → (refused : Bool) → Type 0) → List (List ℕ)
+    → Stream O → Result Bool ToolFault → Type 0
+WritesBlocks Shows [] output result = IsUntouched output × (result ≡ Ok false)
+WritesBlocks Shows (text ∷ texts) output result = WritesFirst (Shows text) (WritesBlocks Shows texts) output result
+
+-- what a run came to that showed texts
+abbrev pub shown : Result Bool ToolFault → End
+shown (Ok any) = Ok (answers.Written (status_if any))
+shown (Err fault) = Err (faults.Run fault)
+
+-- what is shown of the tags on the command line of `show` was written, by the entries of a registry and its records
+abbrev pub ShowsTexts : {O : Type 0} → List EntryParts → List (List Field) → Tags → Stream O → End → Type 0
+ShowsTexts R records tags output result = (any : Result Bool ToolFault)
+    × WritesBlocks (ShowsAs tags.json R records) (map string_bytes tags.texts.items) output any × (result ≡ shown any)
+
+-- ---- the registry and its records
+
+-- the tags are to be shown by the entries of a registry and its records
+abbrev pub PlansShow : Tags → List EntryParts → List (List Field) → Result Plan Fault → Type 0
+PlansShow tags R records result = (t : Bor Tags) × (t.now ≡ tags) × (result ≡ Ok (plans.Show R records t))
 
 -- the refusal of a registry that was read with its records is that of the registry alone, or OutOfMemory
 abbrev pub IsKeptRefusal : RecordsFault → RegistryRefusal → Type 0
@@ -127,15 +169,15 @@ abbrev pub Refuses : (RegistryRefusal → Type 0) → Result Plan Fault → Type
 Refuses IsRefusal result =
     (refusal : RegistryRefusal) × IsRefusal refusal × (result ≡ Err (faults.Registry roles.Only refusal))
 
--- what `show` gives once its registry file was read with its records (`both` are the entries and the records): its
--- tags, by a registry that passes the check; or why that is refused
-abbrev pub ShowsBy : Tags → kept.RecordsReading → Result Plan Fault → Type 0
-ShowsBy tags (Ok both) result =
-    (IsChecked both.0 × ShowsAll tags both.0 both.1 result) ⊎ Refuses (IsRegistryRefusal (Ok both.0)) result
-ShowsBy tags (Err fault) result = Refuses (IsKeptRefusal fault) result
+-- what is left to do of `show` once its registry file was read with its records (`both` are the entries and the
+-- records): to show its tags, by a registry that passes the check; or why that is refused
+abbrev pub PlansBy : Tags → kept.RecordsReading → Result Plan Fault → Type 0
+PlansBy tags (Ok both) result =
+    (IsChecked both.0 × PlansShow tags both.0 both.1 result) ⊎ Refuses (IsRegistryRefusal (Ok both.0)) result
+PlansBy tags (Err fault) result = Refuses (IsKeptRefusal fault) result
 
--- a file was read with its records, and this is what `show` gives by it
-pub record AnswersShown {F : Type 0} (file : Stream F) (tags : Tags) (result : Result Plan Fault) : Type 0 where
+-- a file was read with its records, and this is what is left to do of `show` by it
+pub record PlansShown {F : Type 0} (file : Stream F) (tags : Tags) (result : Result Plan Fault) : Type 0 where
   pub reading : kept.RecordsReading
   pub reads : ReadsRecords file.bytes file.before file.after reading
-  pub shows : ShowsBy tags reading result
+  pub plans_by : PlansBy tags reading result

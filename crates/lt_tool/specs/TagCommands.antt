@@ -1,5 +1,6 @@
 -- What the commands on one or two tags, and on one or two registries, give.
-use Rattle.std.specs.Prelude.{◌≡◌, ℕ, Bool, List, [], ◌∷◌, ◌++◌, Option, Result, Ok, IfErr, Vec, length}
+use Rattle.std.specs.Prelude.{◌≡◌, ℕ, Bool, true, false, List, [], ◌∷◌, ◌++◌, Option, Result, Ok, Err, IfErr, Vec}
+use Rattle.std.specs.Prelude.{if◌then◌else◌, length}
 use Rattle.std.specs.Borrow.{Bor}
 use Rattle.std.specs.declared.alloc.Global.{Global}
 use Rattle.lt_tag.specs.Faults.{HasTag, IsFault}
@@ -8,7 +9,9 @@ use Rattle.lt_tag.specs.declared.faults.TagFault.{TagFault}
 use Rattle.lt_registry.specs.Parts.{EntryParts}
 use Rattle.lt_canon.specs.Refusals.{of_fault}
 use Rattle.lt_canon.specs.TextAnswers.{IsEqualityOf, IsExtlangTextOf, IsPairRefusal}
-use Rattle.lt_canon.specs.Texts.{IsTextRefusal}
+use Rattle.lt_canon.specs.Texts.{IsCanonicalTextOf, IsTextRefusal}
+use Rattle.lt_canon.specs.declared.refusals.TextRefusal.{TextRefusal}
+use Rattle.lt_canon.specs.declared.refusals.TextRefusal.TheVariants as refusals
 use Rattle.lt_upgrade.specs.Upgrade.{IsUpgradeFinding, Upgrades}
 use Rattle.lt_upgrade.specs.declared.conditions.UpgradeCondition.{UpgradeCondition}
 use Rattle.lt_tool.specs.Answers.{class_line, entries_line}
@@ -43,10 +46,29 @@ FormsExtlang text R =
     Gives (λ plan. (extlang : List ℕ) × IsExtlangTextOf R text extlang × IsText (extlang ++ 10 ∷ []) plan)
     (IsTextFault (IsTextRefusal R text))
 
+-- what is answered to a text: its canonical text, or why it has none
+abbrev pub IsTextAnswer : List EntryParts → List ℕ → Result (Vec ℕ Global) TextRefusal → Type 0
+IsTextAnswer R text (Ok canonical) = IsCanonicalTextOf R text canonical.items
+IsTextAnswer R text (Err refusal) = IsTextRefusal R text refusal
+
+-- whether the first of two texts, which has this answer, is not the one that is refused so: it is a tag, and has a
+-- canonical form unless the refusal is that a text is no tag
+abbrev pub is_passed : TextRefusal → Result (Vec ℕ Global) TextRefusal → Bool
+is_passed refusal (Ok canonical) = true
+is_passed (refusals.NotATag fault) (Err (refusals.Invalid own)) = true
+is_passed (refusals.NotATag fault) (Err (refusals.ReplacementRepeats variant)) = true
+is_passed refusal (Err own) = false
+
+-- two texts are refused so: the fault says whether the first is, or the second
+abbrev pub IsPairFault : List EntryParts → List ℕ → TextRefusal → Fault → Type 0
+IsPairFault R first refusal fault = (own : Result (Vec ℕ Global) TextRefusal) × IsTextAnswer R first own
+    × (fault ≡ (if is_passed refusal own then faults.OtherText refusal else faults.Text refusal))
+
 -- `equal` gives whether the tags of two texts are equivalent
 abbrev pub Compares : (first second : List ℕ) → List EntryParts → Result Plan Fault → Type 0
 Compares first second R = Gives (λ plan. (equal : Bool) × IsEqualityOf R first second equal
-    × (plan ≡ plans.Print (answers.Equal equal))) (IsTextFault (IsPairRefusal R first second))
+    × (plan ≡ plans.Print (answers.Equal equal)))
+    (λ fault. (refusal : TextRefusal) × IsPairRefusal R first second refusal × IsPairFault R first refusal fault)
 
 -- the text is to be explained
 abbrev pub PlansExplanation : List ℕ → List EntryParts → Result Plan Fault → Type 0

@@ -1,9 +1,8 @@
 -- What is on the output and the errors of a run after a text was written to one of them.
-use Rattle.std.specs.Prelude.{◌≡◌, ◌⊎◌, ℕ, List, Option, Result, Err, IfErr, IfOk}
+use Rattle.std.specs.Prelude.{◌≡◌, ◌⊎◌, ◌++◌, ℕ, List, Result, Err, IfErr, IfOk}
 use Rattle.std.specs.Io.KnownBytes.{Appends}
 use Rattle.lt_jar.specs.Devices.{HasFailed, failures_of, inner_of}
 use Rattle.lt_canon.specs.ExplanationTexts.{AreLinesLeft, StepsLeft}
-use Rattle.lt_jar.specs.declared.devices.Device.{Device}
 use Rattle.lt_lines.specs.Answering.{IsStop}
 use Rattle.lt_stream.specs.DeviceOutput.{IsFrontOf, WritesText}
 use Rattle.lt_stream.specs.declared.faults.ToolFault.{ToolFault}
@@ -26,17 +25,12 @@ pub record WritesAll {O : Type 0} (output : Stream O) (text : List ℕ) (result 
   pub done : IfOk result (λ _. (written ≡ text) × (failures_of output.after ≡ failures_of output.before))
   pub stopped : IfErr result (IsStop output.before output.after)
 
--- the lines of `left`, the rest of an explanation, were written to a device whose bytes `contents` gives; or a write
--- failed or memory ran out, and a front of them was
-pub record WritesLines {W : Type 0} (contents : W → Option (List ℕ)) (left : StepsLeft) (before after : Device W)
-    (result : Result (Unit {0}) ToolFault) : Type 0 where
-  pub lines : List ℕ
-  pub are_lines : AreLinesLeft left lines
-  pub written : List ℕ
-  pub appends : Appends (contents (inner_of before)) (contents (inner_of after)) written
-  pub front : IsFrontOf written lines
-  pub done : IfOk result (λ _. (written ≡ lines) × (failures_of after ≡ failures_of before))
-  pub stopped : IfErr result (IsStop before after)
+-- the bytes `head`, the lines of `left`, the rest of an explanation, and the bytes `tail` were written to the output; or
+-- a write failed or memory ran out, and a front of them was
+abbrev pub WritesLines : {O : Type 0} → (head : List ℕ) → StepsLeft → (tail : List ℕ) → Stream O
+    → Result (Unit {0}) ToolFault → Type 0
+WritesLines head left tail output result =
+    (lines : List ℕ) × AreLinesLeft left lines × WritesAll output (head ++ (lines ++ tail)) result
 
 -- a line of which `IsLine` is true was printed, or a front of it where a write failed; or memory ran out before that
 abbrev pub Prints : {O : Type 0} → (List ℕ → Type 0) → Stream O → Result (Unit {0}) ToolFault → Type 0

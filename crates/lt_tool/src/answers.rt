@@ -10,8 +10,6 @@ use lt_lines::Counts;
 pub enum Answer {
     /// These lines are printed.
     Text(Vec<u8>),
-    /// These lines are printed, which `show` has of tags, and it is told whether one of them is refused.
-    Shown(Vec<u8>, bool),
     /// Whether two tags are equivalent.
     Equal(bool),
     /// An explanation is right, or a registry upgrades another one.
@@ -42,7 +40,6 @@ impl Answer {
     {
         match self {
             Answer::Text(line) => line.as_slice(),
-            Answer::Shown(line, _) => line.as_slice(),
             Answer::Equal(true) => b"equal\n".as_slice(),
             Answer::Equal(false) => b"different\n".as_slice(),
             Answer::Passed => b"ok\n".as_slice(),
@@ -58,7 +55,6 @@ impl Answer {
     {
         match self {
             Answer::Text(_) | Answer::Passed | Answer::Entries(_, _) => Status::Done,
-            Answer::Shown(_, refused) => status_if(*refused),
             Answer::Equal(true) => Status::Done,
             Answer::Equal(false) => Status::Refused,
             Answer::Lines(counts) if counts.refused == 0 => Status::Done,

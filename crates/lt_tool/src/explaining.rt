@@ -1,5 +1,7 @@
 //! The explanation of a tag, printed line by line.
+ghost use Rattle.std.specs.Prelude.{◌≡◌, ◌++◌, OnOk};
 ghost use Rattle.lt_rewrite.specs.Labels.{IsTrace};
+ghost use Rattle.lt_tool.specs.Runs as spec;
 ghost use Rattle.lt_tool.specs.Runs.{ExplainsText};
 ghost use Rattle.lt_tool.specs.Streams.{stream};
 ghost use Rattle.lt_tool.specs.Written.{WritesLines};
@@ -11,29 +13,52 @@ use lt_canon::{Checked, ExplanationLines};
 use lt_jar::Device;
 use lt_registry::Lookup;
 use lt_stream::{ToolFault, write_text};
+use lt_tag::OutOfMemory;
 use std::alloc::Global;
 use std::io::Write;
 
 /// Lines are written once this many bytes of them are there, so that few writes are made and little memory is held.
 const FULL: usize = 65536;
 
-/// Writes the lines of what is left of an explanation, and holds few of them in memory at a time.
-fn write_lines<L: Lookup, O: Write>(
+/// Appends bytes. Refused where memory runs out.
+fn append_bytes(lines: &mut Vec<u8>, bytes: &[u8]) -> Result<(), OutOfMemory>
+    ensures { OnOk result (lines.new.items ≡ lines.old.items ++ bytes.now) }
+{
+    lines.extend_from_slice(bytes)?;
+    Ok(())
+}
+
+/// Writes the bytes `head`, the lines of what is left of an explanation, and the bytes `tail`, and holds few of the lines in
+/// memory at a time.
+pub(crate) fn write_lines<L: Lookup, O: Write>(
     alloc: Global,
+    head: Vec<u8>,
     mut left: ExplanationLines<'_, L>,
+    tail: &[u8],
     output: &mut Device<O>,
 ) -> Result<(), ToolFault>
     requires { IsTrace left.entries left.here left.steps left.end }
-    ensures { WritesLines O.contents left.entry output.old output.new result }
+    ensures { WritesLines head.items left.entry tail.now (stream O.contents output.old output.new) result }
 {
-    let mut lines = Vec::new(alloc);
+    let mut lines = head;
     while left.append_line(alloc, &mut lines)? {
         if lines.len() >= FULL {
             write_text(&lines, output)?;
             lines.clear();
         }
     }
+    append_bytes(&mut lines, tail)?;
     write_text(&lines, output)
+}
+
+/// What a run came to that wrote an explanation.
+fn written(end: Result<(), ToolFault>) -> Result<Answer, Fault>
+    ensures { result ≡ spec.written end }
+{
+    match end {
+        Ok(()) => Ok(Answer::Written(Status::Done)),
+        Err(fault) => Err(Fault::Run(fault)),
+    }
 }
 
 /// Writes the explanation of a text by a registry; or gives its refusal.
@@ -46,8 +71,5 @@ pub(crate) fn explain<L: Lookup, O: Write>(
     ensures { ExplainsText (L.listed checked.now) text.now (stream O.contents output.old output.new) result }
 {
     let left = ExplanationLines::new(alloc, checked, text)?;
-    match write_lines(alloc, left, output) {
-        Ok(()) => Ok(Answer::Written(Status::Done)),
-        Err(fault) => Err(Fault::Run(fault)),
-    }
+    written(write_lines(alloc, Vec::new(alloc), left, b"", output))
 }

@@ -53,6 +53,8 @@ fn table_end(kind: TableFaultKind) -> Status
 pub enum Fault {
     /// A text is no tag, or its tag is refused.
     Text(TextRefusal),
+    /// Of two texts the second is no tag, or its tag is refused, and the first is not so.
+    OtherText(TextRefusal),
     /// A registry is refused.
     Registry(Role, RegistryRefusal),
     /// A table of codes is refused.
@@ -76,7 +78,7 @@ impl Fault {
         ensures { result ≡ spec.status_of self.now }
     {
         match self {
-            Fault::Text(_) | Fault::Explanation(_) => Status::Refused,
+            Fault::Text(_) | Fault::OtherText(_) | Fault::Explanation(_) => Status::Refused,
             Fault::Registry(_, refusal) => refusal.status(),
             Fault::Table(fault) => table_end(fault.kind),
             Fault::Upgrade(_, _) => Status::RegistryRefused,
@@ -89,7 +91,7 @@ impl Fault {
     /// all.
     pub fn name(&self) -> Option<&'static str> {
         Some(match self {
-            Fault::Text(refusal) => refusal.name(),
+            Fault::Text(refusal) | Fault::OtherText(refusal) => refusal.name(),
             Fault::Registry(_, refusal) => refusal.name(),
             Fault::Table(fault) => fault.kind.name(),
             Fault::Upgrade(condition, _) => condition.code(),

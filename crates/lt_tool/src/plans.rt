@@ -8,18 +8,18 @@ use crate::faults::{Fault, Role};
 use crate::ranges::plan_match;
 use crate::registries::read_registry;
 use crate::rows::{plan_rows, plan_tags};
-use crate::showing::show;
+use crate::showing::plan_show;
 use crate::streams::Files;
 use crate::tag_commands::{check, classify, equal, extlang, plan_explain, plan_verify, upgrade};
 use lt_canon::Checked;
 use lt_codes::CodeTable;
-use lt_jar::Device;
+use lt_jar::{Device, Jar};
 use lt_lines::LineForm;
-use lt_match::LanguageRange;
+use lt_range::LanguageRange;
 use lt_registry::SortedTable;
 use lt_rows::Separator;
 use lt_select::Scheme;
-use lt_words::Command;
+use lt_words::{Command, Tags};
 use std::alloc::Global;
 use std::io::Read;
 
@@ -67,6 +67,8 @@ pub(crate) enum Plan<'a> {
     Explain(Checked<SortedTable>, &'a [u8]),
     /// To judge the lines of the input as an explanation of this text by a registry.
     Verify(Checked<SortedTable>, &'a [u8]),
+    /// To show these tags by a registry and its records.
+    Show(Checked<SortedTable>, Jar, &'a Tags),
     /// To answer the lines of the input by objects of JSON.
     Json(Checked<SortedTable>),
 }
@@ -109,7 +111,7 @@ pub(crate) fn make_plan<'a, F: Read, I: Read>(
         Command::Explain(_, tag) => plan_explain(alloc, tag.as_bytes(), &mut files.first),
         Command::Verify(_, tag) => plan_verify(alloc, tag.as_bytes(), &mut files.first),
         Command::Upgrade(_, _) => upgrade(alloc, files),
-        Command::Show(_, tags) => show(alloc, tags, &mut files.first),
+        Command::Show(_, tags) => plan_show(alloc, tags, &mut files.first),
         Command::Json(_) => plan_json(alloc, &mut files.first),
     }
 }

@@ -104,7 +104,7 @@ fn line_of(alloc: Global, fault: &Fault) -> Result<Vec<u8>, OutOfMemory>
     ensures { IfOk result (λ line. IsFaultLine fault.now line.items) }
 {
     match fault {
-        Fault::Text(refusal) => refusal_line(alloc, refusal),
+        Fault::Text(refusal) | Fault::OtherText(refusal) => refusal_line(alloc, refusal),
         Fault::Registry(role, refusal) => registry_line(alloc, *role, refusal),
         Fault::Table(fault) => table_line(alloc, fault),
         Fault::Upgrade(condition, number) => upgrade_line(alloc, *condition, *number),
@@ -173,8 +173,8 @@ fn say_of<E: Write>(fault: &Fault, errors: &mut Device<E>)
         Fault::Usage(text) => say(text.as_bytes(), errors),
         Fault::File(_) => say(b"! File\n", errors),
         Fault::Run(fault) => say_fault(*fault, errors),
-        Fault::Text(_) | Fault::Registry(_, _) | Fault::Table(_) => {}
-        Fault::Upgrade(_, _) | Fault::Explanation(_) => {}
+        Fault::Text(_) | Fault::OtherText(_) | Fault::Registry(_, _) => {}
+        Fault::Table(_) | Fault::Upgrade(_, _) | Fault::Explanation(_) => {}
     }
 }
 

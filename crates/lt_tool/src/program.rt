@@ -26,10 +26,13 @@ use std::io::{self, Read, Write};
 const INPUT_PATH: &str = "/dev/stdin";
 
 /// The path of the file that a name means. `-` is the standard input, unless `is_taken`: the command reads that for itself.
-pub fn path_of<'a>(name: &'a str, is_taken: bool) -> &'a str
-    ensures { IsPath is_taken name.entry.now result.now }
+/// `@` is the file with the path `registry`.
+pub fn path_of<'a>(name: &'a str, is_taken: bool, registry: &'a str) -> &'a str
+    ensures { IsPath is_taken registry.entry.now name.entry.now result.now }
 {
-    if name == "-" && !is_taken {
+    if name == "@" {
+        registry
+    } else if name == "-" && !is_taken {
         INPUT_PATH
     } else {
         name
@@ -46,17 +49,19 @@ fn file_fault(alloc: Global, path: &str, error: &io::Error) -> Fault
     }
 }
 
-/// Opens the file that a name means. `is_taken` is whether the command reads the standard input for itself.
+/// Opens the file that a name means. `is_taken` is whether the command reads the standard input for itself, and `registry`
+/// the path that `@` means.
 fn open_named<F: Read + Drop, P: FnMut(&str) -> io::Result<F>>(
     alloc: Global,
     opener: &mut P,
     name: &str,
     is_taken: bool,
+    registry: &str,
 ) -> Result<Source<F>, Fault>
     requires { P.IsAlwaysCallable opener.old }
-    ensures { OpensNamed (CalledAt P.FnMut) opener.old opener.new is_taken name.now result }
+    ensures { OpensNamed (CalledAt P.FnMut) opener.old opener.new is_taken registry.now name.now result }
 {
-    let path = path_of(name, is_taken);
+    let path = path_of(name, is_taken, registry);
     match opener(path) {
         Ok(file) => Ok(Source::File(file)),
         Err(error) => Err(file_fault(alloc, path, &error)),
@@ -69,13 +74,14 @@ fn open_file<F: Read + Drop, P: FnMut(&str) -> io::Result<F>>(
     opener: &mut P,
     name: Option<&str>,
     is_taken: bool,
+    registry: &str,
 ) -> Result<Source<F>, Fault>
     requires { P.IsAlwaysCallable opener.old }
-    ensures { OpensFile (CalledAt P.FnMut) opener.old opener.new is_taken (option_map (λ text. text.now) name.entry) result }
+    ensures { OpensFile (CalledAt P.FnMut) opener.old opener.new is_taken registry.now (option_map (λ text. text.now) name.entry) result }
 {
     match name {
         None => Ok(Source::Empty),
-        Some(name) => open_named(alloc, opener, name, is_taken),
+        Some(name) => open_named(alloc, opener, name, is_taken, registry),
     }
 }
 
@@ -84,13 +90,14 @@ fn open_files<F: Read + Drop, P: FnMut(&str) -> io::Result<F>>(
     alloc: Global,
     command: &Command,
     opener: &mut P,
+    registry: &str,
 ) -> Result<Files<F>, Fault>
     requires { P.IsAlwaysCallable opener.old }
-    ensures { OpensFiles (CalledAt P.FnMut) command.now opener.old opener.new result }
+    ensures { OpensFiles (CalledAt P.FnMut) command.now registry.now opener.old opener.new result }
 {
     let is_taken = command.reads_input();
-    let first = open_file(alloc, opener, command.first_file(), is_taken)?;
-    let second = open_file(alloc, opener, command.second_file(), is_taken)?;
+    let first = open_file(alloc, opener, command.first_file(), is_taken, registry)?;
+    let second = open_file(alloc, opener, command.second_file(), is_taken, registry)?;
     Ok(Files {
         first: Device::new(first),
         second: Device::new(second),
@@ -116,13 +123,14 @@ fn prepare<F: Read + Drop, P: FnMut(&str) -> io::Result<F>, I: Read>(
     alloc: Global,
     command: &Command,
     opener: &mut P,
+    registry: &str,
     input: &mut Device<I>,
 ) -> Result<Files<F>, Fault>
     requires { P.IsAlwaysCallable opener.old }
-    ensures { Prepares (CalledAt P.FnMut) command.now opener.old opener.new (stream I.remaining input.old input.new) result }
+    ensures { Prepares (CalledAt P.FnMut) command.now registry.now opener.old opener.new (stream I.remaining input.old input.new) result }
 {
     ask(command, input)?;
-    open_files(alloc, command, opener)
+    open_files(alloc, command, opener, registry)
 }
 
 /// Does what a command asks for, but for the answer that it gives, which is not printed yet. `tallies` is set to what was
@@ -169,9 +177,9 @@ fn carry_out<F: Read, I: Read, O: Write, E: Write>(
 ///
 /// `files` are those that the command names; one that it does not name is left as it is, and so is the second where the first
 /// is refused. A registry is read record by record, up to its end or the first line at fault. The answer is printed at
-/// once, but by `explain` as its lines are made; `canon`, `codes`, `tsv`, `csv` and `json` answer the lines or records of
-/// the input as they come, `match` prints those of its lines that a range matches, or the one that lookup finds, and
-/// `verify` reads them up to the first that settles its answer.
+/// once, but by `explain` as its lines are made, and by `show` tag by tag and the steps of a tag as they are made; `canon`,
+/// `codes`, `tsv`, `csv` and `json` answer the lines or records of the input as they come, `match` prints those of its lines
+/// that a range matches, or the one that lookup finds, and `verify` reads them up to the first that settles its answer.
 ///
 /// A read of a file that fails, or is one too many, is answered as a fault of the file. A write to the output
 /// that fails, a read of the input that fails, its end within quotes, and an allocation that fails are named on the errors; a
@@ -195,20 +203,22 @@ pub fn perform<F: Read, I: Read, O: Write, E: Write>(
 ///
 /// `opener` opens the files that the command names, in the order in which they are read: of a table and a registry the
 /// registry, of two registries the older one first. One that can't be opened ends the run by `! File` on the errors,
-/// and the status 4. The name `-` is the standard input where the command doesn't read that. Where it does, the input is
+/// and the status 4. The name `@` is the file with the path `registry`. The name `-` is the standard input where the command
+/// doesn't read that. Where it does, the input is
 /// asked for no bytes before a file is opened, so that one that is closed is not taken for a file that is opened in its
 /// place: it ends the run by `! Read`, and the status 4. Then all is done as by [`perform`].
 pub fn run_program<F: Read + Drop, P: FnMut(&str) -> io::Result<F>, I: Read, O: Write, E: Write>(
     alloc: Global,
     command: &Command,
     opener: &mut P,
+    registry: &str,
     streams: &mut Streams<I, O, E>,
 ) -> Outcome
     requires { P.IsAlwaysCallable opener.old }
-    ensures { RunsProgram (CalledAt P.FnMut) F.remaining command.now opener.old opener.new (stream I.remaining streams.old.input streams.new.input)
+    ensures { RunsProgram (CalledAt P.FnMut) F.remaining command.now registry.now opener.old opener.new (stream I.remaining streams.old.input streams.new.input)
         (stream O.contents streams.old.output streams.new.output) (stream E.contents streams.old.errors streams.new.errors) result }
 {
-    match prepare(alloc, command, opener, &mut streams.input) {
+    match prepare(alloc, command, opener, registry, &mut streams.input) {
         Ok(mut files) => carry_out(alloc, command, &mut files, streams),
         Err(fault) => Outcome {
             end: finish(alloc, Err(fault), &mut streams.output, &mut streams.errors),

@@ -1,8 +1,8 @@
 //! Language ranges that are read from words.
 ghost use Rattle.std.specs.Prelude.{◌≡◌, ◌++◌, ◌∷◌, [], IfErr, IfOk, OnOk, map, string_bytes};
-ghost use Rattle.lt_match.specs.Matched.{IsCanonicalRange};
-ghost use Rattle.lt_match.specs.Refusals.{IsRangeRefusal};
-ghost use Rattle.lt_match.specs.declared.refusals.RangeRefusal.TheVariants.{OutOfMemory};
+ghost use Rattle.lt_range.specs.Matched.{IsExtlangRange};
+ghost use Rattle.lt_range.specs.Refusals.{IsRangeRefusal};
+ghost use Rattle.lt_range.specs.declared.refusals.RangeRefusal.TheVariants.{OutOfMemory};
 ghost use Rattle.lt_tool.specs.Registries.{ByRegistry};
 ghost use Rattle.lt_tool.specs.Selected as spec;
 ghost use Rattle.lt_tool.specs.Selected.{AreRanges, IsRangeFault, PlansMatch, RefusesRange, scheme_for};
@@ -13,7 +13,7 @@ use crate::plans::{MatchPlan, Plan};
 use crate::registries::read_registry;
 use lt_canon::Checked;
 use lt_jar::Device;
-use lt_match::{LanguageRange, RangeRefusal, canonical_range};
+use lt_range::{LanguageRange, RangeRefusal, extlang_range};
 use lt_registry::Lookup;
 use lt_select::Scheme;
 use lt_stream::ToolFault;
@@ -50,24 +50,24 @@ fn push_range(
     }
 }
 
-/// The canonical range that a text is read as. `number` is that of the text, counted from 1, which its refusal names.
+/// The range by which a text matches. `number` is that of the text, counted from 1, which its refusal names.
 fn read_range<L: Lookup>(
     alloc: Global,
     checked: &Checked<L>,
     number: usize,
     text: &[u8],
 ) -> Result<LanguageRange, RefusedRange>
-    ensures range { IfOk result (λ range. IsCanonicalRange (L.listed checked.now) text.now range) }
+    ensures range { IfOk result (λ range. IsExtlangRange (L.listed checked.now) text.now range) }
     ensures numbered { IfErr result (λ refused. refused.number ≡ number) }
     ensures refusal { IfErr result (λ refused. IsRangeRefusal (L.listed checked.now) text.now refused.refusal) }
 {
-    match canonical_range(alloc, checked, text) {
+    match extlang_range(alloc, checked, text) {
         Ok(range) => Ok(range),
         Err(refusal) => Err(RefusedRange { number, refusal }),
     }
 }
 
-/// The canonical ranges that the texts are read as, or the first that is refused, by its number, counted from 1.
+/// The ranges by which the texts match, or the first that is refused, by its number, counted from 1.
 fn read_ranges<L: Lookup>(
     alloc: Global,
     checked: &Checked<L>,

@@ -1,4 +1,4 @@
-//! What is done with the lines of the input.
+//! What is left to do of a run once its files are read: with the lines of the input, of an explanation and of tags that are shown.
 ghost use Rattle.std.specs.Prelude.{◌≡◌, ◌++◌, ◌∷◌, [], IfErr, IfOk};
 ghost use Rattle.lt_tag.specs.Faults.{HasTag};
 ghost use Rattle.lt_registry.specs.Validity.{IsValid};
@@ -11,11 +11,12 @@ use crate::answers::{Answer, status_if};
 use crate::explaining::explain;
 use crate::faults::Fault;
 use crate::plans::{Ground, LinesPlan, MatchPlan, Plan};
+use crate::showing::show_texts;
 use crate::status::Status;
 use lt_canon::{Checked, Refusal, TextRefusal};
 use lt_jar::Device;
 use lt_json::write_objects;
-use lt_lines::{Basis, Counts, LineForm, Tallies, run_lines};
+use lt_lines::{Basis, Counts, LineForm, Tallies, run_tallied};
 use lt_registry::{Lookup, validate};
 use lt_select::{look_up_line, select_lines};
 use lt_stream::ToolFault;
@@ -59,7 +60,7 @@ fn run_over<I: Read, O: Write>(
         checked: &ground.checked,
         codes: ground.codes.as_ref(),
     };
-    let end = run_lines(alloc, &basis, form, input, output, tallies);
+    let end = run_tallied(alloc, &basis, form, input, output, tallies);
     drop_unknown(alloc, end, tallies);
     counted(end)
 }
@@ -225,6 +226,9 @@ pub(crate) fn run<I: Read, O: Write>(
         Plan::Match(plan) => match_lines(alloc, &plan, input, output),
         Plan::Explain(checked, text) => explain(alloc, &checked, text, output),
         Plan::Verify(checked, text) => verify(alloc, &checked, text, input),
+        Plan::Show(checked, jar, tags) => {
+            show_texts(alloc, &checked, jar.records(), tags, output)
+        }
         Plan::Json(checked) => answer_in_json(alloc, &checked, input, output),
     }
 }

@@ -1,103 +1,153 @@
-//! What the records of a registry say of tags, printed.
-ghost use Rattle.std.specs.Prelude.{◌≡◌, ◌||◌, IfOk, Ok, false, map, string_bytes, true};
-ghost use Rattle.lt_tool.specs.Shown.{AnswersShown, AppendsEnding, AppendsShown, AreShown, IsKeptRefusal, ShowsAs, ShowsBy};
+//! What the records of a registry say of tags, printed tag by tag.
+ghost use Rattle.std.specs.Prelude.{◌≡◌, ◌||◌, ◌++◌, ◌∷◌, [], IfOk, Ok, false, map, string_bytes, true};
+ghost use Rattle.lt_show.specs.Tables.{shown_byte};
+ghost use Rattle.lt_tool.specs.Shown as spec;
+ghost use Rattle.lt_tool.specs.Shown.{EndsBlock, EndsRefused, IsKeptRefusal, PlansBy, PlansShown, ShowsAs, ShowsTexts, WritesBlock, WritesBlocks, WritesTold};
 ghost use Rattle.lt_tool.specs.Streams.{stream};
 
-use crate::answers::Answer;
+use crate::answers::{Answer, status_if};
+use crate::explaining::write_lines;
 use crate::faults::{Fault, Role};
 use crate::plans::Plan;
 use crate::registries::{RegistryRefusal, check_entries};
 use crate::showing_json::append_object;
-use lt_canon::{Checked, TextRefusal, explanation_text};
+use lt_canon::{Checked, ExplanationLines, TextRefusal};
 use lt_jar::{Device, Jar, Record};
 use lt_lines::append_refusal;
 use lt_registry::{Lookup, Registry};
 use lt_show::{RecordsFault, append_printable, append_table, read_records};
+use lt_stream::{ToolFault, write_text};
 use lt_tag::{OutOfMemory, TagFaultKind, read_tag};
 use lt_words::Tags;
 use std::alloc::Global;
-use std::io::Read;
+use std::io::{Read, Write};
 
-/// Appends to `lines` the explanation of a text, or the line of its refusal, and tells whether it is refused.
-fn append_ending<L: Lookup>(
-    lines: &mut Vec<u8>,
-    alloc: Global,
-    checked: &Checked<L>,
-    text: &[u8],
-) -> Result<bool, OutOfMemory>
-    ensures { IfOk result (λ refused. AppendsEnding (L.listed checked.now) text.now lines.old.items lines.new.items refused) }
+/// Whether a text is refused whose block was written, or why not all of that was.
+fn told(refused: bool, end: Result<(), ToolFault>) -> Result<bool, ToolFault>
+    ensures { result ≡ spec.told refused end }
 {
-    match explanation_text(alloc, checked, text) {
-        Ok(explanation) => {
-            lines.extend_from_slice(&explanation)?;
-            Ok(false)
-        }
-        Err(refusal) => {
-            append_refusal(lines, &refusal)?;
-            Ok(true)
-        }
+    match end {
+        Ok(()) => Ok(refused),
+        Err(fault) => Err(fault),
     }
 }
 
-/// Appends what `show` prints of a text for people: the table of its subtags, its explanation or the line of its refusal,
-/// and an empty line. Tells whether it is refused. Of a text that is no tag it prints the text in place of the table.
-fn append_block<L: Lookup>(
-    lines: &mut Vec<u8>,
-    alloc: Global,
-    checked: &Checked<L>,
-    records: &[Record],
-    text: &[u8],
-) -> Result<bool, OutOfMemory>
-    ensures { IfOk result (λ refused. AppendsShown false (L.listed checked.now) records.now text.now lines.old.items lines.new.items refused) }
+/// Writes a block that was made in memory, and tells whether its text is `refused`.
+fn write_block<O: Write>(
+    block: &[u8],
+    refused: bool,
+    output: &mut Device<O>,
+) -> Result<bool, ToolFault>
+    ensures { WritesTold block.now refused (stream O.contents output.old output.new) result }
 {
-    let tag = match read_tag(alloc, text) {
-        Ok(tag) => tag,
-        Err(fault) if fault.kind == TagFaultKind::OutOfMemory => return Err(OutOfMemory),
-        Err(fault) => {
-            append_printable(lines, text)?;
-            lines.push(b'\n')?;
-            append_refusal(lines, &TextRefusal::NotATag(fault))?;
-            lines.push(b'\n')?;
-            return Ok(true);
-        }
-    };
-    append_table(lines, alloc, checked.table(), records, &tag)?;
-    let refused = append_ending(lines, alloc, checked, text)?;
-    lines.push(b'\n')?;
-    Ok(refused)
+    told(refused, write_text(block, output))
 }
 
-/// Appends what `show` prints of a text as a line of JSON, and tells whether the text is refused.
-fn append_json<L: Lookup>(
-    lines: &mut Vec<u8>,
+/// Writes what `show` prints of a text as a line of JSON, and tells whether the text is refused.
+fn show_object<L: Lookup, O: Write>(
     alloc: Global,
     checked: &Checked<L>,
     records: &[Record],
     text: &[u8],
-) -> Result<bool, OutOfMemory>
-    ensures { IfOk result (λ refused. AppendsShown true (L.listed checked.now) records.now text.now lines.old.items lines.new.items refused) }
+    output: &mut Device<O>,
+) -> Result<bool, ToolFault>
+    ensures { WritesBlock (ShowsAs true (L.listed checked.now) records.now text.now) (stream O.contents output.old output.new) result }
 {
     let mut object = Vec::new(alloc);
     let refused = append_object(&mut object, alloc, checked, records, text)?;
-    lines.extend_from_slice(&object)?;
-    Ok(refused)
+    write_block(&object, refused, output)
 }
 
-/// Appends what `show` prints of a text, as a line of JSON if `json`, or else for people, and tells whether it is refused.
-fn append_shown<L: Lookup>(
-    lines: &mut Vec<u8>,
+/// A block for people: the bytes `head`, the line of a refusal, and an empty line.
+fn refused_block(head: Vec<u8>, refusal: &TextRefusal) -> Result<Vec<u8>, OutOfMemory>
+    ensures { IfOk result (λ block. EndsRefused refusal.now head.items block.items true) }
+{
+    let mut block = head;
+    append_refusal(&mut block, refusal)?;
+    block.push(b'\n')?;
+    Ok(block)
+}
+
+/// Writes a block for people, of the bytes `head`, the line of a refusal, and an empty line. Tells that its text is refused.
+fn show_refused<O: Write>(
+    head: Vec<u8>,
+    refusal: &TextRefusal,
+    output: &mut Device<O>,
+) -> Result<bool, ToolFault>
+    ensures { WritesBlock (EndsRefused refusal.now head.items) (stream O.contents output.old output.new) result }
+{
+    let block = refused_block(head, refusal)?;
+    write_block(&block, true, output)
+}
+
+/// A text that is no tag, as a line that does nothing at a terminal.
+fn printable_line(alloc: Global, text: &[u8]) -> Result<Vec<u8>, OutOfMemory>
+    ensures { IfOk result (λ line. line.items ≡ map shown_byte text.now ++ 10 ∷ []) }
+{
+    let mut line = Vec::new(alloc);
+    append_printable(&mut line, text)?;
+    line.push(b'\n')?;
+    Ok(line)
+}
+
+/// Writes the table of a text that is a tag, its explanation, or the line of its refusal, and an empty line. The lines of the
+/// explanation are written as they are made. Tells whether the text is refused.
+fn show_ended<L: Lookup, O: Write>(
+    alloc: Global,
+    checked: &Checked<L>,
+    text: &[u8],
+    table: Vec<u8>,
+    output: &mut Device<O>,
+) -> Result<bool, ToolFault>
+    ensures { WritesBlock (EndsBlock (L.listed checked.now) text.now table.items) (stream O.contents output.old output.new) result }
+{
+    match ExplanationLines::new(alloc, checked, text) {
+        Ok(left) => told(false, write_lines(alloc, table, left, b"\n", output)),
+        Err(refusal) => show_refused(table, &refusal, output),
+    }
+}
+
+/// Writes what `show` prints of a text for people: the table of its subtags, its explanation or the line of its refusal,
+/// and an empty line. Tells whether it is refused. Of a text that is no tag it prints the text in place of the table.
+fn show_block<L: Lookup, O: Write>(
+    alloc: Global,
+    checked: &Checked<L>,
+    records: &[Record],
+    text: &[u8],
+    output: &mut Device<O>,
+) -> Result<bool, ToolFault>
+    ensures { WritesBlock (ShowsAs false (L.listed checked.now) records.now text.now) (stream O.contents output.old output.new) result }
+{
+    let tag = match read_tag(alloc, text) {
+        Ok(tag) => tag,
+        Err(fault) if fault.kind == TagFaultKind::OutOfMemory => {
+            return Err(ToolFault::OutOfMemory);
+        }
+        Err(fault) => {
+            let line = printable_line(alloc, text)?;
+            return show_refused(line, &TextRefusal::NotATag(fault), output);
+        }
+    };
+    let mut table = Vec::new(alloc);
+    append_table(&mut table, alloc, checked.table(), records, &tag)?;
+    show_ended(alloc, checked, text, table, output)
+}
+
+/// Writes what `show` prints of a text, as a line of JSON if `json`, or else for people, and tells whether it is refused.
+fn show_text<L: Lookup, O: Write>(
     alloc: Global,
     checked: &Checked<L>,
     records: &[Record],
     json: bool,
     text: &[u8],
-) -> Result<bool, OutOfMemory>
-    ensures { IfOk result (λ refused. AppendsShown json (L.listed checked.now) records.now text.now lines.old.items lines.new.items refused) }
+    output: &mut Device<O>,
+) -> Result<bool, ToolFault>
+    ensures { WritesBlock (ShowsAs json (L.listed checked.now) records.now text.now) (stream O.contents output.old output.new) result }
 {
     if json {
-        append_json(lines, alloc, checked, records, text)
+        show_object(alloc, checked, records, text, output)
     } else {
-        append_block(lines, alloc, checked, records, text)
+        show_block(alloc, checked, records, text, output)
     }
 }
 
@@ -108,24 +158,48 @@ fn either(one: bool, other: bool) -> bool
     one || other
 }
 
-/// What `show` prints of texts, by a registry and its records: as lines of JSON if `json`, or else for people. It tells
-/// whether one of the texts is refused.
-fn show_texts<L: Lookup>(
+/// Writes what `show` prints of texts, one after another, by a registry and its records: as lines of JSON if `json`, or else
+/// for people. It tells whether one of the texts is refused.
+fn show_each<L: Lookup, O: Write>(
     alloc: Global,
     checked: &Checked<L>,
     records: &[Record],
     json: bool,
     texts: &[String],
-) -> Result<(Vec<u8>, bool), OutOfMemory>
-    ensures { IfOk result (λ shown. AreShown (ShowsAs json (L.listed checked.now) records.now) (map string_bytes texts.now) shown.0.items shown.1) }
+    output: &mut Device<O>,
+) -> Result<bool, ToolFault>
+    ensures { WritesBlocks (ShowsAs json (L.listed checked.now) records.now) (map string_bytes texts.now) (stream O.contents output.old output.new) result }
 {
-    let mut lines = Vec::new(alloc);
     let mut any = false;
     for text in texts {
-        let refused = append_shown(&mut lines, alloc, checked, records, json, text.as_bytes())?;
+        let refused = show_text(alloc, checked, records, json, text.as_bytes(), output)?;
         any = either(any, refused);
     }
-    Ok((lines, any))
+    Ok(any)
+}
+
+/// What a run came to that showed texts, of which `any` may be refused.
+fn shown(any: Result<bool, ToolFault>) -> Result<Answer, Fault>
+    ensures { result ≡ spec.shown any }
+{
+    match any {
+        Ok(any) => Ok(Answer::Written(status_if(any))),
+        Err(fault) => Err(Fault::Run(fault)),
+    }
+}
+
+/// Writes what `show` prints of the tags on its command line, by a registry and its records.
+pub(crate) fn show_texts<L: Lookup, O: Write>(
+    alloc: Global,
+    checked: &Checked<L>,
+    records: &[Record],
+    tags: &Tags,
+    output: &mut Device<O>,
+) -> Result<Answer, Fault>
+    ensures { ShowsTexts (L.listed checked.now) records.now tags.now (stream O.contents output.old output.new) result }
+{
+    let any = show_each(alloc, checked, records, tags.json, &tags.texts, output);
+    shown(any)
 }
 
 /// The refusal of a registry that was read with its records: that of the registry alone, or that memory ran out.
@@ -138,34 +212,27 @@ fn refusal_of(fault: RecordsFault) -> RegistryRefusal
     }
 }
 
-/// What `show` answers to tags, by a registry and its records (`both`), or why the registry fails the check.
-fn show_kept<'a>(alloc: Global, both: (Registry, Jar), tags: &Tags) -> Result<Plan<'a>, Fault>
-    ensures { ShowsBy tags.now (Ok both) result }
+/// To show tags by a registry and its records (`both`), or why the registry fails the check.
+fn plan_kept<'a>(alloc: Global, both: (Registry, Jar), tags: &'a Tags) -> Result<Plan<'a>, Fault>
+    ensures { PlansBy tags.now (Ok both) result }
 {
     let (registry, jar) = both;
-    let checked = match check_entries(alloc, registry) {
-        Ok(checked) => checked,
-        Err(refusal) => return Err(Fault::Registry(Role::Only, refusal)),
-    };
-    match show_texts(alloc, &checked, jar.records(), tags.json, &tags.texts) {
-        Ok(shown) => {
-            let (lines, refused) = shown;
-            Ok(Plan::Print(Answer::Shown(lines, refused)))
-        }
-        Err(fault) => Err(Fault::from(fault)),
+    match check_entries(alloc, registry) {
+        Ok(checked) => Ok(Plan::Show(checked, jar, tags)),
+        Err(refusal) => Err(Fault::Registry(Role::Only, refusal)),
     }
 }
 
-/// What `show` answers to tags, by the registry of a file, or why the registry is refused.
-pub(crate) fn show<'a, F: Read>(
+/// To show tags by the registry of a file and its records, or why the registry is refused.
+pub(crate) fn plan_show<'a, F: Read>(
     alloc: Global,
-    tags: &Tags,
+    tags: &'a Tags,
     file: &mut Device<F>,
 ) -> Result<Plan<'a>, Fault>
-    ensures { AnswersShown (stream F.remaining file.old file.new) tags.now result }
+    ensures { PlansShown (stream F.remaining file.old file.new) tags.now result }
 {
     match read_records(alloc, file) {
-        Ok(both) => show_kept(alloc, both, tags),
+        Ok(both) => plan_kept(alloc, both, tags),
         Err(fault) => Err(Fault::Registry(Role::Only, refusal_of(fault))),
     }
 }

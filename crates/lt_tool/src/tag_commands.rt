@@ -6,7 +6,8 @@ ghost use Rattle.lt_tool.specs.Answers as spec;
 ghost use Rattle.lt_tool.specs.Answers.{class_line};
 ghost use Rattle.lt_tool.specs.Registries.{ByRegistry};
 ghost use Rattle.lt_tool.specs.Streams.{stream};
-ghost use Rattle.lt_tool.specs.TagCommands.{Checks, Classifies, Compares, FormsExtlang, PlansExplanation, PlansVerifying, UpgradesFiles};
+ghost use Rattle.lt_tool.specs.TagCommands as spec_of_tags;
+ghost use Rattle.lt_tool.specs.TagCommands.{Checks, Classifies, Compares, FormsExtlang, IsPairFault, PlansExplanation, PlansVerifying, UpgradesFiles};
 
 use crate::answers::Answer;
 use crate::faults::{Fault, Role};
@@ -14,7 +15,7 @@ use crate::plans::Plan;
 use crate::registries::read_registry;
 use crate::running::ended;
 use crate::streams::Files;
-use lt_canon::{Checked, TextRefusal, equivalent, extlang_form};
+use lt_canon::{Checked, TextRefusal, canonical_text, equivalent, extlang_form};
 use lt_jar::Device;
 use lt_json::class_name;
 use lt_registry::Lookup;
@@ -104,6 +105,36 @@ fn equality<L: Lookup>(
     Ok(equivalent(alloc, checked, &tag, &other)?)
 }
 
+/// Whether the first of two texts, to which `own` is answered, is not the one that is refused so: it is a tag, and has a
+/// canonical form unless the refusal is that a text is no tag.
+fn is_passed(refusal: &TextRefusal, own: &Result<Vec<u8>, TextRefusal>) -> bool
+    ensures { result ≡ spec_of_tags.is_passed refusal.now own.now }
+{
+    match (refusal, own) {
+        (_, Ok(_)) => true,
+        (TextRefusal::NotATag(_), Err(TextRefusal::Invalid(_))) => true,
+        (TextRefusal::NotATag(_), Err(TextRefusal::ReplacementRepeats(_))) => true,
+        (_, Err(_)) => false,
+    }
+}
+
+/// The fault of two texts that are refused, which says whether that is for the first or for the second.
+fn pair_fault<L: Lookup>(
+    alloc: Global,
+    checked: &Checked<L>,
+    first: &[u8],
+    refusal: TextRefusal,
+) -> Fault
+    ensures { IsPairFault (L.listed checked.now) first.now refusal result }
+{
+    let own = canonical_text(alloc, checked, first);
+    if is_passed(&refusal, &own) {
+        Fault::OtherText(refusal)
+    } else {
+        Fault::Text(refusal)
+    }
+}
+
 /// What `extlang` answers to a text, by the registry of a file.
 pub(crate) fn extlang<'a, F: Read>(
     alloc: Global,
@@ -128,8 +159,10 @@ pub(crate) fn equal<'a, F: Read>(
     ensures { ByRegistry (stream F.remaining file.old file.new) (Compares first.now second.now) result }
 {
     let checked = read_registry(alloc, Role::Only, file)?;
-    let equal = equality(alloc, &checked, first, second)?;
-    Ok(Plan::Print(Answer::Equal(equal)))
+    match equality(alloc, &checked, first, second) {
+        Ok(equal) => Ok(Plan::Print(Answer::Equal(equal))),
+        Err(refusal) => Err(pair_fault(alloc, &checked, first, refusal)),
+    }
 }
 
 /// To explain a text by the registry of a file; or why that is refused.

@@ -16,12 +16,14 @@ Example:
 
 Status:
   0  all was done
-  1  a tag was refused, two tags are different, steps are wrong, or no line was printed
+  1  a tag was refused, two tags are different, steps are wrong,
+     or no line was printed
   2  a registry, a table or an upgrade was refused
   3  the words of the command are wrong
   4  a file, the input, the output or memory failed
 
-langtag help COMMAND says more of a command. The manual, man langtag, has all of it.",
+langtag help COMMAND says more of a command.
+The manual, man langtag, has all of it.",
 };
 
 pub(crate) static CLASSIFY: Help = Help {
@@ -59,7 +61,7 @@ The manual, man langtag, says what each fault means.",
 pub(crate) static CANON: Help = Help {
     about: "Prints the canonical form of each line of the standard input",
     after: "\
-A refused line is answered by ! and the fault, with the number of the subtag at fault.
+A refused line is answered by ! and the fault, with the number of the subtag.
 
 Example:
     $ printf 'zh-yue\\nen_US\\n' | langtag canon registry.txt
@@ -77,7 +79,7 @@ The manual, man langtag, says what each fault means.",
 };
 
 pub(crate) static CODES: Help = Help {
-    about: "Does the same as canon, but reads codes of ISO 639-2 too: eng-US as en-US",
+    about: "Does the same as canon, and reads codes of ISO 639-2 too",
     after: "\
 Example:
     $ printf 'ger|deu|de|German|allemand\\n' > table.txt
@@ -91,11 +93,11 @@ Status:
   3  the words of the command are wrong
   4  a file, the input, the output or memory failed
 
-The manual, man langtag, says what each fault means, and where the table is had.",
+The manual, man langtag, says what each fault means.",
 };
 
 pub(crate) static TSV: Help = Help {
-    about: "Makes the tags in one field of rows canonical; tabs part the fields",
+    about: "Makes the tags in one field of rows with tabs canonical",
     after: "\
 Example:
     $ printf '1\\tiw\\n2\\ten_US\\n' | langtag tsv registry.txt 2 | cut -f 2
@@ -106,14 +108,15 @@ Status:
   0  each tag has a canonical form
   1  a tag was refused
   2  the registry or the table was refused
-  3  the words of the command are wrong, or the column is missing or stands twice
+  3  the words of the command are wrong, or the column is missing or
+     stands twice
   4  a file, the input, the output or memory failed
 
 The manual, man langtag, says what each fault means.",
 };
 
 pub(crate) static CSV: Help = Help {
-    about: "Makes the tags in one column of CSV canonical, and keeps all other bytes",
+    about: "Makes the tags in one column of CSV canonical",
     after: "\
 Example:
     $ printf 'id,tag\\n1,iw\\n2,en_US\\n' | langtag csv registry.txt tag
@@ -125,14 +128,15 @@ Status:
   0  each tag has a canonical form
   1  a tag was refused
   2  the registry or the table was refused
-  3  the words of the command are wrong, or the column is missing or stands twice
+  3  the words of the command are wrong, or the column is missing or
+     stands twice
   4  a file, the input, the output or memory failed
 
 The manual, man langtag, says what each fault means.",
 };
 
 pub(crate) static MATCH: Help = Help {
-    about: "Prints the lines of the standard input, each a tag, that a language range matches",
+    about: "Prints the lines, each a tag, that a language range matches",
     after: "\
 Example:
     $ printf 'de-AT\\nen\\n' | langtag match registry.txt de
@@ -185,7 +189,7 @@ The manual, man langtag, says what each fault means.",
 pub(crate) static EXPLAIN: Help = Help {
     about: "Prints the steps from a tag to its canonical form",
     after: "\
-A line is a step: its kind, the subtag, the record of the registry, and the tag after it.
+A line is a step: its kind, the subtag, the record, and the tag after it.
 
 Example:
     $ langtag explain registry.txt zh-yue
@@ -203,7 +207,7 @@ The manual, man langtag, says what each fault means.",
 };
 
 pub(crate) static VERIFY: Help = Help {
-    about: "Tells whether the standard input explains a tag, in the lines of explain",
+    about: "Tells whether the standard input explains a tag",
     after: "\
 Example:
     $ langtag explain registry.txt zh-yue | langtag verify registry.txt zh-yue
@@ -236,7 +240,7 @@ The manual, man langtag, says what each fault means.",
 };
 
 pub(crate) static SHOW: Help = Help {
-    about: "Prints what a registry says of each subtag of tags, and their canonical forms",
+    about: "Prints what a registry says of each subtag of a tag",
     after: "\
 Example:
     $ langtag show registry.txt en
@@ -257,7 +261,7 @@ The manual, man langtag, says what each fault means.",
 };
 
 pub(crate) static JSON: Help = Help {
-    about: "Prints each line of the standard input as JSON: its canonical form and its parts",
+    about: "Prints each line of the standard input as JSON, with its parts",
     after: "\
 Example:
     $ echo sr-latn-rs | langtag json registry.txt | jq -r .script

@@ -43,25 +43,25 @@ pub(crate) static OTHER: Argument = Argument {
 pub(crate) static REGISTRY: Argument = Argument {
     name: "REGISTRY",
     form: Form::Positional,
-    help: "A file in the format of the IANA Language Subtag Registry",
+    help: "A registry in IANA's format, or @ for the installed one",
 };
 
 pub(crate) static TABLE: Argument = Argument {
     name: "TABLE",
     form: Form::Positional,
-    help: "The table of codes that the Library of Congress publishes, ISO-639-2_utf-8.txt: lines like ger|deu|de|German|allemand",
+    help: "The table ISO-639-2_utf-8.txt of the Library of Congress",
 };
 
 pub(crate) static CODES: Argument = Argument {
     name: "TABLE",
     form: Form::Option("codes"),
-    help: "Reads the codes of ISO 639-2 in this table too, in the way of the command codes",
+    help: "Reads codes of ISO 639-2 too, by this table",
 };
 
 pub(crate) static COLUMN: Argument = Argument {
     name: "COLUMN",
     form: Form::Positional,
-    help: "The field with the tags: its number, counted from 1, or its name in the heading",
+    help: "The field of the tags: a number from 1, or a heading's name",
 };
 
 pub(crate) static RANGE: Argument = Argument {
@@ -73,7 +73,7 @@ pub(crate) static RANGE: Argument = Argument {
 pub(crate) static OLD: Argument = Argument {
     name: "OLD",
     form: Form::Positional,
-    help: "A registry in the format of the IANA Language Subtag Registry",
+    help: "A registry in IANA's format, or @ for the installed one",
 };
 
 pub(crate) static NEW: Argument = Argument {
@@ -85,25 +85,25 @@ pub(crate) static NEW: Argument = Argument {
 pub(crate) static DELIMITER: Argument = Argument {
     name: "C",
     form: Form::Option("delimiter"),
-    help: "The byte between fields, for example ';', or the word tab; a comma without this option",
+    help: "The byte between fields, or tab; else a comma",
 };
 
 pub(crate) static HEADING: Argument = Argument {
     name: "heading",
     form: Form::Flag,
-    help: "The first row is a heading: it has no tag, and gets the names of the added fields",
+    help: "The first row is a heading, and has no tag",
 };
 
 pub(crate) static KEEP: Argument = Argument {
     name: "keep",
     form: Form::Flag,
-    help: "Leaves each row as it is, and adds two fields: langtag, the canonical form, and langtag_fault, the fault of a refused tag",
+    help: "Leaves each row as it is, and adds two fields",
 };
 
 pub(crate) static EXTENDED: Argument = Argument {
     name: "extended",
     form: Form::Flag,
-    help: "Matches by extended filtering (RFC 4647, 3.3.2): de-DE matches de-Latn-DE too",
+    help: "Matches by extended filtering (RFC 4647, 3.3.2)",
 };
 
 pub(crate) static TAGS: Argument = Argument {
@@ -121,13 +121,13 @@ pub(crate) static JSON: Argument = Argument {
 pub(crate) static LOOKUP: Argument = Argument {
     name: "lookup",
     form: Form::Flag,
-    help: "Prints the one line that lookup finds (RFC 4647, 3.4): ranges in turn, each cut from its end until it equals a tag",
+    help: "Prints the one line that lookup finds (RFC 4647, 3.4)",
 };
 
 pub(crate) static SUMMARY: Argument = Argument {
     name: "summary",
     form: Form::Flag,
-    help: "Says on the standard error how many lines each fault refused, the first of them, and what to do",
+    help: "Says on standard error what was refused, and why",
 };
 
 /// The version, and the kits that prove and build the program, by their logic.

@@ -197,7 +197,7 @@ pub(crate) fn delimiter_of(alloc: Global, matches: &ArgMatches<'_>) -> Result<u8
     match delimiter_named(text) {
         Some(byte) => Ok(byte),
         None => Err(WordsFault::Usage(format!(in alloc;
-            "error: the delimiter is the word tab, or one byte of ASCII but no letter, digit, space, hyphen, underscore, quote, carriage return or line feed\n\nFor more information, try '--help'.\n"
+            "error: the delimiter is the word tab, or one byte of ASCII but no letter,\ndigit, space, hyphen, underscore, quote, carriage return or line feed\n\nFor more information, try '--help'.\n"
         )?)),
     }
 }
@@ -212,7 +212,7 @@ pub(crate) fn matching_of(alloc: Global, matches: &ArgMatches<'_>) -> Result<Mat
         (true, false) => Ok(Matching::Extended),
         (false, true) => Ok(Matching::Lookup),
         (true, true) => Err(WordsFault::Usage(format!(in alloc;
-            "error: --extended and --lookup are two ways to match, and not to be given together\n\nFor more information, try '--help'.\n"
+            "error: --extended and --lookup are two ways to match, and not to be given\ntogether\n\nFor more information, try '--help'.\n"
         )?)),
     }
 }

@@ -12,6 +12,11 @@ pub struct bcp47_registry {
 }
 
 #[repr(C)]
+pub struct bcp47_available {
+    _opaque: [u8; 0],
+}
+
+#[repr(C)]
 #[derive(Clone, Copy, Debug, Default, PartialEq, Eq)]
 pub struct bcp47_outcome {
     pub status: c_int,
@@ -71,6 +76,7 @@ pub const BCP47_BAD_CALL: c_int = 14;
 pub const BCP47_BUSY: c_int = 15;
 pub const BCP47_TOO_MANY_STEPS: c_int = 16;
 pub const BCP47_NO_ENTRIES: c_int = 17;
+pub const BCP47_BAD_HEADER: c_int = 18;
 pub const BCP47_LANGTAG: c_int = 1;
 pub const BCP47_PRIVATE_USE: c_int = 2;
 pub const BCP47_GRANDFATHERED: c_int = 3;
@@ -156,6 +162,16 @@ extern "C" {
         count: usize,
     ) -> bcp47_outcome;
     pub fn bcp47_parent(text: *const c_char, length: usize, buffer: *mut c_char, room: usize) -> bcp47_outcome;
+    pub fn bcp47_with(
+        tag: *const c_char,
+        length: usize,
+        part: c_int,
+        value: *const c_char,
+        value_length: usize,
+        buffer: *mut c_char,
+        room: usize,
+    ) -> bcp47_outcome;
+    pub fn bcp47_posix(name: *const c_char, length: usize, buffer: *mut c_char, room: usize) -> bcp47_outcome;
     pub fn bcp47_validate(registry: *const bcp47_registry, text: *const c_char, length: usize) -> bcp47_outcome;
     pub fn bcp47_equivalent(
         registry: *const bcp47_registry,
@@ -176,6 +192,22 @@ extern "C" {
         buffer: *mut c_char,
         room: usize,
     ) -> bcp47_outcome;
+    pub fn bcp47_available_open(
+        available: *mut *mut bcp47_available,
+        registry: *mut bcp47_registry,
+        tags: *const *const c_char,
+        lengths: *const usize,
+        count: usize,
+    ) -> bcp47_outcome;
+    pub fn bcp47_best(available: *mut bcp47_available, accept: *const c_char, length: usize) -> bcp47_outcome;
+    pub fn bcp47_filter(
+        available: *mut bcp47_available,
+        accept: *const c_char,
+        length: usize,
+        places: *mut usize,
+        room: usize,
+    ) -> bcp47_outcome;
+    pub fn bcp47_available_close(available: *mut bcp47_available);
     pub fn bcp47_explain(
         registry: *const bcp47_registry,
         text: *const c_char,

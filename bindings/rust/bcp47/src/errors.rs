@@ -57,7 +57,9 @@ pub enum TagError {
     NotATag(Cause),
     /// The tag is not valid (RFC 5646, 2.2.9).
     Invalid(Cause),
-    /// Replacements can repeat this variant.
+    /// The text is no Accept-Language header (RFC 9110, 12.5.4); the place is a list element.
+    BadHeader(Cause),
+    /// Replacements can repeat this variant, which is empty where it is of a range of a header or of one of several tags.
     ReplacementRepeats(String),
     /// The explanation has more steps than were asked for.
     TooManySteps,
@@ -73,6 +75,7 @@ impl TagError {
         match (outcome.status, Cause::of(outcome)) {
             (sys::BCP47_NOT_A_TAG, Some(cause)) => TagError::NotATag(cause),
             (sys::BCP47_INVALID, Some(cause)) => TagError::Invalid(cause),
+            (sys::BCP47_BAD_HEADER, Some(cause)) => TagError::BadHeader(cause),
             (sys::BCP47_REPLACEMENT_REPEATS, _) => TagError::ReplacementRepeats(variant()),
             (sys::BCP47_TOO_MANY_STEPS, _) => TagError::TooManySteps,
             (sys::BCP47_BUSY, _) => TagError::Busy,
@@ -83,31 +86,40 @@ impl TagError {
     /// The cause, where it is a fault with a place.
     pub fn cause(&self) -> Option<&Cause> {
         match self {
-            TagError::NotATag(cause) | TagError::Invalid(cause) => Some(cause),
+            TagError::NotATag(cause) | TagError::Invalid(cause) | TagError::BadHeader(cause) => Some(cause),
             _ => None,
+        }
+    }
+
+    /// How the call ended, where the cause says no more.
+    fn status(&self) -> c_int {
+        match self {
+            TagError::NotATag(_) => sys::BCP47_NOT_A_TAG,
+            TagError::Invalid(_) => sys::BCP47_INVALID,
+            TagError::BadHeader(_) => sys::BCP47_BAD_HEADER,
+            TagError::ReplacementRepeats(_) => sys::BCP47_REPLACEMENT_REPEATS,
+            TagError::TooManySteps => sys::BCP47_TOO_MANY_STEPS,
+            TagError::OutOfMemory => sys::BCP47_OUT_OF_MEMORY,
+            TagError::Busy => sys::BCP47_BUSY,
         }
     }
 
     /// What it means, and what to do.
     pub fn help(&self) -> &'static str {
-        match self {
-            TagError::NotATag(cause) | TagError::Invalid(cause) => cause.help(),
-            TagError::ReplacementRepeats(_) => help_of(sys::BCP47_REPLACEMENT_REPEATS),
-            TagError::TooManySteps => help_of(sys::BCP47_TOO_MANY_STEPS),
-            TagError::OutOfMemory => help_of(sys::BCP47_OUT_OF_MEMORY),
-            TagError::Busy => help_of(sys::BCP47_BUSY),
-        }
+        self.cause().map_or_else(|| help_of(self.status()), Cause::help)
     }
 }
 
 impl fmt::Display for TagError {
     fn fmt(&self, f: &mut fmt::Formatter<'_>) -> fmt::Result {
+        if let Some(cause) = self.cause() {
+            return cause.fmt(f);
+        }
+        // SAFETY: the call answers each number.
+        f.write_str(constant(unsafe { sys::bcp47_status_name(self.status()) }))?;
         match self {
-            TagError::NotATag(cause) | TagError::Invalid(cause) => cause.fmt(f),
-            TagError::ReplacementRepeats(variant) => write!(f, "ReplacementRepeats {variant}"),
-            TagError::TooManySteps => f.write_str("TooManySteps"),
-            TagError::OutOfMemory => f.write_str("OutOfMemory"),
-            TagError::Busy => f.write_str("Busy"),
+            TagError::ReplacementRepeats(variant) if !variant.is_empty() => write!(f, " {variant}"),
+            _ => Ok(()),
         }
     }
 }
@@ -162,68 +174,6 @@ impl fmt::Display for OpenError {
 // There is no source: what is shown tells the whole.
 impl error::Error for OpenError {}
 
-/// Why a newer registry is no upgrade: the condition, for example `U1`, and the number of the record at fault.
-#[derive(Clone, Debug, PartialEq, Eq)]
-pub struct UpgradeError(pub(crate) sys::bcp47_outcome);
-
-impl UpgradeError {
-    /// The condition and the record; none where memory ran out.
-    pub fn cause(&self) -> Option<Cause> {
-        Cause::of(&self.0)
-    }
-
-    /// What it means, and what to do.
-    pub fn help(&self) -> &'static str {
-        self.cause().map_or(help_of(self.0.status), |cause| cause.help())
-    }
-}
-
-impl fmt::Display for UpgradeError {
-    fn fmt(&self, f: &mut fmt::Formatter<'_>) -> fmt::Result {
-        match self.cause() {
-            Some(cause) => cause.fmt(f),
-            // SAFETY: the call answers each number.
-            None => f.write_str(constant(unsafe { sys::bcp47_status_name(self.0.status) })),
-        }
-    }
-}
-
-impl error::Error for UpgradeError {}
-
-/// Why steps do not lead from a tag to another.
-#[derive(Clone, Debug, PartialEq, Eq, Hash)]
-pub enum TraceError {
-    /// The step of this number, counted from 1, is the first that does not lead on.
-    NoSuchStep(usize),
-    /// The steps lead to another tag.
-    WrongEnd,
-    /// The first tag is refused, or else the last.
-    Tag(TagError),
-}
-
-impl TraceError {
-    /// What it means, and what to do.
-    pub fn help(&self) -> &'static str {
-        match self {
-            TraceError::NoSuchStep(_) => help_of(sys::BCP47_NO_SUCH_STEP),
-            TraceError::WrongEnd => help_of(sys::BCP47_WRONG_END),
-            TraceError::Tag(error) => error.help(),
-        }
-    }
-}
-
-impl fmt::Display for TraceError {
-    fn fmt(&self, f: &mut fmt::Formatter<'_>) -> fmt::Result {
-        match self {
-            TraceError::NoSuchStep(number) => write!(f, "NoSuchStep {number}"),
-            TraceError::WrongEnd => f.write_str("WrongEnd"),
-            TraceError::Tag(error) => error.fmt(f),
-        }
-    }
-}
-
-impl error::Error for TraceError {}
-
 #[cfg(test)]
 mod tests {
     use super::*;
@@ -237,9 +187,7 @@ mod tests {
             let outcome = sys::bcp47_outcome { status, ..Default::default() };
             let refused = TagError::of(&outcome, String::new);
             assert_eq!((&refused, refused.to_string().as_str()), (&named, told));
-            let upgrade = UpgradeError(outcome);
-            assert_eq!((upgrade.cause(), upgrade.to_string().as_str()), (None, told));
-            assert_eq!((refused.help(), upgrade.help()), (help_of(status), help_of(status)));
+            assert_eq!((refused.cause(), refused.help()), (None, help_of(status)));
             assert!(!refused.help().is_empty());
         }
     }

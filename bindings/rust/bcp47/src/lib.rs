@@ -43,13 +43,15 @@ macro_rules! numbered {
     };
 }
 
+mod available;
 mod errors;
 mod explanations;
 mod numbers;
 mod registry;
 mod tag;
 
-pub use errors::{Cause, OpenError, RegistryError, TagError, TraceError, UpgradeError};
+pub use available::{Available, AvailableError};
+pub use errors::{Cause, OpenError, RegistryError, TagError};
 pub use explanations::{Explanation, Step};
 pub use numbers::{Fault, PartKind, StepKind};
 pub use registry::{Info, Registry, Scheme};

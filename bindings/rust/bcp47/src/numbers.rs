@@ -109,6 +109,10 @@ numbered! {
         U6 = 52,
         /// The first subtag of a language range has a digit: begin with a language of letters alone, or with *.
         BadFirst = 53,
+        /// A range of the header has a * beside other subtags: write it without *, or * alone.
+        ExtendedRange = 54,
+        /// What follows a range of the header is no weight: write ;q= and a number from 0 to 1 with up to three decimals, or a comma.
+        BadWeight = 55,
     }
 }
 

@@ -1,5 +1,5 @@
 //! Registries that are open.
-use crate::errors::{OpenError, RegistryError, TagError, TraceError, UpgradeError};
+use crate::errors::{OpenError, RegistryError, TagError};
 use crate::explanations::{Explanation, Step};
 use crate::StepKind;
 use bcp47_sys as sys;
@@ -35,7 +35,7 @@ impl Buffer {
 }
 
 /// Where a text is, and its length.
-fn place_of(text: &[u8]) -> (*const c_char, usize) {
+pub(crate) fn place_of(text: &[u8]) -> (*const c_char, usize) {
     (text.as_ptr().cast(), text.len())
 }
 
@@ -122,6 +122,10 @@ impl Registry {
         Registry::from_bytes(bcp47_registry::TEXT)
     }
 
+    pub(crate) fn raw(&self) -> *mut sys::bcp47_registry {
+        self.raw.as_ptr()
+    }
+
     fn text(&self, writer: Writer, tag: &[u8]) -> Result<String, TagError> {
         let mut buffer = Buffer::new();
         let ((front, length), (at, room)) = (place_of(tag), buffer.place());
@@ -164,8 +168,8 @@ impl Registry {
         agrees(&outcome, &buffer)
     }
 
-    /// Whether a language range matches a tag by a scheme (RFC 4647, 3.3 and 3.4), both by their canonical forms: `zh-yue`
-    /// matches `yue-HK`. A range that is no valid tag, for example `zh-*`, is taken as it is written. Refused for the range,
+    /// Whether a language range matches a tag by a scheme (RFC 4647, 3.3 and 3.4), both by their extlang forms: `zh-yue`
+    /// matches `yue-HK`. Of a range that is no valid tag, for example `yue-*`, the first subtag has this form. Refused for the range,
     /// where it is neither a valid tag nor a range, or else for the tag.
     pub fn matches(&self, range: impl AsRef<[u8]>, tag: impl AsRef<[u8]>, scheme: Scheme) -> Result<bool, TagError> {
         let (mut buffer, raw, scheme) = (Buffer::new(), self.raw.as_ptr(), scheme as c_int);
@@ -227,33 +231,6 @@ impl Registry {
         // SAFETY: the call gave it, and nothing borrows it.
         unsafe { sys::bcp47_free(fields.cast()) };
         Ok(texts)
-    }
-
-    /// Whether steps lead from a valid tag, one after another, to another tag, which is then equivalent to it.
-    pub fn verify(&self, tag: impl AsRef<[u8]>, steps: &[Step], last: impl AsRef<[u8]>) -> Result<(), TraceError> {
-        let (front, length) = place_of(tag.as_ref());
-        let (end, end_length) = place_of(last.as_ref());
-        let numbers = |step: &Step| sys::bcp47_step { kind: step.kind as u8, place: step.place, number: step.number };
-        let steps: Vec<_> = steps.iter().map(numbers).collect();
-        let (of, count) = (steps.as_ptr(), steps.len());
-        // SAFETY: as in `text`.
-        let outcome = unsafe { sys::bcp47_verify(self.raw.as_ptr(), front, length, of, count, end, end_length) };
-        match outcome.status {
-            sys::BCP47_DONE => Ok(()),
-            sys::BCP47_NO_SUCH_STEP => Err(TraceError::NoSuchStep(outcome.place)),
-            sys::BCP47_WRONG_END => Err(TraceError::WrongEnd),
-            _ => Err(TraceError::Tag(TagError::of(&outcome, String::new))),
-        }
-    }
-
-    /// Whether a newer registry keeps what this one promised.
-    pub fn upgrade_check(&self, newer: &Registry) -> Result<(), UpgradeError> {
-        // SAFETY: both are open.
-        let outcome = unsafe { sys::bcp47_upgrade_check(self.raw.as_ptr(), newer.raw.as_ptr()) };
-        match outcome.status {
-            sys::BCP47_DONE => Ok(()),
-            _ => Err(UpgradeError(outcome)),
-        }
     }
 
     /// Which registry it is; the digest is taken anew at each call, some milliseconds.

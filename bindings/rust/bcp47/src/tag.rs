@@ -1,7 +1,8 @@
 //! Tags by no registry.
-use crate::registry::Buffer;
+use crate::registry::{place_of, Buffer};
 use crate::{PartKind, TagError};
 use bcp47_sys as sys;
+use std::ffi::c_int;
 use std::fmt;
 use std::mem::MaybeUninit;
 use std::str::FromStr;
@@ -105,6 +106,47 @@ impl Tag {
         // SAFETY: the pointers and lengths are those of a text and of a buffer.
         let outcome = unsafe { sys::bcp47_parent(self.text.as_ptr().cast(), self.text.len(), at, room) };
         buffer.text(outcome.length).parse().ok()
+    }
+
+    /// The tag with one of its parts replaced: a `Language` (with its extlangs), `Script`, `Region`, all `Variant`s, all extensions
+    /// (`Singleton`) or private use (`PrivateUseSingleton`); an empty value takes it away. Whether it is valid says `Registry::validate`.
+    ///
+    /// ```
+    /// use bcp47::{PartKind, Tag};
+    ///
+    /// let tag: Tag = "zh-TW".parse()?;
+    /// assert_eq!(tag.with(PartKind::Script, "hant")?.with(PartKind::Region, "")?.as_str(), "zh-Hant");
+    /// # Ok::<(), bcp47::TagError>(())
+    /// ```
+    pub fn with(&self, kind: PartKind, value: impl AsRef<[u8]>) -> Result<Tag, TagError> {
+        let (mut buffer, kind) = (Buffer::new(), kind as c_int);
+        let ((front, length), (of, size), (at, room)) =
+            (place_of(self.as_ref()), place_of(value.as_ref()), buffer.place());
+        // SAFETY: the pointers and lengths are those of texts and of a buffer.
+        let outcome = unsafe { sys::bcp47_with(front, length, kind, of, size, at, room) };
+        Tag::written(&outcome, &buffer)
+    }
+
+    /// The tag that the name of a POSIX locale stands for.
+    ///
+    /// ```
+    /// assert_eq!(bcp47::Tag::from_posix("sr_RS.UTF-8@latin")?.as_str(), "sr-Latn-RS");
+    /// # Ok::<(), bcp47::TagError>(())
+    /// ```
+    pub fn from_posix(name: impl AsRef<[u8]>) -> Result<Tag, TagError> {
+        let ((front, length), mut buffer) = (place_of(name.as_ref()), Buffer::new());
+        let (at, room) = buffer.place();
+        // SAFETY: the pointers and lengths are those of a text and of a buffer.
+        let outcome = unsafe { sys::bcp47_posix(front, length, at, room) };
+        Tag::written(&outcome, &buffer)
+    }
+
+    /// The tag that a call wrote, or why it wrote none.
+    fn written(outcome: &sys::bcp47_outcome, buffer: &Buffer) -> Result<Tag, TagError> {
+        match outcome.status {
+            sys::BCP47_DONE => buffer.text(outcome.length).parse(),
+            _ => Err(TagError::of(outcome, String::new)),
+        }
     }
 }
 

@@ -1,5 +1,5 @@
 //! What the registry of examples/ answers, as the program does.
-use bcp47::{Class, Fault, OpenError, PartKind, Registry, Scheme, Step, StepKind, Tag, TagError, TraceError};
+use bcp47::{Available, Class, Fault, OpenError, PartKind, Registry, Scheme, StepKind, Tag, TagError};
 use std::collections::HashSet;
 use std::error::Error;
 use std::thread;
@@ -116,7 +116,7 @@ fn files_that_give_no_registry_are_named_once() {
 }
 
 #[test]
-fn explanations_are_verified() {
+fn explanations_have_steps() {
     let registry = sample();
     let explanation = registry.explain("sgn-dd", 100).unwrap();
     assert_eq!(explanation.to_string(), "Region 2 27 sgn-DE\nWhole 1 44 gsg\n= gsg");
@@ -124,15 +124,8 @@ fn explanations_are_verified() {
     assert_eq!(registry.explain("sgn-dd", 1), Err(TagError::TooManySteps));
     assert!(TagError::TooManySteps.help().contains("allow more"));
     assert!(TagError::OutOfMemory.help().contains("memory"));
-    assert!(TraceError::WrongEnd.help().contains("mend the last tag"));
-    assert!(TraceError::NoSuchStep(1).help().contains("not lead on"));
-    let none = TraceError::Tag(TagError::TooManySteps);
-    assert_eq!(none.help(), TagError::TooManySteps.help());
-    assert_eq!(registry.verify("sgn-dd", &explanation.steps, "gsg"), Ok(()));
-    assert_eq!(registry.verify("sgn-dd", &explanation.steps[..1], "gsg"), Err(TraceError::WrongEnd));
-    let wrong = Step { kind: StepKind::Script, ..explanation.steps[0].clone() };
-    assert_eq!(registry.verify("sgn-dd", &[wrong], "gsg"), Err(TraceError::NoSuchStep(1)));
-    assert!(matches!(registry.verify("e_n", &[], "en"), Err(TraceError::Tag(TagError::NotATag(_)))));
+    let step = &explanation.steps[0];
+    assert_eq!((step.kind, step.place, step.number, step.tag.as_str()), (StepKind::Region, 2, 27, "sgn-DE"));
 }
 
 #[test]
@@ -160,13 +153,9 @@ fn tags_are_in_conventional_case() {
 }
 
 #[test]
-fn upgrades_are_judged() {
+fn registries_are_told_apart() {
     let (registry, other) =
         (sample(), Registry::from_bytes(b"File-Date: 2000-01-01\n%%\nType: language\nSubtag: aa\n").unwrap());
-    assert_eq!(registry.upgrade_check(&registry), Ok(()));
-    let refused = registry.upgrade_check(&other).unwrap_err();
-    assert_eq!(refused.cause().unwrap().fault(), Fault::U1);
-    assert_eq!(refused.to_string(), "U1 2");
     assert_eq!((other.info().file_date.as_str(), other.info().entries), ("2000-01-01", 1));
     assert_eq!(format!("{registry:?}"), "Registry { .. }");
     assert_eq!(bcp47::version(), env!("CARGO_PKG_VERSION"));
@@ -210,10 +199,67 @@ fn threads_share_a_registry() {
 }
 
 #[test]
+fn readers_are_served() {
+    let available = sample().available(&["en", "zh-yue", "de-DE", "he"]).unwrap();
+    for (accept, best) in [
+        ("de, en;q=0.8", Some("de-DE")),
+        ("iw-XA;q=0.5, EN-gb;q=0.3", Some("he")),
+        ("zh;q=0.2, yue;q=0.1", Some("zh-yue")),
+        ("en;q=0, *", Some("zh-yue")),
+        ("gan, fr", None),
+        ("", None),
+    ] {
+        assert_eq!(available.best(accept), Ok(best), "{accept}");
+    }
+    assert_eq!(available.filter("zh;q=0.5, iw, de;q=0").unwrap(), ["he", "zh-yue"]);
+    let refused = available.best("en, e_n").unwrap_err();
+    assert!(matches!(refused, TagError::BadHeader(cause) if cause.place() == 2), "{refused:?}");
+    assert_eq!(available.filter("en, e_n"), Err(refused.clone()));
+    assert!(refused.help().len() > 9 && refused.to_string().ends_with(" 2"));
+    let repeats = available.best("ja-Latn-hepburn-alalc97-heploc").unwrap_err();
+    assert_eq!(repeats.to_string(), "ReplacementRepeats");
+    for (tags, said) in
+        [(["en", "e_n"], "e_n: BadByte 1"), (["xx", ""], "xx: UnknownLanguage 1"), (["en", ""], ": EmptySubtag 1")]
+    {
+        assert_eq!(sample().available(&tags).unwrap_err().to_string(), said);
+    }
+    let none: Available = sample().available::<&str>(&[]).unwrap();
+    assert_eq!((none.best("en"), none.filter("*")), (Ok(None), Ok(vec![])));
+    assert_eq!(format!("{none:?}"), "Available([])");
+    thread::scope(|scope| {
+        for _ in 0..8 {
+            scope.spawn(|| (0..2_000).for_each(|_| assert_eq!(available.best("zh-yue;q=0.5"), Ok(Some("zh-yue")))));
+        }
+    });
+}
+
+#[test]
 fn tags_have_parents() {
     let parent = |tag: &str| tag.parse::<Tag>().unwrap().parent().map(String::from);
     assert_eq!(parent("zh-Hant-CN-x-private1").as_deref(), Some("zh-Hant-CN"));
     assert_eq!((parent("zh"), parent("i-klingon")), (None, None));
+}
+
+#[test]
+fn tags_are_changed() {
+    let tag: Tag = "de-CH-1996-u-co-phonebk-x-own".parse().unwrap();
+    for (kind, value, wanted) in [
+        (PartKind::Language, "zh-yue", "zh-yue-CH-1996-u-co-phonebk-x-own"),
+        (PartKind::Script, "LATN", "de-Latn-CH-1996-u-co-phonebk-x-own"),
+        (PartKind::Region, "", "de-1996-u-co-phonebk-x-own"),
+        (PartKind::Variant, "1901", "de-CH-1901-u-co-phonebk-x-own"),
+        (PartKind::Singleton, "", "de-CH-1996-x-own"),
+        (PartKind::PrivateUseSingleton, "x-a-b", "de-CH-1996-u-co-phonebk-x-a-b"),
+    ] {
+        assert_eq!(tag.with(kind, value).unwrap().as_str(), wanted);
+    }
+    for (kind, value) in [(PartKind::Language, ""), (PartKind::Region, "D_"), (PartKind::Script, "Latin")] {
+        assert!(matches!(tag.with(kind, value), Err(TagError::NotATag(_))));
+    }
+    for (name, wanted) in [("en_US.UTF-8", "en-US"), ("sr_RS@latin", "sr-Latn-RS"), ("C", "en-US-u-va-posix")] {
+        assert_eq!(Tag::from_posix(name).unwrap().as_str(), wanted);
+    }
+    assert!(Tag::from_posix("de_DE@nothing").is_err());
 }
 
 #[test]

@@ -3,7 +3,7 @@ mod growths;
 
 use lt_check::Checked;
 use lt_jar::Device;
-use lt_match::{LanguageRange, RangeRefusal, canonical_range};
+use lt_range::{LanguageRange, RangeRefusal, extlang_range};
 use lt_registry::SortedTable;
 use lt_select::{Scheme, select_lines};
 use lt_stream::ToolFault;
@@ -42,7 +42,7 @@ fn read_ranges(
 ) -> Result<Vec<LanguageRange>, RangeRefusal> {
     let mut ranges = Vec::new(alloc);
     for text in texts {
-        let range = canonical_range(alloc, checked, text.as_bytes())?;
+        let range = extlang_range(alloc, checked, text.as_bytes())?;
         if ranges.push(range).is_err() {
             return Err(RangeRefusal::OutOfMemory);
         }

@@ -1,8 +1,9 @@
 //! Which ranges match which tags by the sample.
 use super::{checked_sample, range_of, subtags_of};
 use lt_check::Checked;
-use lt_match::laws::{
+use lt_range::laws::{
     equivalent_ranges_match_alike, equivalent_tags_match_alike, matching_is_determined,
+    ranges_match_only_as_spelled,
 };
 use lt_registry::SortedTable;
 use lt_select::laws::selection_is_determined;
@@ -14,11 +15,15 @@ const ROWS: &[(&str, &str, bool, bool, bool)] = &[
     ("zh-yue", "yue", true, true, true),
     ("yue", "zh-yue-Hans", true, true, false),
     ("zh-yue-Hans", "yue", false, false, true),
-    ("zh", "zh-yue", false, false, false),
+    ("zh", "zh-yue", true, true, false),
+    ("zh", "cmn-Hans", true, true, false),
+    ("zh-yue-Hans", "zh", false, false, true),
+    ("yue-*", "zh-yue-Hans", true, true, false),
+    ("*-yue", "zh-yue-Hans", true, true, false),
     ("zh-cmn-hans", "CMN-hans-DE", true, true, false),
     ("iw", "he-DE", true, true, false),
     ("HE", "iw", true, true, true),
-    ("iw-*", "he-DE", false, false, false),
+    ("iw-*", "he-DE", true, true, false),
     ("he-*-DE", "iw-Latn-DD", false, true, false),
     ("i-klingon", "tlh", true, true, true),
     ("*", "i-klingon", true, true, false),
@@ -60,5 +65,6 @@ fn laws_hold(_rt: HostRuntime) {
     equivalent_tags_match_alike();
     equivalent_ranges_match_alike();
     matching_is_determined();
+    ranges_match_only_as_spelled();
     selection_is_determined();
 }

@@ -51,7 +51,7 @@ fn a_tag_is_shown(rt: HostRuntime) -> Result<(), Fail> {
         told.clear();
         append_table(&mut told, alloc, &table, jar.records(), &tag)?;
     }
-    assert_eq!(rt; told.len(), 345);
+    assert_eq!(rt; told.len(), 370);
     let mut objects = Vec::new(alloc);
     if append_rows(&mut objects, alloc, &table, jar.records(), &tag).is_err() {
         objects.clear();

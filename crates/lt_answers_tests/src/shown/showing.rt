@@ -43,7 +43,7 @@ fn records_have_fields(rt: HostRuntime) -> Result<(), Fail> {
     assert!(rt;
         is_shown("preferred-VALUE")
             && is_shown("Comments")
-            && !is_shown("Prefix")
+            && is_shown("prefix")
             && !is_shown("Added")
     );
     assert!(rt; fields_of(jar.records(), 0).is_empty() && fields_of(jar.records(), 8).is_empty());
@@ -73,6 +73,7 @@ fn a_table_is_aligned(rt: HostRuntime) -> Result<(), Fail> {
 2    Extlang   yue     record 5
      Description      Yue Chinese
      Preferred-Value  yue
+     Prefix           zh
      Macrolanguage    zh
 ";
     assert_eq!(rt; told.as_slice(), wanted.as_slice());

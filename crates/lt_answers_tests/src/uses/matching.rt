@@ -1,13 +1,14 @@
 //! Which tags a user asks for.
 use super::{small_registry, tag_of};
 use bcp47::{
-    AcceptLanguage, LanguageRange, Registry, TagSubtags, filter_basic, filter_extended, lookup,
+    AcceptLanguage, Available, LanguageRange, Registry, TagSubtags, filter_basic, filter_extended,
+    lookup,
 };
 use std::alloc::Global;
 use std::process::Abort;
 use std::test::Fail;
 
-/// The ranges that a header accepts, by priority and by their canonical forms.
+/// The ranges that a header accepts, by priority and by their extlang forms.
 fn ranges_of(
     alloc: Global,
     registry: &Registry,
@@ -35,10 +36,10 @@ fn expect_found(rt: &impl Abort, alloc: Global, registry: &Registry) -> Result<(
     let tags = subtags_of(alloc, registry, &["zh", "cmn-Hans-IL", "he-IL"])?;
     let ranges = ranges_of(alloc, registry, b"zh-cmn;q=0.5, iw, zh;q=0")?;
     assert!(rt; filter_basic(alloc, &ranges, &tags)?.as_slice() == [2, 1].as_slice());
-    assert_eq!(rt; lookup(&ranges, &tags), None);
+    assert_eq!(rt; lookup(&ranges, &tags), Some(0));
     let ranges = ranges_of(alloc, registry, b"cmn-il, iw-IL-x-own;q=0.9")?;
     assert!(rt; filter_extended(alloc, &ranges, &tags)?.as_slice() == [1].as_slice());
-    assert_eq!(rt; lookup(&ranges, &tags), Some(2));
+    assert_eq!(rt; lookup(&ranges[1..], &tags), Some(2));
     Ok(())
 }
 
@@ -46,6 +47,55 @@ fn expect_found(rt: &impl Abort, alloc: Global, registry: &Registry) -> Result<(
 fn tags_for_a_header(rt: HostRuntime) -> Result<(), Fail> {
     let registry = small_registry(rt.alloc())?;
     expect_found(&rt, rt.alloc(), &registry)
+}
+
+/// The place of the tag that is served to the reader of a header.
+fn served(
+    alloc: Global,
+    registry: &Registry,
+    available: &Available,
+    header: &[u8],
+) -> Result<Option<usize>, Fail> {
+    let preferences = registry.preferences(alloc, header)?;
+    Ok(available.best(&preferences))
+}
+
+/// Headers, and the tag that each is served of three: by weight, by what is equivalent, by `*`, and none.
+fn expect_served(rt: &impl Abort, alloc: Global, registry: &Registry) -> Result<(), Fail> {
+    let tags: [&[u8]; 3] = [b"he-IL", b"cmn-Hans", b"zh-IL"];
+    let available = registry.available(alloc, &tags)?;
+    assert_eq!(rt;
+        served(alloc, registry, &available, b"iw;q=0.8, zh-cmn-Hans-IL")?,
+        Some(1)
+    );
+    assert_eq!(rt; served(alloc, registry, &available, b"zh")?, Some(1));
+    assert_eq!(rt; served(alloc, registry, &available, b"iw")?, Some(0));
+    assert_eq!(rt; served(alloc, registry, &available, b"*, he;q=0")?, Some(1));
+    assert_eq!(rt; served(alloc, registry, &available, b"en")?, None);
+    let preferences = registry.preferences(alloc, b"he;q=0.5, zh, cmn;q=0")?;
+    assert!(rt; available.filter(alloc, &preferences)?.as_slice() == [2, 0].as_slice());
+    Ok(())
+}
+
+#[test]
+fn a_tag_is_served(rt: HostRuntime) -> Result<(), Fail> {
+    let registry = small_registry(rt.alloc())?;
+    expect_served(&rt, rt.alloc(), &registry)
+}
+
+/// The refusals of a header and of a list of tags, and their places.
+fn unserved(alloc: Global, registry: &Registry) -> Option<(&'static str, usize)> {
+    let tags: [&[u8]; 2] = [b"he", b"he_IL"];
+    let header = registry.preferences(alloc, b"he, iw;q=2").err()?;
+    let list = registry.available(alloc, &tags).err()?;
+    Some((header.name(), list.place))
+}
+
+#[test]
+fn no_tag_is_served(rt: HostRuntime) -> Result<(), Fail> {
+    let registry = small_registry(rt.alloc())?;
+    assert!(rt; unserved(rt.alloc(), &registry) == Some(("BadWeight", 2)));
+    Ok(())
 }
 
 /// Whether a range matches a tag by basic filtering.
@@ -59,8 +109,8 @@ fn is_matched(alloc: Global, registry: &Registry, range: &str, tag: &str) -> Res
 fn expect_matches(rt: &impl Abort, alloc: Global, registry: &Registry) -> Result<(), Fail> {
     assert!(rt; is_matched(alloc, registry, "iw", "he-IL")?);
     assert!(rt; is_matched(alloc, registry, "cmn", "zh-cmn-Hans")?);
-    assert!(rt; !is_matched(alloc, registry, "zh", "zh-cmn-Hans")?);
-    assert!(rt; !is_matched(alloc, registry, "iw-*", "iw")?);
+    assert!(rt; is_matched(alloc, registry, "zh", "zh-cmn-Hans")?);
+    assert!(rt; is_matched(alloc, registry, "iw-*", "iw")?);
     Ok(())
 }
 

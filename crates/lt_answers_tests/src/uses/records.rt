@@ -68,7 +68,7 @@ fn rows_with_their_records(rt: HostRuntime) -> Result<(), Fail> {
     let shown = rows_shown(rt.alloc(), &registry, jar.records(), &tag)?;
     assert_eq!(rt;
         shown.as_str(),
-        "1 Language 2, Chinese, macrolanguage\n2 Extlang 3, Yue Chinese, Cantonese, yue\n3 PrivateUseSingleton 0\n4 PrivateUse 0\n"
+        "1 Language 2, Chinese, macrolanguage\n2 Extlang 3, Yue Chinese, Cantonese, yue, zh\n3 PrivateUseSingleton 0\n4 PrivateUse 0\n"
     );
     Ok(())
 }

@@ -1,97 +1,67 @@
 //! What a call does where a growth of memory is refused.
-use super::one_by_one::SIZES;
-use super::{FAULTS, LONG_LINES, TEXTS, has_fields, is_one_field, long_line, shown as records_of};
-use lt_jar::{Device, Jar, JarFault, JarFaultKind, JarReader, Pieces, RecordRef, read_jar};
-use lt_testing::{again, answers, mark, returned_text, sample_text};
+use super::{FAULTS, Fields, LONG_LINES, TEXTS, are_fields, are_records, is_one_field, long_line};
+use crate::retried;
+use lt_jar::{Device, Jar, JarFault, JarFaultKind, JarReader, Pieces, Record, RecordRef, read_jar};
+use lt_testing::{again, mark, returned_text, sample_text};
 use std::alloc::{AllocError, Global};
 use std::io::{self, Read};
 use std::test::Fail;
 
-/// The lines of a text that take memory.
-type Lines = &'static [u64];
-
-/// Whether a text is refused because a growth was, at one of these lines.
-fn is_refused<T>(answer: &Result<T, JarFault>, lines: &[u64]) -> bool {
-    match answer {
-        Ok(_) => false,
-        Err(fault) => {
-            fault.kind == JarFaultKind::OutOfMemory && lines.iter().any(|line| *line == fault.line)
-        }
-    }
+/// Whether a growth was refused at one of these lines.
+fn is_refused(fault: &JarFault, lines: &[u64]) -> bool {
+    fault.kind == JarFaultKind::OutOfMemory && lines.contains(&fault.line)
 }
 
-/// Whether reading a text answers as it should; where a growth is refused, at one of these lines.
-fn is_read<P: Fn(&Result<Jar, JarFault>) -> bool>(
-    alloc: Global,
-    text: &[u8],
-    lines: &[u64],
-    is_answer: P,
-) -> Result<bool, AllocError>
-    requires { P.IsAlwaysCallable is_answer }
-{
-    answers(
-        alloc,
-        &text,
-        || read_jar(alloc, text),
-        is_answer,
-        |answer| is_refused(answer, lines),
-    )
+/// The records of a text, read again where a growth was refused at one of these lines.
+fn jar_of(alloc: Global, text: &[u8], lines: &[u64]) -> Result<Jar, JarFault> {
+    retried!(read_jar(alloc, text), fault if is_refused(&fault, lines))
 }
 
-/// The lines that take memory: of each of `TEXTS`, and of each of `FAULTS`. A last line that nothing ends is
-/// kept, whatever it is.
-const LINES: &[Lines] = &[
-    &[],
-    &[],
-    &[1, 2, 3],
-    &[2, 4],
-    &[1, 2],
-    &[1, 2, 3, 4],
-    &[1, 2, 3, 4],
-];
-
-const LINES_OF_FAULTS: &[Lines] = &[&[1, 2, 3, 4], &[1], &[1, 2], &[1], &[1], &[1], &[], &[1, 3]];
-
-/// Whether a jar has these records, as `records_of` gives them.
-fn has_records(alloc: Global, jar: &Jar, records: &str) -> bool {
-    matches!(again!(records_of(alloc, jar)), Ok(found) if found.as_str() == records)
+/// Whether a text has these records, or a growth of memory was refused at another line than these.
+fn is_read(alloc: Global, text: &str, records: &[Fields], lines: &[u64]) -> bool {
+    matches!(jar_of(alloc, text.as_bytes(), lines), Ok(jar) if are_records(jar.records(), records))
 }
 
 #[test]
-fn records_are_read(rt: HostRuntime) -> Result<(), Fail> {
-    let alloc = rt.alloc();
-    for ((text, records), lines) in TEXTS.iter().zip(LINES) {
-        let is_jar = is_read(alloc, text.as_bytes(), lines, |answer| match answer {
-            Ok(jar) => has_records(alloc, jar, records),
-            Err(_) => false,
-        })?;
-        assert!(rt; is_jar, "{text}");
+fn records_are_read(rt: HostRuntime) {
+    for (text, records, lines) in TEXTS {
+        assert!(rt; is_read(rt.alloc(), text, records, lines), "{text}");
     }
-    for ((text, name, line), lines) in FAULTS.iter().zip(LINES_OF_FAULTS) {
-        let is_fault = is_read(alloc, text, lines, |answer| match answer {
-            Ok(_) => false,
-            Err(fault) => fault.kind.name() == *name && fault.line == *line,
-        })?;
-        assert!(rt; is_fault, "{name}");
+}
+
+/// Whether a text has the fault of this name at this line.
+fn is_at_fault(alloc: Global, text: &[u8], name: &str, line: u64, lines: &[u64]) -> bool {
+    match jar_of(alloc, text, lines) {
+        Ok(_) => false,
+        Err(fault) => fault.kind.name() == name && fault.line == line,
     }
-    Ok(())
+}
+
+#[test]
+fn faults_are_told(rt: HostRuntime) {
+    for (text, name, line, lines) in FAULTS {
+        assert!(rt; is_at_fault(rt.alloc(), text, name, *line, lines), "{name}");
+    }
 }
 
 /// Texts that only their last line makes take memory, with its number.
-const LAST_LINES: &[(&[u8], Lines)] = &[
+const LAST_LINES: &[(&[u8], &[u64])] = &[
     (b"A: b", &[1]),
     (b"\n%%\n \nA: b", &[4]),
     (b"%%\n\n%%\n\n\n\nA: b", &[7]),
     (b"\n\n\n\nbad", &[5]),
 ];
 
+/// Whether memory runs out nowhere but at these lines of a text.
+fn runs_out_at(alloc: Global, text: &[u8], lines: &[u64]) -> bool {
+    !matches!(jar_of(alloc, text, lines), Err(fault) if fault.kind == JarFaultKind::OutOfMemory)
+}
+
 #[test]
-fn memory_runs_out_at_the_last_line(rt: HostRuntime) -> Result<(), Fail> {
+fn memory_runs_out_at_the_last_line(rt: HostRuntime) {
     for (text, lines) in LAST_LINES {
-        let is_told = is_read(rt.alloc(), text, lines, |answer| !is_out_of_memory(answer))?;
-        assert!(rt; is_told);
+        assert!(rt; runs_out_at(rt.alloc(), text, lines));
     }
-    Ok(())
 }
 
 /// A text whose lines all take memory. `bench/growth.py` asks that the numbers that are printed never fall
@@ -171,18 +141,18 @@ fn is_long_line(
     letters: usize,
     end: &str,
     is_read_whole: bool,
-) -> Result<bool, Fail> {
+) -> Result<bool, AllocError> {
     let text = again!(long_line(alloc, letters, end))?;
-    Ok(is_read(alloc, &text, &[1], |answer| match answer {
-        Ok(jar) => is_read_whole && is_one_field(jar, letters),
+    Ok(match jar_of(alloc, &text, &[1]) {
+        Ok(jar) => is_read_whole && is_one_field(&jar, letters),
         Err(fault) => {
             !is_read_whole && fault.kind == JarFaultKind::LineTooLong && fault.line == 1
         }
-    })?)
+    })
 }
 
 #[test]
-fn the_longest_lines_are_read(rt: HostRuntime) -> Result<(), Fail> {
+fn the_longest_lines_are_read(rt: HostRuntime) -> Result<(), AllocError> {
     for (letters, end, is_read_whole) in LONG_LINES {
         assert!(rt;
             is_long_line(rt.alloc(), *letters, end, *is_read_whole)?,
@@ -192,18 +162,20 @@ fn the_longest_lines_are_read(rt: HostRuntime) -> Result<(), Fail> {
     Ok(())
 }
 
-/// Whether a text is refused because a growth was.
-fn is_out_of_memory(answer: &Result<Jar, JarFault>) -> bool {
-    matches!(answer, Err(fault) if fault.kind == JarFaultKind::OutOfMemory)
-}
+/// The sixth and the last record of the sample with carriage returns.
+const SIXTH: Fields = &[
+    ("Type", "language"),
+    ("Subtag", "he"),
+    ("Description", "Modern Hebrew"),
+];
 
-/// Whether a jar is that of the sample with carriage returns.
-fn is_sample(alloc: Global, jar: &Jar) -> bool {
-    let sixth = "Type=language;Subtag=he;Description=Modern Hebrew";
-    let last = "Type=redundant;Tag=zh-Hans";
-    jar.records().len() == 47
-        && matches!(again!(has_fields(alloc, jar, 5, sixth)), Ok(true))
-        && matches!(again!(has_fields(alloc, jar, 46, last)), Ok(true))
+const LAST: Fields = &[("Type", "redundant"), ("Tag", "zh-Hans")];
+
+/// Whether records are those of the sample with carriage returns.
+fn are_sample(records: &[Record]) -> bool {
+    records.len() == 47
+        && are_fields(records[5].fields(), SIXTH)
+        && are_fields(records[46].fields(), LAST)
 }
 
 #[test]
@@ -211,34 +183,10 @@ fn the_sample_is_read(rt: HostRuntime) -> Result<(), Fail> {
     let alloc = rt.alloc();
     let text = again!(returned_text(alloc))?;
     let text = text.as_bytes().strip_suffix(b"\r\n").unwrap_or(&[]);
-    assert!(rt;
-        answers(
-            alloc,
-            &text,
-            || read_jar(alloc, text),
-            |answer| match answer {
-                Ok(jar) => is_sample(alloc, jar),
-                Err(_) => false,
-            },
-            is_out_of_memory,
-        )?
-    );
+    let refusal = JarFaultKind::OutOfMemory;
+    let jar = retried!(read_jar(alloc, text), fault if fault.kind == refusal)?;
+    assert!(rt; are_sample(jar.records()));
     Ok(())
-}
-
-/// The name and the body of each field.
-type Fields = &'static [(&'static str, &'static str)];
-
-/// Whether a record has these fields.
-fn is_record(record: RecordRef<'_>, fields: Fields) -> bool {
-    let mut found = record.fields().iter();
-    for (name, body) in fields {
-        match found.next() {
-            Some(field) if field.name() == *name && field.body() == *body => {}
-            _ => return false,
-        }
-    }
-    found.next().is_none()
 }
 
 /// What a reader of a text does.
@@ -270,7 +218,7 @@ fn reading<R: Read>(
     end: Option<JarFault>,
 ) -> Outcome {
     match reader.next() {
-        Ok(Some(record)) if is_record(record, fields) => {}
+        Ok(Some(record)) if are_fields(record.fields(), fields) => {}
         Err(fault) => return failed(reader, fault),
         _ => return Outcome::Wrong,
     }
@@ -294,6 +242,9 @@ fn reading_of<R: Read>(
         Err(_) => Outcome::Wrong,
     }
 }
+
+/// The sizes of the pieces in which a text is given.
+const SIZES: &[usize] = &[1, 2, 3, 7, 1_000_000];
 
 /// Whether a text is read as it should be in pieces of this size; or a growth is refused, and then it is
 /// read so from another device.
@@ -343,7 +294,7 @@ fn is_small(record: RecordRef<'_>) -> bool {
     record.len() == 1
         && record.name(0) == "A"
         && record.body(0) == "b"
-        && is_record(record, &[("A", "b")])
+        && are_fields(record.fields(), &[("A", "b")])
 }
 
 #[test]

@@ -1,13 +1,10 @@
 //! Both tables answer alike, and as the registry says.
 use super::tables::{list_table, sorted_table};
-use lt_registry::{
-    Entry, EntryName, EntryValue, Kind, ListTable, Lookup, SortedTable, ValidRefusal, proper,
-    validate,
-};
+use lt_registry::{Kind, ListTable, Lookup, SortedTable, ValidRefusal};
 use lt_subtag::Subtag;
-use lt_tag::{Tag, TagFault, read_tag};
-use lt_testing::sample_text;
-use std::alloc::{AllocError, Global};
+use lt_tag::{Tag, read_tag};
+use lt_testing::{ROWS, sample_text};
+use std::alloc::Global;
 use std::test::Fail;
 
 /// A kind, a subtag, and the number of its record.
@@ -31,7 +28,7 @@ fn entry_number<L: Lookup>(table: &L, kind: Kind, subtag: &Subtag) -> Option<u32
 }
 
 /// Whether the entry of a subtag has this number.
-pub fn finds<L: Lookup>(table: &L, kind: Kind, text: &str, number: Option<u32>) -> bool {
+fn finds<L: Lookup>(table: &L, kind: Kind, text: &str, number: Option<u32>) -> bool {
     match Subtag::read(text.as_bytes()) {
         Ok(subtag) => entry_number(table, kind, &subtag) == number,
         Err(_) => false,
@@ -48,20 +45,6 @@ pub fn finds_each<L: Lookup>(table: &L, rows: &[SubtagRow]) -> bool {
     true
 }
 
-/// Whether the language `iw` has the value `he`.
-fn finds_hebrew<L: Lookup>(table: &L) -> bool {
-    let Ok(subtag) = Subtag::read(b"iw") else {
-        return false;
-    };
-    let Some(entry) = table.entry(Kind::Language, &subtag) else {
-        return false;
-    };
-    match entry.value() {
-        Some(EntryValue::One(value)) => value.bytes() == b"he".as_slice(),
-        _ => false,
-    }
-}
-
 /// Whole tags of the sample with the numbers of their records.
 pub const WHOLE_TAGS: [(&str, Option<u32>); 3] = [
     ("sgn-DE", Some(44)),
@@ -75,20 +58,6 @@ pub fn whole_number<L: Lookup>(table: &L, tag: &Tag) -> Option<u32> {
         Some(entry) => Some(entry.number()),
         None => None,
     }
-}
-
-/// Whether the entry of each whole tag has the number of its row.
-fn finds_each_whole<L: Lookup>(
-    alloc: Global,
-    table: &L,
-    rows: &[(&str, Option<u32>)],
-) -> Result<bool, TagFault> {
-    for (text, number) in rows {
-        if whole_number(table, &read_tag(alloc, text.as_bytes())?) != *number {
-            return Ok(false);
-        }
-    }
-    Ok(true)
 }
 
 /// Texts of tags with the names and the places of their faults, or none.
@@ -144,121 +113,45 @@ pub fn is_judgement(answer: &Result<(), ValidRefusal>, told: Option<(&str, u32)>
     }
 }
 
-/// Whether a text's tag is judged so.
-fn judges<L: Lookup>(
-    alloc: Global,
-    table: &L,
-    text: &str,
-    told: Option<(&str, u32)>,
-) -> Result<bool, TagFault> {
-    let tag = read_tag(alloc, text.as_bytes())?;
-    Ok(is_judgement(&validate(alloc, table, &tag), told))
-}
-
-/// Whether a text's tag is proper as this says.
-fn tells_proper<L: Lookup>(
-    alloc: Global,
-    table: &L,
-    text: &str,
-    told: bool,
-) -> Result<bool, TagFault> {
-    let tag = read_tag(alloc, text.as_bytes())?;
-    Ok(matches!(proper(alloc, table, &tag), Ok(answer) if answer == told))
-}
-
-/// Whether a table has the entries of the sample.
-fn has_sample<L: Lookup>(alloc: Global, table: &L) -> Result<bool, TagFault> {
-    Ok(
-        table.entries().len() == 46
-            && finds_hebrew(table)
-            && finds_each(table, SUBTAGS)
-            && finds_each_whole(alloc, table, &WHOLE_TAGS)?,
-    )
-}
-
-/// The sample's entries, sorted.
-fn sample_table(alloc: Global) -> Result<SortedTable, Fail> {
-    let text = sample_text(alloc)?;
-    sorted_table(alloc, text.as_bytes())
-}
-
-/// The sample's entries as a list.
-fn sample_list(alloc: Global) -> Result<ListTable, Fail> {
-    let text = sample_text(alloc)?;
-    list_table(alloc, text.as_bytes())
-}
-
-#[test]
-fn the_sample_has_its_entries(rt: HostRuntime) -> Result<(), Fail> {
-    assert!(rt; has_sample(rt.alloc(), &sample_table(rt.alloc())?)?);
-    assert!(rt; has_sample(rt.alloc(), &sample_list(rt.alloc())?)?);
-    Ok(())
-}
-
-/// Tags are judged by the other table where growths are refused.
-#[test]
-fn the_sample_judges_tags(rt: HostRuntime) -> Result<(), Fail> {
-    let table = sample_table(rt.alloc())?;
-    for (text, told) in JUDGED {
-        assert!(rt; judges(rt.alloc(), &table, text, *told)?, "{text}");
-    }
-    Ok(())
-}
-
-#[test]
-fn the_sample_tells_proper_tags(rt: HostRuntime) -> Result<(), Fail> {
-    let table = sample_table(rt.alloc())?;
-    for (text, told) in PROPER {
-        assert!(rt; tells_proper(rt.alloc(), &table, text, *told)?, "{text}");
-    }
-    Ok(())
-}
-
-/// Regions in ranges that share subtags, and a single one among them.
-const REGIONS: &[u8] =
-    b"Type: region\nSubtag: XA..XZ\n%%\nType: region\nSubtag: XB\n%%\nType: region\nSubtag: XA..XC";
-
-/// Subtags of those regions.
-const IN_REGIONS: &[SubtagRow] = &[
-    (Kind::Region, "xa", Some(1)),
-    (Kind::Region, "xb", Some(2)),
-    (Kind::Region, "xc", Some(1)),
-    (Kind::Region, "ya", None),
+/// Registries, and the entries of subtags in them: a single one comes before ranges that hold it, and the first of
+/// equal names and of ranges before others.
+const REGISTRIES: &[(&[u8], &[SubtagRow])] = &[
+    (
+        b"Type: region\nSubtag: XA..XZ\n%%\nType: region\nSubtag: XB\n%%\nType: region\nSubtag: XA..XC",
+        &[
+            (Kind::Region, "xa", Some(1)),
+            (Kind::Region, "xb", Some(2)),
+            (Kind::Region, "xc", Some(1)),
+            (Kind::Region, "ya", None),
+        ],
+    ),
+    (
+        b"Type: language\nSubtag: aaaaaaaa..zzzzzzzz",
+        &[(Kind::Language, "mmmmmmmm", Some(1))],
+    ),
+    (
+        b"Type: language\nSubtag: de\n%%\nType: language\nSubtag: de",
+        &[(Kind::Language, "de", Some(1))],
+    ),
 ];
 
 #[test]
-fn singles_before_ranges(rt: HostRuntime) -> Result<(), Fail> {
-    assert!(rt; finds_each(&list_table(rt.alloc(), REGIONS)?, IN_REGIONS));
-    assert!(rt; finds_each(&sorted_table(rt.alloc(), REGIONS)?, IN_REGIONS));
+fn the_first_of_names_and_ranges(rt: HostRuntime) -> Result<(), Fail> {
+    for (text, rows) in REGISTRIES {
+        assert!(rt; finds_each(&list_table(rt.alloc(), text)?, rows));
+        assert!(rt; finds_each(&sorted_table(rt.alloc(), text)?, rows));
+    }
     Ok(())
 }
 
-/// Whether a table finds the first of two records of a subtag, and of two of a whole tag.
-fn finds_first<L: Lookup>(alloc: Global, table: &L) -> Result<bool, TagFault> {
-    Ok(
-        finds(table, Kind::Language, "de", Some(2))
-            && finds_each_whole(alloc, table, &[("sgn-DE", Some(44))])?,
-    )
-}
-
-/// The sample with a second record of a subtag, and a second one of a whole tag.
-fn doubled_text(alloc: Global) -> Result<String, AllocError> {
-    let mut text = sample_text(alloc)?;
-    text.push_str("%%\nType: language\nSubtag: de\n%%\nType: redundant\nTag: sgn-DE\n")?;
-    Ok(text)
-}
-
-/// Whether both tables of a registry's text find the first of such records.
-fn tables_find_first(alloc: Global, text: &[u8]) -> Result<bool, Fail> {
-    let list = list_table(alloc, text)?;
-    let sorted = sorted_table(alloc, text)?;
-    Ok(finds_first(alloc, &list)? && finds_first(alloc, &sorted)?)
-}
+/// Two records of a whole tag.
+const DOUBLED: &[u8] = b"Type: redundant\nTag: sgn-DE\n%%\nType: redundant\nTag: SGN-de";
 
 #[test]
-fn the_first_of_equal_names(rt: HostRuntime) -> Result<(), Fail> {
-    let text = doubled_text(rt.alloc())?;
-    assert!(rt; tables_find_first(rt.alloc(), text.as_bytes())?);
+fn the_first_of_whole_tags(rt: HostRuntime) -> Result<(), Fail> {
+    let tag = read_tag(rt.alloc(), b"sgn-DE")?;
+    assert!(rt; whole_number(&list_table(rt.alloc(), DOUBLED)?, &tag) == Some(1));
+    assert!(rt; whole_number(&sorted_table(rt.alloc(), DOUBLED)?, &tag) == Some(1));
     Ok(())
 }
 
@@ -282,53 +175,35 @@ fn agree_on_subtag(list: &ListTable, sorted: &SortedTable, subtag: &Subtag) -> b
     true
 }
 
-/// Whether both tables know the same entries of what an entry names.
-fn agree_on_name(list: &ListTable, sorted: &SortedTable, entry: &Entry) -> bool {
-    match entry.name() {
-        EntryName::Single(subtag) => agree_on_subtag(list, sorted, subtag),
-        EntryName::Range(first, last) => {
-            agree_on_subtag(list, sorted, first) && agree_on_subtag(list, sorted, last)
-        }
-        EntryName::Whole(whole) => {
-            whole_number(list, whole.tag()) == whole_number(sorted, whole.tag())
-        }
-    }
+/// Whether both tables know the same entries of a text, as a subtag and as a whole tag.
+fn agree(alloc: Global, list: &ListTable, sorted: &SortedTable, text: &str) -> bool {
+    let is_same_subtag = match Subtag::read(text.as_bytes()) {
+        Ok(subtag) => agree_on_subtag(list, sorted, &subtag),
+        Err(_) => true,
+    };
+    let is_same_tag = match read_tag(alloc, text.as_bytes()) {
+        Ok(tag) => whole_number(list, &tag) == whole_number(sorted, &tag),
+        Err(_) => true,
+    };
+    is_same_subtag && is_same_tag
 }
 
-/// Whether both tables have the same entries, and know them alike.
-fn agree_on_entries(list: &ListTable, sorted: &SortedTable) -> bool {
-    for entry in list.entries() {
-        if !agree_on_name(list, sorted, entry) {
-            return false;
-        }
-    }
-    list.entries().len() == sorted.entries().len()
-}
-
-/// Subtags that single records of the sample do not name.
-const OTHER_SUBTAGS: &[&str] = &["fr", "abcde", "zzz", "qpz", "qtzz", "a"];
-
-/// Whether both tables know the same entries of those subtags.
-fn agree_on_others(list: &ListTable, sorted: &SortedTable) -> bool {
-    for text in OTHER_SUBTAGS {
-        match Subtag::read(text.as_bytes()) {
-            Ok(subtag) if agree_on_subtag(list, sorted, &subtag) => {}
-            _ => return false,
-        }
-    }
-    true
-}
-
-/// Whether both tables of a registry's text know the same entries.
-fn tables_agree(alloc: Global, text: &[u8]) -> Result<bool, Fail> {
-    let list = list_table(alloc, text)?;
-    let sorted = sorted_table(alloc, text)?;
-    Ok(agree_on_entries(&list, &sorted) && agree_on_others(&list, &sorted))
-}
+/// Subtags that single records of the sample do not name, and the ends of its ranges.
+const OTHER_SUBTAGS: &[&str] = &[
+    "fr", "abcde", "zzz", "qpz", "qtzz", "a", "qaa", "qtz", "qaaa", "qabx", "xa", "xz",
+];
 
 #[test]
 fn the_same_answers(rt: HostRuntime) -> Result<(), Fail> {
     let text = sample_text(rt.alloc())?;
-    assert!(rt; tables_agree(rt.alloc(), text.as_bytes())?);
+    let list = list_table(rt.alloc(), text.as_bytes())?;
+    let sorted = sorted_table(rt.alloc(), text.as_bytes())?;
+    assert!(rt; list.entries().len() == 46 && sorted.entries().len() == 46);
+    for (_, name, _, _) in ROWS {
+        assert!(rt; agree(rt.alloc(), &list, &sorted, name), "{name}");
+    }
+    for name in OTHER_SUBTAGS {
+        assert!(rt; agree(rt.alloc(), &list, &sorted, name), "{name}");
+    }
     Ok(())
 }

@@ -1,14 +1,15 @@
 //! What a call does where a growth of memory is refused.
 use super::answers::{JUDGED, PROPER, SUBTAGS, WHOLE_TAGS, finds_each, is_judgement, whole_number};
 use super::{RECORD_FAULTS, is_english};
+use crate::retried;
 use lt_jar::{Device, JarFault, JarFaultKind, Pieces, read_jar};
 use lt_registry::{
     ListTable, Lookup, RecordFault, RecordFaultKind, Registry, RegistryFault, SortedTable,
     ValidRefusal, proper, validate,
 };
 use lt_tag::{Tag, TagFault, read_tag};
-use lt_testing::{again, answers, mark, returned_text, sample_text, shown};
-use std::alloc::{AllocError, Global};
+use lt_testing::{again, mark, returned_text, sample_text, shown};
+use std::alloc::Global;
 use std::test::Fail;
 
 /// The first and the last of the lines of a text, or of its records, at which memory may run out.
@@ -20,59 +21,53 @@ fn is_in(span: Span, number: u64) -> bool {
     first <= number && number <= last
 }
 
-/// Whether making entries of a text's records answers as it should; where a growth is refused, at one of these
-/// records.
-fn is_made<P: Fn(&Result<Registry, RecordFault>) -> bool>(
-    alloc: Global,
-    text: &str,
-    numbers: Span,
-    is_answer: P,
-) -> Result<bool, Fail>
-    requires { P.IsAlwaysCallable is_answer }
-{
+/// Whether a growth was refused at one of these records.
+fn is_refused(fault: &RecordFault, numbers: Span) -> bool {
+    fault.kind == RecordFaultKind::OutOfMemory && is_in(numbers, u64::from(fault.number))
+}
+
+/// The entries of a text's records, made again where a growth is refused at one of these.
+fn made(alloc: Global, text: &str, numbers: Span) -> Result<Result<Registry, RecordFault>, Fail> {
     let jar = again!(read_jar(alloc, text.as_bytes()))?;
     let records = jar.records();
     if records.len() > 100_000 {
         return Err(Fail::from("too many records"));
     }
-    Ok(answers(
-        alloc,
-        &jar,
-        || Registry::from_records(alloc, records),
-        is_answer,
-        |answer| match answer {
-            Ok(_) => false,
-            Err(fault) => {
-                fault.kind == RecordFaultKind::OutOfMemory
-                    && is_in(numbers, u64::from(fault.number))
-            }
-        },
-    )?)
+    Ok(retried!(
+        Registry::from_records(alloc, records),
+        fault if is_refused(&fault, numbers)
+    ))
+}
+
+/// Whether the record of a text has the fault of this name.
+fn has_record_fault(alloc: Global, text: &str, name: &str) -> Result<bool, Fail> {
+    Ok(match made(alloc, text, (1, 1))? {
+        Ok(_) => false,
+        Err(fault) => fault.kind.name() == name && fault.number == 1,
+    })
+}
+
+#[test]
+fn faults_of_records(rt: HostRuntime) -> Result<(), Fail> {
+    for (text, name) in RECORD_FAULTS {
+        assert!(rt; has_record_fault(rt.alloc(), text, name)?, "{text}");
+    }
+    Ok(())
 }
 
 #[test]
 fn entries_are_made(rt: HostRuntime) -> Result<(), Fail> {
-    for (text, name) in RECORD_FAULTS {
-        let is_fault = is_made(rt.alloc(), text, (1, 1), |answer| match answer {
-            Ok(_) => false,
-            Err(fault) => fault.kind.name() == *name && fault.number == 1,
-        })?;
-        assert!(rt; is_fault, "{text}");
-    }
     let dated = "File-Date: x\n%%\nTYPE : Language\nSUBTAG: EN";
-    assert!(rt;
-        is_made(rt.alloc(), dated, (2, 2), |answer| match answer {
-            Ok(registry) => matches!(registry.entries(), [entry] if is_english(entry)),
-            Err(_) => false,
-        })?
-    );
+    let english = made(rt.alloc(), dated, (2, 2))??;
+    assert!(rt; matches!(english.entries(), [entry] if is_english(entry)));
+    Ok(())
+}
+
+#[test]
+fn entries_of_the_sample(rt: HostRuntime) -> Result<(), Fail> {
     let text = again!(sample_text(rt.alloc()))?;
-    assert!(rt;
-        is_made(rt.alloc(), text.as_str(), (2, 47), |answer| match answer {
-            Ok(registry) => registry.entries().len() == 46,
-            Err(_) => false,
-        })?
-    );
+    let registry = made(rt.alloc(), text.as_str(), (2, 47))??;
+    assert!(rt; registry.entries().len() == 46);
     Ok(())
 }
 
@@ -94,36 +89,25 @@ fn records_in_order(rt: HostRuntime) -> Result<(), Fail> {
     Ok(())
 }
 
-/// Whether an answer is that a growth was refused, in one of these lines or records.
-fn is_read_refusal(answer: &Result<Registry, RegistryFault>, lines: Span, numbers: Span) -> bool {
-    match answer {
-        Ok(_) => false,
-        Err(RegistryFault::Jar(fault)) => {
-            fault.kind == JarFaultKind::OutOfMemory && is_in(lines, fault.line)
-        }
-        Err(RegistryFault::Record(fault)) => {
-            fault.kind == RecordFaultKind::OutOfMemory && is_in(numbers, u64::from(fault.number))
-        }
+/// Whether a growth was refused in one of these lines or records.
+fn is_read_refused(fault: &RegistryFault, lines: Span, numbers: Span) -> bool {
+    match fault {
+        RegistryFault::Jar(fault) => fault.kind == JarFaultKind::OutOfMemory
+            && is_in(lines, fault.line),
+        RegistryFault::Record(fault) => is_refused(fault, numbers),
     }
 }
 
-/// Whether reading a text in pieces of this size answers as it should; where a growth is refused, in one of
-/// these lines or records.
-fn is_read<P: Fn(&Result<Registry, RegistryFault>) -> bool>(
+/// The registry of a text in pieces of this size, read again where a growth is refused in one of these lines or records.
+fn read(
     alloc: Global,
     text: &str,
     size: usize,
     spans: (Span, Span),
-    is_answer: P,
-) -> Result<bool, AllocError>
-    requires { P.IsAlwaysCallable is_answer }
-{
-    answers(
-        alloc,
-        &text,
-        || Registry::read(alloc, &mut Device::new(Pieces::once(text.as_bytes(), size))),
-        is_answer,
-        |answer| is_read_refusal(answer, spans.0, spans.1),
+) -> Result<Registry, RegistryFault> {
+    retried!(
+        Registry::read(alloc, &mut Device::new(Pieces::once(text.as_bytes(), size))),
+        fault if is_read_refused(&fault, spans.0, spans.1)
     )
 }
 
@@ -163,31 +147,32 @@ const FAULTS: &[(&str, (Span, Span), RegistryFault)] = &[
     ),
 ];
 
+/// Whether a text has this fault in pieces of this size.
+fn has_fault(
+    alloc: Global,
+    text: &str,
+    size: usize,
+    spans: (Span, Span),
+    told: &RegistryFault,
+) -> bool {
+    matches!(read(alloc, text, size, spans), Err(fault) if fault == *told)
+}
+
 #[test]
-fn registries_with_faults_are_read(rt: HostRuntime) -> Result<(), Fail> {
+fn registries_with_faults_are_read(rt: HostRuntime) {
     for (text, spans, told) in FAULTS {
         for size in &[7, 1_000_000usize] {
-            let is_fault = is_read(rt.alloc(), text, *size, *spans, |answer| match answer {
-                Ok(_) => false,
-                Err(fault) => fault == told,
-            })?;
-            assert!(rt; is_fault, "{text}");
+            assert!(rt; has_fault(rt.alloc(), text, *size, *spans, told), "{text}");
         }
     }
-    Ok(())
 }
 
 #[test]
 fn registries_are_read(rt: HostRuntime) -> Result<(), Fail> {
     let text = again!(returned_text(rt.alloc()))?;
     let text = text.as_str().strip_suffix("\r\n").unwrap_or("");
-    let spans = ((1, 1_000), (2, 47));
-    assert!(rt;
-        is_read(rt.alloc(), text, 64, spans, |answer| match answer {
-            Ok(registry) => registry.entries().len() == 46,
-            Err(_) => false,
-        })?
-    );
+    let registry = read(rt.alloc(), text, 64, ((1, 1_000), (2, 47)))?;
+    assert!(rt; registry.entries().len() == 46);
     Ok(())
 }
 
@@ -236,64 +221,38 @@ fn sorted_tables_are_made(rt: HostRuntime) -> Result<(), Fail> {
     Ok(())
 }
 
-/// Whether a tag has this fault, or none.
+/// Whether the tag of a text is judged so.
 fn is_judged(
     alloc: Global,
     table: &ListTable,
-    tag: &Tag,
-    told: Option<(&str, u32)>,
-) -> Result<bool, AllocError> {
-    answers(
-        alloc,
-        &(table, tag),
-        || validate(alloc, table, tag),
-        |answer| is_judgement(answer, told),
-        |answer| matches!(answer, Err(ValidRefusal::OutOfMemory)),
-    )
-}
-
-/// Whether `proper` answers this for a tag.
-fn is_proper(alloc: Global, table: &ListTable, tag: &Tag, told: bool) -> Result<bool, AllocError> {
-    answers(
-        alloc,
-        &(table, tag),
-        || proper(alloc, table, tag),
-        |answer| matches!(answer, Ok(found) if *found == told),
-        |answer| answer.is_err(),
-    )
-}
-
-/// Whether the tag of a text is judged so.
-fn is_text_judged(
-    alloc: Global,
-    table: &ListTable,
     text: &str,
-    told: Option<(&'static str, u32)>,
-) -> Result<bool, Fail> {
+    told: Option<(&str, u32)>,
+) -> Result<bool, TagFault> {
     let tag = tag_of(alloc, text)?;
-    Ok(is_judged(alloc, table, &tag, told)?)
+    let answer = retried!(validate(alloc, table, &tag), ValidRefusal::OutOfMemory);
+    Ok(is_judgement(&answer, told))
 }
 
 #[test]
 fn tags_are_judged(rt: HostRuntime) -> Result<(), Fail> {
     let table = ListTable::new(sample(rt.alloc())?);
     for (text, told) in JUDGED {
-        assert!(rt; is_text_judged(rt.alloc(), &table, text, *told)?, "{text}");
+        assert!(rt; is_judged(rt.alloc(), &table, text, *told)?, "{text}");
     }
     Ok(())
 }
 
 /// Whether `proper` answers this for the tag of a text.
-fn is_text_proper(alloc: Global, table: &ListTable, text: &str, told: bool) -> Result<bool, Fail> {
+fn is_proper(alloc: Global, table: &SortedTable, text: &str, told: bool) -> Result<bool, TagFault> {
     let tag = tag_of(alloc, text)?;
-    Ok(is_proper(alloc, table, &tag, told)?)
+    Ok(matches!(again!(proper(alloc, table, &tag)), Ok(found) if found == told))
 }
 
 #[test]
 fn tags_are_told_proper(rt: HostRuntime) -> Result<(), Fail> {
-    let table = ListTable::new(sample(rt.alloc())?);
+    let table = table_of(rt.alloc(), sample(rt.alloc())?)?;
     for (text, told) in PROPER {
-        assert!(rt; is_text_proper(rt.alloc(), &table, text, *told)?, "{text}");
+        assert!(rt; is_proper(rt.alloc(), &table, text, *told)?, "{text}");
     }
     Ok(())
 }

@@ -1,5 +1,5 @@
 //! What `{}` prints of subtags, cores, extensions and tags.
-use super::writing::TEXTS;
+use super::reading::TEXTS;
 use lt_subtag::{Subtag, SubtagFault};
 use lt_tag::Tag;
 use std::alloc::Global;

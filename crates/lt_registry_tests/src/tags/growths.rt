@@ -1,78 +1,29 @@
 //! What a call does where a growth of memory is refused.
-use super::reading::FAULTS;
-use super::words::{put_core, put_each, put_field, put_keyword};
-use super::writing::TEXTS;
+use super::reading::{FAULTS, TEXTS};
+use crate::retried;
 use lt_subtag::Subtag;
 use lt_tag::{
     Class, Core, Extension, OutOfMemory, TParts, Tag, TagFault, TagFaultKind, TransformFault,
     UParts, append_tag, join_t, join_u, read_tag, split_t, split_u, write_tag,
 };
-use lt_testing::{again, answers, gives, mark, shown};
+use lt_testing::{again, mark};
 use std::alloc::{AllocError, Global};
-use std::fmt::Debug;
 use std::test::Fail;
 
-/// The tag of a text.
+/// The tag of a text, or its fault.
 fn tag_of(alloc: Global, text: &str) -> Result<Tag, TagFault> {
-    again!(read_tag(alloc, text.as_bytes()))
-}
-
-/// Whether a tag's text is this one.
-fn has_text(alloc: Global, tag: &Tag, text: &str) -> bool {
-    matches!(again!(write_tag(alloc, tag)), Ok(written) if written.as_slice() == text.as_bytes())
-}
-
-/// Whether reading a text was refused a growth.
-fn is_refusal(answer: &Result<Tag, TagFault>) -> bool {
-    let refusal = TagFault {
-        kind: TagFaultKind::OutOfMemory,
-        place: 0,
-    };
-    matches!(answer, Err(fault) if *fault == refusal)
-}
-
-/// Whether a text is read as a tag that is written so.
-fn is_read(alloc: Global, text: &str, written: &str) -> Result<bool, AllocError> {
-    Ok(gives!(
-        alloc,
-        &text,
+    retried!(
         read_tag(alloc, text.as_bytes()),
-        |answer| matches!(answer, Ok(tag) if has_text(alloc, tag, written)),
-        |answer| is_refusal(answer),
-    ))
-}
-
-/// Whether a text has a fault of this name at this place.
-fn is_at_fault(alloc: Global, text: &str, name: &str, place: u32) -> Result<bool, AllocError> {
-    Ok(gives!(
-        alloc,
-        &text,
-        read_tag(alloc, text.as_bytes()),
-        |answer| matches!(answer, Err(fault) if fault.kind.name() == name && fault.place == place),
-        |answer| is_refusal(answer),
-    ))
-}
-
-#[test]
-fn tags_are_read(rt: HostRuntime) -> Result<(), Fail> {
-    for (text, written) in TEXTS {
-        assert!(rt; is_read(rt.alloc(), text, written)?, "{text}");
-    }
-    for (text, name, place) in FAULTS {
-        assert!(rt; is_at_fault(rt.alloc(), text, name, *place)?, "{text}");
-    }
-    Ok(())
+        TagFault {
+            kind: TagFaultKind::OutOfMemory,
+            place: 0,
+        }
+    )
 }
 
 /// Whether a tag is written so.
-fn is_written(alloc: Global, tag: &Tag, text: &str) -> Result<bool, AllocError> {
-    Ok(gives!(
-        alloc,
-        tag,
-        write_tag(alloc, tag),
-        |answer| matches!(answer, Ok(written) if written.as_slice() == text.as_bytes()),
-        |answer| answer.is_err(),
-    ))
+fn is_written(alloc: Global, tag: &Tag, text: &str) -> bool {
+    matches!(again!(write_tag(alloc, tag)), Ok(written) if written.as_slice() == text.as_bytes())
 }
 
 /// Whether a tag's text is put after another; and where a growth was refused, whether that is left as it
@@ -92,67 +43,64 @@ fn is_appended(alloc: Global, tag: &Tag, text: &str) -> Result<bool, AllocError>
     Ok(is_put_after(&mut found, tag, text))
 }
 
-/// Whether a text's tag is written so, also after another text.
-fn is_text(alloc: Global, text: &str, written: &str) -> Result<bool, Fail> {
+/// Whether a text is read as a tag that is written so, also after another text.
+fn is_read(alloc: Global, text: &str, written: &str) -> Result<bool, Fail> {
     let tag = tag_of(alloc, text)?;
-    Ok(is_written(alloc, &tag, written)? && is_appended(alloc, &tag, written)?)
+    Ok(is_written(alloc, &tag, written) && is_appended(alloc, &tag, written)?)
+}
+
+/// Whether a text has a fault of this name at this place.
+fn is_at_fault(alloc: Global, text: &str, name: &str, place: u32) -> bool {
+    match tag_of(alloc, text) {
+        Ok(_) => false,
+        Err(fault) => fault.kind.name() == name && fault.place == place,
+    }
 }
 
 #[test]
-fn tags_are_written(rt: HostRuntime) -> Result<(), Fail> {
+fn tags_are_read_and_written(rt: HostRuntime) -> Result<(), Fail> {
     for (text, written) in TEXTS {
-        assert!(rt; is_text(rt.alloc(), text, written)?, "{text}");
+        assert!(rt; is_read(rt.alloc(), text, written)?, "{text}");
+    }
+    for (text, name, place) in FAULTS {
+        assert!(rt; is_at_fault(rt.alloc(), text, name, *place), "{text}");
     }
     Ok(())
 }
 
-/// Whether an answer is a value that is shown as this text.
-fn is_shown<T: Debug>(alloc: Global, answer: &Result<T, OutOfMemory>, text: &str) -> bool {
-    match answer {
-        Ok(value) => matches!(shown(alloc, value), Ok(found) if found.as_str() == text),
-        Err(_) => false,
-    }
+/// Whether a core is copied.
+fn core_is_copied(alloc: Global, core: &Core) -> bool {
+    matches!(again!(core.copy(alloc)), Ok(copy) if copy == *core)
 }
 
-/// Whether a call gives a copy of a value.
-fn is_copied<T, C>(alloc: Global, value: &T, copy: C) -> Result<bool, AllocError>
-where
-    T: Debug + Drop,
-    C: Fn() -> Result<T, OutOfMemory>,
-    requires { C.IsAlwaysCallable copy }
-{
-    let source = shown(alloc, value)?;
-    answers(
-        alloc,
-        value,
-        copy,
-        |answer| is_shown(alloc, answer, source.as_str()),
-        Result::is_err,
-    )
+/// Whether an extension is copied.
+fn extension_is_copied(alloc: Global, extension: &Extension) -> bool {
+    matches!(again!(extension.copy(alloc)), Ok(copy) if copy == *extension)
 }
 
-/// Whether a tag, its core and its extensions are copied.
-fn tag_is_copied(alloc: Global, tag: &Tag) -> Result<bool, AllocError> {
-    for extension in tag.extensions() {
-        if !is_copied(alloc, extension, || extension.copy(alloc))? {
-            return Ok(false);
-        }
-    }
-    if let Some(core) = tag.core()
-        && !is_copied(alloc, core, || core.copy(alloc))?
-    {
-        return Ok(false);
-    }
-    is_copied(alloc, tag, || tag.copy(alloc))
+/// Whether a tag is copied.
+fn tag_is_copied(alloc: Global, tag: &Tag) -> bool {
+    matches!(again!(tag.copy(alloc)), Ok(copy) if copy == *tag)
 }
 
 /// Whether a text's tag, its core and its extensions are copied.
-fn text_is_copied(alloc: Global, text: &str) -> Result<bool, Fail> {
-    Ok(tag_is_copied(alloc, &tag_of(alloc, text)?)?)
+fn text_is_copied(alloc: Global, text: &str) -> Result<bool, TagFault> {
+    let tag = tag_of(alloc, text)?;
+    if let Some(core) = tag.core()
+        && !core_is_copied(alloc, core)
+    {
+        return Ok(false);
+    }
+    for extension in tag.extensions() {
+        if !extension_is_copied(alloc, extension) {
+            return Ok(false);
+        }
+    }
+    Ok(tag_is_copied(alloc, &tag))
 }
 
 #[test]
-fn tags_are_copied(rt: HostRuntime) -> Result<(), Fail> {
+fn tags_are_copied(rt: HostRuntime) -> Result<(), TagFault> {
     for text in &["de-1901-x-a", "x-a", "i-lux"] {
         assert!(rt; text_is_copied(rt.alloc(), text)?, "{text}");
     }
@@ -162,265 +110,86 @@ fn tags_are_copied(rt: HostRuntime) -> Result<(), Fail> {
     Ok(())
 }
 
-/// The extension of a tag.
-fn extension_of(tag: &Tag) -> Result<&Extension, &'static str> {
+/// Texts with a `u` extension.
+const UNICODE: &[&str] = &[
+    "en-u-foo-bar-nu-latn-ca-buddhist",
+    "en-u-bar-foo-ca-buddhist-nu-latn",
+    "en-u-11",
+    "en-u-foo-nu-latn",
+];
+
+/// Whether a `u` extension is split into parts, and a copy of these is joined to it.
+fn unicode_is_joined(alloc: Global, extension: &Extension) -> Result<bool, OutOfMemory> {
+    if extension.singleton() != b'u' {
+        return Ok(false);
+    }
+    let parts = again!(split_u(alloc, extension))?;
+    let copy = again!(parts.copy(alloc))?;
+    Ok(matches!(again!(join_u(alloc, &copy)), Ok(joined) if joined == *extension))
+}
+
+/// Whether the first extension of a text's tag is so.
+fn unicode_text(alloc: Global, text: &str) -> Result<bool, TagFault> {
+    let tag = tag_of(alloc, text)?;
     match tag.extensions() {
-        [extension] => Ok(extension),
-        _ => Err("not one extension"),
+        [first, ..] => Ok(unicode_is_joined(alloc, first)?),
+        _ => Ok(false),
     }
 }
 
 #[test]
-fn extensions_are_copied(rt: HostRuntime) -> Result<(), Fail> {
-    let tag = tag_of(rt.alloc(), "en-Latn-a-bb")?;
-    let extension = extension_of(&tag)?;
-    assert!(rt; is_copied(rt.alloc(), extension, || extension.copy(rt.alloc()))?);
+fn unicode_extensions(rt: HostRuntime) -> Result<(), TagFault> {
+    for text in UNICODE {
+        assert!(rt; unicode_text(rt.alloc(), text)?, "{text}");
+    }
     Ok(())
 }
 
-/// The parts of a `u` extension in words.
-fn unicode_words(alloc: Global, parts: &UParts) -> Result<Vec<u8>, OutOfMemory> {
-    let mut words = Vec::new(alloc);
-    put_each(&mut words, " attribute ", &parts.attributes)?;
-    for keyword in &parts.keywords {
-        put_keyword(&mut words, keyword)?;
-    }
-    Ok(words)
-}
-
-/// The parts of a `t` extension in words.
-fn transform_words(alloc: Global, parts: &TParts) -> Result<Vec<u8>, OutOfMemory> {
-    let mut words = Vec::new(alloc);
-    if let Some(source) = &parts.source {
-        put_core(&mut words, source)?;
-    }
-    for field in &parts.fields {
-        put_field(&mut words, field)?;
-    }
-    Ok(words)
-}
-
-/// Texts with the words of the parts of their `u` extension.
-const UNICODE: &[(&str, &str)] = &[
-    (
-        "en-u-foo-bar-nu-latn-ca-buddhist",
-        " attribute foo attribute bar key nu type latn key ca type buddhist",
-    ),
-    (
-        "en-u-bar-foo-ca-buddhist-nu-latn",
-        " attribute bar attribute foo key ca type buddhist key nu type latn",
-    ),
-    ("en-u-11", " key 11"),
-    ("en-u-foo-nu-latn", " attribute foo key nu type latn"),
+/// Texts whose first extension is a `t`, and whether it has parts.
+const TRANSFORMS: &[(&str, bool)] = &[
+    ("en-t-zh-yue-m0-names-a0-xyz", true),
+    ("en-t-yue-a0-xyz-m0-names", true),
+    ("en-t-de-latn-de-1901", true),
+    ("en-t-de-latn-at-1901-rozaj", true),
+    ("en-t-m0-aaa-M0-bbb", true),
+    ("en-t-de-m0-names", true),
+    ("en-t-m0", false),
+    ("en-t-zh-yue-m0", false),
+    ("en-t-m0-a0-aaa", false),
+    ("en-t-de-m0-xx", false),
+    ("en-t-m0-t-de", false),
+    ("en-t-1994-m0-aaa", false),
+    ("en-t-de-at-latn", false),
+    ("en-t-m0-aaa-de", false),
 ];
 
-/// Whether parts of a `u` extension have these words.
-fn has_unicode_words(alloc: Global, parts: &UParts, words: &str) -> bool {
-    matches!(again!(unicode_words(alloc, parts)), Ok(found) if found.as_slice() == words.as_bytes())
-}
-
-/// Whether a `u` extension is split into parts of these words.
-fn unicode_is_split(alloc: Global, extension: &Extension, words: &str) -> Result<bool, AllocError> {
-    if extension.singleton() != b'u' {
+/// Whether a copy of the parts of a `t` extension is joined to it. `BadTransform` where it has no parts.
+fn transform_is_joined(alloc: Global, extension: &Extension) -> Result<bool, TransformFault> {
+    if extension.singleton() != b't' {
         return Ok(false);
     }
-    Ok(gives!(
-        alloc,
-        extension,
-        split_u(alloc, extension),
-        |answer| matches!(answer, Ok(parts) if has_unicode_words(alloc, parts, words)),
-        |answer| answer.is_err(),
-    ))
+    let parts = retried!(split_t(alloc, extension), TransformFault::OutOfMemory)?;
+    let copy = again!(parts.copy(alloc))?;
+    Ok(matches!(again!(join_t(alloc, &copy)), Ok(joined) if joined == *extension))
 }
 
-/// Whether the parts of a `u` extension are joined to it.
-fn unicode_is_joined(alloc: Global, extension: &Extension) -> Result<bool, Fail> {
-    if extension.singleton() != b'u' {
-        return Ok(false);
-    }
-    let parts = again!(split_u(alloc, extension))?;
-    let whole = shown(alloc, extension)?;
-    Ok(gives!(
-        alloc,
-        &parts,
-        join_u(alloc, &parts),
-        |answer| is_shown(alloc, answer, whole.as_str()),
-        |answer| answer.is_err(),
-    ))
-}
-
-/// Whether the parts of a `u` extension are copied.
-fn unicode_is_copied(alloc: Global, extension: &Extension) -> Result<bool, Fail> {
-    if extension.singleton() != b'u' {
-        return Ok(false);
-    }
-    let parts = again!(split_u(alloc, extension))?;
-    Ok(is_copied(alloc, &parts, || parts.copy(alloc))?)
-}
-
-/// Whether a `u` extension is split into parts of these words, and they are joined and copied.
-fn unicode_is_right(alloc: Global, extension: &Extension, words: &str) -> Result<bool, Fail> {
-    Ok(
-        unicode_is_split(alloc, extension, words)?
-            && unicode_is_joined(alloc, extension)?
-            && unicode_is_copied(alloc, extension)?,
-    )
-}
-
-/// Whether the `u` extension of a text is split, joined and copied.
-fn unicode_text(alloc: Global, text: &str, words: &str) -> Result<bool, Fail> {
+/// Whether the first extension of a text's tag has parts that are joined to it, or has none.
+fn transform_text(alloc: Global, text: &str, has_parts: bool) -> Result<bool, TagFault> {
     let tag = tag_of(alloc, text)?;
-    unicode_is_right(alloc, extension_of(&tag)?, words)
+    Ok(match tag.extensions() {
+        [first, ..] => match transform_is_joined(alloc, first) {
+            Ok(is_joined) => has_parts && is_joined,
+            Err(TransformFault::BadTransform) => !has_parts,
+            Err(TransformFault::OutOfMemory) => false,
+        },
+        _ => false,
+    })
 }
 
 #[test]
-fn unicode_extensions(rt: HostRuntime) -> Result<(), Fail> {
-    for (text, words) in UNICODE {
-        assert!(rt; unicode_text(rt.alloc(), text, words)?, "{text}");
-    }
-    Ok(())
-}
-
-/// Texts with the words of the parts of their `t` extension.
-const TRANSFORMS: &[(&str, &str)] = &[
-    (
-        "en-t-zh-yue-m0-names-a0-xyz",
-        " language zh extlang yue separator m0 value names separator a0 value xyz",
-    ),
-    (
-        "en-t-yue-a0-xyz-m0-names",
-        " language yue separator a0 value xyz separator m0 value names",
-    ),
-    (
-        "en-t-de-latn-de-1901",
-        " language de script latn region de variant 1901",
-    ),
-    (
-        "en-t-de-latn-at-1901-rozaj",
-        " language de script latn region at variant 1901 variant rozaj",
-    ),
-    (
-        "en-t-m0-aaa-M0-bbb",
-        " separator m0 value aaa separator m0 value bbb",
-    ),
-    ("en-t-de-m0-names", " language de separator m0 value names"),
-];
-
-/// Texts whose first extension, a `t`, has no parts.
-const NO_PARTS: &[&str] = &[
-    "en-t-m0",
-    "en-t-zh-yue-m0",
-    "en-t-m0-a0-aaa",
-    "en-t-de-m0-xx",
-    "en-t-m0-t-de",
-    "en-t-1994-m0-aaa",
-    "en-t-de-at-latn",
-    "en-t-m0-aaa-de",
-];
-
-/// Whether parts of a `t` extension have these words.
-fn has_transform_words(alloc: Global, parts: &TParts, words: &str) -> bool {
-    match again!(transform_words(alloc, parts)) {
-        Ok(found) => found.as_slice() == words.as_bytes(),
-        Err(_) => false,
-    }
-}
-
-/// Whether a `t` extension is split into parts of these words.
-fn transform_is_split(
-    alloc: Global,
-    extension: &Extension,
-    words: &str,
-) -> Result<bool, AllocError> {
-    if extension.singleton() != b't' {
-        return Ok(false);
-    }
-    Ok(gives!(
-        alloc,
-        extension,
-        split_t(alloc, extension),
-        |answer| matches!(answer, Ok(parts) if has_transform_words(alloc, parts, words)),
-        |answer| matches!(answer, Err(TransformFault::OutOfMemory)),
-    ))
-}
-
-/// Whether a `t` extension has no parts.
-fn is_not_split(alloc: Global, extension: &Extension) -> Result<bool, AllocError> {
-    if extension.singleton() != b't' {
-        return Ok(false);
-    }
-    Ok(gives!(
-        alloc,
-        extension,
-        split_t(alloc, extension),
-        |answer| matches!(answer, Err(TransformFault::BadTransform)),
-        |answer| matches!(answer, Err(TransformFault::OutOfMemory)),
-    ))
-}
-
-/// Whether the parts of a `t` extension are joined to it.
-fn transform_is_joined(alloc: Global, extension: &Extension) -> Result<bool, Fail> {
-    if extension.singleton() != b't' {
-        return Ok(false);
-    }
-    let parts = again!(split_t(alloc, extension))?;
-    let whole = shown(alloc, extension)?;
-    Ok(gives!(
-        alloc,
-        &parts,
-        join_t(alloc, &parts),
-        |answer| is_shown(alloc, answer, whole.as_str()),
-        |answer| answer.is_err(),
-    ))
-}
-
-/// Whether the parts of a `t` extension are copied.
-fn transform_is_copied(alloc: Global, extension: &Extension) -> Result<bool, Fail> {
-    if extension.singleton() != b't' {
-        return Ok(false);
-    }
-    let parts = again!(split_t(alloc, extension))?;
-    Ok(is_copied(alloc, &parts, || parts.copy(alloc))?)
-}
-
-/// Whether a `t` extension is split into parts of these words, and they are joined and copied.
-fn transform_is_right(alloc: Global, extension: &Extension, words: &str) -> Result<bool, Fail> {
-    Ok(
-        transform_is_split(alloc, extension, words)?
-            && transform_is_joined(alloc, extension)?
-            && transform_is_copied(alloc, extension)?,
-    )
-}
-
-/// Whether the `t` extension of a text is split, joined and copied.
-fn transform_text(alloc: Global, text: &str, words: &str) -> Result<bool, Fail> {
-    let tag = tag_of(alloc, text)?;
-    transform_is_right(alloc, extension_of(&tag)?, words)
-}
-
-#[test]
-fn transforms(rt: HostRuntime) -> Result<(), Fail> {
-    for (text, words) in TRANSFORMS {
-        assert!(rt; transform_text(rt.alloc(), text, words)?, "{text}");
-    }
-    Ok(())
-}
-
-/// Whether the first extension of a tag has no parts.
-fn has_no_parts(alloc: Global, tag: &Tag) -> Result<bool, Fail> {
-    let Some(extension) = tag.extensions().first() else {
-        return Err(Fail::from("no extension"));
-    };
-    Ok(is_not_split(alloc, extension)?)
-}
-
-#[test]
-fn transforms_without_parts(rt: HostRuntime) -> Result<(), Fail> {
-    for text in NO_PARTS {
-        assert!(rt;
-            has_no_parts(rt.alloc(), &tag_of(rt.alloc(), text)?)?,
-            "{text}"
-        );
+fn transforms(rt: HostRuntime) -> Result<(), TagFault> {
+    for (text, has_parts) in TRANSFORMS {
+        assert!(rt; transform_text(rt.alloc(), text, *has_parts)?, "{text}");
     }
     Ok(())
 }
@@ -438,7 +207,8 @@ fn set_languages(core: &mut Core) {
     }
 }
 
-/// Puts another script, another region and one variant in the place of a core's.
+/// Puts another script, another region and another variant in the place of a core's, and drops the first of three
+/// variants.
 fn set_others(core: &mut Core) {
     if let (Ok(script), Ok(region)) = (Subtag::read(b"latn"), Subtag::read(b"419"))
         && script.is_script()
@@ -451,7 +221,7 @@ fn set_others(core: &mut Core) {
     }
     if let Ok(variant) = Subtag::read(b"1996")
         && variant.is_variant()
-        && core.variants().len() == 2
+        && core.variants().len() == 3
     {
         core.set_variant(1, variant);
         core.remove_variant(0);
@@ -460,17 +230,14 @@ fn set_others(core: &mut Core) {
 
 /// Whether the texts of subtags are these.
 fn are_texts(subtags: &[Subtag], texts: &[&[u8]]) -> bool {
-    let mut others = texts.iter();
-    for subtag in subtags {
-        match others.next() {
-            Some(text) if subtag.bytes() == *text => {}
-            _ => return false,
-        }
-    }
-    others.next().is_none()
+    subtags.len() == texts.len()
+        && subtags
+            .iter()
+            .zip(texts)
+            .all(|(subtag, text)| subtag.bytes() == *text)
 }
 
-/// Whether a core has the parts of `ms-min-Latn-419-1996`.
+/// Whether a core has the parts of `ms-min-Latn-419-1996-1ab2`.
 fn is_malay(core: &Core) -> bool {
     let (Some(script), Some(region)) = (core.script(), core.region()) else {
         return false;
@@ -479,7 +246,7 @@ fn is_malay(core: &Core) -> bool {
         && are_texts(core.extlangs(), &[b"min"])
         && script.bytes() == b"latn".as_slice()
         && region.bytes() == b"419".as_slice()
-        && are_texts(core.variants(), &[b"1996"])
+        && are_texts(core.variants(), &[b"1996", b"1ab2"])
 }
 
 /// Whether a tag has extensions and private use as `zh-a-bb-x-c`, and is no grandfathered one.
@@ -499,11 +266,6 @@ fn is_read_and_copied(alloc: Global, text: &str) -> bool {
     matches!(read_tag(alloc, text.as_bytes()), Ok(tag) if tag.copy(alloc).is_ok())
 }
 
-/// Whether a text has this fault.
-fn has_fault(alloc: Global, text: &str, kind: TagFaultKind) -> bool {
-    matches!(read_tag(alloc, text.as_bytes()), Err(fault) if fault.kind == kind)
-}
-
 #[test]
 fn tags_without_growth(rt: HostRuntime) -> Result<(), Fail> {
     let tag = tag_of(rt.alloc(), "zh-yue-Hant-HK-1996")?;
@@ -512,14 +274,15 @@ fn tags_without_growth(rt: HostRuntime) -> Result<(), Fail> {
     assert!(rt; append_tag(&mut texts, &tag).is_ok());
     assert!(rt; is_read_and_copied(rt.alloc(), "zh-yue-Hant-HK"));
     assert!(rt; is_read_and_copied(rt.alloc(), "i-klingon"));
-    assert!(rt; has_fault(rt.alloc(), "en_US", TagFaultKind::BadByte));
+    assert!(rt; is_at_fault(rt.alloc(), "en_US", "BadByte", 1));
     Ok(())
 }
 
+/// The core is changed in each of its parts.
 #[test]
 fn parts_without_growth(rt: HostRuntime) -> Result<(), Fail> {
     let alloc = rt.alloc();
-    let tag = tag_of(alloc, "zh-yue-hant-hk-1901-abcde-a-bb-x-c")?;
+    let tag = tag_of(alloc, "zh-yue-hant-hk-1901-abcde-1ab2-a-bb-x-c")?;
     let Some(core) = tag.core() else {
         return Err(Fail::from("no core"));
     };

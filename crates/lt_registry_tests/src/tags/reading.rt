@@ -1,7 +1,6 @@
 //! Texts with their tags, or with their faults and places.
-use super::words::{has_class, has_words, long_text};
-use lt_tag::{Class, TagFault, cut_piece, first_hyphen, read_tag};
-use std::alloc::{AllocError, Global};
+use lt_tag::{TagFault, cut_piece, first_hyphen, read_tag};
+use std::alloc::Global;
 
 /// Texts with the names and the places of their faults.
 pub const FAULTS: &[(&str, &str, u32)] = &[
@@ -30,13 +29,28 @@ pub const FAULTS: &[(&str, &str, u32)] = &[
     ("x", "Unfinished", 2),
 ];
 
-/// Whether a text has a fault of this name at this place.
-fn has_fault(alloc: Global, text: &[u8], name: &str, place: u32) -> bool {
-    match read_tag(alloc, text) {
-        Ok(_) => false,
-        Err(fault) => fault.kind.name() == name && fault.place == place,
-    }
-}
+/// Texts with their tags as they are printed.
+pub const TEXTS: &[(&str, &str)] = &[
+    ("ZH-yue-hant-hk", "zh-yue-Hant-HK"),
+    ("sl-ROZAJ-1994", "sl-rozaj-1994"),
+    ("en-1ABC", "en-1abc"),
+    ("AZ-latn-x-LATN", "az-Latn-x-latn"),
+    ("en-ca-X-CA", "en-CA-x-ca"),
+    ("sgn-dd-x-A", "sgn-DD-x-a"),
+    ("art-lojban-x-A", "art-lojban-x-a"),
+    ("en-1-AA-x-C-DD", "en-1-aa-x-c-dd"),
+    ("en-b-ccc-BBB-a-aaa-X-xyz", "en-b-ccc-bbb-a-aaa-x-xyz"),
+    ("X-AB-hans-c", "x-ab-hans-c"),
+    ("en-Latn-a-bb", "en-Latn-a-bb"),
+    (
+        "zh-yue-Hant-HK-1901-abcde-a-bb-cc-b-dd-x-e",
+        "zh-yue-Hant-HK-1901-abcde-a-bb-cc-b-dd-x-e",
+    ),
+    ("x-a-bb", "x-a-bb"),
+    ("en-GB-oed", "en-GB-oed"),
+    ("zh-MIN", "zh-min"),
+    ("X-a", "x-a"),
+];
 
 /// Texts, the place of the first hyphen of each, and what is before and after that.
 const CUTS: &[(&str, Option<usize>, &str, Option<&str>)] = &[
@@ -62,119 +76,46 @@ fn texts_are_cut(rt: HostRuntime) {
     }
 }
 
-/// Texts of 1,024 bytes: the first piece, the last one, and how many variants and subtags of
-/// private use they have.
-const LONGEST: [(&str, &str, usize, usize); 2] = [("en-x", "-aa", 0, 114), ("en", "-1aaa", 114, 0)];
-
-/// Whether a text's tag has this many variants and subtags of private use.
-fn has_counts(
-    alloc: Global,
-    text: &[u8],
-    variants: usize,
-    private: usize,
-) -> Result<bool, TagFault> {
-    let tag = read_tag(alloc, text)?;
-    Ok(match tag.core() {
-        Some(core) => core.variants().len() == variants && tag.private().len() == private,
-        None => false,
-    })
-}
-
-/// Whether such a text has 1,024 bytes and is read.
-fn is_read(
-    alloc: Global,
-    first: &str,
-    last: &str,
-    variants: usize,
-    private: usize,
-) -> Result<bool, TagFault> {
-    let text = long_text(alloc, first, last)?;
-    Ok(text.len() == 1024 && has_counts(alloc, &text, variants, private)?)
-}
-
-#[test]
-fn longest_texts(rt: HostRuntime) -> Result<(), TagFault> {
-    for (first, last, variants, private) in &LONGEST {
-        assert!(rt;
-            is_read(rt.alloc(), first, last, *variants, *private)?,
-            "{first}"
-        );
-    }
-    Ok(())
-}
-
-/// The first and the last piece of texts of 1,025 bytes.
-const LONGER: [(&str, &str); 2] = [("en-x", "-aaa"), ("en", "-aaaaa")];
-
-/// Whether such a text has 1,025 bytes and is refused.
-fn is_too_long(alloc: Global, first: &str, last: &str) -> Result<bool, AllocError> {
-    let text = long_text(alloc, first, last)?;
-    Ok(text.len() == 1025 && has_fault(alloc, &text, "TooLong", 0))
-}
-
-#[test]
-fn longer_texts(rt: HostRuntime) -> Result<(), AllocError> {
-    for (first, last) in &LONGER {
-        assert!(rt; is_too_long(rt.alloc(), first, last)?, "{first}");
-    }
-    Ok(())
-}
-
-/// Texts with their classes and the numbers of those that are grandfathered.
-const CLASSES: &[(&str, Class, Option<u8>)] = &[
-    ("en-gb-OED", Class::Grandfathered, Some(1)),
-    ("SGN-be-fr", Class::Grandfathered, Some(15)),
-    ("zh-MIN", Class::Grandfathered, Some(24)),
-    ("ZH-min-nan", Class::Grandfathered, Some(25)),
-    ("zh-xiang", Class::Grandfathered, Some(26)),
-    ("zh-min-x-a", Class::LangTag, None),
-    ("art-lojban-x-A", Class::LangTag, None),
-    ("sl-rozaj-b-ccc-a-aaa-x-yz-1", Class::LangTag, None),
-    ("X-a", Class::PrivateUse, None),
-    ("x-ab-c", Class::PrivateUse, None),
-    // It takes no memory.
-    ("ZH-yue-hant-hk", Class::LangTag, None),
+/// The texts of the grandfathered tags in the order of their numbers.
+const GRANDFATHERED: &[&str] = &[
+    "en-GB-oed",
+    "i-ami",
+    "i-bnn",
+    "i-default",
+    "i-enochian",
+    "i-hak",
+    "i-klingon",
+    "i-lux",
+    "i-mingo",
+    "i-navajo",
+    "i-pwn",
+    "i-tao",
+    "i-tay",
+    "i-tsu",
+    "sgn-BE-FR",
+    "sgn-BE-NL",
+    "sgn-CH-DE",
+    "art-lojban",
+    "cel-gaulish",
+    "no-bok",
+    "no-nyn",
+    "zh-guoyu",
+    "zh-hakka",
+    "zh-min",
+    "zh-min-nan",
+    "zh-xiang",
 ];
 
-#[test]
-fn classes(rt: HostRuntime) -> Result<(), TagFault> {
-    for (text, class, number) in CLASSES {
-        assert!(rt; has_class(rt.alloc(), text, *class, *number)?, "{text}");
-    }
-    Ok(())
+/// The number of the grandfathered tag of a text.
+fn number_of(alloc: Global, text: &str) -> Result<Option<u8>, TagFault> {
+    Ok(read_tag(alloc, text.as_bytes())?.grandfathered())
 }
 
-/// Texts with the parts of their tags.
-const PARTS: &[(&str, &str)] = &[
-    (
-        "ZH-yue-hant-hk",
-        " language zh extlang yue script hant region hk",
-    ),
-    (
-        "zh-yue-hant-hk-1901",
-        " language zh extlang yue script hant region hk variant 1901",
-    ),
-    ("sl-ROZAJ-1994", " language sl variant rozaj variant 1994"),
-    ("en-1ABC", " language en variant 1abc"),
-    ("en-Latn-a-bb", " language en script latn extension a bb"),
-    (
-        "en-1-AA-x-C-DD",
-        " language en extension 1 aa private c private dd",
-    ),
-    ("art-lojban-x-A", " language art variant lojban private a"),
-    (
-        "sl-rozaj-b-ccc-a-aaa-x-yz-1",
-        " language sl variant rozaj extension b ccc extension a aaa private yz private 1",
-    ),
-    ("X-a", " private a"),
-    ("x-ab-c", " private ab private c"),
-    ("zh-MIN", ""),
-];
-
 #[test]
-fn parts_of_tags(rt: HostRuntime) -> Result<(), TagFault> {
-    for (text, words) in PARTS {
-        assert!(rt; has_words(rt.alloc(), text, words)?, "{text}");
+fn grandfathered_tags_have_numbers(rt: HostRuntime) -> Result<(), TagFault> {
+    for (number, text) in (1..=26u8).zip(GRANDFATHERED) {
+        assert!(rt; number_of(rt.alloc(), text)? == Some(number), "{text}");
     }
+    assert!(rt; number_of(rt.alloc(), "zh-min-x-a")?.is_none());
     Ok(())
 }

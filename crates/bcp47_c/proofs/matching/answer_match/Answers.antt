@@ -7,7 +7,7 @@ use Rattle.bcp47_c.proofs.matching.answer_match.Goals as goal
 pub returns-then-is_matched : goal.returns-then-is_matched
 returns-then-is_matched c =
     let answer = told_by_parts c.args.registry.now c.promise.ensures.checked c.args.scheme c.args.range.now
-    c.args.text.now c.in-Ok.canonical c.in-Ok-subtags_of_text.subtags c.is_matched.result
+    c.args.text.now c.in-Ok.known c.in-Ok-subtags_of_text.subtags c.is_matched.result
     ((c.in-Ok.ensures {u = tt}).range) ((c.in-Ok-subtags_of_text.ensures {u = tt}).subtags) c.is_matched.ensures in
     let said = c.ended.ensures ∙ ap (λ b. ended (if b then 0 else 6)) (sym c.if-is_matched.true) in
     told_match c.args.registry.now c.args.scheme c.args.range.now c.args.text.now c.args.buffer.now
@@ -16,7 +16,7 @@ returns-then-is_matched c =
 pub returns : goal.returns
 returns c =
     let answer = told_by_parts c.args.registry.now c.promise.ensures.checked c.args.scheme c.args.range.now
-    c.args.text.now c.in-Ok.canonical c.in-Ok-subtags_of_text.subtags c.is_matched.result
+    c.args.text.now c.in-Ok.known c.in-Ok-subtags_of_text.subtags c.is_matched.result
     ((c.in-Ok.ensures {u = tt}).range) ((c.in-Ok-subtags_of_text.ensures {u = tt}).subtags) c.is_matched.ensures in
     let said = c.ended-else-is_matched.ensures ∙ ap (λ b. ended (if b then 0 else 6)) (sym c.if-is_matched.false) in
     told_match c.args.registry.now c.args.scheme c.args.range.now c.args.text.now c.args.buffer.now

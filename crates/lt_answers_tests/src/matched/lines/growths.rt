@@ -2,7 +2,7 @@
 use super::{checked_table, ranges_of, select};
 use lt_check::Checked;
 use lt_jar::{Device, Pieces};
-use lt_match::LanguageRange;
+use lt_range::LanguageRange;
 use lt_registry::SortedTable;
 use lt_select::{Scheme, look_up_line};
 use lt_stream::ToolFault;

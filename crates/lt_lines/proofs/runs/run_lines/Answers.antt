@@ -1,12 +1,5 @@
-use Rattle.std.proofs.Common.{refl}
-use Rattle.lt_lines.specs.Owed.{ground_of, terms}
-use Rattle.lt_lines.proofs.RunLemmas.{reading_none, runs_lines}
+use Rattle.lt_lines.proofs.TagLemmas.{runs_tags}
 use Rattle.lt_lines.proofs.runs.run_lines.Goals as goal
 
-pub run_pieces-end-requires : goal.run_pieces-end-requires
-run_pieces-end-requires g c = (refl, reading_none _ _ _ _ (c.new.ensures _ refl))
-
 pub returns : goal.returns
-returns g c =
-    rw c.swap.ensures.x_after (runs_lines (terms (ground_of g.L.Lookup.listed c.args.basis.now) c.args.form) (λ here. terms (ground_of g.L.Lookup.listed here.basis.now) here.form) (λ here. here.text)
-    g.R.Read.remaining g.W.Write.contents _ _ _ _ _ _ c.run_pieces-end.ensures)
+returns g c = runs_tags (g.L.Lookup.listed c.args.checked.now) g.R.Read.remaining g.W.Write.contents _ _ _ _ _ _ c.run_tallied.ensures

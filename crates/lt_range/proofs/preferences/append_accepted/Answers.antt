@@ -1,5 +1,6 @@
-use Rattle.std.proofs.Common.{◌≡◌, ◌++◌, List, ℕ, [], ◌∷◌, true, false, refl, ap, ◌∙◌}
-use Rattle.std.proofs.lemmas.List.{append_assoc}
+use Rattle.std.proofs.Common.{◌≡◌, ◌++◌, List, ℕ, [], ◌∷◌, true, false, get_or, sym, ap, ◌∙◌}
+use Rattle.std.proofs.lemmas.List.{append_assoc, get_or_default}
+use Rattle.lt_range.specs.Lookup.{tag_at}
 use Rattle.lt_range.specs.Preferences.{Accepts}
 use Rattle.lt_range.proofs.FilterLemmas.{places_yes, places_no, places_end}
 use Rattle.lt_range.proofs.preferences.append_accepted.Goals as goal
@@ -10,18 +11,19 @@ loop-place-preserved c =
     let P = Accepts c.args.all.now c.args.index in
     let tags = c.args.tags.now in
     let i = c.loop-place.place in
-    let t = c.index-tags-place.result in
     let found = c.loop-place.invariant.0 in
+    let here : tag_at tags i ≡ get_or tags i (tag_at tags i) = get_or_default tags i [] (tag_at tags i) c.loop-place-test.true in
+    let tells = c.accepts.ensures (tag_at tags i) (c.requires.decided.each i c.loop-place-test.true) in
     elim c.if-accepts.branch [
       | then-accepts+in_ok-push w ↦ (
         found ++ i ∷ [],
         rw w.places-is (w.in_ok-push.ensures.items ∙ ap (λ (l : List ℕ). l ++ i ∷ []) c.loop-place.invariant.1 ∙ append_assoc _ found (i ∷ [])),
-        places_yes P tags i t found c.loop-place-test.true c.index-tags-place.is (w.if-accepts.ensures.0 refl) c.loop-place.invariant.2,
+        places_yes P tags i (tag_at tags i) found c.loop-place-test.true here (tells.0 w.if-accepts.true) c.loop-place.invariant.2,
       )
       | else-accepts w ↦ (
         found,
         rw w.places-is c.loop-place.invariant.1,
-        places_no P tags i t found c.loop-place-test.true c.index-tags-place.is (λ p. let bad : false ≡ true = w.if-accepts.ensures.1 p in cc) c.loop-place.invariant.2,
+        places_no P tags i (tag_at tags i) found c.loop-place-test.true here (λ p. let bad : false ≡ true = sym w.if-accepts.false ∙ tells.1 p in cc) c.loop-place.invariant.2,
       )
     ]
 

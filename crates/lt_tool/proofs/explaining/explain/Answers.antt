@@ -4,10 +4,9 @@ use Rattle.lt_tool.proofs.ResultLemmas.{is_fault}
 use Rattle.lt_tool.proofs.explaining.explain.Goals as goal
 
 pub returns-in_err-left : goal.returns-in_err-left
-returns-in_err-left g c = inl (c.in_err-left.field-0.0, (c.in_err-left.ensures {u = tt}).refusal, refl, is_fault _ _ c.from_residual.ensures.1)
+returns-in_err-left g c =
+    inl (c.in_err-left.field-0.0, (c.in_err-left.ensures {u = tt}).refusal, refl, is_fault _ _ c.from_residual.ensures.1)
 
-pub returns-in-Ok : goal.returns-in-Ok
-returns-in-Ok g c = explained _ _ _ _ _ (c.in_ok-left.ensures {u = tt}).whole c.in-Ok.ensures
-
-pub returns-in-Err : goal.returns-in-Err
-returns-in-Err g c = explained _ _ _ _ _ (c.in_ok-left.ensures {u = tt}).whole c.in-Err.ensures
+pub returns : goal.returns
+returns g c =
+    rw c.written.ensures (explained _ _ _ _ _ (c.in_ok-left.ensures {u = tt}).whole (rw c.new-2.ensures.items at c.write_lines.ensures))

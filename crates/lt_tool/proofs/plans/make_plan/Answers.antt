@@ -39,7 +39,7 @@ pub returns-in-Upgrade : goal.returns-in-Upgrade
 returns-in-Upgrade g c = rw c.in-Upgrade.is (refl, c.upgrade.ensures)
 
 pub returns-in-Show : goal.returns-in-Show
-returns-in-Show g c = rw c.in-Show.is (refl, refl, c.show.ensures)
+returns-in-Show g c = rw c.in-Show.is (refl, refl, c.plan_show.ensures)
 
 pub returns-in-Json : goal.returns-in-Json
 returns-in-Json g c = rw c.in-Json.is (refl, refl, c.plan_json.ensures)

@@ -1,4 +1,4 @@
-use Rattle.std.proofs.Common.{inl, inr, refl}
+use Rattle.std.proofs.Common.{inl, inr}
 use Rattle.lt_tool.proofs.ResultLemmas.{is_fault}
 use Rattle.lt_tool.proofs.program.open_files.Goals as goal
 

@@ -1,4 +1,4 @@
-use Rattle.std.proofs.Common.{Err, Ok, refl}
+use Rattle.std.proofs.Common.{refl}
 use Rattle.lt_tool.proofs.rows.place_of.Goals as goal
 
 pub returns-in-Number : goal.returns-in-Number

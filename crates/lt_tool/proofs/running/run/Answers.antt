@@ -16,5 +16,8 @@ returns-in-Explain g c = rw c.in-Explain.is (refl, refl, c.explain.ensures)
 pub returns-in-Verify : goal.returns-in-Verify
 returns-in-Verify g c = rw c.in-Verify.is (refl, refl, c.verify.ensures)
 
+pub returns-in-Show : goal.returns-in-Show
+returns-in-Show g c = rw c.in-Show.is (refl, refl, rw c.records.ensures at c.show_texts.ensures)
+
 pub returns-in-Json : goal.returns-in-Json
 returns-in-Json g c = rw c.in-Json.is (refl, c.answer_in_json.ensures)

@@ -8,6 +8,14 @@ package bcp47;
  * @param refusal why it is refused, or null where it is not
  */
 public record Answer(String canonical, Refusal refusal) {
+    /** The canonical text of a tag. */
+    String get(CharSequence tag) {
+        if (refusal != null) {
+            throw new RefusedTag(refusal, tag);
+        }
+        return canonical;
+    }
+
     /** @return the line that the program prints: the canonical text, or <code>! </code> and the refusal */
     @Override
     public String toString() {

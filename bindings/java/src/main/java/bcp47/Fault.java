@@ -111,6 +111,10 @@ public enum Fault {
     U6(52),
     /** The first subtag of a language range has a digit: begin with a language of letters alone, or with *. */
     BAD_FIRST(53),
+    /** A range of the header has a * beside other subtags: write it without *, or * alone. */
+    EXTENDED_RANGE(54),
+    /** What follows a range of the header is no weight: write ;q= and a number from 0 to 1 with up to three decimals, or a comma. */
+    BAD_WEIGHT(55),
     /** Replacements would repeat the variant that is named: remove one of the variants. */
     REPLACEMENT_REPEATS(-3),
     /** The explanation has more steps than were allowed: allow more, or leave the tag unexplained. */

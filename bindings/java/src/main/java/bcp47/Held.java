@@ -1,49 +1,48 @@
 // SPDX-License-Identifier: MIT OR Apache-2.0
 package bcp47;
 
+import java.lang.ref.Cleaner;
 import java.util.concurrent.atomic.AtomicLong;
+import java.util.function.LongConsumer;
+import java.util.function.LongFunction;
 
-/** A registry of the library, and how many calls are under way on it. Once it is closed, the last of them frees it. */
+/** What is open in the library, and how many calls are under way on it. Once it is closed, the last of them frees it. */
 final class Held implements Runnable {
+    static final Cleaner CLEANER = Cleaner.create();
     private static final long CLOSED = 1L << 32;
 
-    private final long registry;
+    private final long address;
+    private final LongConsumer free;
     private final AtomicLong calls = new AtomicLong();
 
-    Held(long registry) {
-        this.registry = registry;
+    Held(long address, LongConsumer free) {
+        this.address = address;
+        this.free = free;
     }
 
-    /** The registry, until {@link #give}. */
-    long take() {
+    /** What a call answers, which has it until then. */
+    <T> T ask(LongFunction<T> call) {
         long count;
         do {
             count = calls.get();
             if (count >= CLOSED) {
-                throw new IllegalStateException("the registry is closed");
+                throw new IllegalStateException("it is closed");
             }
         } while (!calls.compareAndSet(count, count + 1));
-        return registry;
-    }
-
-    void give() {
-        if (calls.decrementAndGet() == CLOSED) {
-            Native.close(registry);
+        try {
+            return call.apply(address);
+        } finally {
+            if (calls.decrementAndGet() == CLOSED) {
+                free.accept(address);
+            }
         }
     }
 
-    /** Closes it; where it is closed already, this does nothing. */
+    /** Closes it, as a {@link Cleaner} does once. */
     @Override
     public void run() {
-        long count;
-        do {
-            count = calls.get();
-            if (count >= CLOSED) {
-                return;
-            }
-        } while (!calls.compareAndSet(count, count + CLOSED));
-        if (count == 0) {
-            Native.close(registry);
+        if (calls.getAndAdd(CLOSED) == 0) {
+            free.accept(address);
         }
     }
 }

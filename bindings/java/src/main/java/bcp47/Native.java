@@ -8,9 +8,13 @@ import java.nio.file.Files;
 import java.nio.file.Path;
 import java.nio.file.StandardCopyOption;
 
-/** The calls of the library. A tag is its bytes; what is answered is what a call gives, or a {@link Refusal}. */
+/**
+ * The calls of the library. A tag is its bytes. How a call ended goes to five numbers: its status, of which 0 says that it is done, the
+ * fault, its place, of which of two texts it is, and the address of what was opened. Where it is not done, a text that is answered is
+ * the variant, or the line of a registry, or null.
+ */
 final class Native {
-    static final int STATUS = 0, STATUS_HELP = 1, FAULT = 2, FAULT_HELP = 3, PART_KIND = 4;
+    static final int STATUS = 0, STATUS_HELP = 1, FAULT = 2, FAULT_HELP = 3, PART_KIND = 4, STEP_KIND = 5;
 
     static {
         load();
@@ -22,28 +26,46 @@ final class Native {
 
     static native String name(int which, int number);
 
-    static native Object open(byte[] bytes);
+    static native String open(byte[] bytes, long[] ended);
 
     static native void close(long registry);
 
     /** Null where the text is that of the tag. */
-    static native Object text(long registry, byte[] tag, boolean extlang);
+    static native String text(long registry, byte[] tag, boolean extlang, long[] ended);
 
-    static native Object parts(byte[] tag);
+    /** The text of the tag, a point, and a character for each part. */
+    static native String parts(byte[] tag, long[] ended);
 
-    static native Object parent(byte[] tag);
+    static native String parent(byte[] tag, long[] ended);
 
-    /** An array of the names and bodies of the fields in turn, each its bytes. */
-    static native Object record(long registry, int number);
+    static native String with(byte[] tag, int part, byte[] value, long[] ended);
 
-    static native Refusal validate(long registry, byte[] tag);
+    static native String posix(byte[] name, long[] ended);
 
-    /** Null where they match, and so does the scheme 0 for two tags that are equivalent. */
-    static native Refusal match(long registry, int scheme, byte[] range, byte[] tag);
+    /** The names and bodies of the fields in turn, with a zero after each. */
+    static native byte[] record(long registry, int number, long[] ended);
 
-    static native Object explain(long registry, byte[] tag, long most);
+    static native void validate(long registry, byte[] tag, long[] ended);
+
+    /** The scheme 0 asks whether two tags are equivalent. */
+    static native String match(long registry, int scheme, byte[] range, byte[] tag, long[] ended);
+
+    /** The tags to which the steps lead, and the canonical one, a line each; the kind, place and number of each step go to an array. */
+    static native String explain(long registry, byte[] tag, long most, long[] ended, int[][] steps);
 
     static native long info(long registry, byte[] date, byte[] sha256);
+
+    /** The tags stand one after another, each of its length. */
+    static native void openAvailable(long registry, byte[] tags, int[] lengths, long[] ended);
+
+    static native void closeAvailable(long available);
+
+    /** The number of the best tag, or 0; or how many a header accepts, whose numbers go to an array, if there is one. */
+    static native int best(long available, byte[] accept, int[] places, long[] ended);
+
+    static long[] ended() {
+        return new long[5];
+    }
 
     static byte[] bytes(CharSequence text) {
         return text.toString().getBytes(StandardCharsets.UTF_8);

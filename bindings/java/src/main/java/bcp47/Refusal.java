@@ -6,7 +6,8 @@ import java.io.Serializable;
 /** Why something is refused: an answer, and what a {@link Refused} tells. */
 public final class Refusal implements Serializable {
     private static final long serialVersionUID = 1;
-    private static final int REPEATS = 3, OUT_OF_MEMORY = 4, DIFFERENT = 6, BUSY = 15;
+    static final int DIFFERENT = 6, BAD_CALL = 14;
+    private static final int REPEATS = 3, OUT_OF_MEMORY = 4, BUSY = 15;
 
     /** How the call ended. */
     private final int statusNumber;
@@ -16,39 +17,25 @@ public final class Refusal implements Serializable {
     private final long place;
     /** The variant, or the line of a registry, or null. */
     private final String text;
-    /** Of which of two tags it is. */
-    private final int which;
-
-    /** Of an outcome of the library: its status, the number of a fault, its place, a text or null, and which of two tags it is of. */
-    Refusal(int status, int fault, long place, String text, int which) {
-        statusNumber = status;
-        this.fault = Fault.of(status, fault);
-        this.place = place;
+    private Refusal(long[] ended, String text) {
+        statusNumber = (int) ended[0];
+        fault = Fault.of(statusNumber, (int) ended[1]);
+        place = ended[2];
         this.text = text;
-        this.which = which;
     }
 
-    /** Throws where memory ran out, or it was too little for so many calls at once, which is no refusal. */
-    Refusal checked() {
-        if (statusNumber == OUT_OF_MEMORY) {
-            throw new OutOfMemoryError("bcp47: OutOfMemory");
+    /** Why a call is refused that ended so, or null where it is done; it throws where memory ran out, or was too little for so many calls. */
+    static Refusal of(long[] ended, String text) {
+        switch ((int) ended[0]) {
+            case 0:
+                return null;
+            case OUT_OF_MEMORY:
+                throw new OutOfMemoryError("bcp47: OutOfMemory");
+            case BUSY:
+                throw new BusyException();
+            default:
+                return new Refusal(ended, text);
         }
-        if (statusNumber == BUSY) {
-            throw new BusyException();
-        }
-        return this;
-    }
-
-    boolean isDifferent() {
-        return statusNumber == DIFFERENT;
-    }
-
-    boolean isVariant() {
-        return statusNumber == REPEATS;
-    }
-
-    boolean isOfSecond() {
-        return which == 2;
     }
 
     /** @return how the call ended, for example <code>NotATag</code> */
@@ -68,7 +55,7 @@ public final class Refusal implements Serializable {
 
     /** @return the variant that replacements can repeat, or null where that is not why */
     public String variant() {
-        return isVariant() ? text : null;
+        return statusNumber == REPEATS ? text : null;
     }
 
     /** @return what the fault means, and what to do, in a sentence */
@@ -79,7 +66,7 @@ public final class Refusal implements Serializable {
     /** @return the line of the program <code>langtag</code> without <code>! </code>, for example <code>BadByte 1</code> */
     @Override
     public String toString() {
-        if (isVariant()) {
+        if (statusNumber == REPEATS) {
             return fault + " " + text;
         }
         if (text != null) {

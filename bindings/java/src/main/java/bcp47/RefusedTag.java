@@ -17,6 +17,14 @@ public final class RefusedTag extends Refused {
         this.tag = tag.subSequence(0, Math.min(tag.length(), LONGEST)).toString();
     }
 
+    /** Throws where a call that was asked for a tag is refused. */
+    static void check(long[] ended, String text, CharSequence tag) {
+        Refusal refusal = Refusal.of(ended, text);
+        if (refusal != null) {
+            throw new RefusedTag(refusal, tag);
+        }
+    }
+
     /** @return the text that is refused: no more than its first 1,024 characters */
     public String tag() {
         return tag;

@@ -8,11 +8,10 @@ import java.lang.ref.Cleaner;
 import java.nio.charset.StandardCharsets;
 import java.nio.file.Files;
 import java.nio.file.Path;
-import java.util.Arrays;
+import java.util.Collection;
 import java.util.HexFormat;
 import java.util.List;
 import java.util.Objects;
-import java.util.function.LongFunction;
 import java.util.stream.IntStream;
 
 /**
@@ -23,7 +22,6 @@ import java.util.stream.IntStream;
  * <p>It has some 2 MB that the heap does not show: open one, and keep it.
  */
 public final class Registry implements AutoCloseable {
-    private static final Cleaner CLEANER = Cleaner.create();
     /** The most steps of an explanation, if a call names no number. */
     private static final int STEPS = 20_000;
 
@@ -31,12 +29,13 @@ public final class Registry implements AutoCloseable {
     private final Cleaner.Cleanable cleanable;
 
     private Registry(byte[] content) {
-        Object answer = Native.open(Objects.requireNonNull(content));
-        if (!(answer instanceof Long registry)) {
-            throw new RefusedRegistry(((Refusal) answer).checked());
+        long[] ended = Native.ended();
+        Refusal refusal = Refusal.of(ended, Native.open(Objects.requireNonNull(content), ended));
+        if (refusal != null) {
+            throw new RefusedRegistry(refusal);
         }
-        held = new Held(registry);
-        cleanable = CLEANER.register(this, held);
+        held = new Held(ended[4], Native::close);
+        cleanable = Held.CLEANER.register(this, held);
     }
 
     /** @return the version of the library */
@@ -90,23 +89,12 @@ public final class Registry implements AutoCloseable {
         cleanable.clean();
     }
 
-    /** What a call answers, which has the registry until then. */
-    private <T> T ask(LongFunction<T> call) {
-        long registry = held.take();
-        try {
-            return call.apply(registry);
-        } finally {
-            held.give();
-        }
-    }
-
-    private static String text(Object answer, CharSequence tag) {
-        return answer == null ? tag.toString() : Tag.text(answer, tag);
-    }
-
-    private Object asked(CharSequence tag, boolean extlang) {
+    private Answer answer(CharSequence tag, boolean extlang) {
         byte[] bytes = Native.bytes(tag);
-        return ask(registry -> Native.text(registry, bytes, extlang));
+        long[] ended = Native.ended();
+        String text = held.ask(registry -> Native.text(registry, bytes, extlang, ended));
+        Refusal refusal = Refusal.of(ended, text);
+        return new Answer(refusal == null && text == null ? tag.toString() : refusal == null ? text : null, refusal);
     }
 
     /**
@@ -117,7 +105,7 @@ public final class Registry implements AutoCloseable {
      * @throws RefusedTag where there is none
      */
     public String canonical(CharSequence tag) {
-        return text(asked(tag, false), tag);
+        return answer(tag).get(tag);
     }
 
     /**
@@ -128,8 +116,7 @@ public final class Registry implements AutoCloseable {
      * @return the answer
      */
     public Answer answer(CharSequence tag) {
-        Object answer = asked(tag, false);
-        return answer instanceof Refusal refusal ? new Answer(null, refusal.checked()) : new Answer(text(answer, tag), null);
+        return answer(tag, false);
     }
 
     /**
@@ -140,13 +127,17 @@ public final class Registry implements AutoCloseable {
      * @throws RefusedTag where there is none
      */
     public String extlang(CharSequence tag) {
-        return text(asked(tag, true), tag);
+        return answer(tag, true).get(tag);
     }
 
-    private Refusal validated(CharSequence tag) {
+    private long[] validated(CharSequence tag) {
         byte[] bytes = Native.bytes(tag);
-        Refusal refusal = ask(registry -> Native.validate(registry, bytes));
-        return refusal == null ? null : refusal.checked();
+        long[] ended = Native.ended();
+        held.ask(registry -> {
+            Native.validate(registry, bytes, ended);
+            return null;
+        });
+        return ended;
     }
 
     /**
@@ -156,10 +147,7 @@ public final class Registry implements AutoCloseable {
      * @throws RefusedTag where it is not
      */
     public void validate(CharSequence tag) {
-        Refusal refusal = validated(tag);
-        if (refusal != null) {
-            throw new RefusedTag(refusal, tag);
-        }
+        RefusedTag.check(validated(tag), null, tag);
     }
 
     /**
@@ -169,17 +157,19 @@ public final class Registry implements AutoCloseable {
      * @return whether it is
      */
     public boolean isValid(CharSequence tag) {
-        return validated(tag) == null;
+        return Refusal.of(validated(tag), null) == null;
     }
 
     private boolean agree(int scheme, CharSequence first, CharSequence second) {
         byte[] one = Native.bytes(first);
         byte[] other = Native.bytes(second);
-        Refusal refusal = ask(registry -> Native.match(registry, scheme, one, other));
-        if (refusal == null || refusal.isDifferent()) {
-            return refusal == null;
+        long[] ended = Native.ended();
+        String variant = held.ask(registry -> Native.match(registry, scheme, one, other, ended));
+        if (ended[0] == Refusal.DIFFERENT) {
+            return false;
         }
-        throw new RefusedTag(refusal.checked(), refusal.isOfSecond() ? second : first);
+        RefusedTag.check(ended, variant, ended[3] == 2 ? second : first);
+        return true;
     }
 
     /**
@@ -195,8 +185,8 @@ public final class Registry implements AutoCloseable {
     }
 
     /**
-     * Tells whether a language range matches a tag (RFC 4647, 3.3 and 3.4), both by their canonical forms: <code>zh-yue</code>
-     * matches <code>yue-HK</code>. A range that is no valid tag, for example <code>zh-*</code>, is taken as it is written.
+     * Tells whether a language range matches a tag (RFC 4647, 3.3 and 3.4), both by their extlang forms: <code>zh-yue</code>
+     * matches <code>yue-HK</code>. Of a range that is no valid tag, for example <code>yue-*</code>, the first subtag has this form.
      *
      * @param range a language range
      * @param tag a tag
@@ -206,6 +196,17 @@ public final class Registry implements AutoCloseable {
      */
     public boolean matches(CharSequence range, CharSequence tag, Scheme scheme) {
         return agree(scheme.ordinal() + 1, range, tag);
+    }
+
+    /**
+     * Prepares the tags of which a service serves one to each reader.
+     *
+     * @param tags the tags
+     * @return what tells which of them that is
+     * @throws RefusedTag for the first that {@link #canonical} refuses
+     */
+    public Available available(Collection<? extends CharSequence> tags) {
+        return new Available(held, tags);
     }
 
     /**
@@ -229,13 +230,13 @@ public final class Registry implements AutoCloseable {
      */
     public Explanation explain(CharSequence tag, int most) {
         byte[] bytes = Native.bytes(tag);
-        Object answer = ask(registry -> Native.explain(registry, bytes, Math.max(most, 0)));
-        if (answer instanceof Refusal refusal) {
-            throw new RefusedTag(refusal.checked(), tag);
-        }
-        List<?> all = Arrays.asList((Object[]) answer);
-        int last = all.size() - 1;
-        return new Explanation(all.subList(0, last).stream().map(Step.class::cast).toList(), (String) all.get(last));
+        long[] ended = Native.ended();
+        int[][] steps = new int[1][];
+        String lines = held.ask(registry -> Native.explain(registry, bytes, Math.max(most, 0), ended, steps));
+        RefusedTag.check(ended, lines, tag);
+        List<String> tags = lines.lines().toList();
+        int last = tags.size() - 1;
+        return new Explanation(IntStream.range(0, last).mapToObj(i -> Step.of(steps[0], 3 * i, tags.get(i))).toList(), tags.get(last));
     }
 
     /**
@@ -245,19 +246,18 @@ public final class Registry implements AutoCloseable {
      * @return the fields; none where it is not there
      */
     public List<Field> record(int number) {
-        Object answer = ask(registry -> Native.record(registry, number));
-        if (answer instanceof Refusal refusal) {
-            throw new IllegalStateException(refusal.checked().toString());
-        }
-        List<String> texts = Arrays.stream((Object[]) answer).map(it -> new String((byte[]) it, StandardCharsets.UTF_8)).toList();
-        return IntStream.range(0, texts.size() / 2).mapToObj(i -> new Field(texts.get(2 * i), texts.get(2 * i + 1))).toList();
+        long[] ended = Native.ended();
+        byte[] all = held.ask(registry -> Native.record(registry, number, ended));
+        Refusal.of(ended, null);
+        String[] texts = new String(all, StandardCharsets.UTF_8).split("\0", -1);
+        return IntStream.range(0, texts.length / 2).mapToObj(i -> new Field(texts[2 * i], texts[2 * i + 1])).toList();
     }
 
     /** @return which registry it is; the digest is taken anew at each call */
     public Info info() {
         byte[] date = new byte[11];
         byte[] sha256 = new byte[32];
-        long entries = ask(registry -> Native.info(registry, date, sha256));
+        long entries = held.ask(registry -> Native.info(registry, date, sha256));
         String fileDate = new String(date, StandardCharsets.US_ASCII).replace("\0", "");
         return new Info(fileDate, entries, HexFormat.of().formatHex(sha256));
     }

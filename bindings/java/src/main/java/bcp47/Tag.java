@@ -3,6 +3,7 @@ package bcp47;
 
 import java.io.Serializable;
 import java.util.ArrayList;
+import java.util.Arrays;
 import java.util.Collections;
 import java.util.LinkedHashMap;
 import java.util.List;
@@ -51,7 +52,9 @@ public final class Tag implements CharSequence, Comparable<Tag>, Serializable {
      * @throws RefusedTag where the text is no tag
      */
     public static Tag of(CharSequence text) {
-        String shown = text(Native.parts(Native.bytes(text)), text);
+        long[] ended = Native.ended();
+        String shown = Native.parts(Native.bytes(text), ended);
+        RefusedTag.check(ended, null, text);
         int point = shown.indexOf('.');
         String tag = shown.substring(0, point);
         String kinds = shown.substring(point + 1);
@@ -74,18 +77,46 @@ public final class Tag implements CharSequence, Comparable<Tag>, Serializable {
         return of(locale.toLanguageTag());
     }
 
-    /** The text that a call answers, or throws why it refuses. */
-    static String text(Object answer, CharSequence asked) {
-        if (answer instanceof String text) {
-            return text;
-        }
-        throw new RefusedTag(((Refusal) answer).checked(), asked);
-    }
-
     /** @return the tag without its last subtag and the singletons that then end it (RFC 4647, 3.4), or null where nothing is left */
     public Tag parent() {
-        String parent = text(Native.parent(Native.bytes(text)), text);
-        return parent.isEmpty() ? null : of(parent);
+        long[] ended = Native.ended();
+        String parent = Native.parent(Native.bytes(text), ended);
+        RefusedTag.check(ended, null, text);
+        return parent == null ? null : of(parent);
+    }
+
+    /**
+     * The tag with one of its parts replaced. {@link Registry#validate} tells whether it is valid.
+     *
+     * @param kind <code>Language</code> (with its extlangs), <code>Script</code>, <code>Region</code>, <code>Variant</code> (all of them),
+     *     <code>Singleton</code> (all extensions) or <code>PrivateUseSingleton</code>
+     * @param value what stands there instead, for example <code>AT</code>; nothing, where it is empty
+     * @return the tag
+     * @throws RefusedTag where the value has not the form of the part
+     * @throws IllegalArgumentException where it is no such kind
+     */
+    public Tag with(String kind, CharSequence value) {
+        long[] ended = Native.ended();
+        String made = Native.with(Native.bytes(text), Arrays.asList(KINDS).indexOf(kind), Native.bytes(value), ended);
+        if (ended[0] == Refusal.BAD_CALL) {
+            throw new IllegalArgumentException(kind);
+        }
+        RefusedTag.check(ended, null, ended[3] == 1 ? text : value);
+        return of(made);
+    }
+
+    /**
+     * The tag that the name of a POSIX locale stands for.
+     *
+     * @param name a name, for example <code>sr_RS.UTF-8@latin</code>
+     * @return its tag, for example <code>sr-Latn-RS</code>
+     * @throws RefusedTag where it is none
+     */
+    public static Tag ofPosix(CharSequence name) {
+        long[] ended = Native.ended();
+        String made = Native.posix(Native.bytes(name), ended);
+        RefusedTag.check(ended, null, name);
+        return of(made);
     }
 
     /** @return the locale of this tag; what Java's locales have no place for is left out */

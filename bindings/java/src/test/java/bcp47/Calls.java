@@ -149,11 +149,58 @@ final class Calls {
         is("ReplacementRepeats alalc97", registry.answer(repeats).refusal().toString());
     }
 
+    private static void changes() {
+        Tag tag = Tag.of("de-CH-1996-u-co-phonebk-x-own");
+        is("zh-yue-CH-1996-u-co-phonebk-x-own", tag.with("Language", "zh-yue").toString());
+        is("de-Latn-1901-x-a-b", tag.with("Script", "LATN").with("Region", "").with("Variant", "1901").with("Singleton", "")
+                .with("PrivateUseSingleton", "x-a-b").toString());
+        is("D_", thrown(RefusedTag.class, () -> tag.with("Region", "D_")).tag());
+        is("x-own", thrown(RefusedTag.class, () -> Tag.of("x-own").with("Region", "DE")).tag());
+        is("region", thrown(IllegalArgumentException.class, () -> tag.with("region", "DE")).getMessage());
+        is("en-US sr-Latn-RS en-US-u-va-posix", Tag.ofPosix("en_US.UTF-8") + " " + Tag.ofPosix("sr_RS@latin") + " " + Tag.ofPosix("C"));
+        is("de_DE@nothing", thrown(RefusedTag.class, () -> Tag.ofPosix("de_DE@nothing")).tag());
+    }
+
     private static void parents(Registry registry) {
         is("zh-Hant-CN", Tag.of("zh-Hant-CN-x-private1").parent().toString());
         is(true, Tag.of("zh").parent() == null);
         is("[Field[name=File-Date, body=2024-01-01]]", registry.record(1).toString());
         is(List.of(), registry.record(-1));
+    }
+
+    private static void readers(byte[] content) throws Exception {
+        Registry registry = Registry.of(content);
+        Available available = registry.available(List.of("en", Tag.of("zh-yue"), "de-DE", "he"));
+        for (String name : List.of("e_n", "xx", "")) {
+            is(name, thrown(RefusedTag.class, () -> registry.available(List.of("en", name))).tag());
+        }
+        Available none = registry.available(List.of());
+        is("null []", none.best("en") + " " + none.filter("*"));
+        none.close();
+        registry.close();
+        Map.of("de, en;q=0.8", "de-DE", "iw-XA;q=0.5, EN-gb;q=0.3", "he", "zh;q=0.2, yue;q=0.1", "zh-yue", "en;q=0, *", "zh-yue", "gan, fr", "null",
+                "", "null").forEach((accept, best) -> is(best, String.valueOf(available.best(accept))));
+        is("[he, zh-yue]", available.filter("zh;q=0.5, iw, de;q=0").toString());
+        for (Callable<?> call : List.<Callable<?>>of(() -> available.best("en, e_n"), () -> available.filter("en, e_n"))) {
+            RefusedTag refused = thrown(RefusedTag.class, call);
+            is("BadHeader 2 en, e_n", refused.refusal().status() + " " + refused.place() + " " + refused.tag());
+        }
+        is("ReplacementRepeats", thrown(RefusedTag.class, () -> available.best("ja-Latn-hepburn-alalc97-heploc")).fault().toString());
+        thrown(NullPointerException.class, () -> available.best(null));
+        var pool = Executors.newFixedThreadPool(70);
+        List<Callable<Void>> askers = IntStream.range(0, 70).<Callable<Void>>mapToObj(i -> () -> {
+            for (int n = 0; n < 200; n++) {
+                is("zh-yue", available.best("zh-yue;q=0.5"));
+            }
+            return null;
+        }).toList();
+        for (Future<Void> one : pool.invokeAll(askers)) {
+            one.get();
+        }
+        pool.shutdown();
+        available.close();
+        is("it is closed", thrown(IllegalStateException.class, () -> available.best("en")).getMessage());
+        is("it is closed", thrown(IllegalStateException.class, () -> registry.available(List.of())).getMessage());
     }
 
     private static void explanations(Registry registry) {
@@ -226,7 +273,7 @@ final class Calls {
         List<Callable<?>> calls = List.of(() -> own.canonical("en"), () -> own.answer("en"), () -> own.extlang("en"),
                 () -> own.isValid("en"), () -> own.equivalent("en", "en"), () -> own.explain("en"), own::info,
                 () -> own.matches("en", "en", Scheme.BASIC));
-        calls.forEach(call -> is("the registry is closed", thrown(IllegalStateException.class, call).getMessage()));
+        calls.forEach(call -> is("it is closed", thrown(IllegalStateException.class, call).getMessage()));
     }
 
     /** Many threads ask registries which others close meanwhile, and which are collected. */
@@ -300,8 +347,8 @@ final class Calls {
 
     /** That memory runs out, or is too little for many calls at once, is no fault of a tag. */
     private static void busy() {
-        thrown(BusyException.class, () -> new Refusal(15, 0, 0, null, 0).checked());
-        thrown(OutOfMemoryError.class, () -> new Refusal(4, 0, 0, null, 0).checked());
+        thrown(BusyException.class, () -> Refusal.of(new long[] {15, 0, 0, 0, 0}, null));
+        thrown(OutOfMemoryError.class, () -> Refusal.of(new long[] {4, 0, 0, 0, 0}, null));
     }
 
     /** A class loader goes, with the classes that it loaded. */
@@ -329,9 +376,11 @@ final class Calls {
             refusals(registry);
             explanations(registry);
             parents(registry);
+            changes();
             tags();
             info(registry, content);
             travels(registry);
+            readers(content);
             closed(content);
             threads(registry, content);
             collected(content);

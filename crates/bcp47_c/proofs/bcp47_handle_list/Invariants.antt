@@ -1,0 +1,5 @@
+-- The call of `take` is given the registry that the handle holds before the call.
+use Rattle.bcp47_c.proofs.bcp47_handle_list.Given as goal
+
+abbrev pub ghost-take : goal.ghost-take
+ghost-take g a = g.registry

@@ -1,0 +1,7 @@
+use Rattle.std.proofs.Common.{◌≡◌, take, map}
+use Rattle.bcp47_c.specs.Posix.{hyphen_for}
+use Rattle.bcp47_c.proofs.posix.tag_text.Given as goal
+
+-- the bytes so far are there
+abbrev pub invariant-loop-byte : goal.invariant-loop-byte
+invariant-loop-byte l = l.text.items ≡ map hyphen_for (take l.byte-index l.locale)

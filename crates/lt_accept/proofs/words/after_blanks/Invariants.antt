@@ -1,7 +1,0 @@
-use Rattle.std.proofs.Common.{◌≡◌, drop}
-use Rattle.lt_accept.specs.Words.{is_blank, rest}
-use Rattle.lt_accept.proofs.words.after_blanks.Given as goal
-
--- the bytes so far are blank
-abbrev pub invariant-loop-i : goal.invariant-loop-i
-invariant-loop-i l = rest is_blank (drop l.i l.text) ≡ rest is_blank l.text

@@ -1,2 +1,0 @@
-pub mod MatchLaws
-pub mod PlainRanges

@@ -1,0 +1,8 @@
+use Rattle.std.proofs.Common.{◌≡◌, ℕ, List, rules, subst}
+use Rattle.lt_range.specs.Preferences.{IsBest}
+use Rattle.lt_range.proofs.available.Available.best.Goals as goal
+
+pub returns : goal.returns
+returns c =
+    let same : c.deref.result.now ≡ c.args.self.now = search rules in
+    subst (λ (l : List (List (List ℕ))). IsBest c.args.preferences.now l c.best.result) same c.best.ensures

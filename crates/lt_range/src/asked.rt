@@ -1,0 +1,128 @@
+//! What a header asks for, as preferences.
+ghost use Rattle.std.specs.Prelude.{◌≡◌, ◌++◌, IfErr, IfOk, length, map};
+ghost use Rattle.lt_range.specs.Asked.{ArePreferencesOf, Asks, IsElementRefusal, IsHeaderRefusal};
+ghost use Rattle.lt_range.specs.Elements.{parts_of};
+ghost use Rattle.lt_range.specs.HeaderRefusals.{name_of, no_memory, of_accept_fault, of_range_refusal};
+
+use crate::accept_faults::{AcceptFault, AcceptFaultKind};
+use crate::elements::WeightedRange;
+use crate::headers::AcceptLanguage;
+use crate::matched::extlang_range;
+use crate::preferences::Preference;
+use crate::refusals::RangeRefusal;
+use lt_check::Checked;
+use lt_registry::Lookup;
+use lt_tag::OutOfMemory;
+use std::alloc::Global;
+use thiserror::Error;
+
+/// Why a text gives no preferences.
+#[derive(Debug, Drop, Error)]
+pub enum HeaderRefusal {
+    /// The text is no Accept-Language header, for this fault, which is never that memory ran out where a call of this
+    /// crate answers it.
+    #[error("{0}")]
+    NotAHeader(AcceptFault),
+    /// One of its ranges is refused, for example a valid tag of which steps can repeat a variant. It is never that
+    /// memory ran out where a call of this crate answers it.
+    #[error("{0}")]
+    BadRange(RangeRefusal),
+    /// Memory ran out.
+    #[error("out of memory: free some, and ask again")]
+    OutOfMemory,
+}
+
+impl HeaderRefusal {
+    /// The refusal's name: that of the header's fault, as `BadWeight`, that of the range's, as `ReplacementRepeats`, or
+    /// `OutOfMemory`.
+    pub fn name(&self) -> &'static str
+        ensures { result.now ≡ name_of self.now }
+    {
+        match self {
+            HeaderRefusal::NotAHeader(fault) => fault.kind.name(),
+            HeaderRefusal::BadRange(refusal) => refusal.name(),
+            HeaderRefusal::OutOfMemory => "OutOfMemory",
+        }
+    }
+}
+
+impl From<AcceptFault> for HeaderRefusal {
+    ghost from_gives = { λ fault refusal. refusal ≡ of_accept_fault fault };
+
+    fn from(fault: AcceptFault) -> HeaderRefusal {
+        match fault.kind {
+            AcceptFaultKind::OutOfMemory => HeaderRefusal::OutOfMemory,
+            _ => HeaderRefusal::NotAHeader(fault),
+        }
+    }
+}
+
+impl From<RangeRefusal> for HeaderRefusal {
+    ghost from_gives = { λ refusal header. header ≡ of_range_refusal refusal };
+
+    fn from(refusal: RangeRefusal) -> HeaderRefusal {
+        match refusal {
+            RangeRefusal::OutOfMemory => HeaderRefusal::OutOfMemory,
+            other => HeaderRefusal::BadRange(other),
+        }
+    }
+}
+
+impl From<OutOfMemory> for HeaderRefusal {
+    ghost from_gives = { λ _ refusal. refusal ≡ no_memory };
+
+    fn from(_error: OutOfMemory) -> HeaderRefusal {
+        HeaderRefusal::OutOfMemory
+    }
+}
+
+/// The elements of a header: those that are acceptable by priority, and then the others.
+fn all_elements(accept: AcceptLanguage<'_>) -> Result<Vec<WeightedRange<'_>>, OutOfMemory>
+    ensures { IfOk result (λ all. all.items ≡ accept.entry.acceptable.items ++ accept.entry.not_acceptable.items) }
+{
+    let AcceptLanguage {
+        mut acceptable,
+        mut not_acceptable,
+    } = accept;
+    acceptable.append(&mut not_acceptable)?;
+    Ok(acceptable)
+}
+
+/// The preferences of elements, in their order. Refused as the first range is that is refused.
+fn preferences_of<L: Lookup>(
+    alloc: Global,
+    checked: &Checked<L>,
+    elements: &[WeightedRange<'_>],
+) -> Result<Vec<Preference>, RangeRefusal>
+    ensures preferences { IfOk result (λ all. ArePreferencesOf (L.listed checked.now) (map parts_of elements.now) (length elements.now) all.items) }
+    ensures refusal { IfErr result (λ refusal. IsElementRefusal (L.listed checked.now) (map parts_of elements.now) refusal) }
+{
+    let mut all = Vec::new(alloc);
+    for place in 0..elements.len() {
+        let element = &elements[place];
+        let range = extlang_range(alloc, checked, element.range)?;
+        let weight = element.weight;
+        all.push(Preference { range, weight })?;
+    }
+    Ok(all)
+}
+
+/// What an Accept-Language header asks for (RFC 9110, 12.5.4): each of its ranges, as [`extlang_range`] gives it, with its
+/// weight. Those that are acceptable come first, from the greatest weight to the least, and then the others, in the order
+/// of the header.
+///
+/// - `NotAHeader`, with the fault that `AcceptLanguage::read` answers, exactly where the text is no header.
+/// - `BadRange`, with the refusal of `extlang_range`, where that refuses one of the ranges.
+/// - `OutOfMemory` where memory runs out.
+pub fn header_preferences<L: Lookup>(
+    alloc: Global,
+    checked: &Checked<L>,
+    header: &[u8],
+) -> Result<Vec<Preference>, HeaderRefusal>
+    ensures preferences { IfOk result (λ all. Asks (L.listed checked.now) header.now all.items) }
+    ensures refusal { IfErr result (λ refusal. IsHeaderRefusal (L.listed checked.now) header.now refusal) }
+{
+    let accept = AcceptLanguage::read(alloc, header)?;
+    let elements = all_elements(accept)?;
+    Ok(preferences_of(alloc, checked, &elements)?)
+}

@@ -1,0 +1,124 @@
+//! What is matched: extlang forms.
+ghost use Rattle.std.specs.Prelude.{◌≡◌, IfOk, IfErr, MatchOption};
+ghost use Rattle.lt_canon.specs.Refusals.{IsRefusedWith};
+ghost use Rattle.lt_canon.specs.Texts.{IsTextRefusal, ReadsAs};
+ghost use Rattle.lt_range.specs.Matched.{HasExtlangList, HasNoSubtags, HasSubtags, IsExtlangRange, IsRangeOfText, MatchesAs};
+ghost use Rattle.lt_range.specs.Refusals.{IsPlainRefusal, IsRangeRefusal};
+
+use crate::ranges::LanguageRange;
+use crate::refusals::RangeRefusal;
+use crate::tag_subtags::TagSubtags;
+use lt_canon::{Refusal, TextRefusal, extlang_form};
+use lt_check::Checked;
+use lt_registry::Lookup;
+use lt_tag::{OutOfMemory, Tag, read_tag};
+use std::alloc::Global;
+
+/// The subtags by which a tag is matched: those of its extlang form (RFC 5646, 4.5), as `zh`, `yue` and `HK` for
+/// `yue-HK`. It is refused as `extlang_form` refuses.
+pub fn extlang_subtags<L: Lookup>(
+    alloc: Global,
+    checked: &Checked<L>,
+    tag: &Tag,
+) -> Result<TagSubtags, Refusal>
+    ensures subtags { IfOk result (λ subtags. HasExtlangList (L.listed checked.now) tag.now subtags) }
+    ensures refusal { IfErr result (λ refusal. IsRefusedWith (L.listed checked.now) tag.now refusal) }
+{
+    let form = extlang_form(alloc, checked, tag)?;
+    Ok(TagSubtags::of(alloc, &form)?)
+}
+
+/// The subtags by which the tag is matched that a text is read as.
+///
+/// - `NotATag`, with the fault that `read_tag` answers, exactly where the text is read as none.
+/// - `Invalid` and `ReplacementRepeats` where `extlang_form` refuses the tag so.
+/// - `OutOfMemory` where memory runs out.
+pub fn subtags_of_text<L: Lookup>(
+    alloc: Global,
+    checked: &Checked<L>,
+    text: &[u8],
+) -> Result<TagSubtags, TextRefusal>
+    ensures subtags { IfOk result (λ subtags. HasSubtags (L.listed checked.now) text.now subtags) }
+    ensures refusal { IfErr result (λ refusal. IsTextRefusal (L.listed checked.now) text.now refusal) }
+{
+    let tag = read_tag(alloc, text)?;
+    Ok(extlang_subtags(alloc, checked, &tag)?)
+}
+
+/// The subtags by which the tag is matched that a text is read as. None if it is no valid tag, or steps can repeat a
+/// variant of it.
+pub fn known_subtags<L: Lookup>(
+    alloc: Global,
+    checked: &Checked<L>,
+    text: &[u8],
+) -> Result<Option<TagSubtags>, OutOfMemory>
+    ensures { IfOk result (λ found. MatchOption found (HasNoSubtags (L.listed checked.now) text.now) (HasSubtags (L.listed checked.now) text.now)) }
+{
+    match subtags_of_text(alloc, checked, text) {
+        Ok(subtags) => Ok(Some(subtags)),
+        Err(TextRefusal::NotATag(_)) => Ok(None),
+        Err(TextRefusal::Invalid(_)) => Ok(None),
+        Err(TextRefusal::ReplacementRepeats(_)) => Ok(None),
+        Err(TextRefusal::OutOfMemory) => Err(OutOfMemory),
+    }
+}
+
+/// The range that matches in place of one that is no valid tag: its first subtag is in its extlang form, if it alone is a
+/// tag that has one.
+fn matching_range<L: Lookup>(
+    alloc: Global,
+    checked: &Checked<L>,
+    written: LanguageRange,
+) -> Result<LanguageRange, OutOfMemory>
+    ensures { IfOk result (λ range. MatchesAs (L.listed checked.now) written.wild written.named range) }
+{
+    if written.begins_wild() {
+        return Ok(written);
+    }
+    let Some((first, others)) = written.named().split_first() else {
+        return Ok(written);
+    };
+    match known_subtags(alloc, checked, first.bytes())? {
+        Some(front) => LanguageRange::of_front(alloc, front, others),
+        None => Ok(written),
+    }
+}
+
+/// The range by which a text matches that is no valid tag. Refused with `NotARange` if it is no range.
+fn range_of_text<L: Lookup>(
+    alloc: Global,
+    checked: &Checked<L>,
+    text: &[u8],
+) -> Result<LanguageRange, RangeRefusal>
+    ensures range { IfOk result (λ range. IsRangeOfText (L.listed checked.now) text.now range) }
+    ensures refusal { IfErr result (IsPlainRefusal text.now) }
+{
+    let written = LanguageRange::read(alloc, text)?;
+    Ok(matching_range(alloc, checked, written)?)
+}
+
+/// The range by which a text matches: where the text is a valid tag, the range of the subtags of its extlang form (RFC
+/// 5646, 4.5); else the range that it is (RFC 4647, 2.2), with its first subtag in its extlang form, if it alone is a
+/// valid tag. So `yue` is `zh-yue`, `iw-*` is `he-*`, and `zh-*` stays.
+///
+/// - `NotARange` exactly where the text is neither, with the fault that `LanguageRange::read` answers.
+/// - `ReplacementRepeats` where the text is a valid tag that `extlang_form` refuses so.
+/// - `OutOfMemory` where memory runs out.
+pub fn extlang_range<L: Lookup>(
+    alloc: Global,
+    checked: &Checked<L>,
+    text: &[u8],
+) -> Result<LanguageRange, RangeRefusal>
+    ensures range { IfOk result (λ range. IsExtlangRange (L.listed checked.now) text.now range) }
+    ensures refusal { IfErr result (λ refusal. IsRangeRefusal (L.listed checked.now) text.now refusal) }
+{
+    match subtags_of_text(alloc, checked, text) {
+        Ok(subtags) => Ok(LanguageRange::of_subtags(subtags)),
+        Err(TextRefusal::NotATag(_)) => range_of_text(alloc, checked, text),
+        Err(TextRefusal::Invalid(_)) => range_of_text(alloc, checked, text),
+        Err(TextRefusal::ReplacementRepeats(variant)) => {
+            Err(RangeRefusal::ReplacementRepeats(variant))
+        }
+        Err(TextRefusal::OutOfMemory) => Err(RangeRefusal::OutOfMemory),
+    }
+}

@@ -1,0 +1,66 @@
+//! Why a text matches as no language range.
+ghost use Rattle.std.specs.Prelude.{◌≡◌};
+ghost use Rattle.lt_range.specs.Refusals.{name_of, of_fault, no_memory};
+
+use crate::faults::RangeFault;
+use lt_subtag::Subtag;
+use lt_tag::OutOfMemory;
+use std::alloc::AllocFailed;
+use thiserror::Error;
+
+/// Why a text matches as no language range.
+#[derive(Debug, Drop, Error)]
+pub enum RangeRefusal {
+    /// The text is no valid tag, and no range for this fault, which is never `OutOfMemory` where a call of this crate
+    /// answers it.
+    #[error("{0}")]
+    NotARange(RangeFault),
+    /// Steps can repeat a variant of the valid tag, so that it has no canonical form. It is this variant that occurs
+    /// twice where no core step leads on.
+    #[error("replacements can repeat a variant: take one of the variants out")]
+    ReplacementRepeats(Subtag),
+    /// Memory ran out.
+    #[error("out of memory: free some, and ask again")]
+    OutOfMemory,
+}
+
+impl RangeRefusal {
+    /// The refusal's name, as it is printed: `ReplacementRepeats`, `OutOfMemory`, or for a text that is no range that
+    /// of its fault, as `BadByte`.
+    pub fn name(&self) -> &'static str
+        ensures { result.now ≡ name_of self.now }
+    {
+        match self {
+            RangeRefusal::NotARange(fault) => fault.name(),
+            RangeRefusal::ReplacementRepeats(_) => "ReplacementRepeats",
+            RangeRefusal::OutOfMemory => "OutOfMemory",
+        }
+    }
+}
+
+impl From<RangeFault> for RangeRefusal {
+    ghost from_gives = { λ fault refusal. refusal ≡ of_fault fault };
+
+    fn from(fault: RangeFault) -> RangeRefusal {
+        match fault {
+            RangeFault::OutOfMemory => RangeRefusal::OutOfMemory,
+            _ => RangeRefusal::NotARange(fault),
+        }
+    }
+}
+
+impl From<OutOfMemory> for RangeRefusal {
+    ghost from_gives = { λ _ refusal. refusal ≡ no_memory };
+
+    fn from(_error: OutOfMemory) -> RangeRefusal {
+        RangeRefusal::OutOfMemory
+    }
+}
+
+impl<T: Drop> From<AllocFailed<T>> for RangeRefusal {
+    ghost from_gives = { λ _ refusal. refusal ≡ no_memory };
+
+    fn from(_error: AllocFailed<T>) -> RangeRefusal {
+        RangeRefusal::OutOfMemory
+    }
+}
