@@ -130,6 +130,8 @@ class Chromium:
     def end(self) -> None:
         os.killpg(self.process.pid, signal.SIGKILL)
         self.process.wait()
+        self.input.close()
+        self.output.close()
 
 
 class Firefox:

@@ -19,20 +19,21 @@ TAGS = ["zh-yue", "YUE", "en_US", "", "de-u", "ja-heploc-alalc97", "de-DE-x-a-ra
 
 class Looks(unittest.TestCase):
     def test_the_report(self):
-        with tempfile.TemporaryDirectory() as folder:
-            report = Path(folder) / "report.html"
-            subprocess.run([*COMMAND, "report", REGISTRY, "tag", "-o", report], input="\n".join(["tag", *TAGS]).encode(), check=True)
-            browser = Chromium(Path(folder))
-            self.addCleanup(browser.end)
-            browser.go(report.as_uri())
-            wait(browser, "document.readyState === 'complete' && document.querySelector('h1')?.textContent")
-            for width in (320, 1280):
-                for dark in (False, True):
-                    browser.look(width, dark)
-                    Path(PICTURES, f"report-{width}-{'dark' if dark else 'light'}.png").write_bytes(browser.picture())
-                    self.assertEqual(browser.run("return document.documentElement.scrollWidth"), width)
-                    self.assertEqual(browser.run(f"return [...{CONTRAST}, ...{CLOSE}]"), [])
-            self.assertEqual(browser.messages(), [])
+        # The browser writes into this folder until it ends, and it ends first.
+        folder = Path(self.enterContext(tempfile.TemporaryDirectory(ignore_cleanup_errors=True)))
+        report = folder / "report.html"
+        subprocess.run([*COMMAND, "report", REGISTRY, "tag", "-o", report], input="\n".join(["tag", *TAGS]).encode(), check=True)
+        browser = Chromium(folder)
+        self.addCleanup(browser.end)
+        browser.go(report.as_uri())
+        wait(browser, "document.readyState === 'complete' && document.querySelector('h1')?.textContent")
+        for width in (320, 1280):
+            for dark in (False, True):
+                browser.look(width, dark)
+                Path(PICTURES, f"report-{width}-{'dark' if dark else 'light'}.png").write_bytes(browser.picture())
+                self.assertEqual(browser.run("return document.documentElement.scrollWidth"), width)
+                self.assertEqual(browser.run(f"return [...{CONTRAST}, ...{CLOSE}]"), [])
+        self.assertEqual(browser.messages(), [])
 
 
 REGISTRY, PICTURES = sys.argv[1:3]
