@@ -5,7 +5,7 @@ Usage: tools/describe.py [--check]
 
 VERSION has the version, packaging/PUBLISHER the addresses, bindings/c/bcp47.h the calls and the constants of the library, and
 bindings/c/names.c the names of its faults and what they mean. From these are written the lines below in files of the packages,
-the crate bcp47-sys, and the faults of Python, Rust, Node.js, Java and Go. With --check nothing is written: each file that differs is
+the crate bcp47-sys, and the faults of C, Python, Rust, Node.js, Java and Go. With --check nothing is written: each file that differs is
 named, and the status is then 1.
 """
 
@@ -24,6 +24,7 @@ LINES = [
     ("docs/langtag.1", "version", r'\.TH LANGTAG 1 [0-9-]+ "langtag ({})" "User Commands"'),
     ("bindings/c/bcp47.pc.in", "version", r"Version: ({})"),
     ("bindings/c/bcp47.h", "version", r'#define BCP47_VERSION "({})"'),
+    ("bindings/c/bcp47.h", "fault_constants", r"/\* The faults.*\*/\nenum \{\n([^}]*)\n\};"),
     ("bindings/python/wheel_of_package.py", "version", r'NAME, VERSION = "bcp47", "({})"'),
     ("bindings/python/pyproject.toml", "version", r'version = "({})"'),
     ("bindings/rust/Cargo.toml", "version", r'version = "({})"'),
@@ -67,7 +68,8 @@ def facts():
     """The version and what the publisher says."""
     lines = (ROOT / "packaging/PUBLISHER").read_text(encoding="utf-8").splitlines()
     found = dict(line.split(" = ", 1) for line in lines if " = " in line and not line.startswith("#"))
-    return found | {"version": (ROOT / "VERSION").read_text(encoding="utf-8").strip()}
+    constants = ",\n".join(f"    BCP47_FAULT_{upper(name)} = {number}" for number, (name, _) in enumerate(faults(), 1))
+    return found | {"version": (ROOT / "VERSION").read_text(encoding="utf-8").strip(), "fault_constants": constants}
 
 
 class Header:
@@ -78,7 +80,7 @@ class Header:
     def __init__(self):
         text = (ROOT / "bindings/c/bcp47.h").read_text(encoding="utf-8")
         self.plain = re.sub(r"/\*.*?\*/", "", text, flags=re.S)
-        self.constants = re.findall(r"\b(BCP47_[A-Z0-9_]+) = (\d+)", self.plain)
+        self.constants = re.findall(r"\b(BCP47_(?!FAULT_)[A-Z0-9_]+) = (\d+)", self.plain)
         self.rooms = re.findall(r"^#define (BCP47_[A-Z]+) (\d+)$", self.plain, re.M)
         self.structs = re.findall(r"^typedef struct \{(.*?)\} (\w+);", self.plain, re.M | re.S)
         self.opaque = re.findall(r"^typedef struct (\w+) \1;", self.plain, re.M)
@@ -124,6 +126,11 @@ def faults():
     text = (ROOT / "bindings/c/names.c").read_text(encoding="utf-8")
     table = re.search(r"faults\[\] = \{(.*?)\n\};", text, re.S)[1]
     return re.findall(r'\{"(\w+)",\s*"(.*)"\}', table)[1:]
+
+
+def upper(name):
+    """A name as constants are written: BAD_BYTE for BadByte."""
+    return re.sub(r"(?<=[a-z0-9])(?=[A-Z])", "_", name).upper()
 
 
 def statuses(*more):
@@ -179,7 +186,7 @@ const (
 
 def java_faults():
     def row(name, meaning, number):
-        return f"    /** {meaning.replace('&', '&amp;')} */\n    {re.sub(r'(?<=[a-z0-9])(?=[A-Z])', '_', name).upper()}({number})"
+        return f"    /** {meaning.replace('&', '&amp;')} */\n    {upper(name)}({number})"
     rows = [row(name, meaning, number) for number, (name, meaning) in enumerate(faults(), 1)]
     rows += [row(name, meaning, -number) for name, meaning, number in statuses()]
     return f"""{LICENCE}

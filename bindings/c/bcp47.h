@@ -23,7 +23,7 @@ typedef struct bcp47_available bcp47_available;
 /* What a call answers beside the text that it writes. */
 typedef struct {
     int status;    /* how the call ended: BCP47_DONE and so on, which bcp47_status_name names */
-    int detail;    /* the number of a fault, which bcp47_fault_name names; for bcp47_classify the class; else 0 */
+    int detail;    /* the fault: BCP47_FAULT_BAD_BYTE and so on; for bcp47_classify the class; else 0 */
     size_t place;  /* of a fault: the subtag, the line, the record, the step or the list element, counted from 1; of parts: how many;
                       of bcp47_best: the tag; else 0 */
     size_t length; /* the bytes of the text, also where it does not fit the buffer */
@@ -122,6 +122,65 @@ typedef struct {
     size_t name;
     size_t body;
 } bcp47_field;
+
+/* The faults, in `detail`, which bcp47_fault_name names. Written by tools/describe.py of bindings/c/names.c. */
+enum {
+    BCP47_FAULT_TOO_LONG = 1,
+    BCP47_FAULT_EMPTY_SUBTAG = 2,
+    BCP47_FAULT_BAD_BYTE = 3,
+    BCP47_FAULT_LONG_SUBTAG = 4,
+    BCP47_FAULT_BAD_LANGUAGE = 5,
+    BCP47_FAULT_MISPLACED = 6,
+    BCP47_FAULT_UNFINISHED = 7,
+    BCP47_FAULT_UNKNOWN_LANGUAGE = 8,
+    BCP47_FAULT_UNKNOWN_EXTLANG = 9,
+    BCP47_FAULT_EXTLANG_PREFIX = 10,
+    BCP47_FAULT_TOO_MANY_EXTLANGS = 11,
+    BCP47_FAULT_UNKNOWN_SCRIPT = 12,
+    BCP47_FAULT_UNKNOWN_REGION = 13,
+    BCP47_FAULT_UNKNOWN_VARIANT = 14,
+    BCP47_FAULT_DUPLICATE_VARIANT = 15,
+    BCP47_FAULT_DUPLICATE_SINGLETON = 16,
+    BCP47_FAULT_BAD_TRANSFORM = 17,
+    BCP47_FAULT_LINE_TOO_LONG = 18,
+    BCP47_FAULT_NOT_UTF8 = 19,
+    BCP47_FAULT_LEADING_CONTINUATION = 20,
+    BCP47_FAULT_BAD_LINE = 21,
+    BCP47_FAULT_TOO_MANY_RECORDS = 22,
+    BCP47_FAULT_READ = 23,
+    BCP47_FAULT_TOO_MANY_TURNS = 24,
+    BCP47_FAULT_FAILED = 25,
+    BCP47_FAULT_REPEATED_FIELD = 26,
+    BCP47_FAULT_MISSING_TYPE = 27,
+    BCP47_FAULT_UNKNOWN_TYPE = 28,
+    BCP47_FAULT_MISSING_NAME = 29,
+    BCP47_FAULT_BAD_RANGE = 30,
+    BCP47_FAULT_BAD_SUBTAG = 31,
+    BCP47_FAULT_BAD_TAG = 32,
+    BCP47_FAULT_BAD_PREFERRED = 33,
+    BCP47_FAULT_BAD_PREFIX = 34,
+    BCP47_FAULT_C1 = 35,
+    BCP47_FAULT_C2 = 36,
+    BCP47_FAULT_C3 = 37,
+    BCP47_FAULT_C4 = 38,
+    BCP47_FAULT_C5 = 39,
+    BCP47_FAULT_C6 = 40,
+    BCP47_FAULT_C7 = 41,
+    BCP47_FAULT_C8 = 42,
+    BCP47_FAULT_C9 = 43,
+    BCP47_FAULT_C10 = 44,
+    BCP47_FAULT_C11 = 45,
+    BCP47_FAULT_C12 = 46,
+    BCP47_FAULT_U1 = 47,
+    BCP47_FAULT_U2 = 48,
+    BCP47_FAULT_U3 = 49,
+    BCP47_FAULT_U4 = 50,
+    BCP47_FAULT_U5 = 51,
+    BCP47_FAULT_U6 = 52,
+    BCP47_FAULT_BAD_FIRST = 53,
+    BCP47_FAULT_EXTENDED_RANGE = 54,
+    BCP47_FAULT_BAD_WEIGHT = 55
+};
 
 /* Room for the parts of any tag, and for its text with a zero. */
 #define BCP47_PARTS 512

@@ -44,6 +44,9 @@ struct refusal {
 
     int status() const noexcept { return outcome.status; }
 
+    /* The fault: BCP47_FAULT_BAD_BYTE and so on; else 0. */
+    int fault() const noexcept { return outcome.detail; }
+
     /* Of a fault: the subtag, the line, the record or the step, counted from 1; else 0. */
     std::size_t place() const noexcept { return outcome.place; }
 

@@ -62,7 +62,7 @@ static void parts(void) {
     CHECK(has_parts("x-own", "x-own", "PrivateUseSingleton x, PrivateUse own"));
     CHECK(has_parts("I-KLINGON", "i-klingon", "Grandfathered i-klingon"));
     bcp47_outcome o = bcp47_parts("en_US", 5, buffer, sizeof buffer, room, 4);
-    CHECK(o.status == BCP47_NOT_A_TAG && o.detail == 3 && o.place == 1 && o.length == 0);
+    CHECK(o.status == BCP47_NOT_A_TAG && o.detail == BCP47_FAULT_BAD_BYTE && o.place == 1 && o.length == 0);
     /* What does not fit is not written. */
     for (int k = 0; k < 4; k++) room[k] = kept;
     memset(buffer, '#', sizeof buffer);
@@ -210,7 +210,7 @@ static void canonical(void) {
     static char longest[1025];
     memset(longest, 'a', sizeof longest);
     o = bcp47_canonical(registry, longest, sizeof longest, buffer, sizeof buffer);
-    CHECK(o.status == BCP47_NOT_A_TAG && o.detail == 1 && o.place == 0);
+    CHECK(o.status == BCP47_NOT_A_TAG && o.detail == BCP47_FAULT_TOO_LONG && o.place == 0);
 }
 
 static void classify(const bcp47_registry *by) {
@@ -475,7 +475,7 @@ static void shown(void) {
     CHECK(is_shown(opened, "zh-hant", hant));
     CHECK(is_shown(opened, "XX-x-own", own));
     bcp47_outcome o = bcp47_show(opened, "en_US", 5, &rows);
-    CHECK(o.status == BCP47_NOT_A_TAG && o.detail == 3 && o.place == 1 && o.length == 0 && !rows);
+    CHECK(o.status == BCP47_NOT_A_TAG && o.detail == BCP47_FAULT_BAD_BYTE && o.place == 1 && o.length == 0 && !rows);
     o = bcp47_show(opened, NULL, 0, &rows);
     CHECK(o.status == BCP47_NOT_A_TAG && o.place == 1 && !rows);
     /* More than there is room for at first. */
@@ -794,7 +794,7 @@ static void upgrades(void) {
     CHECK(is_ended(bcp47_upgrade_check(registry, registry), BCP47_DONE));
     CHECK(!bcp47_open(&other, bytes, sizeof bytes - 1, buffer, sizeof buffer).status);
     bcp47_outcome o = bcp47_upgrade_check(registry, other);
-    CHECK(o.status == BCP47_NO_UPGRADE && o.detail == 47 && o.place > 0);
+    CHECK(o.status == BCP47_NO_UPGRADE && o.detail == BCP47_FAULT_U1 && o.place > 0);
     CHECK(is_ended(bcp47_upgrade_check(other, registry), BCP47_DONE));
     bcp47_close(other);
 }

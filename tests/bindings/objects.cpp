@@ -44,7 +44,8 @@ template <class Call> static std::string thrown(Call call) {
 static void refusals(const bcp47::registry &registry) {
     auto refused = registry.canonical("en_US");
     CHECK(!refused && refused.error().status() == BCP47_NOT_A_TAG && refused.error().place() == 1);
-    CHECK(refused.error().name() == "BadByte" && refused.error().line() == "BadByte 1" && refused.value_or("und") == "und");
+    CHECK(refused.error().fault() == BCP47_FAULT_BAD_BYTE && refused.error().name() == "BadByte");
+    CHECK(refused.error().line() == "BadByte 1" && refused.value_or("und") == "und");
     CHECK(refused.error().help().substr(0, 33) == "A byte that is no ASCII letter, d");
 #if defined(__cpp_exceptions)
     CHECK(thrown([&] { static_cast<void>(registry.canonical("xx").value()); }) == "UnknownLanguage 1");
