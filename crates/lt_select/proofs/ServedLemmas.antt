@@ -37,10 +37,10 @@ module _ (R : List EntryParts) (kept : List ℕ) (old new : List (Vec ℕ Global
       let tells = tag_tells R in
       let whole : kept ≡ line = is ∙ take_all longest_kept line (tells.front line (subst (IsTagLine R) is (list, has))) in
       subst (λ (l : List ℕ). AreTagLines R (lines ++ l ∷ []) (texts_of new) tags') whole
-          (rw (puts.lines, puts.lists) (record {
-            are = selected_yes (IsTagLine R) lines (texts_of old) kept before.are (list, has);
-            have = lines_more R (texts_of old) tags kept list before.have (inl has);
-          }))
+      (rw (puts.lines, puts.lists) (record {
+        are = selected_yes (IsTagLine R) lines (texts_of old) kept before.are (list, has);
+        have = lines_more R (texts_of old) tags kept list before.have (inl has);
+      }))
 
 -- a further line that is no tag changes nothing
 pub takes_no_tag : (R : List EntryParts) (kept : List ℕ) (old : List (Vec ℕ Global)) (tags : List (List (List ℕ))) → HasNoSubtags R (content_of kept) → TakesTag R kept old old tags tags

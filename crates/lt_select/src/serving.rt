@@ -94,11 +94,7 @@ fn line_at(mut lines: Vec<Vec<u8>>, place: usize) -> Option<Vec<u8>>
 }
 
 /// The line that preferences serve of those that are tags, whose subtags are `tags`.
-fn served(
-    preferences: &[Preference],
-    lines: Vec<Vec<u8>>,
-    tags: &[TagSubtags],
-) -> Option<Vec<u8>>
+fn served(preferences: &[Preference], lines: Vec<Vec<u8>>, tags: &[TagSubtags]) -> Option<Vec<u8>>
     ensures { ServesOf preferences.now lines.entry.items tags.now result }
 {
     let place = best(preferences, tags)?;
