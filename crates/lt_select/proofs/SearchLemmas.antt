@@ -19,16 +19,22 @@ no : false ≡ true → ⊥
 no bad = let both : false ≡ true = bad in cc
 
 -- a run over lines, among which one is to be found
-module _ {I O A : Type 0} (Finds : Finding) (Q : Answered A) (remaining : I → Option (List ℕ)) (contents : O → Option (List ℕ)) (input input' : Device I) (output output' : Device O) (answers : A) where
+module _ {I O A : Type 0} (Finds : Finding) (Q : Answered A) (remaining : I → Option (List ℕ))
+    (contents : O → Option (List ℕ)) (input input' : Device I) (output output' : Device O) (answers : A) where
   -- a run that read all lines gives what is found among them; `end` is how it ended, where a write is into memory
-  pub searched : (end : Result (Unit {0}) ToolFault) (u : Unit {0}) → in_memory end ≡ Ok u → RunsOverText Q remaining contents input input' output output' answers end
-      → (found : _) → ((each : List (List ℕ)) (bytes : List ℕ) → Q answers each bytes → Finds each found) → SearchesLines Finds remaining input input' (Ok found)
+  pub searched : (end : Result (Unit {0}) ToolFault) (u : Unit {0}) → in_memory end ≡ Ok u
+      → RunsOverText Q remaining contents input input' output output' answers end
+      → (found : _) → ((each : List (List ℕ)) (bytes : List ℕ) → Q answers each bytes → Finds each found)
+      → SearchesLines Finds remaining input input' (Ok found)
   searched (Ok v) u is r found finds = record {
     read = r.read;
     mark = r.mark;
     text = r.text;
     split = r.split;
-    narrow = λ wide. elim (r.narrow wide) [ inl bad ↦ absurd (never (Ok v) faults.Utf16 refl bad) | inr bad ↦ absurd (never (Ok v) faults.OutOfMemory refl bad) ];
+    narrow = λ wide. elim (r.narrow wide) [
+      | inl bad ↦ absurd (never (Ok v) faults.Utf16 refl bad)
+      | inr bad ↦ absurd (never (Ok v) faults.OutOfMemory refl bad)
+    ];
     reads = r.reads;
     consumes = r.consumes;
     calls = r.calls;
@@ -45,7 +51,8 @@ module _ {I O A : Type 0} (Finds : Finding) (Q : Answered A) (remaining : I → 
   searched (Err faults.Utf16) u is r found finds = absurd (never (Ok u) faults.Utf16 refl (sym is))
 
   -- a run that a fault ended, which is no write that failed, ends by that fault
-  stopped : (f g : ToolFault) → f ≡ g → (r : RunsOverText Q remaining contents input input' output output' answers (Err f)) → EndsAs Finds remaining input input' r.reads r.read r.text (Err f) → SearchesLines Finds remaining input input' (Err g)
+  stopped : (f g : ToolFault) → f ≡ g → (r : RunsOverText Q remaining contents input input' output output' answers (Err f))
+      → EndsAs Finds remaining input input' r.reads r.read r.text (Err f) → SearchesLines Finds remaining input input' (Err g)
   stopped f g same r ends = rw (← same) (record {
     read = r.read;
     mark = r.mark;
@@ -64,7 +71,9 @@ module _ {I O A : Type 0} (Finds : Finding) (Q : Answered A) (remaining : I → 
   })
 
   -- a write that failed is a lack of memory
-  lacking : (g : ToolFault) → faults.OutOfMemory ≡ g → RunsOverText Q remaining contents input input' output output' answers (Err faults.Write) → SearchesLines Finds remaining input input' (Err g)
+  lacking : (g : ToolFault) → faults.OutOfMemory ≡ g
+      → RunsOverText Q remaining contents input input' output output' answers (Err faults.Write)
+      → SearchesLines Finds remaining input input' (Err g)
   lacking g same r = rw (← same) (record {
     read = r.read;
     mark = r.mark;
@@ -76,16 +85,24 @@ module _ {I O A : Type 0} (Finds : Finding) (Q : Answered A) (remaining : I → 
     calls = r.calls;
     bounded = r.bounded;
     ends = tt;
-    read_rises = λ lt. let bad : false ≡ true = ap is_write (ended_by (Err faults.Write) faults.Read faults.Write (r.read_rises lt) refl) in absurd (no bad);
+    read_rises = λ lt.
+        let other = ended_by (Err faults.Write) faults.Read faults.Write (r.read_rises lt) refl in
+        let bad : false ≡ true = ap is_write other in
+        absurd (no bad);
   })
 
   -- a run that a fault ended, where a write is into memory
-  pub search_ended : (end : Result (Unit {0}) ToolFault) (g : ToolFault) → in_memory end ≡ Err g → RunsOverText Q remaining contents input input' output output' answers end → SearchesLines Finds remaining input input' (Err g)
+  pub search_ended : (end : Result (Unit {0}) ToolFault) (g : ToolFault) → in_memory end ≡ Err g
+      → RunsOverText Q remaining contents input input' output output' answers end → SearchesLines Finds remaining input input' (Err g)
   search_ended (Ok v) g is r = absurd (never (Ok v) g refl is)
   search_ended (Err faults.Write) g is r = lacking g (ended_by (Err faults.OutOfMemory) faults.OutOfMemory g refl is) r
-  search_ended (Err faults.Read) g is r = stopped faults.Read g (ended_by (Err faults.Read) faults.Read g refl is) r r.ends.failed
-  search_ended (Err faults.TooManyTurns) g is r = stopped faults.TooManyTurns g (ended_by (Err faults.TooManyTurns) faults.TooManyTurns g refl is) r (r.ends.all_made, r.ends.last_gave)
-  search_ended (Err faults.OutOfMemory) g is r = stopped faults.OutOfMemory g (ended_by (Err faults.OutOfMemory) faults.OutOfMemory g refl is) r tt
+  search_ended (Err faults.Read) g is r =
+      stopped faults.Read g (ended_by (Err faults.Read) faults.Read g refl is) r r.ends.failed
+  search_ended (Err faults.TooManyTurns) g is r =
+      stopped faults.TooManyTurns g (ended_by (Err faults.TooManyTurns) faults.TooManyTurns g refl is) r (r.ends.all_made, r.ends.last_gave)
+  search_ended (Err faults.OutOfMemory) g is r =
+      stopped faults.OutOfMemory g (ended_by (Err faults.OutOfMemory) faults.OutOfMemory g refl is) r tt
   search_ended (Err (faults.BadCsv line)) g is r = absurd r.ends
   search_ended (Err (faults.BadTsv line)) g is r = absurd r.ends
-  search_ended (Err faults.Utf16) g is r = stopped faults.Utf16 g (ended_by (Err faults.Utf16) faults.Utf16 g refl is) r r.ends.0
+  search_ended (Err faults.Utf16) g is r =
+      stopped faults.Utf16 g (ended_by (Err faults.Utf16) faults.Utf16 g refl is) r r.ends.0
