@@ -1,5 +1,5 @@
 -- What a run that searches a line did.
-use Rattle.std.proofs.Common.{◌≡◌, ℕ, List, Bool, true, false, inl, inr, Result, Ok, Err, ap, refl, sym}
+use Rattle.std.proofs.Common.{◌≡◌, ℕ, List, Bool, true, false, inl, inr, Option, Result, Ok, Err, ap, refl, sym}
 use Rattle.lt_jar.specs.declared.devices.Device.{Device}
 use Rattle.lt_stream.specs.Lines.{Answered}
 use Rattle.lt_stream.specs.Texts.{RunsOverText}

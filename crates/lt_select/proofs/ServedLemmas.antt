@@ -1,5 +1,5 @@
 -- The lines that are tags, and the one of them that is served.
-use Rattle.std.proofs.Common.{◌≡◌, ◌<◌, ◌≤◌, ◌++◌, ◌∷◌, ◌∙◌, inl, inr, ℕ, Bool, true, false, List, [], Option, Some, None, Vec, length, map, take, refl, sym, ap, subst, arith}
+use Rattle.std.proofs.Common.{◌≡◌, ◌<◌, ◌≤◌, ◌++◌, ◌∷◌, ◌∙◌, inl, inr, ℕ, Bool, true, false, List, [], Option, Some, None, Vec, length, take, sym, ap, subst, arith}
 use Rattle.std.proofs.Common.{length-take-le, option_map, take_all}
 use Rattle.std.proofs.lemmas.Bool.Decides.{leb_tells}
 use Rattle.std.proofs.lemmas.List.{length-map}
@@ -12,7 +12,7 @@ use Rattle.lt_range.specs.Matched.{HasNoSubtags, HasSubtags}
 use Rattle.lt_range.specs.Preferences.{FirstServes, IsBest}
 use Rattle.lt_range.specs.declared.preferences.Preference.{Preference}
 use Rattle.lt_select.specs.Selection.{longest_kept}
-use Rattle.lt_select.specs.Served.{AreTagLines, IsTagLine, PutsLine, ServesAmong, ServesOf, TakesTag, texts_of}
+use Rattle.lt_select.specs.Served.{AreTagLines, IsTagLine, PutsLine, ServesOf, TakesTag, texts_of}
 use Rattle.lt_select.proofs.ClosestLemmas.{lines_more, same_count}
 use Rattle.lt_select.proofs.MatchedLemmas.{TellsByFront, content-length}
 use Rattle.lt_select.proofs.SelectionLemmas.{selected_no, selected_yes}

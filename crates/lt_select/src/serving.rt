@@ -84,7 +84,7 @@ fn take_tag<L: Lookup>(
 
 /// The line at a place. None after the last line.
 fn line_at(mut lines: Vec<Vec<u8>>, place: usize) -> Option<Vec<u8>>
-    ensures { result ≡ slice_get lines.entry.items place }
+    ensures { result ≡ slice_get lines.items place }
 {
     if place < lines.len() {
         Some(lines.remove(place))
@@ -95,7 +95,7 @@ fn line_at(mut lines: Vec<Vec<u8>>, place: usize) -> Option<Vec<u8>>
 
 /// The line that preferences serve of those that are tags, whose subtags are `tags`.
 fn served(preferences: &[Preference], lines: Vec<Vec<u8>>, tags: &[TagSubtags]) -> Option<Vec<u8>>
-    ensures { ServesOf preferences.now lines.entry.items tags.now result }
+    ensures { ServesOf preferences.now lines.items tags.now result }
 {
     let place = best(preferences, tags)?;
     line_at(lines, place)
