@@ -12,6 +12,7 @@ _langtag() {
             compopt -o filenames 2> /dev/null
             return
             ;;
+        match:--accept) return ;;
     esac
     case ${COMP_WORDS[1]}:$word in
         csv:-*)
@@ -23,7 +24,7 @@ _langtag() {
             return
             ;;
         match:-*)
-            mapfile -t COMPREPLY < <(compgen -W '--extended --lookup --help' -- "$word")
+            mapfile -t COMPREPLY < <(compgen -W '--extended --lookup --accept --help' -- "$word")
             return
             ;;
         show:-*)
@@ -38,7 +39,7 @@ _langtag() {
     # the place of the word among those that are no options, and no option's
     for ((at = 1; at < COMP_CWORD; at++)); do
         case ${COMP_WORDS[at]} in
-            --codes | --delimiter) at=$((at + 1)) ;;
+            --codes | --delimiter | --accept) at=$((at + 1)) ;;
             -*) ;;
             *) place=$((place + 1)) ;;
         esac

@@ -200,6 +200,16 @@ dd bs=1 status=none < tags | "$program" match --lookup "$sample" de-DE-1996 > ou
 "$program" match --lookup --extended "$sample" de < tags > out 2> usage; ended=$?
 head -c 7 usage > err
 (exit "$ended"); is 'match: two schemes' 3 '' 'error: '
+"$program" match --accept 'fr, zh-yue-Hans-GB;q=0.8, de;q=0.7' "$sample" < tags > out 2> err; is 'match --accept' 0 'yue-Hans\n' ''
+dd bs=1 status=none < tags | "$program" match --accept 'de-DE-1996, *;q=0' "$sample" > out 2> err; is 'match --accept: none is acceptable' 1 '' ''
+"$program" match "$sample" --accept 'yue-Latn, *;q=0.1' < tags > out 2> err; is 'match --accept: a carriage return' 0 'zh-yue\r\n' ''
+"$program" match --accept 'de, en_US' "$sample" < tags > out 2> err; is 'match --accept: a header is refused' 3 '' '! BadByte element 2\n'
+"$program" match --accept '*' "$sample" < tags > /dev/full 2> err; is 'match --accept: full output' 4 '' '! Write\n'
+for words in de --extended --lookup; do
+    "$program" match --accept de "$sample" $words < tags > out 2> usage; ended=$?
+    head -c 7 usage > err
+    (exit "$ended"); is "match --accept and $words" 3 '' 'error: '
+done
 "$program" match other de < tags > out 2> err; is 'match: the registry is refused' 2 'jar BadLine line 1\n' ''
 "$program" match "$sample" de <&- > out 2> err; is 'match: closed input' 4 '' '! Read\n'
 : > out

@@ -4,3 +4,5 @@ pub mod MatchedLemmas
 pub mod RunLemmas
 pub mod ClosestLemmas
 pub mod LookingLemmas
+pub mod SearchLemmas
+pub mod ServedLemmas

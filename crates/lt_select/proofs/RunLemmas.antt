@@ -1,5 +1,5 @@
 -- What a run that selects lines did.
-use Rattle.std.proofs.Common.{◌≡◌, ◌≤◌, ◌⊎◌, ◌+◌, ◌++◌, ◌∷◌, ◌∙◌, inl, inr, ℕ, List, [], Bool, true, false, Option, Result, Ok, Err, length, take, sym, ap, refl, subst, arith, append-nil, length-append, take_all}
+use Rattle.std.proofs.Common.{◌≡◌, ◌≤◌, ◌+◌, ◌++◌, ◌∷◌, ◌∙◌, inl, inr, ℕ, List, [], Bool, true, false, Option, Result, Ok, Err, length, take, sym, ap, refl, subst, arith, append-nil, length-append, take_all}
 use Rattle.lt_jar.specs.Lines.{whole_lines}
 use Rattle.lt_jar.specs.declared.devices.Device.{Device}
 use Rattle.lt_jar.proofs.TurnLemmas.{whole-append}

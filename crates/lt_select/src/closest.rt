@@ -44,7 +44,7 @@ fn is_closer(closest: &Option<Closest>, range: usize, count: usize) -> bool
 }
 
 /// Copies a line.
-fn copy_line(alloc: Global, line: &[u8]) -> Result<Vec<u8>, OutOfMemory>
+pub(crate) fn copy_line(alloc: Global, line: &[u8]) -> Result<Vec<u8>, OutOfMemory>
     ensures { IfOk result (λ copy. copy.items ≡ line.now) }
 {
     let mut copy = Vec::new(alloc);

@@ -3,7 +3,8 @@ ghost use Rattle.std.specs.Prelude.{◌≡◌, []};
 ghost use Rattle.std.specs.Option.{option_map};
 ghost use Rattle.lt_select.specs.Closest as spec;
 ghost use Rattle.lt_select.specs.Closest.{Holds};
-ghost use Rattle.lt_select.specs.LookedUp.{LooksUpLine};
+ghost use Rattle.lt_select.specs.LookedUp.{LooksUp};
+ghost use Rattle.lt_select.specs.Searching.{SearchesLines};
 ghost use Rattle.lt_select.specs.Selection.{longest_kept};
 
 use crate::closest::{Closest, take_line};
@@ -66,7 +67,7 @@ impl<'a, L: Lookup> LookingUp<'a, L> {
 }
 
 /// How a run ends that writes into memory: a write fails only where that runs out.
-fn in_memory(end: Result<(), ToolFault>) -> Result<(), ToolFault>
+pub(crate) fn in_memory(end: Result<(), ToolFault>) -> Result<(), ToolFault>
     ensures { result ≡ spec.in_memory end }
 {
     match end {
@@ -95,7 +96,7 @@ pub fn look_up_line<L: Lookup, R: Read>(
     ranges: &[LanguageRange],
     input: &mut Device<R>,
 ) -> Result<Option<Vec<u8>>, ToolFault>
-    ensures { LooksUpLine (L.listed checked.now) ranges.now R.remaining input.old input.new result }
+    ensures { SearchesLines (LooksUp (L.listed checked.now) ranges.now) R.remaining input.old input.new result }
 {
     let looking = LookingUp {
         checked,

@@ -5,7 +5,7 @@ use Rattle.lt_words.specs.declared.commands.Command.{Command}
 use Rattle.lt_words.specs.declared.commands.Command.TheVariants as command
 use Rattle.lt_tool.specs.Registries.{ByRegistry}
 use Rattle.lt_tool.specs.Rows.{PlansRows, PlansTags}
-use Rattle.lt_tool.specs.Selected.{PlansMatch}
+use Rattle.lt_tool.specs.Selected.{PlansMatch, PlansServing}
 use Rattle.lt_tool.specs.Shown.{PlansShown}
 use Rattle.lt_tool.specs.Streams.{IsUntouched, Stream, bytes_of, stream}
 use Rattle.lt_tool.specs.TagCommands.{Checks, Classifies, Compares, FormsExtlang, PlansExplanation, PlansVerifying}
@@ -44,6 +44,8 @@ Plans bytes (command.Csv run rows delimiter) before after input result =
     PlansRows bytes (separators.Delimiter delimiter) rows before after input result
 Plans bytes (command.Match name ranges) before after input result =
     ReadsFirst bytes before after input (λ file. ByRegistry file (PlansMatch ranges) result)
+Plans bytes (command.Serve name header) before after input result =
+    ReadsFirst bytes before after input (λ file. ByRegistry file (PlansServing (string_bytes header)) result)
 Plans bytes (command.Extlang name tag) before after input result =
     ReadsFirst bytes before after input (λ file. ByRegistry file (FormsExtlang (string_bytes tag)) result)
 Plans bytes (command.Equal name tag other) before after input result = ReadsFirst bytes before after input

@@ -18,7 +18,6 @@ use Rattle.lt_canon.specs.TextAnswers.{IsValidityRefusal}
 use Rattle.lt_canon.specs.Texts.{IsTextRefusal}
 use Rattle.lt_canon.specs.declared.refusals.TextRefusal.{TextRefusal}
 use Rattle.lt_codes.specs.declared.codes.Code.{Code}
-use Rattle.lt_range.specs.Ranges.{RangeParts}
 use Rattle.lt_stream.specs.declared.faults.ToolFault.{ToolFault}
 use Rattle.lt_stream.specs.declared.faults.ToolFault.TheVariants as tool_faults
 use Rattle.lt_stream.specs.declared.tallies.Tally.{Tally}
@@ -27,9 +26,11 @@ use Rattle.lt_lines.specs.Owed.{terms}
 use Rattle.lt_lines.specs.Running.{RunsLines}
 use Rattle.lt_lines.specs.declared.forms.LineForm.{LineForm}
 use Rattle.lt_lines.specs.declared.runs.Counts.{Counts}
-use Rattle.lt_select.specs.LookedUp.{LooksUpLine}
+use Rattle.lt_select.specs.LookedUp.{LooksUp}
 use Rattle.lt_select.specs.Running.{SelectsLines}
+use Rattle.lt_select.specs.Searching.{Finding, SearchesLines}
 use Rattle.lt_select.specs.Selection.{IsSelected}
+use Rattle.lt_select.specs.Served.{ServesAmong}
 use Rattle.lt_select.specs.declared.schemes.Scheme.{Scheme}
 use Rattle.lt_verify.specs.Verifying.{VerifiesLines}
 use Rattle.lt_verify.specs.declared.verdicts.Verdict.{Verdict}
@@ -117,19 +118,20 @@ IsFound (Ok None) result = result ≡ Ok (answers.Written status.Refused)
 IsFound (Ok (Some line)) result = PrintsLine line.items result
 IsFound (Err fault) result = result ≡ Err (faults.Run fault)
 
--- the lines of the input were searched for the one that lookup by the ranges finds (RFC 4647, 3.4)
-pub record LooksUp {I : Type 0} (R : List EntryParts) (ranges : List RangeParts) (input : Stream I)
-    (result : End) : Type 0 where
+-- the lines of the input were searched for the one of which `Finds` is true
+pub record Searches {I : Type 0} (Finds : Finding) (input : Stream I) (result : End) : Type 0 where
   pub end : Result (Option (Vec ℕ Global)) ToolFault
-  pub looks_up : LooksUpLine R ranges input.bytes input.before input.after end
+  pub searches : SearchesLines Finds input.bytes input.before input.after end
   pub is_found : IsFound end result
 
 -- the lines of the input that the ranges select by a scheme of filtering were written; without one, a line was looked up
+-- (RFC 4647, 3.4)
 abbrev pub MatchesLines : {I O : Type 0} → MatchPlan → Option Scheme → Stream I → Stream O → End → Type 0
 MatchesLines plan (Some scheme) input output result = (end : Result ℕ ToolFault)
     × SelectsLines (IsSelected plan.checked scheme plan.ranges.items) input.bytes output.bytes
     input.before input.after output.before output.after end × (result ≡ selected end)
-MatchesLines plan None input output result = IsUntouched output × LooksUp plan.checked plan.ranges.items input result
+MatchesLines plan None input output result =
+    IsUntouched output × Searches (LooksUp plan.checked plan.ranges.items) input result
 
 -- ---- explanations
 
@@ -184,6 +186,8 @@ Runs (plans.Print answer) input output before after result =
 Runs (plans.Lines plan) input output before after result = AnswersLines plan plan.front input output after result
 Runs (plans.Match plan) input output before after result =
     (after ≡ before) × MatchesLines plan plan.scheme input output result
+Runs (plans.Serve R preferences) input output before after result =
+    IsUntouched output × (after ≡ before) × Searches (ServesAmong R preferences.items) input result
 Runs (plans.Explain R text) input output before after result =
     IsUntouched input × (after ≡ before) × ExplainsText R text.now output result
 Runs (plans.Verify R text) input output before after result =

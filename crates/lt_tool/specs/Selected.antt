@@ -1,12 +1,18 @@
--- Which language ranges the lines of the input are to be matched by (RFC 4647).
+-- Which language ranges the lines of the input are to be matched by (RFC 4647), and for which header one of them is to be
+-- served (RFC 9110, 12.5.4).
 use Rattle.std.specs.Prelude.{◌≡◌, ◌⊎◌, ◌+◌, ℕ, List, [], ◌∷◌, ◌++◌, Option, Some, None, Result, String, Vec, codes}
 use Rattle.std.specs.Prelude.{length, map, string_bytes}
 use Rattle.std.specs.Fmt.{decimal}
 use Rattle.std.specs.declared.alloc.Global.{Global}
 use Rattle.lt_registry.specs.Parts.{EntryParts}
 use Rattle.lt_range.specs.Ranges.{RangeParts}
+use Rattle.lt_range.specs.Asked.{Asks, IsHeaderRefusal}
+use Rattle.lt_range.specs.HeaderRefusals as of_headers
 use Rattle.lt_range.specs.Matched.{IsExtlangRange}
 use Rattle.lt_range.specs.Refusals.{IsRangeRefusal, name_of}
+use Rattle.lt_range.specs.declared.asked.HeaderRefusal.{HeaderRefusal}
+use Rattle.lt_range.specs.declared.asked.HeaderRefusal.TheVariants as header_refusals
+use Rattle.lt_range.specs.declared.preferences.Preference.{Preference}
 use Rattle.lt_range.specs.declared.refusals.RangeRefusal.{RangeRefusal}
 use Rattle.lt_select.specs.declared.schemes.Scheme.{Scheme}
 use Rattle.lt_select.specs.declared.schemes.Scheme.TheVariants as schemes
@@ -59,3 +65,24 @@ PlansMatch ranges R = Gives (λ plan. (read : Vec RangeParts Global) × AreRange
     × (plan ≡ plans.Match (record { checked = R; scheme = scheme_for ranges.matching; ranges = read })))
     (λ fault. (refused : RefusedRange) × RefusesRange R (map string_bytes ranges.texts.items) refused
     × IsRangeFault refused fault)
+
+-- where a header is refused: at the list element of this number, counted from 1; no number is told of a range that is
+-- refused though it is one
+abbrev pub header_place : HeaderRefusal → List ℕ
+header_place (header_refusals.NotAHeader fault) = codes " element " ++ decimal fault.place ++ 10 ∷ []
+header_place refusal = codes " header" ++ 10 ∷ []
+
+-- the line on the errors for a refused header: the name of the refusal, and where it is
+abbrev pub header_line : HeaderRefusal → List ℕ
+header_line refusal = codes "! " ++ of_headers.name_of refusal ++ header_place refusal
+
+-- the fault of a header that is refused: the words are wrong, as the line says; or memory ran out
+abbrev pub IsHeaderFault : HeaderRefusal → Fault → Type 0
+IsHeaderFault refusal fault = ((text : String Global) × (string_bytes text ≡ header_line refusal)
+    × (fault ≡ faults.Usage text)) ⊎ (fault ≡ no_memory)
+
+-- a line is to be served by the preferences of this header; or the header is refused
+abbrev pub PlansServing : (header : List ℕ) → List EntryParts → Result Plan Fault → Type 0
+PlansServing header R = Gives (λ plan. (preferences : Vec Preference Global) × Asks R header preferences.items
+    × (plan ≡ plans.Serve R preferences))
+    (λ fault. (refusal : HeaderRefusal) × IsHeaderRefusal R header refusal × IsHeaderFault refusal fault)

@@ -5,6 +5,7 @@
 mod answers;
 mod explaining;
 mod faults;
+mod headers;
 mod outcomes;
 mod plans;
 mod printing;

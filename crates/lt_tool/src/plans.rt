@@ -5,6 +5,7 @@ ghost use Rattle.lt_tool.specs.Streams.{stream};
 
 use crate::answers::Answer;
 use crate::faults::{Fault, Role};
+use crate::headers::plan_serve;
 use crate::ranges::plan_match;
 use crate::registries::read_registry;
 use crate::rows::{plan_rows, plan_tags};
@@ -15,7 +16,7 @@ use lt_canon::Checked;
 use lt_codes::CodeTable;
 use lt_jar::{Device, Jar};
 use lt_lines::LineForm;
-use lt_range::LanguageRange;
+use lt_range::{LanguageRange, Preference};
 use lt_registry::SortedTable;
 use lt_rows::Separator;
 use lt_select::Scheme;
@@ -63,6 +64,8 @@ pub(crate) enum Plan<'a> {
     Lines(LinesPlan),
     /// To match lines.
     Match(MatchPlan),
+    /// To print the line that preferences serve, by a registry.
+    Serve(Checked<SortedTable>, Vec<Preference>),
     /// To explain this text by a registry.
     Explain(Checked<SortedTable>, &'a [u8]),
     /// To judge the lines of the input as an explanation of this text by a registry.
@@ -101,6 +104,7 @@ pub(crate) fn make_plan<'a, F: Read, I: Read>(
             plan_rows(alloc, Separator::Delimiter(*delimiter), rows, files, input)
         }
         Command::Match(_, ranges) => plan_match(alloc, ranges, &mut files.first),
+        Command::Serve(_, header) => plan_serve(alloc, header.as_bytes(), &mut files.first),
         Command::Extlang(_, tag) => extlang(alloc, tag.as_bytes(), &mut files.first),
         Command::Equal(_, tag, other) => equal(
             alloc,

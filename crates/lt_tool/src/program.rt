@@ -179,13 +179,13 @@ fn carry_out<F: Read, I: Read, O: Write, E: Write>(
 /// is refused. A registry is read record by record, up to its end or the first line at fault. The answer is printed at
 /// once, but by `explain` as its lines are made, and by `show` tag by tag and the steps of a tag as they are made; `canon`,
 /// `codes`, `tsv`, `csv` and `json` answer the lines or records of the input as they come, `match` prints those of its lines
-/// that a range matches, or the one that lookup finds, and `verify` reads them up to the first that settles its answer.
+/// that a range matches, or the one that lookup finds or a header serves, and `verify` reads them up to the first that settles its answer.
 ///
 /// A read of a file that fails, or is one too many, is answered as a fault of the file. A write to the output
 /// that fails, a read of the input that fails, its end within quotes, and an allocation that fails are named on the errors; a
 /// write there that fails is counted by the device alone. Where a column has a name, it is found in the heading of the input
 /// before a byte is written; a name that no column has, or more than one, is told on the errors, and the status is 3. So it
-/// is where a range of `match` is refused, and no line is read.
+/// is where a range or the header of `match` is refused, and no line is read.
 pub fn perform<F: Read, I: Read, O: Write, E: Write>(
     alloc: Global,
     command: &Command,

@@ -4,7 +4,9 @@ ghost use Rattle.lt_tag.specs.Faults.{HasTag};
 ghost use Rattle.lt_registry.specs.Validity.{IsValid};
 ghost use Rattle.lt_canon.specs.TextAnswers.{IsValidityRefusal};
 ghost use Rattle.lt_tool.specs.Runs as spec;
-ghost use Rattle.lt_tool.specs.Runs.{AnswersInJson, AnswersLines, LooksUp, MatchesLines, PrintsLine, Runs, RunsOver, VerifiesText, tallies_after};
+ghost use Rattle.lt_select.specs.LookedUp.{LooksUp};
+ghost use Rattle.lt_select.specs.Served.{ServesAmong};
+ghost use Rattle.lt_tool.specs.Runs.{AnswersInJson, AnswersLines, IsFound, MatchesLines, PrintsLine, Runs, RunsOver, Searches, VerifiesText, tallies_after};
 ghost use Rattle.lt_tool.specs.Streams.{stream};
 
 use crate::answers::{Answer, status_if};
@@ -17,8 +19,9 @@ use lt_canon::{Checked, Refusal, TextRefusal};
 use lt_jar::Device;
 use lt_json::write_objects;
 use lt_lines::{Basis, Counts, LineForm, Tallies, run_tallied};
+use lt_range::Preference;
 use lt_registry::{Lookup, validate};
-use lt_select::{look_up_line, select_lines};
+use lt_select::{look_up_line, select_lines, serve_line};
 use lt_stream::ToolFault;
 use lt_tag::{OutOfMemory, Tag, read_tag};
 use lt_verify::{Verdict, verify_lines};
@@ -111,15 +114,34 @@ fn found(line: Vec<u8>) -> Result<Answer, Fault>
     Ok(Answer::Text(text))
 }
 
-/// The line of the input that lookup by ranges finds.
-fn look_up<I: Read>(alloc: Global, plan: &MatchPlan, input: &mut Device<I>) -> Result<Answer, Fault>
-    ensures { LooksUp plan.now.checked plan.now.ranges.items (stream I.remaining input.old input.new) result }
+/// What a search for a line came to.
+fn searched(end: Result<Option<Vec<u8>>, ToolFault>) -> Result<Answer, Fault>
+    ensures { IsFound end result }
 {
-    match look_up_line(alloc, &plan.checked, &plan.ranges, input) {
+    match end {
         Ok(Some(line)) => found(line),
         Ok(None) => Ok(Answer::Written(Status::Refused)),
         Err(fault) => Err(Fault::Run(fault)),
     }
+}
+
+/// The line of the input that lookup by ranges finds.
+fn look_up<I: Read>(alloc: Global, plan: &MatchPlan, input: &mut Device<I>) -> Result<Answer, Fault>
+    ensures { Searches (LooksUp plan.now.checked plan.now.ranges.items) (stream I.remaining input.old input.new) result }
+{
+    searched(look_up_line(alloc, &plan.checked, &plan.ranges, input))
+}
+
+/// The line of the input that preferences serve.
+fn serve<L: Lookup, I: Read>(
+    alloc: Global,
+    checked: &Checked<L>,
+    preferences: &[Preference],
+    input: &mut Device<I>,
+) -> Result<Answer, Fault>
+    ensures { Searches (ServesAmong (L.listed checked.now) preferences.now) (stream I.remaining input.old input.new) result }
+{
+    searched(serve_line(alloc, checked, preferences, input))
 }
 
 /// Writes the lines of the input that ranges match by a scheme of filtering, or gives the one that they find by lookup.
@@ -224,6 +246,7 @@ pub(crate) fn run<I: Read, O: Write>(
         Plan::Print(answer) => Ok(answer),
         Plan::Lines(plan) => answer_lines(alloc, &plan, input, output, tallies),
         Plan::Match(plan) => match_lines(alloc, &plan, input, output),
+        Plan::Serve(checked, preferences) => serve(alloc, &checked, &preferences, input),
         Plan::Explain(checked, text) => explain(alloc, &checked, text, output),
         Plan::Verify(checked, text) => verify(alloc, &checked, text, input),
         Plan::Show(checked, jar, tags) => {

@@ -130,10 +130,20 @@ extended-read : read_as (codes "extended") (match (codes "R" ∷ codes "de" ∷ 
 unfolding clap_on_literals read_as
 extended-read = refl
 
--- `match` without a range lacks an argument
-range-missing : fault_of langtag (match (codes "R" ∷ [])) ≡ kind.MissingRequiredArgument ∷ []
-unfolding clap_on_literals
+-- `match` without a range has no range, which is no fault of its words where they have a header
+range-missing : values_as (codes "RANGE") (match (codes "R" ∷ [])) ≡ Some (codes "match", [])
+unfolding clap_on_literals values_as
 range-missing = refl
+
+-- a header after its option is read as it
+header-read : read_as (codes "HEADER") (match (codes "--accept" ∷ codes "de, en;q=0.5" ∷ codes "R" ∷ [])) ≡ Some (codes "match", Some (codes "de, en;q=0.5"))
+unfolding clap_on_literals read_as
+header-read = refl
+
+-- a header without a range is no fault
+header-right : fault_of langtag (match (codes "--accept" ∷ codes "de, en;q=0.5" ∷ codes "R" ∷ [])) ≡ []
+unfolding clap_on_literals
+header-right = refl
 
 -- a command line of `show`, with these words after the subcommand
 abbrev show : List Text → List Text

@@ -15,6 +15,10 @@ positional name = record (new_rule name) { action = Some Set; required = true }
 abbrev pub repeated : Text → Rule
 repeated name = record (new_rule name) { action = Some Append; required = true }
 
+-- the same, but that no word need be left
+abbrev pub leftover : Text → Rule
+leftover name = record (new_rule name) { action = Some Append }
+
 -- an option, two hyphens and `name`, which takes a value; the matches have it under `id`
 abbrev pub option : (id name : Text) → Rule
 option id name = record (new_rule id) { long = Some name; action = Some Set }
@@ -27,6 +31,7 @@ flag name = record (new_rule name) { long = Some name; action = Some SetTrue }
 abbrev pub rule_for : Form → Text → Rule
 rule_for forms.Positional id = positional id
 rule_for forms.Repeated id = repeated id
+rule_for forms.Leftover id = leftover id
 rule_for (forms.Option name) id = option id name.now
 rule_for forms.Flag id = flag id
 
@@ -62,7 +67,7 @@ name_of sub.Upgrade = codes "upgrade"
 name_of sub.Show = codes "show"
 name_of sub.Json = codes "json"
 
--- the names of a subcommand's required arguments, without one that is repeated
+-- the names of a subcommand's required arguments, without one that takes all words that are left
 abbrev pub positionals_of : Subcommand → List Text
 positionals_of sub.Classify = codes "TAG" ∷ []
 positionals_of sub.Check = codes "REGISTRY" ∷ []
@@ -79,7 +84,7 @@ positionals_of sub.Upgrade = codes "OLD" ∷ codes "NEW" ∷ []
 positionals_of sub.Show = codes "REGISTRY" ∷ []
 positionals_of sub.Json = codes "REGISTRY" ∷ []
 
--- the options of a subcommand, after its repeated argument, if it has one
+-- the options of a subcommand, after the argument that takes all words that are left, if it has one
 abbrev pub options_of : Subcommand → List Rule
 options_of sub.Canon = flag (codes "summary") ∷ []
 options_of sub.Codes = flag (codes "summary") ∷ []
@@ -88,7 +93,9 @@ options_of sub.Tsv =
 options_of sub.Csv =
     option (codes "C") (codes "delimiter") ∷ flag (codes "keep") ∷ option (codes "TABLE") (codes "codes")
     ∷ flag (codes "summary") ∷ []
-options_of sub.Match = repeated (codes "RANGE") ∷ flag (codes "extended") ∷ flag (codes "lookup") ∷ []
+options_of sub.Match =
+    leftover (codes "RANGE") ∷ flag (codes "extended") ∷ flag (codes "lookup")
+    ∷ option (codes "HEADER") (codes "accept") ∷ []
 options_of sub.Show = repeated (codes "TAG") ∷ flag (codes "json") ∷ []
 options_of _ = []
 

@@ -1,5 +1,5 @@
 -- The command that the words of a command line name, or why they name none.
-use Rattle.std.specs.Prelude.{◌≡◌, ◌<◌, ◌^◌, ◌==◌, ◌&&◌, ◌||◌, not, ⊤, ℕ, Bool, true, false, List, [], ◌∷◌, Option, Some}
+use Rattle.std.specs.Prelude.{◌≡◌, ◌≢◌, ◌<◌, ◌^◌, ◌==◌, ◌&&◌, ◌||◌, not, ⊤, ℕ, Bool, true, false, List, [], ◌∷◌, Option, Some}
 use Rattle.std.specs.Prelude.{None, if◌then◌else◌, bytes_eq, codes, map, nat_lt, option_map, string_bytes}
 use Rattle.std.specs.Char.{is_ascii_alphanumeric}
 use Rattle.std.specs.Option.{option_map_or}
@@ -15,6 +15,7 @@ use Rattle.lt_words.specs.declared.commands.Column.TheVariants as columns
 use Rattle.lt_words.specs.declared.commands.Command.{Command}
 use Rattle.lt_words.specs.declared.commands.Matching.{Matching}
 use Rattle.lt_words.specs.declared.commands.Matching.TheVariants as matchings
+use Rattle.lt_words.specs.declared.commands.Ranges.{Ranges}
 use Rattle.lt_words.specs.declared.commands.Rows.{Rows}
 use Rattle.lt_words.specs.declared.commands.Run.{Run}
 use Rattle.lt_words.specs.declared.commands.Command.TheVariants as command
@@ -30,6 +31,7 @@ subcommand_for (command.Codes run table) = sub.Codes
 subcommand_for (command.Tsv run rows) = sub.Tsv
 subcommand_for (command.Csv run rows delimiter) = sub.Csv
 subcommand_for (command.Match file ranges) = sub.Match
+subcommand_for (command.Serve file header) = sub.Match
 subcommand_for (command.Extlang file tag) = sub.Extlang
 subcommand_for (command.Equal file tag other) = sub.Equal
 subcommand_for (command.Explain file tag) = sub.Explain
@@ -72,6 +74,7 @@ AreValues (command.Csv run rows delimiter) texts =
     (text : Text) × IsColumn text rows.column × FitsHeading rows.heading rows.column
     × (texts ≡ string_bytes run.registry ∷ text ∷ [])
 AreValues (command.Match file ranges) texts = texts ≡ string_bytes file ∷ []
+AreValues (command.Serve file header) texts = texts ≡ string_bytes file ∷ []
 AreValues (command.Extlang file tag) texts = texts ≡ string_bytes file ∷ string_bytes tag ∷ []
 AreValues (command.Equal file tag other) texts = texts ≡ string_bytes file ∷ string_bytes tag ∷ string_bytes other ∷ []
 AreValues (command.Explain file tag) texts = texts ≡ string_bytes file ∷ string_bytes tag ∷ []
@@ -122,6 +125,18 @@ matching_given rows = matching_by (is_flagged (codes "extended") rows) (is_flagg
 abbrev pub values_given : (name : Text) → List Row → List Text
 values_given name rows = option_map_or (λ texts. texts) (all_of name rows) []
 
+-- the command line gives these ranges, one at least, and says that they match so
+abbrev pub AreRangesGiven : List Row → Ranges → Type 0
+AreRangesGiven rows ranges =
+    (map string_bytes ranges.texts.items ≡ values_given (codes "RANGE") rows)
+    × (values_given (codes "RANGE") rows ≢ []) × (matching_given rows ≡ Some ranges.matching)
+
+-- the command line gives no range, and no flag that says how ranges match
+abbrev pub IsAlone : List Row → Type 0
+IsAlone rows =
+    (values_given (codes "RANGE") rows ≡ []) × (is_flagged (codes "extended") rows ≡ false)
+    × (is_flagged (codes "lookup") rows ≡ false)
+
 -- the options of a run over lines are as the command line gives them; `rows` are its matches, one for an argument
 abbrev pub AreRunOptions : Run → List Row → Type 0
 AreRunOptions run rows = run.summary ≡ is_flagged (codes "summary") rows
@@ -142,8 +157,9 @@ AreOptions (command.Csv run rows delimiter) found =
     AreRunOptions run found × (rows.heading ≡ true) × (delimiter_given found ≡ Some delimiter)
     × AreRowOptions rows found
 AreOptions (command.Match file ranges) found =
-    (map string_bytes ranges.texts.items ≡ values_given (codes "RANGE") found)
-    × (matching_given found ≡ Some ranges.matching)
+    (first_of (codes "HEADER") found ≡ None) × AreRangesGiven found ranges
+AreOptions (command.Serve file header) found =
+    (first_of (codes "HEADER") found ≡ Some (string_bytes header)) × IsAlone found
 AreOptions (command.Show file tags) found =
     (map string_bytes tags.texts.items ≡ values_given (codes "TAG") found)
     × (tags.json ≡ is_flagged (codes "json") found)
@@ -171,6 +187,7 @@ first_file_of (command.Codes run table) = Some (string_bytes run.registry)
 first_file_of (command.Tsv run rows) = Some (string_bytes run.registry)
 first_file_of (command.Csv run rows delimiter) = Some (string_bytes run.registry)
 first_file_of (command.Match file ranges) = Some (string_bytes file)
+first_file_of (command.Serve file header) = Some (string_bytes file)
 first_file_of (command.Extlang file tag) = Some (string_bytes file)
 first_file_of (command.Equal file tag other) = Some (string_bytes file)
 first_file_of (command.Explain file tag) = Some (string_bytes file)
@@ -194,6 +211,7 @@ reads_input_of (command.Codes run table) = true
 reads_input_of (command.Tsv run rows) = true
 reads_input_of (command.Csv run rows delimiter) = true
 reads_input_of (command.Match file ranges) = true
+reads_input_of (command.Serve file header) = true
 reads_input_of (command.Verify file tag) = true
 reads_input_of (command.Json file) = true
 reads_input_of _ = false
@@ -261,6 +279,20 @@ LacksMatching rows (fault.Help text) = ⊥
 LacksMatching rows (fault.Version text) = ⊥
 LacksMatching rows (fault.Usage text) = matching_given rows ≡ None
 LacksMatching rows fault.OutOfMemory = ⊤
+
+-- the command line gives no range, or asks for two ways to match; OutOfMemory may be answered in any case
+abbrev pub LacksRanges : List Row → WordsFault → Type 0
+LacksRanges rows (fault.Help text) = ⊥
+LacksRanges rows (fault.Version text) = ⊥
+LacksRanges rows (fault.Usage text) = (ranges : Ranges) → AreRangesGiven rows ranges → ⊥
+LacksRanges rows fault.OutOfMemory = ⊤
+
+-- the command line gives a range, or says how ranges match; OutOfMemory may be answered in any case
+abbrev pub HasCompany : List Row → WordsFault → Type 0
+HasCompany rows (fault.Help text) = ⊥
+HasCompany rows (fault.Version text) = ⊥
+HasCompany rows (fault.Usage text) = IsAlone rows → ⊥
+HasCompany rows fault.OutOfMemory = ⊤
 
 -- what a parse found is no command; OutOfMemory may be answered in any case
 abbrev pub NamesNone : Option (Text × List Row) → WordsFault → Type 0

@@ -83,6 +83,9 @@ pub enum Command {
     /// The lines of the input that one of these ranges matches, or the line that lookup by them finds, by the registry of
     /// this file, which comes first.
     Match(String, Ranges),
+    /// The line of the input to serve for this Accept-Language header (RFC 9110, 12.5.4), by the registry of this file,
+    /// which comes first.
+    Serve(String, String),
     /// The extlang form of this tag, by the registry of this file, which comes first.
     Extlang(String, String),
     /// Whether these two tags are equivalent, by the registry of this file, which comes first.
@@ -119,7 +122,7 @@ impl Command {
             Command::Check(file) => Some(file.as_str()),
             Command::Canon(run) | Command::Codes(run, _) => Some(run.registry.as_str()),
             Command::Tsv(run, _) | Command::Csv(run, _, _) => Some(run.registry.as_str()),
-            Command::Match(file, _) => Some(file.as_str()),
+            Command::Match(file, _) | Command::Serve(file, _) => Some(file.as_str()),
             Command::Extlang(file, _) | Command::Explain(file, _) => Some(file.as_str()),
             Command::Verify(file, _) => Some(file.as_str()),
             Command::Equal(file, _, _) | Command::Upgrade(file, _) => Some(file.as_str()),
@@ -136,7 +139,7 @@ impl Command {
         match self {
             Command::Canon(_) | Command::Codes(_, _) | Command::Verify(_, _) => true,
             Command::Tsv(_, _) | Command::Csv(_, _, _) | Command::Match(_, _) => true,
-            Command::Json(_) => true,
+            Command::Json(_) | Command::Serve(_, _) => true,
             _ => false,
         }
     }

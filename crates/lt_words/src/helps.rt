@@ -141,12 +141,15 @@ pub(crate) static MATCH: Help = Help {
 Example:
     $ printf 'de-AT\\nen\\n' | langtag match registry.txt de
     de-AT
+    $ printf 'en\\nde\\n' | langtag match --accept 'de-CH, en;q=0.5' registry.txt
+    de
 
 Status:
   0  a line was printed
   1  no line was printed
   2  the registry was refused
-  3  the words of the command are wrong, or a range was refused
+  3  the words of the command are wrong, or a range or a header was
+     refused
   4  a file, the input, the output or memory failed
 
 The manual, man langtag, says how ranges match.",

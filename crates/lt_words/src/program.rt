@@ -15,6 +15,8 @@ pub(crate) enum Form {
     Positional,
     /// By its place, as each of the words that are left; one has to be there.
     Repeated,
+    /// By its place, as each of the words that are left, if there are any.
+    Leftover,
     /// After two hyphens and this name, if it is there.
     Option(&'static str),
     /// As two hyphens and its name, without a value.
@@ -66,7 +68,7 @@ pub(crate) static COLUMN: Argument = Argument {
 
 pub(crate) static RANGE: Argument = Argument {
     name: "RANGE",
-    form: Form::Repeated,
+    form: Form::Leftover,
     help: "A language range (RFC 4647), for example de-CH or *, or a tag",
 };
 
@@ -124,6 +126,12 @@ pub(crate) static LOOKUP: Argument = Argument {
     help: "Prints the one line that lookup finds (RFC 4647, 3.4)",
 };
 
+pub(crate) static ACCEPT: Argument = Argument {
+    name: "HEADER",
+    form: Form::Option("accept"),
+    help: "Prints the line to serve for this Accept-Language header",
+};
+
 pub(crate) static SUMMARY: Argument = Argument {
     name: "summary",
     form: Form::Flag,
@@ -133,8 +141,8 @@ pub(crate) static SUMMARY: Argument = Argument {
 /// The version, and the kits that prove and build the program, by their logic.
 const VERSION: &str = "1.1.0 (rattle-kit-13 logic dac8208d650f15bf)";
 
-/// The argument that is wanted, as the parser takes it: a positional, which is required and may be repeated, an option
-/// with a value, or a flag.
+/// The argument that is wanted, as the parser takes it: a positional, which is required, may be repeated, or both, an
+/// option with a value, or a flag.
 fn new_argument<'a>(alloc: Global, wanted: &Argument) -> Arg<'a>
     ensures rule { rule_of result ≡ rule_for wanted.now.form wanted.now.name.now }
     ensures local { result.global ≡ false }
@@ -143,6 +151,7 @@ fn new_argument<'a>(alloc: Global, wanted: &Argument) -> Arg<'a>
     match wanted.form {
         Form::Positional => argument.required(true).action(ArgAction::Set),
         Form::Repeated => argument.required(true).action(ArgAction::Append),
+        Form::Leftover => argument.action(ArgAction::Append),
         Form::Option(name) => argument.long(name).action(ArgAction::Set),
         Form::Flag => argument.long(wanted.name).action(ArgAction::SetTrue),
     }
@@ -207,7 +216,7 @@ pub(crate) fn new_langtag<'a>(alloc: Global) -> Result<Command<'a>, AllocError>
     let program = with_new(alloc, program, "tsv", &helps::TSV, arguments)?;
     let arguments = &[&REGISTRY, &COLUMN, &DELIMITER, &KEEP, &CODES, &SUMMARY];
     let program = with_new(alloc, program, "csv", &helps::CSV, arguments)?;
-    let arguments = &[&REGISTRY, &RANGE, &EXTENDED, &LOOKUP];
+    let arguments = &[&REGISTRY, &RANGE, &EXTENDED, &LOOKUP, &ACCEPT];
     let program = with_new(alloc, program, "match", &helps::MATCH, arguments)?;
     let arguments = &[&REGISTRY, &TAG];
     let program = with_new(alloc, program, "extlang", &helps::EXTLANG, arguments)?;

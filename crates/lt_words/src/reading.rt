@@ -4,15 +4,16 @@ ghost use Rattle.lt_words.specs.CommandLine.{name_of};
 ghost use Rattle.lt_words.specs.Reading.{Reads, IsRefused, IsNamed, NamesNone, IsFaultOf};
 ghost use Rattle.clap.specs.Words.{found_of, rows_of, subcommand_rows_of};
 
-use crate::commands::{Command, Ranges, Rows, Run, Tags};
+use crate::commands::{Command, Rows, Run, Tags};
 use crate::faults::WordsFault;
 use crate::program::{
-    CODES, COLUMN, HEADING, JSON, KEEP, NEW, OLD, OTHER, RANGE, REGISTRY, SUMMARY, TABLE, TAG,
+    ACCEPT, CODES, COLUMN, HEADING, JSON, KEEP, NEW, OLD, OTHER, REGISTRY, SUMMARY, TABLE, TAG,
     TAGS, new_langtag,
 };
 use crate::subcommands::{Subcommand, subcommand_named};
 use crate::values::{
-    column_of, delimiter_of, is_flagged, matching_of, option_of, two_values, value_of, values_of,
+    check_alone, column_of, delimiter_of, is_flagged, option_of, ranges_of, two_values, value_of,
+    values_of,
 };
 use clap::ArgMatches;
 use clap::error::ErrorKind;
@@ -75,18 +76,20 @@ fn read_csv(alloc: Global, values: &ArgMatches<'_>) -> Result<Command, WordsFaul
     Ok(Command::Csv(Run { registry, summary }, rows, delimiter))
 }
 
-/// The command `match`, by the values of its arguments. Refused with `Usage` if the positional has none, or they name
-/// two ways to match.
+/// The command `match`, by the values of its arguments. Refused with `Usage` if the positional has none, or they do not
+/// name one way to match: ranges with a scheme, or a header.
 fn read_match(alloc: Global, values: &ArgMatches<'_>) -> Result<Command, WordsFault>
     ensures named { IfOk result (IsNamed (Some (name_of Subcommand.Match, rows_of (found_of values.now)))) }
     ensures unnamed { IfErr result (NamesNone (Some (name_of Subcommand.Match, rows_of (found_of values.now)))) }
 {
     let registry = value_of(alloc, values, &REGISTRY)?;
-    let ranges = Ranges {
-        texts: values_of(alloc, values, &RANGE)?,
-        matching: matching_of(alloc, values)?,
-    };
-    Ok(Command::Match(registry, ranges))
+    match option_of(alloc, values, &ACCEPT)? {
+        Some(header) => {
+            check_alone(alloc, values)?;
+            Ok(Command::Serve(registry, header))
+        }
+        None => Ok(Command::Match(registry, ranges_of(alloc, values)?)),
+    }
 }
 
 /// The command `show`, by the values of its arguments. Refused with `Usage` if the positional has none.

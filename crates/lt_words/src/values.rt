@@ -1,13 +1,13 @@
 //! The values of a subcommand's arguments.
 ghost use Rattle.std.specs.Prelude.{◌≡◌, ◌↔◌, [], ◌∷◌, IfOk, IfErr, IsTrue, Some, map, option_map, string_bytes};
 ghost use Rattle.std.specs.Str.Parse.{AllDigits, without_leading_plus};
-ghost use Rattle.lt_words.specs.Reading.{AreGiven, FitsHeading, IsColumn, IsDecimal, IsNoColumn, IsNoNumber, IsNumber, LacksDelimiter, LacksMatching, LacksValue, delimiter_given, matching_given, values_given};
+ghost use Rattle.lt_words.specs.Reading.{AreGiven, FitsHeading, IsColumn, IsDecimal, IsNoColumn, IsNoNumber, IsNumber, AreRangesGiven, HasCompany, IsAlone, LacksDelimiter, LacksMatching, LacksRanges, LacksValue, delimiter_given, matching_given, values_given};
 ghost use Rattle.lt_words.specs.Reading as spec;
 ghost use Rattle.clap.specs.Words.{first_of, found_of, rows_of};
 
-use crate::commands::{Column, Matching};
+use crate::commands::{Column, Matching, Ranges};
 use crate::faults::WordsFault;
-use crate::program::{Argument, DELIMITER, EXTENDED, LOOKUP};
+use crate::program::{Argument, DELIMITER, EXTENDED, LOOKUP, RANGE};
 use clap::ArgMatches;
 use std::alloc::{AllocError, Global};
 
@@ -203,7 +203,7 @@ pub(crate) fn delimiter_of(alloc: Global, matches: &ArgMatches<'_>) -> Result<u8
 }
 
 /// How ranges match, by the flags that are given: basic filtering without any. Refused with `Usage` if both are given.
-pub(crate) fn matching_of(alloc: Global, matches: &ArgMatches<'_>) -> Result<Matching, WordsFault>
+fn matching_of(alloc: Global, matches: &ArgMatches<'_>) -> Result<Matching, WordsFault>
     ensures given { IfOk result (λ matching. matching_given (rows_of (found_of matches.now)) ≡ Some matching) }
     ensures none { IfErr result (LacksMatching (rows_of (found_of matches.now))) }
 {
@@ -215,4 +215,33 @@ pub(crate) fn matching_of(alloc: Global, matches: &ArgMatches<'_>) -> Result<Mat
             "error: --extended and --lookup are two ways to match, and not to be given\ntogether\n\nFor more information, try '--help'.\n"
         )?)),
     }
+}
+
+/// The ranges that are given, and how they match. Refused with `Usage` if there is none, or if both flags are given.
+pub(crate) fn ranges_of(alloc: Global, matches: &ArgMatches<'_>) -> Result<Ranges, WordsFault>
+    ensures given { IfOk result (AreRangesGiven (rows_of (found_of matches.now))) }
+    ensures none { IfErr result (LacksRanges (rows_of (found_of matches.now))) }
+{
+    let texts = values_of(alloc, matches, &RANGE)?;
+    if texts.is_empty() {
+        return Err(WordsFault::Usage(format!(in alloc;
+            "error: give a RANGE, or a header after --accept\n\nFor more information, try '--help'.\n"
+        )?));
+    }
+    let matching = matching_of(alloc, matches)?;
+    Ok(Ranges { texts, matching })
+}
+
+/// Refused with `Usage` if a range is given, or a flag that says how ranges match: a header has ranges of its own.
+pub(crate) fn check_alone(alloc: Global, matches: &ArgMatches<'_>) -> Result<(), WordsFault>
+    ensures alone { IfOk result (λ _. IsAlone (rows_of (found_of matches.now))) }
+    ensures company { IfErr result (HasCompany (rows_of (found_of matches.now))) }
+{
+    let texts = values_of(alloc, matches, &RANGE)?;
+    if texts.is_empty() && !is_flagged(matches, &EXTENDED) && !is_flagged(matches, &LOOKUP) {
+        return Ok(());
+    }
+    Err(WordsFault::Usage(format!(in alloc;
+        "error: --accept is given without a RANGE, and without --extended and --lookup\n\nFor more information, try '--help'.\n"
+    )?))
 }

@@ -2,11 +2,11 @@
 use super::{checked_table, ranges_of, select};
 use lt_check::Checked;
 use lt_jar::{Device, Pieces};
-use lt_range::LanguageRange;
+use lt_range::{LanguageRange, Preference, header_preferences};
 use lt_registry::SortedTable;
-use lt_select::{Scheme, look_up_line};
+use lt_select::{Scheme, look_up_line, serve_line};
 use lt_stream::ToolFault;
-use lt_testing::answers;
+use lt_testing::{again, answers};
 use std::alloc::Global;
 use std::io::Cursor;
 use std::test::Fail;
@@ -60,7 +60,7 @@ fn look_up(
     look_up_line(alloc, checked, ranges, &mut Device::new(reader))
 }
 
-/// Whether a lookup found this line, if any.
+/// Whether a search found this line, if any.
 fn has_found(end: &Result<Option<Vec<u8>>, ToolFault>, wanted: Option<&str>) -> bool {
     match (end, wanted) {
         (Ok(Some(line)), Some(text)) => line.as_slice() == text.as_bytes(),
@@ -86,5 +86,36 @@ fn a_line_is_looked_up(rt: HostRuntime) -> Result<(), Fail> {
         |end| matches!(end, Err(ToolFault::OutOfMemory)),
     );
     assert!(rt; are_found?);
+    Ok(())
+}
+
+/// How the search over a reader ends for the line that preferences serve.
+fn serve(
+    alloc: Global,
+    checked: &Checked<SortedTable>,
+    preferences: &[Preference],
+    reader: Pieces<'_>,
+) -> Result<Option<Vec<u8>>, ToolFault> {
+    serve_line(alloc, checked, preferences, &mut Device::new(reader))
+}
+
+#[test]
+fn a_line_is_served(rt: HostRuntime) -> Result<(), Fail> {
+    let checked = checked_table(rt.alloc())?;
+    let header = b"fr;q=0.4, zh-yue-Hans;q=0.8";
+    let preferences = again!(header_preferences(rt.alloc(), &checked, header))?;
+    let are_served = answers(
+        rt.alloc(),
+        &preferences,
+        || serve(
+            rt.alloc(),
+            &checked,
+            &preferences,
+            Pieces::once(b"zh\nde_\nyue\r\nde\n", 4),
+        ),
+        |end| has_found(end, Some("yue\r")),
+        |end| matches!(end, Err(ToolFault::OutOfMemory)),
+    );
+    assert!(rt; are_served?);
     Ok(())
 }

@@ -1,15 +1,20 @@
 use Rattle.std.proofs.Common.{◌∙◌, sym}
 use Rattle.std.proofs.lemmas.Result.{err_from_is_err_and}
-use Rattle.lt_select.proofs.LookingLemmas.{looks_ended, looks_up}
+use Rattle.lt_select.specs.LookedUp.{LooksUp}
+use Rattle.lt_select.proofs.LookingLemmas.{found_is}
+use Rattle.lt_select.proofs.SearchLemmas.{search_ended, searched}
 use Rattle.lt_select.proofs.looking.look_up_line.Goals as goal
 
 pub returns-in_err-in_memory : goal.returns-in_err-in_memory
 returns-in_err-in_memory g c =
+    let R = g.L.Lookup.listed c.args.checked.now in
     let p = err_from_is_err_and c.from_residual.result c.from_residual.ensures.1 in
-    rw (p.1, p.2) (looks_ended (g.L.Lookup.listed c.args.checked.now) c.args.ranges.now _ (λ answers. answers.closest) (λ answers each bytes q. rw (q.0, q.1) at q.3) _ _ _ _ _ _ _ _ _
+    rw (p.1, p.2) (search_ended (LooksUp R c.args.ranges.now) _ _ _ _ _ _ _ _ _ _
     (sym c.in_memory.ensures ∙ c.in_err-in_memory.was) c.run_text-looking.ensures)
 
 pub returns : goal.returns
 returns g c =
-    looks_up (g.L.Lookup.listed c.args.checked.now) c.args.ranges.now _ (λ answers. answers.closest) (λ answers each bytes q. rw (q.0, q.1) at q.3) _ _ _ _ _ _ _ _ _
-    (sym c.in_memory.ensures ∙ c.in_ok-in_memory.was) c.run_text-looking.ensures c.into_line.result c.into_line.ensures
+    let R = g.L.Lookup.listed c.args.checked.now in
+    searched (LooksUp R c.args.ranges.now) _ _ _ _ _ _ _ _ _ _
+    (sym c.in_memory.ensures ∙ c.in_ok-in_memory.was) c.run_text-looking.ensures c.into_line.result
+    (λ each bytes q. found_is R c.args.ranges.now each _ (rw (q.0, q.1) at q.3) _ c.into_line.ensures)

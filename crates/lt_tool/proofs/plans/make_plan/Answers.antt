@@ -22,6 +22,9 @@ returns-in-Csv g c = rw c.in-Csv.is c.plan_rows-in-Csv.ensures
 pub returns-in-Match : goal.returns-in-Match
 returns-in-Match g c = rw c.in-Match.is (refl, refl, c.plan_match.ensures)
 
+pub returns-in-Serve : goal.returns-in-Serve
+returns-in-Serve g c = rw c.in-Serve.is (refl, refl, rw c.as_bytes-in-Serve.ensures.value at c.plan_serve.ensures)
+
 pub returns-in-Extlang : goal.returns-in-Extlang
 returns-in-Extlang g c = rw c.in-Extlang.is (refl, refl, rw c.as_bytes-in-Extlang.ensures.value at c.extlang.ensures)
 

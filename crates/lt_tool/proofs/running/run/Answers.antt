@@ -10,6 +10,9 @@ returns-in-Lines g c = rw c.in-Lines.is c.answer_lines.ensures
 pub returns-in-Match : goal.returns-in-Match
 returns-in-Match g c = rw c.in-Match.is (refl, c.match_lines.ensures)
 
+pub returns-in-Serve : goal.returns-in-Serve
+returns-in-Serve g c = rw c.in-Serve.is (refl, refl, rw c.deref.ensures.value at c.serve.ensures)
+
 pub returns-in-Explain : goal.returns-in-Explain
 returns-in-Explain g c = rw c.in-Explain.is (refl, refl, c.explain.ensures)
 

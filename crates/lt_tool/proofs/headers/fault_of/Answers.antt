@@ -1,0 +1,5 @@
+use Rattle.std.proofs.Common.{inl, refl}
+use Rattle.lt_tool.proofs.headers.fault_of.Goals as goal
+
+pub returns-in-Ok : goal.returns-in-Ok
+returns-in-Ok c = inl (c.in-Ok.line, c.in-Ok.ensures, refl)

@@ -1,0 +1,58 @@
+//! An Accept-Language header that is read from words.
+ghost use Rattle.std.specs.Prelude.{◌≡◌, IfOk, string_bytes};
+ghost use Rattle.lt_tool.specs.Registries.{ByRegistry};
+ghost use Rattle.lt_tool.specs.Selected as spec;
+ghost use Rattle.lt_tool.specs.Selected.{IsHeaderFault, PlansServing};
+ghost use Rattle.lt_tool.specs.Streams.{stream};
+
+use crate::faults::{Fault, Role};
+use crate::plans::Plan;
+use crate::registries::read_registry;
+use lt_jar::Device;
+use lt_range::{HeaderRefusal, header_preferences};
+use lt_stream::ToolFault;
+use std::alloc::{AllocError, Global};
+use std::io::Read;
+
+/// The line that is told of a header that is refused: the name of its fault and the number of the list element, as
+/// `! BadWeight element 2`. It tells no number where a range is refused that is one, as `! ReplacementRepeats header`.
+fn header_line(alloc: Global, refusal: &HeaderRefusal) -> Result<String, AllocError>
+    ensures { IfOk result (λ line. string_bytes line ≡ spec.header_line refusal.now) }
+{
+    let name = refusal.name();
+    match refusal {
+        HeaderRefusal::NotAHeader(fault) => {
+            let place = fault.place;
+            format!(in alloc; "! {name} element {place}\n")
+        }
+        _ => format!(in alloc; "! {name} header\n"),
+    }
+}
+
+/// The fault of a header that is refused, or that memory ran out.
+fn fault_of(alloc: Global, refusal: &HeaderRefusal) -> Fault
+    ensures { IsHeaderFault refusal.now result }
+{
+    if let HeaderRefusal::OutOfMemory = refusal {
+        return Fault::Run(ToolFault::OutOfMemory);
+    }
+    match header_line(alloc, refusal) {
+        Ok(line) => Fault::Usage(line),
+        Err(_) => Fault::Run(ToolFault::OutOfMemory),
+    }
+}
+
+/// To print the line of the input to serve for a header, by the registry of a file; or why that or the header is refused.
+pub(crate) fn plan_serve<'a, F: Read>(
+    alloc: Global,
+    header: &[u8],
+    file: &mut Device<F>,
+) -> Result<Plan<'a>, Fault>
+    ensures { ByRegistry (stream F.remaining file.old file.new) (PlansServing header.now) result }
+{
+    let checked = read_registry(alloc, Role::Only, file)?;
+    match header_preferences(alloc, &checked, header) {
+        Ok(preferences) => Ok(Plan::Serve(checked, preferences)),
+        Err(refusal) => Err(fault_of(alloc, &refusal)),
+    }
+}
