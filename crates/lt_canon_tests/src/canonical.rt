@@ -16,24 +16,31 @@ use lt_testing::{is_shown, shown};
 use std::alloc::Global;
 use std::test::Fail;
 
+/// The code of a condition and the number of a record that a cause tells.
+fn told(cause: RejectedCause) -> Result<Option<(&'static str, u32)>, Fail> {
+    match cause {
+        RejectedCause::Finding(finding) => Ok(Some((finding.condition.code(), finding.number))),
+        RejectedCause::OutOfMemory => Err(Fail::from("no memory")),
+    }
+}
+
 /// What the check finds in a table: nothing, or the code of the condition and the record. A table that
 /// is handed back is what it was.
 fn finding(alloc: Global, table: ListTable) -> Result<Option<(&'static str, u32)>, Fail> {
     let before = shown(alloc, &table)?;
-    let answer = Checked::new(alloc, table).or_else(|rejected| match rejected.cause {
-        RejectedCause::OutOfMemory if is_shown(alloc, &rejected.table, before.as_str()) => {
-            Checked::new(alloc, rejected.table)
-        }
-        _ => Err(rejected),
-    });
-    match answer {
-        Ok(_) => Ok(None),
-        Err(rejected) => match rejected.cause {
-            RejectedCause::Finding(finding) => {
-                Ok(Some((finding.condition.code(), finding.number)))
-            }
-            RejectedCause::OutOfMemory => Err(Fail::from("no memory")),
+    let rejected = match Checked::new(alloc, table) {
+        Ok(_) => return Ok(None),
+        Err(rejected) => rejected,
+    };
+    if !is_shown(alloc, &rejected.table, before.as_str()) {
+        return Err(Fail::from("another table is handed back"));
+    }
+    match rejected.cause {
+        RejectedCause::OutOfMemory => match Checked::new(alloc, rejected.table) {
+            Ok(_) => Ok(None),
+            Err(rejected) => told(rejected.cause),
         },
+        cause => told(cause),
     }
 }
 

@@ -129,9 +129,12 @@ fn are_extensions_of(
 
 /// Whether extensions have the same subtags.
 fn same_extensions(extensions: &[Extension], others: &[Extension]) -> bool {
-    for (extension, other) in extensions.iter().zip(others) {
-        if extension.singleton() != other.singleton() || extension.subtags() != other.subtags() {
-            return false;
+    for (index, extension) in extensions.iter().enumerate() {
+        match others.get(index) {
+            Some(other)
+                if extension.singleton() == other.singleton()
+                    && extension.subtags() == other.subtags() => {}
+            _ => return false,
         }
     }
     extensions.len() == others.len()

@@ -43,12 +43,6 @@ fn expect_found(rt: &impl Abort, alloc: Global, registry: &Registry) -> Result<(
     Ok(())
 }
 
-#[test]
-fn tags_for_a_header(rt: HostRuntime) -> Result<(), Fail> {
-    let registry = small_registry(rt.alloc())?;
-    expect_found(&rt, rt.alloc(), &registry)
-}
-
 /// The place of the tag that is served to the reader of a header.
 fn served(
     alloc: Global,
@@ -77,25 +71,12 @@ fn expect_served(rt: &impl Abort, alloc: Global, registry: &Registry) -> Result<
     Ok(())
 }
 
-#[test]
-fn a_tag_is_served(rt: HostRuntime) -> Result<(), Fail> {
-    let registry = small_registry(rt.alloc())?;
-    expect_served(&rt, rt.alloc(), &registry)
-}
-
 /// The refusals of a header and of a list of tags, and their places.
 fn unserved(alloc: Global, registry: &Registry) -> Option<(&'static str, usize)> {
     let tags: [&[u8]; 2] = [b"he", b"he_IL"];
     let header = registry.preferences(alloc, b"he, iw;q=2").err()?;
     let list = registry.available(alloc, &tags).err()?;
     Some((header.name(), list.place))
-}
-
-#[test]
-fn no_tag_is_served(rt: HostRuntime) -> Result<(), Fail> {
-    let registry = small_registry(rt.alloc())?;
-    assert!(rt; unserved(rt.alloc(), &registry) == Some(("BadWeight", 2)));
-    Ok(())
 }
 
 /// Whether a range matches a tag by basic filtering.
@@ -114,12 +95,6 @@ fn expect_matches(rt: &impl Abort, alloc: Global, registry: &Registry) -> Result
     Ok(())
 }
 
-#[test]
-fn ranges_match(rt: HostRuntime) -> Result<(), Fail> {
-    let registry = small_registry(rt.alloc())?;
-    expect_matches(&rt, rt.alloc(), &registry)
-}
-
 /// The names of the refusals of texts that are no range and no header.
 fn refusals(alloc: Global, registry: &Registry) -> Option<(&'static str, &'static str, usize)> {
     let range = registry.range(alloc, b"he_IL").err()?;
@@ -127,9 +102,18 @@ fn refusals(alloc: Global, registry: &Registry) -> Option<(&'static str, &'stati
     Some((range.name(), header.kind.name(), header.place))
 }
 
-#[test]
-fn no_ranges(rt: HostRuntime) -> Result<(), Fail> {
-    let registry = small_registry(rt.alloc())?;
-    assert!(rt; refusals(rt.alloc(), &registry) == Some(("BadByte", "BadWeight", 2)));
+/// What ranges, headers and tags come to by the small registry.
+fn expect_all(rt: &impl Abort, alloc: Global, registry: &Registry) -> Result<(), Fail> {
+    expect_found(rt, alloc, registry)?;
+    expect_served(rt, alloc, registry)?;
+    expect_matches(rt, alloc, registry)?;
+    assert!(rt; unserved(alloc, registry) == Some(("BadWeight", 2)));
+    assert!(rt; refusals(alloc, registry) == Some(("BadByte", "BadWeight", 2)));
     Ok(())
+}
+
+#[test]
+fn ranges_headers_and_tags(rt: HostRuntime) -> Result<(), Fail> {
+    let registry = small_registry(rt.alloc())?;
+    expect_all(&rt, rt.alloc(), &registry)
 }

@@ -33,15 +33,24 @@ fn parts_in_order(rt: HostRuntime) -> Result<(), Fail> {
     Ok(())
 }
 
-/// Whether a keyword of a `u` extension has a type.
-fn has_type(parts: &UParts, key: &[u8], wanted: &[u8]) -> bool {
-    let mut has = false;
-    for keyword in &parts.keywords {
-        if keyword.key.bytes() == key {
-            has = keyword.types.iter().any(|it| it.bytes() == wanted);
+/// Whether a subtag is one of some.
+fn is_among(subtags: &[Subtag], wanted: &[u8]) -> bool {
+    for subtag in subtags {
+        if subtag.bytes() == wanted {
+            return true;
         }
     }
-    has
+    false
+}
+
+/// Whether a keyword of a `u` extension has a type.
+fn has_type(parts: &UParts, key: &[u8], wanted: &[u8]) -> bool {
+    for keyword in &parts.keywords {
+        if keyword.key.bytes() == key {
+            return is_among(&keyword.types, wanted);
+        }
+    }
+    false
 }
 
 /// Whether a `u` extension has a type under a key, and is spelled by its parts.
@@ -138,7 +147,10 @@ Preferred-Value: tlh
 /// The number of the record of a whole tag.
 fn whole_of(alloc: Global, registry: &Registry, text: &str) -> Result<Option<u32>, Fail> {
     let tag = tag_of(alloc, text)?;
-    Ok(registry.whole(&tag).map(|entry| entry.number()))
+    match registry.whole(&tag) {
+        Some(entry) => Ok(Some(entry.number())),
+        None => Ok(None),
+    }
 }
 
 /// The record of a whole tag by it.

@@ -17,12 +17,6 @@ fn expect_canonical_text(rt: &impl Abort, alloc: Global, registry: &Registry) ->
     Ok(())
 }
 
-#[test]
-fn canonical_texts(rt: HostRuntime) -> Result<(), Fail> {
-    let registry = small_registry(rt.alloc())?;
-    expect_canonical_text(&rt, rt.alloc(), &registry)
-}
-
 /// The canonical texts of two tags, with a space between.
 fn pair_of(
     alloc: Global,
@@ -51,12 +45,6 @@ fn expect_appended_texts(rt: &impl Abort, alloc: Global, registry: &Registry) ->
     Ok(())
 }
 
-#[test]
-fn texts_are_appended(rt: HostRuntime) -> Result<(), Fail> {
-    let registry = small_registry(rt.alloc())?;
-    expect_appended_texts(&rt, rt.alloc(), &registry)
-}
-
 /// The text of the canonical form of a tag.
 fn text_of_canonical(alloc: Global, registry: &Registry, tag: &Tag) -> Result<Vec<u8>, Fail> {
     let canonical = registry.canonical(alloc, tag)?;
@@ -76,12 +64,6 @@ fn expect_forms(rt: &impl Abort, alloc: Global, registry: &Registry) -> Result<(
     assert_eq!(rt; text.as_slice(), b"cmn".as_slice());
     assert!(rt; extlang_form_of(alloc, registry, &tag)? == tag);
     Ok(())
-}
-
-#[test]
-fn canonical_and_extlang_forms(rt: HostRuntime) -> Result<(), Fail> {
-    let registry = small_registry(rt.alloc())?;
-    expect_forms(&rt, rt.alloc(), &registry)
 }
 
 /// Why the tag that a text is read as is not valid, if it is not: what is printed, the fault, and its place.
@@ -111,12 +93,6 @@ fn expect_validity(rt: &impl Abort, alloc: Global, registry: &Registry) -> Resul
     Ok(())
 }
 
-#[test]
-fn valid_tags(rt: HostRuntime) -> Result<(), Fail> {
-    let registry = small_registry(rt.alloc())?;
-    expect_validity(&rt, rt.alloc(), &registry)
-}
-
 /// Whether a trace is the one step by record 4 from a language to its preferred value.
 fn is_one_language_step(trace: &Trace) -> bool {
     let Some(step) = trace.steps.first() else {
@@ -136,12 +112,6 @@ fn expect_explanation(rt: &impl Abort, alloc: Global, registry: &Registry) -> Re
     let wrong = fault_of_trace(alloc, registry, &other, &trace);
     assert_eq!(rt; wrong, Some(TraceFault::NoSuchStep(1)));
     Ok(())
-}
-
-#[test]
-fn explanations(rt: HostRuntime) -> Result<(), Fail> {
-    let registry = small_registry(rt.alloc())?;
-    expect_explanation(&rt, rt.alloc(), &registry)
 }
 
 /// The explanation of a tag.
@@ -178,10 +148,20 @@ fn expect_explanation_text(
     Ok(())
 }
 
+/// What the small registry says of tags.
+fn expect_all(rt: &impl Abort, alloc: Global, registry: &Registry) -> Result<(), Fail> {
+    expect_canonical_text(rt, alloc, registry)?;
+    expect_appended_texts(rt, alloc, registry)?;
+    expect_forms(rt, alloc, registry)?;
+    expect_validity(rt, alloc, registry)?;
+    expect_explanation(rt, alloc, registry)?;
+    expect_explanation_text(rt, alloc, registry)
+}
+
 #[test]
-fn explanation_texts(rt: HostRuntime) -> Result<(), Fail> {
+fn what_a_registry_says(rt: HostRuntime) -> Result<(), Fail> {
     let registry = small_registry(rt.alloc())?;
-    expect_explanation_text(&rt, rt.alloc(), &registry)
+    expect_all(&rt, rt.alloc(), &registry)
 }
 
 /// Two records of the registry above, without the value that one has there.
@@ -192,25 +172,11 @@ fn upgrades_to(alloc: Global, older: &Registry, newer: &Registry) -> bool {
     older.upgrade_check(alloc, newer).is_ok()
 }
 
-/// The newer of two registries upgrades the older, and not the other way round.
-fn expect_one_way(rt: &impl Abort, alloc: Global, older: &Registry, newer: &Registry) {
-    assert!(rt; upgrades_to(alloc, older, newer));
-    assert!(rt; !upgrades_to(alloc, newer, older));
-}
-
-/// The small registry upgrades an older one.
-fn expect_small_registry_newer(
-    rt: &impl Abort,
-    alloc: Global,
-    older: &Registry,
-) -> Result<(), Fail> {
-    let newer = small_registry(alloc)?;
-    expect_one_way(rt, alloc, older, &newer);
-    Ok(())
-}
-
 #[test]
 fn upgrades(rt: HostRuntime) -> Result<(), Fail> {
     let older = registry_of(rt.alloc(), OLDER)?;
-    expect_small_registry_newer(&rt, rt.alloc(), &older)
+    let newer = small_registry(rt.alloc())?;
+    assert!(rt; upgrades_to(rt.alloc(), &older, &newer));
+    assert!(rt; !upgrades_to(rt.alloc(), &newer, &older));
+    Ok(())
 }

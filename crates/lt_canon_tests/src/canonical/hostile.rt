@@ -1,9 +1,8 @@
 //! Registries that are meant to do harm.
+use super::answers::has_form;
 use super::finding;
-use lt_canon::canonical;
 use lt_check::Checked;
 use lt_registry::{ListTable, Lookup};
-use lt_tag::{read_tag, write_tag};
 use lt_testing::{registry_of, sorted};
 use std::alloc::{AllocError, Global};
 use std::test::Fail;
@@ -45,27 +44,13 @@ fn a_late_record_is_at_fault(rt: HostRuntime) -> Result<(), Fail> {
     Ok(())
 }
 
-/// Whether a tag has this canonical form.
-fn leads_to<L: Lookup>(
-    alloc: Global,
-    checked: &Checked<L>,
-    text: &str,
-    wanted: &str,
-) -> Result<bool, Fail> {
-    let tag = read_tag(alloc, text.as_bytes())?;
-    match canonical(alloc, checked, &tag) {
-        Ok(form) => Ok(write_tag(alloc, &form)?.as_slice() == wanted.as_bytes()),
-        Err(_) => Ok(false),
-    }
-}
-
 #[test]
 fn a_long_chain_is_followed(rt: HostRuntime) -> Result<(), Fail> {
     let registry = registry_of(rt.alloc(), &chain_text(rt.alloc())?)?;
     let table = sorted(rt.alloc(), registry)?;
     assert!(rt; table.entries().len() == 2_000);
     match Checked::new(rt.alloc(), table) {
-        Ok(checked) => assert!(rt; leads_to(rt.alloc(), &checked, "xaaaa", "xbjjj")?),
+        Ok(checked) => assert!(rt; has_form(rt.alloc(), &checked, "xaaaa", "xbjjj")?),
         Err(_) => panic!(rt; "the chain comes to an end"),
     }
     Ok(())

@@ -15,6 +15,12 @@ const UNKNOWN: ValidFault = ValidFault {
     place: 1,
 };
 
+/// The fault of a tag whose script is not registered.
+const SCRIPT: ValidFault = ValidFault {
+    kind: ValidFaultKind::UnknownScript,
+    place: 2,
+};
+
 /// The fault of a text with another byte in its second subtag.
 const BAD: TagFault = TagFault {
     kind: TagFaultKind::BadByte,
@@ -29,12 +35,13 @@ const FINDING: Finding = Finding {
 
 /// The variant that occurs twice.
 fn repeated() -> Result<Subtag, Fail> {
-    Subtag::read(b"alalc97").map_err(|fault| Fail::from(fault.name()))
+    Ok(Subtag::read(b"alalc97")?)
 }
 
 #[test]
 fn names_of_refusals(rt: HostRuntime) -> Result<(), Fail> {
     assert!(rt; Refusal::Invalid(UNKNOWN).name() == "UnknownLanguage");
+    assert!(rt; Refusal::Invalid(SCRIPT).name() == "UnknownScript");
     assert!(rt; Refusal::ReplacementRepeats(repeated()?).name() == "ReplacementRepeats");
     assert!(rt; Refusal::OutOfMemory.name() == "OutOfMemory");
     assert!(rt; TextRefusal::NotATag(BAD).name() == "BadByte");
@@ -61,6 +68,11 @@ fn messages(rt: HostRuntime) -> Result<(), Fail> {
     assert_eq!(rt;
         told(alloc, &RejectedCause::Finding(FINDING))?.as_str(),
         "record 48 does not meet OwnName: mend this record, or take another registry"
+    );
+    assert!(rt;
+        told(alloc, &Refusal::Invalid(SCRIPT))?
+            .as_str()
+            .starts_with("UnknownScript 2: ")
     );
     assert_eq!(rt;
         told(alloc, &TextRefusal::NotATag(BAD))?.as_str(),

@@ -7,8 +7,11 @@ use std::test::Fail;
 
 /// A table that passes the check. It is handed back where memory is refused.
 pub(super) fn checked<L: Lookup + Drop>(alloc: Global, table: L) -> Result<Checked<L>, Fail> {
-    let answer = Checked::new(alloc, table);
-    match answer.or_else(|rejected| Checked::new(alloc, rejected.table)) {
+    let rejected = match Checked::new(alloc, table) {
+        Ok(checked) => return Ok(checked),
+        Err(rejected) => rejected,
+    };
+    match Checked::new(alloc, rejected.table) {
         Ok(checked) => Ok(checked),
         Err(_) => Err(Fail::from("both registries pass")),
     }

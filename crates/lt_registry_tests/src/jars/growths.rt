@@ -1,8 +1,12 @@
 //! What a call does where a growth of memory is refused.
-use super::{FAULTS, Fields, LONG_LINES, TEXTS, are_fields, are_records, is_one_field, long_line};
-use crate::retried;
-use lt_jar::{Device, Jar, JarFault, JarFaultKind, JarReader, Pieces, Record, RecordRef, read_jar};
-use lt_testing::{again, mark, returned_text, sample_text};
+use super::{
+    FAULTS, Fields, LONG_LINES, TEXTS, are_fields, are_records, is_one_field, long_line, readers,
+};
+use lt_jar::{
+    Device, Jar, JarFault, JarFaultKind, JarReader, Pieces, Record, RecordRef, first_place,
+    read_jar,
+};
+use lt_testing::{again, mark, retried, returned_text, sample_text};
 use std::alloc::{AllocError, Global};
 use std::io::{self, Read};
 use std::test::Fail;
@@ -85,7 +89,7 @@ struct LineByLine<'a> {
 
 impl Read for LineByLine<'_> {
     fn read(&mut self, buf: &mut [u8]) -> io::Result<usize> {
-        let end = match self.rest.iter().position(|byte| *byte == b'\n') {
+        let end = match first_place(b'\n', self.rest) {
             Some(end) => end.saturating_add(1),
             None => self.rest.len(),
         };
@@ -101,17 +105,10 @@ impl Read for LineByLine<'_> {
 
 /// The fault that a reader of records tells.
 fn fault_of<R: Read>(alloc: Global, device: &mut Device<R>) -> Option<JarFault> {
-    let Ok(mut reader) = JarReader::new(alloc, device) else {
-        return None;
-    };
-    for _ in 0..100 {
-        match reader.next() {
-            Ok(Some(_)) => {}
-            Ok(None) => return None,
-            Err(fault) => return Some(fault),
-        }
+    match JarReader::new(alloc, device) {
+        Ok(mut reader) => readers::fault_of(&mut reader),
+        Err(_) => None,
     }
-    None
 }
 
 /// Whether memory runs out, if it does, at the line that was given last.

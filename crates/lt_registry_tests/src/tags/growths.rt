@@ -1,12 +1,11 @@
 //! What a call does where a growth of memory is refused.
 use super::reading::{FAULTS, TEXTS};
-use crate::retried;
 use lt_subtag::Subtag;
 use lt_tag::{
     Class, Core, Extension, OutOfMemory, TParts, Tag, TagFault, TagFaultKind, TransformFault,
     UParts, append_tag, join_t, join_u, read_tag, split_t, split_u, write_tag,
 };
-use lt_testing::{again, mark};
+use lt_testing::{again, mark, retried};
 use std::alloc::{AllocError, Global};
 use std::test::Fail;
 
@@ -230,11 +229,13 @@ fn set_others(core: &mut Core) {
 
 /// Whether the texts of subtags are these.
 fn are_texts(subtags: &[Subtag], texts: &[&[u8]]) -> bool {
+    for (index, subtag) in subtags.iter().enumerate() {
+        match texts.get(index) {
+            Some(text) if subtag.bytes() == *text => {}
+            _ => return false,
+        }
+    }
     subtags.len() == texts.len()
-        && subtags
-            .iter()
-            .zip(texts)
-            .all(|(subtag, text)| subtag.bytes() == *text)
 }
 
 /// Whether a core has the parts of `ms-min-Latn-419-1996-1ab2`.
