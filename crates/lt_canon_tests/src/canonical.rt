@@ -11,10 +11,22 @@ mod upgrades;
 mod usual_texts;
 
 use lt_check::{Checked, RejectedCause};
-use lt_registry::ListTable;
+use lt_registry::{ListTable, Lookup};
 use lt_testing::{is_shown, shown};
 use std::alloc::Global;
 use std::test::Fail;
+
+/// A table that passes the check. It is handed back where memory is refused.
+fn checked<L: Lookup + Drop>(alloc: Global, table: L) -> Result<Checked<L>, Fail> {
+    let rejected = match Checked::new(alloc, table) {
+        Ok(checked) => return Ok(checked),
+        Err(rejected) => rejected,
+    };
+    match Checked::new(alloc, rejected.table) {
+        Ok(checked) => Ok(checked),
+        Err(_) => Err(Fail::from("a registry fails the check")),
+    }
+}
 
 /// The code of a condition and the number of a record that a cause tells.
 fn told(cause: RejectedCause) -> Result<Option<(&'static str, u32)>, Fail> {

@@ -3,8 +3,8 @@
 use super::answers::{appends, canonical_tags, canonical_texts};
 use super::explanations::explanations;
 use super::traces::traces;
-use super::upgrades::{FAULTS, UPGRADES, checked, fault};
-use super::{CHANGES, finding};
+use super::upgrades::{FAULTS, UPGRADES, fault};
+use super::{CHANGES, checked, finding};
 use lt_check::Checked;
 use lt_registry::ListTable;
 use lt_testing::{sample, sample_with, sorted_sample};

@@ -1,21 +1,9 @@
 //! The check of an upgrade between the sample and the sample with one change.
-use lt_check::Checked;
+use super::checked;
 use lt_registry::Lookup;
 use lt_upgrade::{UpgradeCondition, UpgradeFault, upgrade_check};
 use std::alloc::Global;
 use std::test::Fail;
-
-/// A table that passes the check. It is handed back where memory is refused.
-pub(super) fn checked<L: Lookup + Drop>(alloc: Global, table: L) -> Result<Checked<L>, Fail> {
-    let rejected = match Checked::new(alloc, table) {
-        Ok(checked) => return Ok(checked),
-        Err(rejected) => rejected,
-    };
-    match Checked::new(alloc, rejected.table) {
-        Ok(checked) => Ok(checked),
-        Err(_) => Err(Fail::from("both registries pass")),
-    }
-}
 
 /// What the check of an upgrade finds: nothing, or the code of the condition and the record.
 pub(super) fn fault<A: Lookup + Drop, B: Lookup + Drop>(

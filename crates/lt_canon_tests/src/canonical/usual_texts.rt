@@ -1,5 +1,5 @@
 //! Texts whose subtags stay as they are.
-use super::upgrades::checked;
+use super::checked;
 use lt_canon::{Checked, append_looked_up_text, append_usual_text};
 use lt_registry::Lookup;
 use lt_testing::sample_with;
