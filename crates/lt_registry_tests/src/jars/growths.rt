@@ -294,24 +294,30 @@ fn is_small(record: RecordRef<'_>) -> bool {
         && are_fields(record.fields(), &[("A", "b")])
 }
 
+/// Whether a reader lends that record, whose calls take no memory.
+fn lends_small<R: Read>(alloc: Global, reader: &mut JarReader<'_, R>) -> bool {
+    match reader.next() {
+        Ok(Some(record)) => {
+            mark(alloc);
+            is_small(record)
+        }
+        _ => false,
+    }
+}
+
 #[test]
-fn a_record_without_growth(rt: HostRuntime) -> Result<(), Fail> {
+fn a_record_without_growth(rt: HostRuntime) -> Result<(), JarFault> {
     let mut device = Device::new(b"A: b\n".as_slice());
     let mut reader = JarReader::new(rt.alloc(), &mut device)?;
-    let Some(record) = reader.next()? else {
-        return Err(Fail::from("no record"));
-    };
-    mark(rt.alloc());
-    assert!(rt; is_small(record));
+    assert!(rt; lends_small(rt.alloc(), &mut reader));
     Ok(())
 }
 
 #[test]
-fn devices_without_growth(rt: HostRuntime) -> Result<(), Fail> {
+fn devices_without_growth(rt: HostRuntime) {
     mark(rt.alloc());
     let mut buffer = [0u8; 4];
     let mut device = Device::new(Pieces::once(b"abc", 2).failing_at(2));
-    assert!(rt; device.read(&mut buffer)? == 2);
+    assert!(rt; matches!(device.read(&mut buffer), Ok(2)));
     assert!(rt; device.read(&mut buffer).is_err() && device.failures() == 1);
-    Ok(())
 }
