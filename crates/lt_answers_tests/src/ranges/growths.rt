@@ -1,20 +1,19 @@
 //! What a call does where a growth of memory is refused.
 use super::{range_of, ranges_of, subtags_of, tags_of};
-use lt_range::{LanguageRange, TagSubtags, filter_extended};
+use lt_range::{LanguageRange, RangeFault, TagSubtags, filter_extended};
 use lt_testing::again;
 use std::alloc::Global;
 use std::test::Fail;
 
 /// How many subtags a range has.
-fn length_of(alloc: Global, text: &str) -> Result<usize, Fail> {
+fn length_of(alloc: Global, text: &str) -> Result<usize, RangeFault> {
     let range = range_of(alloc, text)?;
     Ok(range.named().len())
 }
 
 #[test]
-fn a_range_is_read(rt: HostRuntime) -> Result<(), Fail> {
-    assert!(rt; length_of(rt.alloc(), "de-*-DE-1996-x-a-b-c-d-e")? == 9);
-    Ok(())
+fn a_range_is_read(rt: HostRuntime) {
+    assert!(rt; matches!(length_of(rt.alloc(), "de-*-DE-1996-x-a-b-c-d-e"), Ok(9)));
 }
 
 /// How many subtags a tag has.
@@ -24,9 +23,13 @@ fn subtag_count(alloc: Global, text: &str) -> Result<usize, Fail> {
 }
 
 #[test]
-fn a_tag_has_its_subtags(rt: HostRuntime) -> Result<(), Fail> {
-    assert!(rt; subtag_count(rt.alloc(), "zh-Hant-CN-x-private1-private2")? == 6);
-    Ok(())
+fn a_tag_has_its_subtags(rt: HostRuntime) {
+    assert!(rt;
+        matches!(
+            subtag_count(rt.alloc(), "zh-Hant-CN-x-private1-private2"),
+            Ok(6)
+        )
+    );
 }
 
 /// Whether ranges find these tags.
