@@ -3,7 +3,6 @@ mod answers;
 mod ends;
 mod explanations;
 mod growths;
-mod hostile;
 mod recent;
 mod refusals;
 mod traces;

@@ -1,9 +1,6 @@
 //! The parts of tags, and the records that a registry has for them.
 use super::{registry_of, small_registry, tag_of};
-use bcp47::{
-    EntryValue, Extension, Kind, Registry, Subtag, TParts, Tag, UParts, join_t, join_u, parts,
-    split_t, split_u, write_tag,
-};
+use bcp47::{EntryValue, Kind, Registry, Subtag, Tag, parts, write_tag};
 use std::alloc::Global;
 use std::process::Abort;
 use std::test::Fail;
@@ -30,78 +27,6 @@ fn parts_in_order(rt: HostRuntime) -> Result<(), Fail> {
         shown.as_str(),
         "Language zh, Script Hant, Singleton u, Key co, Type trad, PrivateUseSingleton x, PrivateUse ab, "
     );
-    Ok(())
-}
-
-/// Whether a subtag is one of some.
-fn is_among(subtags: &[Subtag], wanted: &[u8]) -> bool {
-    for subtag in subtags {
-        if subtag.bytes() == wanted {
-            return true;
-        }
-    }
-    false
-}
-
-/// Whether a keyword of a `u` extension has a type.
-fn has_type(parts: &UParts, key: &[u8], wanted: &[u8]) -> bool {
-    for keyword in &parts.keywords {
-        if keyword.key.bytes() == key {
-            return is_among(&keyword.types, wanted);
-        }
-    }
-    false
-}
-
-/// Whether a `u` extension has a type under a key, and is spelled by its parts.
-fn is_set(alloc: Global, extension: &Extension, key: &[u8], wanted: &[u8]) -> Result<bool, Fail> {
-    if extension.singleton() != b'u' {
-        return Ok(false);
-    }
-    let parts = split_u(alloc, extension)?;
-    Ok(has_type(&parts, key, wanted) && join_u(alloc, &parts)? == *extension)
-}
-
-#[test]
-fn keywords(rt: HostRuntime) -> Result<(), Fail> {
-    let tag = tag_of(rt.alloc(), "th-u-attr-nu-thai-ca-buddhist")?;
-    for extension in tag.extensions() {
-        assert!(rt; is_set(rt.alloc(), extension, b"ca", b"buddhist")?);
-        assert!(rt; !is_set(rt.alloc(), extension, b"ca", b"thai")?);
-    }
-    Ok(())
-}
-
-/// Whether the source of a `t` extension is of a language.
-fn is_from(parts: &TParts, language: &[u8]) -> bool {
-    match &parts.source {
-        Some(source) => source.language().bytes() == language,
-        None => false,
-    }
-}
-
-/// Whether a `t` extension has so many fields and a source of a language, and is spelled by its parts.
-fn is_transformed(
-    alloc: Global,
-    extension: &Extension,
-    language: &[u8],
-    fields: usize,
-) -> Result<bool, Fail> {
-    if extension.singleton() != b't' {
-        return Ok(false);
-    }
-    let parts = split_t(alloc, extension)?;
-    let has_fields = parts.fields.len() == fields;
-    Ok(is_from(&parts, language) && has_fields && join_t(alloc, &parts)? == *extension)
-}
-
-#[test]
-fn transforms(rt: HostRuntime) -> Result<(), Fail> {
-    let tag = tag_of(rt.alloc(), "ja-t-it-latn-m0-names-k0-qwerty")?;
-    for extension in tag.extensions() {
-        assert!(rt; is_transformed(rt.alloc(), extension, b"it", 2)?);
-        assert!(rt; !is_transformed(rt.alloc(), extension, b"ja", 2)?);
-    }
     Ok(())
 }
 

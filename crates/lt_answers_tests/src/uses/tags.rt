@@ -105,18 +105,13 @@ fn is_one_language_step(trace: &Trace) -> bool {
 /// An explanation by the small registry, which is judged for its tag and for another one.
 fn expect_explanation(rt: &impl Abort, alloc: Global, registry: &Registry) -> Result<(), Fail> {
     let tag = tag_of(alloc, "iw-IL")?;
-    let trace = explained(alloc, registry, &tag)?;
+    let trace = registry.explain(alloc, &tag)?;
     assert!(rt; is_one_language_step(&trace));
     assert_eq!(rt; fault_of_trace(alloc, registry, &tag, &trace), None);
     let other = tag_of(alloc, "he")?;
     let wrong = fault_of_trace(alloc, registry, &other, &trace);
     assert_eq!(rt; wrong, Some(TraceFault::NoSuchStep(1)));
     Ok(())
-}
-
-/// The explanation of a tag.
-fn explained(alloc: Global, registry: &Registry, tag: &Tag) -> Result<Trace, Fail> {
-    Ok(registry.explain(alloc, tag)?)
 }
 
 /// What is wrong with an explanation of a tag, if anything is.
@@ -129,18 +124,13 @@ fn fault_of_trace(
     registry.verify(alloc, tag, trace).err()
 }
 
-/// The lines of the explanation of the tag that a text is read as.
-fn lines_of(alloc: Global, registry: &Registry, text: &[u8]) -> Result<Vec<u8>, Fail> {
-    Ok(registry.explanation_text(alloc, text)?)
-}
-
 /// The lines of an explanation by the small registry.
 fn expect_explanation_text(
     rt: &impl Abort,
     alloc: Global,
     registry: &Registry,
 ) -> Result<(), Fail> {
-    let lines = lines_of(alloc, registry, b"IW-il")?;
+    let lines = registry.explanation_text(alloc, b"IW-il")?;
     assert_eq!(rt;
         lines.as_slice(),
         b"Language 1 4 he-IL\n= he-IL\n".as_slice()

@@ -33,13 +33,19 @@ const FINDING: Finding = Finding {
     number: 48,
 };
 
+/// A record of a newer registry that makes a new step.
+const NEW_STEP: UpgradeFault = UpgradeFault::Fails {
+    condition: UpgradeCondition::NoNewVariantLanguage,
+    number: 7,
+};
+
 /// The variant that occurs twice.
 fn repeated() -> Result<Subtag, Fail> {
     Ok(Subtag::read(b"alalc97")?)
 }
 
 #[test]
-fn names_of_refusals(rt: HostRuntime) -> Result<(), Fail> {
+fn names(rt: HostRuntime) -> Result<(), Fail> {
     assert!(rt; Refusal::Invalid(UNKNOWN).name() == "UnknownLanguage");
     assert!(rt; Refusal::Invalid(SCRIPT).name() == "UnknownScript");
     assert!(rt; Refusal::ReplacementRepeats(repeated()?).name() == "ReplacementRepeats");
@@ -48,13 +54,10 @@ fn names_of_refusals(rt: HostRuntime) -> Result<(), Fail> {
     assert!(rt; TextRefusal::Invalid(UNKNOWN).name() == "UnknownLanguage");
     assert!(rt; TextRefusal::ReplacementRepeats(repeated()?).name() == "ReplacementRepeats");
     assert!(rt; TextRefusal::OutOfMemory.name() == "OutOfMemory");
-    Ok(())
-}
-
-#[test]
-fn names_of_causes(rt: HostRuntime) {
     assert!(rt; RejectedCause::Finding(FINDING).name() == "C1");
     assert!(rt; RejectedCause::OutOfMemory.name() == "OutOfMemory");
+    assert!(rt; NEW_STEP.name() == "U5" && UpgradeFault::OutOfMemory.name() == "OutOfMemory");
+    Ok(())
 }
 
 /// What a user is told.

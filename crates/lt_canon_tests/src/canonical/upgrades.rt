@@ -1,7 +1,7 @@
 //! The check of an upgrade between the sample and the sample with one change.
 use super::checked;
 use lt_registry::Lookup;
-use lt_upgrade::{UpgradeCondition, UpgradeFault, upgrade_check};
+use lt_upgrade::{UpgradeFault, upgrade_check};
 use std::alloc::Global;
 use std::test::Fail;
 
@@ -60,13 +60,3 @@ pub(super) const UPGRADES: &[(usize, &str)] = &[
         "Type: region\nSubtag: XA..XB\n%%\nType: region\nSubtag: WB..YA\n%%\nType: region\nSubtag: WC..XY\n",
     ),
 ];
-
-#[test]
-fn names_of_faults(rt: HostRuntime) {
-    assert_eq!(rt; UpgradeFault::OutOfMemory.name(), "OutOfMemory");
-    let fails = UpgradeFault::Fails {
-        condition: UpgradeCondition::NoNewVariantLanguage,
-        number: 7,
-    };
-    assert_eq!(rt; fails.name(), "U5");
-}
