@@ -2,7 +2,6 @@
 use super::{registry_of, small_registry, tag_of};
 use bcp47::{EntryValue, Kind, Registry, Subtag, Tag, parts, write_tag};
 use std::alloc::Global;
-use std::process::Abort;
 use std::test::Fail;
 
 /// The parts of a tag, each with the name of its kind.
@@ -46,18 +45,20 @@ fn record_of(
     Ok(Some((entry.number(), leads)))
 }
 
-/// The records of languages by the small registry.
-fn expect_records(rt: &impl Abort, registry: &Registry) -> Result<(), Fail> {
-    assert_eq!(rt; record_of(registry, b"iw", b"he")?, Some((4, true)));
-    assert_eq!(rt; record_of(registry, b"HE", b"iw")?, Some((3, false)));
-    assert_eq!(rt; record_of(registry, b"tlh", b"he")?, None);
-    Ok(())
-}
+/// Languages with another, and what the small registry has for each.
+const RECORDS: &[(&[u8], &[u8], Option<(u32, bool)>)] = &[
+    (b"iw", b"he", Some((4, true))),
+    (b"HE", b"iw", Some((3, false))),
+    (b"tlh", b"he", None),
+];
 
 #[test]
 fn records_of_subtags(rt: HostRuntime) -> Result<(), Fail> {
     let registry = small_registry(rt.alloc())?;
-    expect_records(&rt, &registry)
+    for (language, other, told) in RECORDS {
+        assert!(rt; record_of(&registry, language, other)? == *told);
+    }
+    Ok(())
 }
 
 /// A registry of a grandfathered tag and its preferred value.
@@ -78,15 +79,13 @@ fn whole_of(alloc: Global, registry: &Registry, text: &str) -> Result<Option<u32
     }
 }
 
-/// The record of a whole tag by it.
-fn expect_whole(rt: &impl Abort, alloc: Global, registry: &Registry) -> Result<(), Fail> {
-    assert_eq!(rt; whole_of(alloc, registry, "I-KLINGON")?, Some(2));
-    assert_eq!(rt; whole_of(alloc, registry, "tlh")?, None);
-    Ok(())
-}
-
 #[test]
 fn records_of_whole_tags(rt: HostRuntime) -> Result<(), Fail> {
     let registry = registry_of(rt.alloc(), WHOLE)?;
-    expect_whole(&rt, rt.alloc(), &registry)
+    let found = (
+        whole_of(rt.alloc(), &registry, "I-KLINGON")?,
+        whole_of(rt.alloc(), &registry, "tlh")?,
+    );
+    assert!(rt; found == (Some(2), None));
+    Ok(())
 }
