@@ -82,7 +82,7 @@ fn names(rt: HostRuntime) -> Result<(), Fail> {
 
 /// Whether a user is told this of a value.
 fn is_told<T: Display>(alloc: Global, value: &T, text: &str) -> bool {
-    matches!(format!(in alloc; "{value}"), Ok(found) if found.as_str().starts_with(text))
+    matches!(format!(in alloc; "{value}"), Ok(found) if found.as_str() == text)
 }
 
 #[test]
@@ -91,7 +91,9 @@ fn messages_of_refusals(rt: HostRuntime) -> Result<(), Fail> {
     assert!(rt; is_told(rt.alloc(), &TextRefusal::NotATag(BAD), text));
     let text = "replacements can repeat a variant: take one of the variants out";
     assert!(rt; is_told(rt.alloc(), &Refusal::ReplacementRepeats(repeated()?), text));
-    assert!(rt; is_told(rt.alloc(), &Refusal::Invalid(SCRIPT), "UnknownScript 2: "));
+    let text =
+        "UnknownScript 2: mend the subtag at this place, or take a registry by which it is valid";
+    assert!(rt; is_told(rt.alloc(), &Refusal::Invalid(SCRIPT), text));
     Ok(())
 }
 
