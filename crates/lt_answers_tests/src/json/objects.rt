@@ -3,8 +3,8 @@ use crate::tables::checked_sample;
 use lt_check::Checked;
 use lt_json::{append_object, class_name};
 use lt_registry::SortedTable;
-use lt_tag::Class;
-use std::alloc::{AllocError, Global};
+use lt_tag::{Class, OutOfMemory};
+use std::alloc::Global;
 use std::test::Fail;
 
 /// Lines with their objects, and whether they are refused. One has a line feed, which a line of the program has not.
@@ -28,7 +28,7 @@ fn has_object(
     line: &[u8],
     object: &str,
     is_refused: bool,
-) -> Result<bool, AllocError> {
+) -> Result<bool, OutOfMemory> {
     let mut objects = Vec::new(alloc);
     let refused = append_object(&mut objects, alloc, checked, line)?;
     Ok(objects.as_slice() == object.as_bytes() && refused == is_refused)
