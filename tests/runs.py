@@ -27,7 +27,8 @@ of a row is 1 where its output is `different` or begins with `! `.
                                 or says OutOfMemory after a beginning of its output, with status 4; `growths doubled`: 1, 2, 4, 8 ..
 
 A block can make a file in the folder of the runs of its file of rows: `file NAME [FROM]`, with the bytes of an earlier file or one of the
-repository, then `| LINE` for each line, `replace OLD => NEW` for what stands there once, or `each OLD => NEW`.
+repository, then `| LINE` for each line, `replace OLD => NEW` for what stands there once, or `each OLD => NEW`. `count N..M LINE` is a
+line for each number from N to M, which stands in it in letters for `@`, 27 as `aach`, and the next one for `@@`.
 
 In a text \\n, \\r, \\t, \\\\ and \\xHH are bytes, \\_ is a blank, \\- nothing, \\c at the end of a line leaves out its line feed, and \\{N*TEXT}
 is TEXT N times. The last line counts; the status is 1 if a run failed.
@@ -67,6 +68,12 @@ def plain(text):
 def line(text):
     """The bytes of a line."""
     return value(text) + b"\n" * (not text.endswith("\\c"))
+
+
+def counted(text, number):
+    """A text with a number and the next one in letters."""
+    one, other = ("".join(chr(ord("a") + int(digit)) for digit in f"{it:04}") for it in (number, number + 1))
+    return text.replace("@@", other).replace("@", one)
 
 
 def words_of(text):
@@ -193,6 +200,10 @@ class Folder:
         data = path.read_bytes()
         if word == "|":
             path.write_bytes(data + line(rest))
+        elif word == "count":
+            numbers, _, text = rest.partition(" ")
+            low, high = map(int, numbers.split(".."))
+            path.write_bytes(data + b"".join(line(counted(text, it)) for it in range(low, high + 1)))
         else:
             old, new, _ = ROW.fullmatch(rest).groups()
             old, new = value(old), value(new or "")
@@ -298,7 +309,7 @@ def runs_of(path, folder, growths):
         elif word == "file":
             name, _, origin = rest.partition(" ")
             folder.make(name, origin)
-        elif name and word in ("|", "replace", "each"):
+        elif name and word in ("|", "count", "replace", "each"):
             folder.change(name, word, rest)
         else:
             block = block or Block(f"{path.name}:{number}")

@@ -3,11 +3,14 @@ mod faults;
 mod growths;
 mod headers;
 
-use lt_range::{AcceptFault, AcceptLanguage};
-use lt_testing::again;
+use lt_range::{AcceptFault, AcceptFaultKind, AcceptLanguage};
+use lt_testing::retried;
 use std::alloc::Global;
 
 /// What a header says.
 fn accept_of(alloc: Global, text: &str) -> Result<AcceptLanguage<'_>, AcceptFault> {
-    again!(AcceptLanguage::read(alloc, text.as_bytes()))
+    retried!(
+        AcceptLanguage::read(alloc, text.as_bytes()),
+        fault if fault.kind == AcceptFaultKind::OutOfMemory
+    )
 }

@@ -15,4 +15,6 @@ mod ranges;
 #[cfg(test)]
 mod shown;
 #[cfg(test)]
+mod tables;
+#[cfg(test)]
 mod uses;

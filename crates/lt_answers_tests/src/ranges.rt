@@ -1,20 +1,23 @@
 //! The examples of RFC 4647, and what a call does where a growth of memory is refused.
 mod faults;
 mod growths;
+mod laws;
 mod lists;
 mod matching;
-mod peers;
 mod preferences;
 
 use lt_range::{LanguageRange, RangeFault, TagSubtags};
 use lt_tag::read_tag;
-use lt_testing::again;
+use lt_testing::{again, retried};
 use std::alloc::Global;
 use std::test::Fail;
 
 /// The range that a text is.
 fn range_of(alloc: Global, text: &str) -> Result<LanguageRange, RangeFault> {
-    again!(LanguageRange::read(alloc, text.as_bytes()))
+    retried!(
+        LanguageRange::read(alloc, text.as_bytes()),
+        RangeFault::OutOfMemory
+    )
 }
 
 /// The subtags of the tag that a text is read as.

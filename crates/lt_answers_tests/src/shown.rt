@@ -1,6 +1,5 @@
-//! What a registry says of tags, and what a call does where a read fails or a growth of memory is refused.
+//! What a registry says of tags, and what a call does where a growth of memory is refused.
 mod growths;
-mod reading;
 mod showing;
 
 use lt_jar::{Device, Jar, Pieces};
@@ -56,7 +55,7 @@ fn read_file(alloc: Global, size: usize) -> Result<(Registry, Jar), RecordsFault
 
 /// The table and the records of the file.
 fn table_of_file(alloc: Global) -> Result<(SortedTable, Jar), Fail> {
-    let (registry, jar) = match read_file(alloc, 64).or_else(|_| read_file(alloc, 64)) {
+    let (registry, jar) = match again!(read_file(alloc, 64)) {
         Ok(both) => both,
         Err(_) => return Err(Fail::from("the file is refused")),
     };

@@ -3,7 +3,6 @@ mod comparing;
 mod keys;
 mod matching;
 mod parts;
-mod printing;
 mod reading;
 mod records;
 mod tags;

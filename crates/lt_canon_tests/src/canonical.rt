@@ -3,7 +3,6 @@ mod answers;
 mod ends;
 mod explanations;
 mod growths;
-mod hostile;
 mod recent;
 mod refusals;
 mod traces;
@@ -11,29 +10,48 @@ mod upgrades;
 mod usual_texts;
 
 use lt_check::{Checked, RejectedCause};
-use lt_registry::ListTable;
+use lt_registry::{ListTable, Lookup};
 use lt_testing::{is_shown, shown};
 use std::alloc::Global;
 use std::test::Fail;
+
+/// A table that passes the check. It is handed back where memory is refused.
+fn checked<L: Lookup + Drop>(alloc: Global, table: L) -> Result<Checked<L>, Fail> {
+    let rejected = match Checked::new(alloc, table) {
+        Ok(checked) => return Ok(checked),
+        Err(rejected) => rejected,
+    };
+    match Checked::new(alloc, rejected.table) {
+        Ok(checked) => Ok(checked),
+        Err(_) => Err(Fail::from("a registry fails the check")),
+    }
+}
+
+/// The code of a condition and the number of a record that a cause tells.
+fn told(cause: RejectedCause) -> Result<Option<(&'static str, u32)>, Fail> {
+    match cause {
+        RejectedCause::Finding(finding) => Ok(Some((finding.condition.code(), finding.number))),
+        RejectedCause::OutOfMemory => Err(Fail::from("no memory")),
+    }
+}
 
 /// What the check finds in a table: nothing, or the code of the condition and the record. A table that
 /// is handed back is what it was.
 fn finding(alloc: Global, table: ListTable) -> Result<Option<(&'static str, u32)>, Fail> {
     let before = shown(alloc, &table)?;
-    let answer = Checked::new(alloc, table).or_else(|rejected| match rejected.cause {
-        RejectedCause::OutOfMemory if is_shown(alloc, &rejected.table, before.as_str()) => {
-            Checked::new(alloc, rejected.table)
-        }
-        _ => Err(rejected),
-    });
-    match answer {
-        Ok(_) => Ok(None),
-        Err(rejected) => match rejected.cause {
-            RejectedCause::Finding(finding) => {
-                Ok(Some((finding.condition.code(), finding.number)))
-            }
-            RejectedCause::OutOfMemory => Err(Fail::from("no memory")),
+    let rejected = match Checked::new(alloc, table) {
+        Ok(_) => return Ok(None),
+        Err(rejected) => rejected,
+    };
+    if !is_shown(alloc, &rejected.table, before.as_str()) {
+        return Err(Fail::from("another table is handed back"));
+    }
+    match rejected.cause {
+        RejectedCause::OutOfMemory => match Checked::new(alloc, rejected.table) {
+            Ok(_) => Ok(None),
+            Err(rejected) => told(rejected.cause),
         },
+        cause => told(cause),
     }
 }
 

@@ -5,3 +5,5 @@
 mod canonical;
 #[cfg(test)]
 mod rewriting;
+#[cfg(test)]
+mod steps;

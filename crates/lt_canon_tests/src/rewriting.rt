@@ -25,7 +25,7 @@ use lt_tag::{
     split_t, split_u,
 };
 use lt_testing::{again, sample, sample_with};
-use std::alloc::Global;
+use std::alloc::{AllocError, Global};
 use std::test::Fail;
 
 /// A copy of the core of a text's tag.
@@ -56,10 +56,12 @@ fn same_core(core: &Core, other: &Core) -> bool {
         && core.variants() == other.variants()
 }
 
-/// Whether the core normal form of a text's core is the core of another.
+/// Whether the core normal form of a text's core is the core of another, also by shortcuts.
 fn settles_to(alloc: Global, table: &ListTable, text: &str, other: &str) -> Result<bool, Fail> {
+    let other = core_of(alloc, other)?;
     let settled = settled_core(alloc, table, text)?;
-    Ok(same_core(&settled, &core_of(alloc, other)?))
+    let by_shortcuts = shortcuts::settled_core(alloc, table, text)?;
+    Ok(same_core(&settled, &other) && same_core(&by_shortcuts, &other))
 }
 
 /// Texts of cores and of their core normal forms.
@@ -129,9 +131,12 @@ fn are_extensions_of(
 
 /// Whether extensions have the same subtags.
 fn same_extensions(extensions: &[Extension], others: &[Extension]) -> bool {
-    for (extension, other) in extensions.iter().zip(others) {
-        if extension.singleton() != other.singleton() || extension.subtags() != other.subtags() {
-            return false;
+    for (index, extension) in extensions.iter().enumerate() {
+        match others.get(index) {
+            Some(other)
+                if extension.singleton() == other.singleton()
+                    && extension.subtags() == other.subtags() => {}
+            _ => return false,
         }
     }
     extensions.len() == others.len()
@@ -319,13 +324,9 @@ fn chains_without_end(rt: HostRuntime) -> Result<(), Fail> {
 }
 
 #[test]
-fn names_of_kinds(rt: HostRuntime) {
+fn names(rt: HostRuntime) -> Result<(), AllocError> {
     assert!(rt; StepKind::VariantLanguage.name() == "VariantLanguage");
     assert!(rt; StepKind::DropTrue.name() == "DropTrue");
-}
-
-#[test]
-fn name_of_a_cycle(rt: HostRuntime) -> Result<(), Fail> {
     assert!(rt; Cycle.name() == "Cycle");
     assert!(rt; format!(in rt.alloc(); "{}", Cycle)?.as_str() == "Cycle");
     Ok(())

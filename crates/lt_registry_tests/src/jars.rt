@@ -13,9 +13,13 @@ type Fields = &'static [(&'static str, &'static str)];
 
 /// Whether the fields of a record are these.
 fn are_fields(found: &[JarField], fields: Fields) -> bool {
+    for (index, field) in found.iter().enumerate() {
+        match fields.get(index) {
+            Some((name, body)) if field.name() == *name && field.body() == *body => {}
+            _ => return false,
+        }
+    }
     found.len() == fields.len()
-        && found.iter().zip(fields).all(|(field, (name, body))| field.name() == *name
-            && field.body() == *body)
 }
 
 /// Whether records are these.

@@ -51,14 +51,6 @@ fn has_hebrew_value(entry: &Entry) -> bool {
     }
 }
 
-#[test]
-fn value_of_an_entry(rt: HostRuntime) -> Result<(), Fail> {
-    let text = b"Type: language\nSubtag: iw\nPreferred-Value: he";
-    let table = list_table(rt.alloc(), text)?;
-    assert!(rt; matches!(table.entries(), [entry] if has_hebrew_value(entry)));
-    Ok(())
-}
-
 /// Whether an entry has the Prefix `ja-Latn` alone.
 fn has_japanese_prefix(entry: &Entry) -> bool {
     let [prefix] = entry.prefixes() else {
@@ -72,11 +64,16 @@ fn has_japanese_prefix(entry: &Entry) -> bool {
     }
 }
 
+/// A record with a value, and one with a Prefix.
+const VALUED: &[u8] =
+    b"Type: language\nSubtag: iw\nPreferred-Value: he\n%%\nType: variant\nSubtag: hepburn\nPrefix: ja-Latn";
+
 #[test]
-fn prefix_of_an_entry(rt: HostRuntime) -> Result<(), Fail> {
-    let text = b"Type: variant\nSubtag: hepburn\nPrefix: ja-Latn";
-    let table = list_table(rt.alloc(), text)?;
-    assert!(rt; matches!(table.entries(), [entry] if has_japanese_prefix(entry)));
+fn value_and_prefix_of_entries(rt: HostRuntime) -> Result<(), Fail> {
+    let table = list_table(rt.alloc(), VALUED)?;
+    assert!(rt;
+        matches!(table.entries(), [iw, hepburn] if has_hebrew_value(iw) && has_japanese_prefix(hepburn))
+    );
     Ok(())
 }
 

@@ -6,6 +6,6 @@ mod growths;
 mod tables;
 mod texts;
 
-pub use growths::{answered, answers, is_shown, mark, shown};
+pub use growths::{is_shown, mark, shown};
 pub use tables::{registry_of, sample, sample_with, sorted, sorted_sample};
 pub use texts::{FOLDED, HEADER, ROWS, Row, changed_text, push_record, returned_text, sample_text};

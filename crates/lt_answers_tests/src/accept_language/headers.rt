@@ -1,8 +1,6 @@
 //! What headers say.
 use super::accept_of;
 use lt_range::WeightedRange;
-use lt_range::laws::headers_are_read_by_their_grammar;
-use lt_testing::again;
 use std::alloc::Global;
 use std::test::Fail;
 
@@ -46,7 +44,7 @@ fn push_ranges(alloc: Global, told: &mut String, ranges: &[WeightedRange<'_>]) -
     for weighted in ranges {
         let range = std::str::from_utf8(weighted.range)?;
         let weight = weighted.weight;
-        let words = again!(format!(in alloc; "{range} {weight}, "))?;
+        let words = format!(in alloc; "{range} {weight}, ")?;
         told.push_str(words.as_str())?;
     }
     Ok(())
@@ -55,7 +53,7 @@ fn push_ranges(alloc: Global, told: &mut String, ranges: &[WeightedRange<'_>]) -
 /// What a header says, as the table above has it.
 fn told(alloc: Global, text: &str) -> Result<String, Fail> {
     let accept = accept_of(alloc, text)?;
-    let mut told = again!(String::with_capacity(alloc, 256))?;
+    let mut told = String::new(alloc);
     push_ranges(alloc, &mut told, &accept.acceptable)?;
     told.push_str("| ")?;
     push_ranges(alloc, &mut told, &accept.not_acceptable)?;
@@ -69,9 +67,4 @@ fn ranges_by_weight(rt: HostRuntime) -> Result<(), Fail> {
         assert!(rt; found.as_str() == *wanted, "{text}");
     }
     Ok(())
-}
-
-#[test]
-fn law_holds(_rt: HostRuntime) {
-    headers_are_read_by_their_grammar();
 }

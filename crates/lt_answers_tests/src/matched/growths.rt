@@ -1,83 +1,77 @@
 //! What a call does where a growth of memory is refused.
-use super::checked_sample;
-use lt_canon::{Refusal, TextRefusal};
-use lt_range::{
-    Available, HeaderRefusal, RangeRefusal, extlang_range, extlang_subtags, header_preferences,
-};
+use super::range_of;
+use crate::tables::checked_sample;
+use lt_canon::{Checked, Refusal, TextRefusal};
+use lt_range::{Available, HeaderRefusal, RangeRefusal, extlang_subtags, header_preferences};
+use lt_registry::SortedTable;
 use lt_tag::read_tag;
-use lt_testing::{again, answers};
+use lt_testing::{again, retried};
+use std::alloc::Global;
 use std::test::Fail;
 
-#[test]
-fn a_range_is_prepared(rt: HostRuntime) -> Result<(), Fail> {
-    let checked = checked_sample(rt.alloc())?;
-    for (text, count) in &[("zh-yue-x-a-b-c", 6), ("de-foo-x-a", 4), ("yue-*-DE", 3)] {
-        let is_read = again!({
-            answers(
-                rt.alloc(),
-                text,
-                || extlang_range(rt.alloc(), &checked, text.as_bytes()),
-                |answer| matches!(answer, Ok(range) if range.named().len() == *count),
-                |answer| matches!(answer, Err(RangeRefusal::OutOfMemory)),
-            )
-        })?;
-        assert!(rt; is_read, "{text}");
+/// Texts of ranges, and how many subtags each has by its extlang form.
+const RANGES: &[(&str, usize)] = &[("zh-yue-x-a-b-c", 6), ("de-foo-x-a", 4), ("yue-*-DE", 3)];
+
+/// How many subtags the range has by which a text matches.
+fn length_of(
+    alloc: Global,
+    checked: &Checked<SortedTable>,
+    text: &str,
+) -> Result<usize, RangeRefusal> {
+    let range = range_of(alloc, checked, text)?;
+    Ok(range.named().len())
+}
+
+/// Whether each range has so many subtags.
+fn are_ranges(alloc: Global, checked: &Checked<SortedTable>) -> Result<bool, RangeRefusal> {
+    for (text, length) in RANGES {
+        if length_of(alloc, checked, text)? != *length {
+            return Ok(false);
+        }
     }
-    Ok(())
+    Ok(true)
+}
+
+/// How many subtags a tag has by its extlang form.
+fn subtag_count(alloc: Global, checked: &Checked<SortedTable>, text: &str) -> Result<usize, Fail> {
+    let tag = again!(read_tag(alloc, text.as_bytes()))?;
+    let subtags = retried!(extlang_subtags(alloc, checked, &tag), Refusal::OutOfMemory)?;
+    Ok(subtags.subtags().len())
+}
+
+/// How many ranges a header has.
+fn range_count(
+    alloc: Global,
+    checked: &Checked<SortedTable>,
+    header: &str,
+) -> Result<usize, HeaderRefusal> {
+    let preferences = retried!(
+        header_preferences(alloc, checked, header.as_bytes()),
+        HeaderRefusal::OutOfMemory
+    )?;
+    Ok(preferences.len())
+}
+
+/// Whether tags are prepared.
+fn are_prepared(alloc: Global, checked: &Checked<SortedTable>, texts: &[&[u8]]) -> bool {
+    let prepared = retried!(
+        Available::of_texts(alloc, checked, texts),
+        refused if matches!(refused.refusal, TextRefusal::OutOfMemory)
+    );
+    prepared.is_ok()
 }
 
 #[test]
-fn subtags_are_prepared(rt: HostRuntime) -> Result<(), Fail> {
+fn ranges_and_tags_are_prepared(rt: HostRuntime) -> Result<(), Fail> {
     let checked = checked_sample(rt.alloc())?;
-    let tag = again!(read_tag(rt.alloc(), b"zh-yue-x-a-b-c"))?;
-    let has_all = again!({
-        answers(
-            rt.alloc(),
-            &tag,
-            || extlang_subtags(rt.alloc(), &checked, &tag),
-            |answer| matches!(answer, Ok(subtags) if subtags.subtags().len() == 6),
-            |answer| matches!(answer, Err(Refusal::OutOfMemory)),
+    assert!(rt; matches!(are_ranges(rt.alloc(), &checked), Ok(true)));
+    assert!(rt; subtag_count(rt.alloc(), &checked, "zh-yue-x-a-b-c")? == 6);
+    assert!(rt;
+        matches!(
+            range_count(rt.alloc(), &checked, "de;q=0.5, zh-yue, fr;q=0"),
+            Ok(3)
         )
-    })?;
-    assert!(rt; has_all);
-    Ok(())
-}
-
-#[test]
-fn a_header_is_prepared(rt: HostRuntime) -> Result<(), Fail> {
-    let checked = checked_sample(rt.alloc())?;
-    let header = "de;q=0.5, zh-yue, fr;q=0";
-    let is_read = again!({
-        answers(
-            rt.alloc(),
-            &header,
-            || header_preferences(rt.alloc(), &checked, header.as_bytes()),
-            |answer| matches!(answer, Ok(all) if all.len() == 3),
-            |answer| matches!(answer, Err(HeaderRefusal::OutOfMemory)),
-        )
-    })?;
-    assert!(rt; is_read);
-    Ok(())
-}
-
-/// Whether a refusal is that memory ran out.
-fn is_out_of_memory(refusal: &TextRefusal) -> bool {
-    matches!(refusal, TextRefusal::OutOfMemory)
-}
-
-#[test]
-fn tags_are_prepared(rt: HostRuntime) -> Result<(), Fail> {
-    let checked = checked_sample(rt.alloc())?;
-    let texts: [&[u8]; 2] = [b"de", b"yue-Hans"];
-    let are_read = again!({
-        answers(
-            rt.alloc(),
-            &texts,
-            || Available::of_texts(rt.alloc(), &checked, &texts),
-            |answer| matches!(answer, Ok(_)),
-            |answer| matches!(answer, Err(refused) if is_out_of_memory(&refused.refusal)),
-        )
-    })?;
-    assert!(rt; are_read);
+    );
+    assert!(rt; are_prepared(rt.alloc(), &checked, &[b"de", b"yue-Hans"]));
     Ok(())
 }

@@ -1,7 +1,6 @@
 //! Filtering and lookup by priority lists.
 use super::{ranges_of, subtags_of, tags_of};
 use lt_range::{LanguageRange, TagSubtags, filter_basic, filter_extended, lookup};
-use lt_testing::again;
 use std::alloc::Global;
 use std::test::Fail;
 
@@ -23,7 +22,7 @@ fn is_basic(
     tags: &[TagSubtags],
     places: &[usize],
 ) -> Result<bool, Fail> {
-    Ok(again!(filter_basic(alloc, ranges, tags))?.as_slice() == places)
+    Ok(filter_basic(alloc, ranges, tags)?.as_slice() == places)
 }
 
 /// Whether extended filtering finds these places.
@@ -33,7 +32,7 @@ fn is_extended(
     tags: &[TagSubtags],
     places: &[usize],
 ) -> Result<bool, Fail> {
-    Ok(again!(filter_extended(alloc, ranges, tags))?.as_slice() == places)
+    Ok(filter_extended(alloc, ranges, tags)?.as_slice() == places)
 }
 
 #[test]

@@ -1,8 +1,6 @@
 //! Which tags ranges with weights serve, and which they accept: the example of RFC 9110, 12.5.4, and others.
 use super::{range_of, tags_of};
-use lt_range::laws::best_is_determined;
 use lt_range::{Preference, TagSubtags, best, filter_accepted, weight_of};
-use lt_testing::again;
 use std::alloc::Global;
 use std::test::Fail;
 
@@ -68,7 +66,7 @@ const ROWS: &[(&[(&str, u16)], &[&str], Option<usize>, &str)] = &[
 
 /// Ranges with their weights.
 fn preferred(alloc: Global, ranges: &[(&str, u16)]) -> Result<Vec<Preference>, Fail> {
-    let mut preferences = again!(Vec::with_capacity(alloc, ranges.len()))?;
+    let mut preferences = Vec::new(alloc);
     for (text, weight) in ranges {
         let range = range_of(alloc, text)?;
         let weight = *weight;
@@ -79,13 +77,13 @@ fn preferred(alloc: Global, ranges: &[(&str, u16)]) -> Result<Vec<Preference>, F
 
 /// The places of the tags that are accepted, with their weights, as the table above has them.
 fn accepted(alloc: Global, all: &[Preference], tags: &[TagSubtags]) -> Result<String, Fail> {
-    let mut told = again!(String::with_capacity(alloc, 64))?;
-    for place in &again!(filter_accepted(alloc, all, tags))? {
+    let mut told = String::new(alloc);
+    for place in &filter_accepted(alloc, all, tags)? {
         let Some(tag) = tags.get(*place) else {
             return Err(Fail::from("no such place"));
         };
         let weight = weight_of(all, tag).unwrap_or(0);
-        let words = again!(format!(in alloc; "{place} {weight}, "))?;
+        let words = format!(in alloc; "{place} {weight}, ")?;
         told.push_str(words.as_str())?;
     }
     Ok(told)
@@ -109,9 +107,4 @@ fn a_tag_that_none_matches_has_no_weight(rt: HostRuntime) -> Result<(), Fail> {
         assert!(rt; weight_of(&all, tag).is_none());
     }
     Ok(())
-}
-
-#[test]
-fn law_holds(_rt: HostRuntime) {
-    best_is_determined();
 }

@@ -5,7 +5,6 @@ use bcp47::{
     lookup,
 };
 use std::alloc::Global;
-use std::process::Abort;
 use std::test::Fail;
 
 /// The ranges that a header accepts, by priority and by their extlang forms.
@@ -31,22 +30,16 @@ fn subtags_of(alloc: Global, registry: &Registry, texts: &[&str]) -> Result<Vec<
     Ok(tags)
 }
 
-/// What is found among three tags by a header.
-fn expect_found(rt: &impl Abort, alloc: Global, registry: &Registry) -> Result<(), Fail> {
+/// Whether these are found among three tags by headers.
+fn are_found(alloc: Global, registry: &Registry) -> Result<bool, Fail> {
     let tags = subtags_of(alloc, registry, &["zh", "cmn-Hans-IL", "he-IL"])?;
     let ranges = ranges_of(alloc, registry, b"zh-cmn;q=0.5, iw, zh;q=0")?;
-    assert!(rt; filter_basic(alloc, &ranges, &tags)?.as_slice() == [2, 1].as_slice());
-    assert_eq!(rt; lookup(&ranges, &tags), Some(0));
+    let is_first = filter_basic(alloc, &ranges, &tags)?.as_slice() == [2, 1].as_slice()
+        && lookup(&ranges, &tags) == Some(0);
     let ranges = ranges_of(alloc, registry, b"cmn-il, iw-IL-x-own;q=0.9")?;
-    assert!(rt; filter_extended(alloc, &ranges, &tags)?.as_slice() == [1].as_slice());
-    assert_eq!(rt; lookup(&ranges[1..], &tags), Some(2));
-    Ok(())
-}
-
-#[test]
-fn tags_for_a_header(rt: HostRuntime) -> Result<(), Fail> {
-    let registry = small_registry(rt.alloc())?;
-    expect_found(&rt, rt.alloc(), &registry)
+    let is_second = filter_extended(alloc, &ranges, &tags)?.as_slice() == [1].as_slice()
+        && lookup(&ranges[1..], &tags) == Some(2);
+    Ok(is_first && is_second)
 }
 
 /// The place of the tag that is served to the reader of a header.
@@ -61,26 +54,31 @@ fn served(
 }
 
 /// Headers, and the tag that each is served of three: by weight, by what is equivalent, by `*`, and none.
-fn expect_served(rt: &impl Abort, alloc: Global, registry: &Registry) -> Result<(), Fail> {
-    let tags: [&[u8]; 3] = [b"he-IL", b"cmn-Hans", b"zh-IL"];
-    let available = registry.available(alloc, &tags)?;
-    assert_eq!(rt;
-        served(alloc, registry, &available, b"iw;q=0.8, zh-cmn-Hans-IL")?,
-        Some(1)
-    );
-    assert_eq!(rt; served(alloc, registry, &available, b"zh")?, Some(1));
-    assert_eq!(rt; served(alloc, registry, &available, b"iw")?, Some(0));
-    assert_eq!(rt; served(alloc, registry, &available, b"*, he;q=0")?, Some(1));
-    assert_eq!(rt; served(alloc, registry, &available, b"en")?, None);
-    let preferences = registry.preferences(alloc, b"he;q=0.5, zh, cmn;q=0")?;
-    assert!(rt; available.filter(alloc, &preferences)?.as_slice() == [2, 0].as_slice());
-    Ok(())
+const SERVED: &[(&[u8], Option<usize>)] = &[
+    (b"iw;q=0.8, zh-cmn-Hans-IL", Some(1)),
+    (b"zh", Some(1)),
+    (b"iw", Some(0)),
+    (b"*, he;q=0", Some(1)),
+    (b"en", None),
+];
+
+/// Whether each header is served its tag.
+fn are_served(alloc: Global, registry: &Registry, available: &Available) -> Result<bool, Fail> {
+    for (header, place) in SERVED {
+        if served(alloc, registry, available, header)? != *place {
+            return Ok(false);
+        }
+    }
+    Ok(true)
 }
 
-#[test]
-fn a_tag_is_served(rt: HostRuntime) -> Result<(), Fail> {
-    let registry = small_registry(rt.alloc())?;
-    expect_served(&rt, rt.alloc(), &registry)
+/// Whether headers are served by three tags, which another accepts in this order.
+fn serves(alloc: Global, registry: &Registry) -> Result<bool, Fail> {
+    let tags: [&[u8]; 3] = [b"he-IL", b"cmn-Hans", b"zh-IL"];
+    let available = registry.available(alloc, &tags)?;
+    let preferences = registry.preferences(alloc, b"he;q=0.5, zh, cmn;q=0")?;
+    let places = available.filter(alloc, &preferences)?;
+    Ok(places.as_slice() == [2, 0].as_slice() && are_served(alloc, registry, &available)?)
 }
 
 /// The refusals of a header and of a list of tags, and their places.
@@ -91,13 +89,6 @@ fn unserved(alloc: Global, registry: &Registry) -> Option<(&'static str, usize)>
     Some((header.name(), list.place))
 }
 
-#[test]
-fn no_tag_is_served(rt: HostRuntime) -> Result<(), Fail> {
-    let registry = small_registry(rt.alloc())?;
-    assert!(rt; unserved(rt.alloc(), &registry) == Some(("BadWeight", 2)));
-    Ok(())
-}
-
 /// Whether a range matches a tag by basic filtering.
 fn is_matched(alloc: Global, registry: &Registry, range: &str, tag: &str) -> Result<bool, Fail> {
     let range = registry.range(alloc, range.as_bytes())?;
@@ -105,19 +96,22 @@ fn is_matched(alloc: Global, registry: &Registry, range: &str, tag: &str) -> Res
     Ok(range.matches_basic(&subtags))
 }
 
-/// A range and a tag that are written otherwise.
-fn expect_matches(rt: &impl Abort, alloc: Global, registry: &Registry) -> Result<(), Fail> {
-    assert!(rt; is_matched(alloc, registry, "iw", "he-IL")?);
-    assert!(rt; is_matched(alloc, registry, "cmn", "zh-cmn-Hans")?);
-    assert!(rt; is_matched(alloc, registry, "zh", "zh-cmn-Hans")?);
-    assert!(rt; is_matched(alloc, registry, "iw-*", "iw")?);
-    Ok(())
-}
+/// Ranges, and tags that are written otherwise.
+const MATCHED: &[(&str, &str)] = &[
+    ("iw", "he-IL"),
+    ("cmn", "zh-cmn-Hans"),
+    ("zh", "zh-cmn-Hans"),
+    ("iw-*", "iw"),
+];
 
-#[test]
-fn ranges_match(rt: HostRuntime) -> Result<(), Fail> {
-    let registry = small_registry(rt.alloc())?;
-    expect_matches(&rt, rt.alloc(), &registry)
+/// Whether each range matches its tag.
+fn are_matched(alloc: Global, registry: &Registry) -> Result<bool, Fail> {
+    for (range, tag) in MATCHED {
+        if !is_matched(alloc, registry, range, tag)? {
+            return Ok(false);
+        }
+    }
+    Ok(true)
 }
 
 /// The names of the refusals of texts that are no range and no header.
@@ -127,9 +121,23 @@ fn refusals(alloc: Global, registry: &Registry) -> Option<(&'static str, &'stati
     Some((range.name(), header.kind.name(), header.place))
 }
 
+/// What the small registry answers wrongly for ranges, headers and tags, if anything.
+fn answered_wrongly(alloc: Global, registry: &Registry) -> Result<&'static str, Fail> {
+    if !are_found(alloc, registry)? || !serves(alloc, registry)? {
+        return Ok("headers");
+    }
+    if !are_matched(alloc, registry)? {
+        return Ok("ranges");
+    }
+    let is_told = unserved(alloc, registry) == Some(("BadWeight", 2))
+        && refusals(alloc, registry) == Some(("BadByte", "BadWeight", 2));
+    Ok(if is_told { "" } else { "refusals" })
+}
+
 #[test]
-fn no_ranges(rt: HostRuntime) -> Result<(), Fail> {
+fn ranges_headers_and_tags(rt: HostRuntime) -> Result<(), Fail> {
     let registry = small_registry(rt.alloc())?;
-    assert!(rt; refusals(rt.alloc(), &registry) == Some(("BadByte", "BadWeight", 2)));
+    let wrong = answered_wrongly(rt.alloc(), &registry)?;
+    assert!(rt; wrong.is_empty(), "{wrong}");
     Ok(())
 }

@@ -1,11 +1,7 @@
 //! The parts of tags, and the records that a registry has for them.
 use super::{registry_of, small_registry, tag_of};
-use bcp47::{
-    EntryValue, Extension, Kind, Registry, Subtag, TParts, Tag, UParts, join_t, join_u, parts,
-    split_t, split_u, write_tag,
-};
+use bcp47::{EntryValue, Kind, Registry, Subtag, Tag, parts, write_tag};
 use std::alloc::Global;
-use std::process::Abort;
 use std::test::Fail;
 
 /// The parts of a tag, each with the name of its kind.
@@ -33,69 +29,6 @@ fn parts_in_order(rt: HostRuntime) -> Result<(), Fail> {
     Ok(())
 }
 
-/// Whether a keyword of a `u` extension has a type.
-fn has_type(parts: &UParts, key: &[u8], wanted: &[u8]) -> bool {
-    let mut has = false;
-    for keyword in &parts.keywords {
-        if keyword.key.bytes() == key {
-            has = keyword.types.iter().any(|it| it.bytes() == wanted);
-        }
-    }
-    has
-}
-
-/// Whether a `u` extension has a type under a key, and is spelled by its parts.
-fn is_set(alloc: Global, extension: &Extension, key: &[u8], wanted: &[u8]) -> Result<bool, Fail> {
-    if extension.singleton() != b'u' {
-        return Ok(false);
-    }
-    let parts = split_u(alloc, extension)?;
-    Ok(has_type(&parts, key, wanted) && join_u(alloc, &parts)? == *extension)
-}
-
-#[test]
-fn keywords(rt: HostRuntime) -> Result<(), Fail> {
-    let tag = tag_of(rt.alloc(), "th-u-attr-nu-thai-ca-buddhist")?;
-    for extension in tag.extensions() {
-        assert!(rt; is_set(rt.alloc(), extension, b"ca", b"buddhist")?);
-        assert!(rt; !is_set(rt.alloc(), extension, b"ca", b"thai")?);
-    }
-    Ok(())
-}
-
-/// Whether the source of a `t` extension is of a language.
-fn is_from(parts: &TParts, language: &[u8]) -> bool {
-    match &parts.source {
-        Some(source) => source.language().bytes() == language,
-        None => false,
-    }
-}
-
-/// Whether a `t` extension has so many fields and a source of a language, and is spelled by its parts.
-fn is_transformed(
-    alloc: Global,
-    extension: &Extension,
-    language: &[u8],
-    fields: usize,
-) -> Result<bool, Fail> {
-    if extension.singleton() != b't' {
-        return Ok(false);
-    }
-    let parts = split_t(alloc, extension)?;
-    let has_fields = parts.fields.len() == fields;
-    Ok(is_from(&parts, language) && has_fields && join_t(alloc, &parts)? == *extension)
-}
-
-#[test]
-fn transforms(rt: HostRuntime) -> Result<(), Fail> {
-    let tag = tag_of(rt.alloc(), "ja-t-it-latn-m0-names-k0-qwerty")?;
-    for extension in tag.extensions() {
-        assert!(rt; is_transformed(rt.alloc(), extension, b"it", 2)?);
-        assert!(rt; !is_transformed(rt.alloc(), extension, b"ja", 2)?);
-    }
-    Ok(())
-}
-
 /// The number of the record of a language, and whether its preferred value is another one.
 fn record_of(
     registry: &Registry,
@@ -112,18 +45,20 @@ fn record_of(
     Ok(Some((entry.number(), leads)))
 }
 
-/// The records of languages by the small registry.
-fn expect_records(rt: &impl Abort, registry: &Registry) -> Result<(), Fail> {
-    assert_eq!(rt; record_of(registry, b"iw", b"he")?, Some((4, true)));
-    assert_eq!(rt; record_of(registry, b"HE", b"iw")?, Some((3, false)));
-    assert_eq!(rt; record_of(registry, b"tlh", b"he")?, None);
-    Ok(())
-}
+/// Languages with another, and what the small registry has for each.
+const RECORDS: &[(&[u8], &[u8], Option<(u32, bool)>)] = &[
+    (b"iw", b"he", Some((4, true))),
+    (b"HE", b"iw", Some((3, false))),
+    (b"tlh", b"he", None),
+];
 
 #[test]
 fn records_of_subtags(rt: HostRuntime) -> Result<(), Fail> {
     let registry = small_registry(rt.alloc())?;
-    expect_records(&rt, &registry)
+    for (language, other, told) in RECORDS {
+        assert!(rt; record_of(&registry, language, other)? == *told);
+    }
+    Ok(())
 }
 
 /// A registry of a grandfathered tag and its preferred value.
@@ -138,18 +73,19 @@ Preferred-Value: tlh
 /// The number of the record of a whole tag.
 fn whole_of(alloc: Global, registry: &Registry, text: &str) -> Result<Option<u32>, Fail> {
     let tag = tag_of(alloc, text)?;
-    Ok(registry.whole(&tag).map(|entry| entry.number()))
-}
-
-/// The record of a whole tag by it.
-fn expect_whole(rt: &impl Abort, alloc: Global, registry: &Registry) -> Result<(), Fail> {
-    assert_eq!(rt; whole_of(alloc, registry, "I-KLINGON")?, Some(2));
-    assert_eq!(rt; whole_of(alloc, registry, "tlh")?, None);
-    Ok(())
+    match registry.whole(&tag) {
+        Some(entry) => Ok(Some(entry.number())),
+        None => Ok(None),
+    }
 }
 
 #[test]
 fn records_of_whole_tags(rt: HostRuntime) -> Result<(), Fail> {
     let registry = registry_of(rt.alloc(), WHOLE)?;
-    expect_whole(&rt, rt.alloc(), &registry)
+    let found = (
+        whole_of(rt.alloc(), &registry, "I-KLINGON")?,
+        whole_of(rt.alloc(), &registry, "tlh")?,
+    );
+    assert!(rt; found == (Some(2), None));
+    Ok(())
 }

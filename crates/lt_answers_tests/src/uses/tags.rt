@@ -2,7 +2,6 @@
 use super::{registry_of, small_registry, tag_of};
 use bcp47::{Registry, StepKind, Tag, Trace, TraceFault, ValidFaultKind, ValidRefusal, write_tag};
 use std::alloc::Global;
-use std::process::Abort;
 use std::test::Fail;
 
 /// The canonical text of the tag that a text is read as.
@@ -10,17 +9,10 @@ fn canonical_of(alloc: Global, registry: &Registry, text: &[u8]) -> Result<Vec<u
     Ok(registry.canonical_text(alloc, text)?)
 }
 
-/// What `canonical_text` gives by the small registry.
-fn expect_canonical_text(rt: &impl Abort, alloc: Global, registry: &Registry) -> Result<(), Fail> {
+/// Whether `canonical_text` gives this by the small registry.
+fn gives_canonical_text(alloc: Global, registry: &Registry) -> Result<bool, Fail> {
     let text = canonical_of(alloc, registry, b"IW-il")?;
-    assert_eq!(rt; text.as_slice(), b"he-IL".as_slice());
-    Ok(())
-}
-
-#[test]
-fn canonical_texts(rt: HostRuntime) -> Result<(), Fail> {
-    let registry = small_registry(rt.alloc())?;
-    expect_canonical_text(&rt, rt.alloc(), &registry)
+    Ok(text.as_slice() == b"he-IL".as_slice())
 }
 
 /// The canonical texts of two tags, with a space between.
@@ -42,19 +34,12 @@ fn refuses(alloc: Global, registry: &Registry, text: &[u8], line: &mut Vec<u8>) 
     registry.append_canonical_text(alloc, text, line).is_err()
 }
 
-/// By the small registry, canonical texts are appended; a text that is refused leaves the line as it was.
-fn expect_appended_texts(rt: &impl Abort, alloc: Global, registry: &Registry) -> Result<(), Fail> {
+/// Whether canonical texts are appended by the small registry, and a text that is refused leaves the line as it was.
+fn appends_texts(alloc: Global, registry: &Registry) -> Result<bool, Fail> {
     let mut line = pair_of(alloc, registry, b"zh-cmn-hans", b"iw")?;
-    assert_eq!(rt; line.as_slice(), b"cmn-Hans he".as_slice());
-    assert!(rt; refuses(alloc, registry, b"en_US", &mut line));
-    assert_eq!(rt; line.as_slice(), b"cmn-Hans he".as_slice());
-    Ok(())
-}
-
-#[test]
-fn texts_are_appended(rt: HostRuntime) -> Result<(), Fail> {
-    let registry = small_registry(rt.alloc())?;
-    expect_appended_texts(&rt, rt.alloc(), &registry)
+    let is_pair = line.as_slice() == b"cmn-Hans he".as_slice();
+    let is_refused = refuses(alloc, registry, b"en_US", &mut line);
+    Ok(is_pair && is_refused && line.as_slice() == b"cmn-Hans he".as_slice())
 }
 
 /// The text of the canonical form of a tag.
@@ -69,19 +54,12 @@ fn extlang_form_of(alloc: Global, registry: &Registry, tag: &Tag) -> Result<Tag,
     Ok(registry.extlang_form(alloc, &canonical)?)
 }
 
-/// The canonical and the extlang form of a tag by the small registry.
-fn expect_forms(rt: &impl Abort, alloc: Global, registry: &Registry) -> Result<(), Fail> {
+/// Whether a tag has this canonical form and this extlang form by the small registry.
+fn gives_forms(alloc: Global, registry: &Registry) -> Result<bool, Fail> {
     let tag = tag_of(alloc, "zh-cmn")?;
     let text = text_of_canonical(alloc, registry, &tag)?;
-    assert_eq!(rt; text.as_slice(), b"cmn".as_slice());
-    assert!(rt; extlang_form_of(alloc, registry, &tag)? == tag);
-    Ok(())
-}
-
-#[test]
-fn canonical_and_extlang_forms(rt: HostRuntime) -> Result<(), Fail> {
-    let registry = small_registry(rt.alloc())?;
-    expect_forms(&rt, rt.alloc(), &registry)
+    let form = extlang_form_of(alloc, registry, &tag)?;
+    Ok(text.as_slice() == b"cmn".as_slice() && form == tag)
 }
 
 /// Why the tag that a text is read as is not valid, if it is not: what is printed, the fault, and its place.
@@ -101,20 +79,14 @@ fn fault_of(
     }
 }
 
-/// A tag that is valid by the small registry, and one that is not.
-fn expect_validity(rt: &impl Abort, alloc: Global, registry: &Registry) -> Result<(), Fail> {
-    assert!(rt; fault_of(alloc, registry, b"he-IL")?.is_none());
+/// Whether one tag is valid by the small registry, and another is not.
+fn tells_validity(alloc: Global, registry: &Registry) -> Result<bool, Fail> {
+    let is_valid = fault_of(alloc, registry, b"he-IL")?.is_none();
     let Some((name, kind, place)) = fault_of(alloc, registry, b"he-Latn")? else {
-        return Err(Fail::from("valid"));
+        return Ok(false);
     };
-    assert!(rt; name == "UnknownScript" && kind == ValidFaultKind::UnknownScript && place == 2);
-    Ok(())
-}
-
-#[test]
-fn valid_tags(rt: HostRuntime) -> Result<(), Fail> {
-    let registry = small_registry(rt.alloc())?;
-    expect_validity(&rt, rt.alloc(), &registry)
+    let is_script = name == "UnknownScript" && kind == ValidFaultKind::UnknownScript;
+    Ok(is_valid && is_script && place == 2)
 }
 
 /// Whether a trace is the one step by record 4 from a language to its preferred value.
@@ -124,29 +96,6 @@ fn is_one_language_step(trace: &Trace) -> bool {
     };
     let is_language = matches!(step.kind, StepKind::Language);
     is_language && step.place == 1 && step.number == 4 && trace.steps.len() == 1
-}
-
-/// An explanation by the small registry, which is judged for its tag and for another one.
-fn expect_explanation(rt: &impl Abort, alloc: Global, registry: &Registry) -> Result<(), Fail> {
-    let tag = tag_of(alloc, "iw-IL")?;
-    let trace = explained(alloc, registry, &tag)?;
-    assert!(rt; is_one_language_step(&trace));
-    assert_eq!(rt; fault_of_trace(alloc, registry, &tag, &trace), None);
-    let other = tag_of(alloc, "he")?;
-    let wrong = fault_of_trace(alloc, registry, &other, &trace);
-    assert_eq!(rt; wrong, Some(TraceFault::NoSuchStep(1)));
-    Ok(())
-}
-
-#[test]
-fn explanations(rt: HostRuntime) -> Result<(), Fail> {
-    let registry = small_registry(rt.alloc())?;
-    expect_explanation(&rt, rt.alloc(), &registry)
-}
-
-/// The explanation of a tag.
-fn explained(alloc: Global, registry: &Registry, tag: &Tag) -> Result<Trace, Fail> {
-    Ok(registry.explain(alloc, tag)?)
 }
 
 /// What is wrong with an explanation of a tag, if anything is.
@@ -159,29 +108,42 @@ fn fault_of_trace(
     registry.verify(alloc, tag, trace).err()
 }
 
-/// The lines of the explanation of the tag that a text is read as.
-fn lines_of(alloc: Global, registry: &Registry, text: &[u8]) -> Result<Vec<u8>, Fail> {
-    Ok(registry.explanation_text(alloc, text)?)
+/// Whether an explanation by the small registry is right for its tag, and not for another one.
+fn explains(alloc: Global, registry: &Registry) -> Result<bool, Fail> {
+    let tag = tag_of(alloc, "iw-IL")?;
+    let other = tag_of(alloc, "he")?;
+    let trace = registry.explain(alloc, &tag)?;
+    let is_right = fault_of_trace(alloc, registry, &tag, &trace).is_none();
+    let wrong = fault_of_trace(alloc, registry, &other, &trace);
+    Ok(is_one_language_step(&trace) && is_right && wrong == Some(TraceFault::NoSuchStep(1)))
 }
 
-/// The lines of an explanation by the small registry.
-fn expect_explanation_text(
-    rt: &impl Abort,
-    alloc: Global,
-    registry: &Registry,
-) -> Result<(), Fail> {
-    let lines = lines_of(alloc, registry, b"IW-il")?;
-    assert_eq!(rt;
-        lines.as_slice(),
-        b"Language 1 4 he-IL\n= he-IL\n".as_slice()
-    );
-    Ok(())
+/// Whether an explanation by the small registry has these lines.
+fn writes_explanation(alloc: Global, registry: &Registry) -> Result<bool, Fail> {
+    let lines = registry.explanation_text(alloc, b"IW-il")?;
+    Ok(lines.as_slice() == b"Language 1 4 he-IL\n= he-IL\n".as_slice())
+}
+
+/// What the small registry says wrongly of tags, if anything.
+fn said_wrongly(alloc: Global, registry: &Registry) -> Result<&'static str, Fail> {
+    if !gives_canonical_text(alloc, registry)? || !appends_texts(alloc, registry)? {
+        return Ok("canonical texts");
+    }
+    if !gives_forms(alloc, registry)? || !tells_validity(alloc, registry)? {
+        return Ok("forms and validity");
+    }
+    if !explains(alloc, registry)? || !writes_explanation(alloc, registry)? {
+        return Ok("explanations");
+    }
+    Ok("")
 }
 
 #[test]
-fn explanation_texts(rt: HostRuntime) -> Result<(), Fail> {
+fn what_a_registry_says(rt: HostRuntime) -> Result<(), Fail> {
     let registry = small_registry(rt.alloc())?;
-    expect_explanation_text(&rt, rt.alloc(), &registry)
+    let wrong = said_wrongly(rt.alloc(), &registry)?;
+    assert!(rt; wrong.is_empty(), "{wrong}");
+    Ok(())
 }
 
 /// Two records of the registry above, without the value that one has there.
@@ -192,25 +154,11 @@ fn upgrades_to(alloc: Global, older: &Registry, newer: &Registry) -> bool {
     older.upgrade_check(alloc, newer).is_ok()
 }
 
-/// The newer of two registries upgrades the older, and not the other way round.
-fn expect_one_way(rt: &impl Abort, alloc: Global, older: &Registry, newer: &Registry) {
-    assert!(rt; upgrades_to(alloc, older, newer));
-    assert!(rt; !upgrades_to(alloc, newer, older));
-}
-
-/// The small registry upgrades an older one.
-fn expect_small_registry_newer(
-    rt: &impl Abort,
-    alloc: Global,
-    older: &Registry,
-) -> Result<(), Fail> {
-    let newer = small_registry(alloc)?;
-    expect_one_way(rt, alloc, older, &newer);
-    Ok(())
-}
-
 #[test]
 fn upgrades(rt: HostRuntime) -> Result<(), Fail> {
     let older = registry_of(rt.alloc(), OLDER)?;
-    expect_small_registry_newer(&rt, rt.alloc(), &older)
+    let newer = small_registry(rt.alloc())?;
+    assert!(rt; upgrades_to(rt.alloc(), &older, &newer));
+    assert!(rt; !upgrades_to(rt.alloc(), &newer, &older));
+    Ok(())
 }

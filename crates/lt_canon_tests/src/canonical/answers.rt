@@ -7,8 +7,8 @@ use lt_canon::{
 use lt_check::Checked;
 use lt_registry::Lookup;
 use lt_tag::{OutOfMemory, Tag, read_tag, write_tag};
-use lt_testing::{again, answered};
-use std::alloc::{AllocError, Global};
+use lt_testing::{again, retried};
+use std::alloc::Global;
 use std::process::Abort;
 use std::test::Fail;
 
@@ -44,11 +44,9 @@ fn written<L: Lookup>(
     checked: &Checked<L>,
     text: &[u8],
 ) -> Result<Vec<u8>, TextRefusal> {
-    answered(
-        alloc,
-        &text,
-        || canonical_text(alloc, checked, text),
-        |refusal| matches!(refusal, TextRefusal::OutOfMemory),
+    retried!(
+        canonical_text(alloc, checked, text),
+        TextRefusal::OutOfMemory
     )
 }
 
@@ -107,71 +105,6 @@ pub(super) fn appends<L: Lookup>(alloc: Global, checked: &Checked<L>) -> bool {
     true
 }
 
-/// Whether a text has a fault of that name at that place.
-fn has_fault<L: Lookup>(
-    alloc: Global,
-    checked: &Checked<L>,
-    text: &[u8],
-    name: &str,
-    place: u32,
-) -> bool {
-    match written(alloc, checked, text) {
-        Err(TextRefusal::NotATag(fault)) => fault.kind.name() == name && fault.place == place,
-        Err(TextRefusal::Invalid(fault)) => fault.kind.name() == name && fault.place == place,
-        _ => false,
-    }
-}
-
-/// Whether a text was refused because the replacements repeat a variant.
-fn names_repeated(refusal: TextRefusal, variant: &[u8]) -> bool {
-    match refusal {
-        TextRefusal::ReplacementRepeats(repeated) => repeated.bytes() == variant,
-        _ => false,
-    }
-}
-
-/// Whether a text is refused because its replacements repeat a variant.
-fn repeats<L: Lookup>(alloc: Global, checked: &Checked<L>, text: &[u8], variant: &[u8]) -> bool {
-    match written(alloc, checked, text) {
-        Err(refusal) => names_repeated(refusal, variant),
-        Ok(_written) => false,
-    }
-}
-
-/// A core and a source of a `t` extension are refused where their replacements repeat a variant.
-pub(super) fn replacements_that_repeat<L: Lookup>(
-    rt: &impl Abort,
-    alloc: Global,
-    checked: &Checked<L>,
-) {
-    assert!(rt; repeats(alloc, checked, b"ja-Latn-heploc-alalc97", b"alalc97"));
-    assert!(rt; repeats(alloc, checked, b"en-t-ja-heploc-alalc97", b"alalc97"));
-}
-
-/// A text of 1,024 bytes, which is its own canonical text, with this end after it.
-fn long_text(alloc: Global, end: &str) -> Result<String, AllocError> {
-    let mut text = String::from_str(alloc, "en-x")?;
-    for _ in 0..113 {
-        text.push_str("-aaaaaaaa")?;
-    }
-    text.push_str("-aa")?;
-    text.push_str(end)?;
-    Ok(text)
-}
-
-/// The longest text has a canonical text, and one that is longer is refused.
-pub(super) fn the_longest_text<L: Lookup>(
-    rt: &impl Abort,
-    alloc: Global,
-    checked: &Checked<L>,
-) -> Result<(), AllocError> {
-    let longest = again!(long_text(alloc, ""))?;
-    assert!(rt; comes_to(alloc, checked, longest.as_bytes(), longest.as_bytes()));
-    let longer = again!(long_text(alloc, "a"))?;
-    assert!(rt; has_fault(alloc, checked, longer.as_bytes(), "TooLong", 0));
-    Ok(())
-}
-
 /// What a form is refused for: the name of a fault at the first subtag, or the repeated variant.
 fn refusal_name(refusal: Refusal) -> &'static str {
     match refusal {
@@ -194,11 +127,6 @@ fn is_answer(
     }
 }
 
-/// Whether a refusal is for running out of memory.
-fn is_want_of_memory(refusal: &Refusal) -> bool {
-    matches!(refusal, Refusal::OutOfMemory)
-}
-
 /// Whether a tag has this canonical form or refusal.
 pub fn has_form<L: Lookup>(
     alloc: Global,
@@ -207,12 +135,7 @@ pub fn has_form<L: Lookup>(
     wanted: &str,
 ) -> Result<bool, Fail> {
     let tag = again!(read_tag(alloc, text.as_bytes()))?;
-    let answer = answered(
-        alloc,
-        &tag,
-        || canonical(alloc, checked, &tag),
-        is_want_of_memory,
-    );
+    let answer = retried!(canonical(alloc, checked, &tag), Refusal::OutOfMemory);
     Ok(is_answer(alloc, answer, wanted)?)
 }
 
@@ -227,19 +150,6 @@ const FORMS: &[(&str, &str)] = &[
     ),
 ];
 
-/// Each tag has its canonical form, or is refused.
-pub(super) fn canonical_tags<L: Lookup>(
-    rt: &impl Abort,
-    alloc: Global,
-    checked: &Checked<L>,
-) -> Result<(), Fail> {
-    confluence(checked);
-    for (text, wanted) in FORMS {
-        assert!(rt; has_form(alloc, checked, text, wanted)?, "{text}");
-    }
-    Ok(())
-}
-
 /// Whether a tag has this form with extlangs, or this refusal.
 fn has_extlang_form<L: Lookup>(
     alloc: Global,
@@ -248,12 +158,7 @@ fn has_extlang_form<L: Lookup>(
     wanted: &str,
 ) -> Result<bool, Fail> {
     let tag = again!(read_tag(alloc, text.as_bytes()))?;
-    let answer = answered(
-        alloc,
-        &tag,
-        || extlang_form(alloc, checked, &tag),
-        is_want_of_memory,
-    );
+    let answer = retried!(extlang_form(alloc, checked, &tag), Refusal::OutOfMemory);
     Ok(is_answer(alloc, answer, wanted)?)
 }
 
@@ -264,19 +169,6 @@ const EXTLANG_FORMS: [(&str, &str, &str); 3] = [
     ("en", "en", "en"),
 ];
 
-/// Each tag has its form with extlangs, which is led back.
-pub(super) fn extlang_forms<L: Lookup>(
-    rt: &impl Abort,
-    alloc: Global,
-    checked: &Checked<L>,
-) -> Result<(), Fail> {
-    for (text, wanted, canonical) in &EXTLANG_FORMS {
-        assert!(rt; has_extlang_form(alloc, checked, text, wanted)?, "{text}");
-        assert!(rt; has_form(alloc, checked, wanted, canonical)?, "{wanted}");
-    }
-    Ok(())
-}
-
 /// Whether two tags are equivalent, in words, or the name of the refusal.
 fn compared<L: Lookup>(
     alloc: Global,
@@ -284,8 +176,10 @@ fn compared<L: Lookup>(
     first: &Tag,
     second: &Tag,
 ) -> &'static str {
-    let call = || equivalent(alloc, checked, first, second);
-    match answered(alloc, &(first, second), call, is_want_of_memory) {
+    match retried!(
+        equivalent(alloc, checked, first, second),
+        Refusal::OutOfMemory
+    ) {
         Ok(true) => "equivalent",
         Ok(false) => "different",
         Err(refusal) => refusal_name(refusal),
@@ -313,8 +207,21 @@ const PAIRS: &[(&str, &str, &str)] = &[
     ("fr", "ja-heploc-alalc97", "UnknownLanguage"),
 ];
 
+/// Each tag has its form with extlangs, which is led back.
+fn extlang_forms<L: Lookup>(
+    rt: &impl Abort,
+    alloc: Global,
+    checked: &Checked<L>,
+) -> Result<(), Fail> {
+    for (text, wanted, canonical) in &EXTLANG_FORMS {
+        assert!(rt; has_extlang_form(alloc, checked, text, wanted)?, "{text}");
+        assert!(rt; has_form(alloc, checked, wanted, canonical)?, "{wanted}");
+    }
+    Ok(())
+}
+
 /// Each pair compares as its row says.
-pub(super) fn equivalence<L: Lookup>(
+fn equivalence<L: Lookup>(
     rt: &impl Abort,
     alloc: Global,
     checked: &Checked<L>,
@@ -326,4 +233,18 @@ pub(super) fn equivalence<L: Lookup>(
         );
     }
     Ok(())
+}
+
+/// Each tag has its canonical form and its form with extlangs, or is refused, and pairs compare as their rows say.
+pub(super) fn canonical_tags<L: Lookup>(
+    rt: &impl Abort,
+    alloc: Global,
+    checked: &Checked<L>,
+) -> Result<(), Fail> {
+    confluence(checked);
+    for (text, wanted) in FORMS {
+        assert!(rt; has_form(alloc, checked, text, wanted)?, "{text}");
+    }
+    extlang_forms(rt, alloc, checked)?;
+    equivalence(rt, alloc, checked)
 }

@@ -1,5 +1,5 @@
 //! Ends of tags that come again after other fronts.
-use super::upgrades::checked;
+use super::checked;
 use lt_cache::RecentEnds;
 use lt_canon::Checked;
 use lt_registry::Lookup;

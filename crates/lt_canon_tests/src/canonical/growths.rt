@@ -1,13 +1,10 @@
 //! The calls that take memory, on their rows. Each test holds whichever growth of memory is refused:
 //! `bench/growth.py` runs it once for each growth, and refuses that one alone.
-use super::answers::{
-    appends, canonical_tags, canonical_texts, equivalence, extlang_forms, replacements_that_repeat,
-    the_longest_text,
-};
-use super::explanations::{explanation_texts, explanations};
+use super::answers::{appends, canonical_tags, canonical_texts};
+use super::explanations::explanations;
 use super::traces::traces;
-use super::upgrades::{FAULTS, UPGRADES, checked, fault};
-use super::{CHANGES, finding};
+use super::upgrades::{FAULTS, UPGRADES, fault};
+use super::{CHANGES, checked, finding};
 use lt_check::Checked;
 use lt_registry::ListTable;
 use lt_testing::{sample, sample_with, sorted_sample};
@@ -39,36 +36,13 @@ fn tags_are_made_canonical(rt: HostRuntime) -> Result<(), Fail> {
 fn texts_are_made_canonical(rt: HostRuntime) -> Result<(), Fail> {
     let checked = checked_sample(rt.alloc())?;
     canonical_texts(&rt, rt.alloc(), &checked);
-    replacements_that_repeat(&rt, rt.alloc(), &checked);
-    Ok(the_longest_text(&rt, rt.alloc(), &checked)?)
-}
-
-#[test]
-fn texts_are_appended(rt: HostRuntime) -> Result<(), Fail> {
-    let checked = checked_sample(rt.alloc())?;
     assert!(rt; appends(rt.alloc(), &checked));
     Ok(())
 }
 
 #[test]
-fn extlangs_are_put_in_front(rt: HostRuntime) -> Result<(), Fail> {
-    extlang_forms(&rt, rt.alloc(), &checked_sample(rt.alloc())?)
-}
-
-#[test]
-fn tags_are_compared(rt: HostRuntime) -> Result<(), Fail> {
-    equivalence(&rt, rt.alloc(), &checked_sample(rt.alloc())?)
-}
-
-#[test]
 fn steps_are_explained(rt: HostRuntime) -> Result<(), Fail> {
     explanations(&rt, rt.alloc(), &checked_sample(rt.alloc())?)
-}
-
-#[test]
-fn explanations_are_written(rt: HostRuntime) -> Result<(), Fail> {
-    explanation_texts(&rt, rt.alloc(), &checked_sample(rt.alloc())?);
-    Ok(())
 }
 
 #[test]

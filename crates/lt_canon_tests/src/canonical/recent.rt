@@ -10,8 +10,8 @@ const LINES: &[(&str, &str, bool)] = &[
     ("zh-yu", "zh-YU\n", false),
 ];
 
-/// Lines of one hash.
-const NEIGHBOURS: [&str; 3] = ["de-AB", "fr-IO", "it-SA"];
+/// Lines of one hash, and whether each is kept where all are put.
+const NEIGHBOURS: [(&str, bool); 3] = [("de-AB", false), ("fr-IO", true), ("it-SA", true)];
 
 const LONG: &str = "de-1901-x-abcdefgh-abcdefgh-abcde";
 
@@ -32,6 +32,20 @@ fn found(
     }
 }
 
+/// Whether a table has this for a line.
+fn has(
+    alloc: Global,
+    table: &Recent,
+    line: &str,
+    answer: &str,
+    refused: bool,
+) -> Result<bool, AllocError> {
+    match found(alloc, table, line, line.len())? {
+        Some((text, no)) => Ok(text.as_slice() == answer.as_bytes() && no == refused),
+        None => Ok(false),
+    }
+}
+
 #[test]
 fn finds_what_was_put(rt: HostRuntime) -> Result<(), Fail> {
     let mut table = Recent::new(rt.alloc());
@@ -43,10 +57,7 @@ fn finds_what_was_put(rt: HostRuntime) -> Result<(), Fail> {
         table.put(line.as_bytes(), answer.as_bytes(), *refused);
     }
     for (line, answer, refused) in LINES {
-        let there = found(rt.alloc(), &table, line, line.len())?;
-        let is_right = there.is_some_and(|(text, no)| text.as_slice() == answer.as_bytes()
-            && no == *refused);
-        assert!(rt; is_right, "{line}");
+        assert!(rt; has(rt.alloc(), &table, line, answer, *refused)?, "{line}");
     }
     Ok(())
 }
@@ -65,14 +76,16 @@ fn finds_the_front_of_a_text(rt: HostRuntime) -> Result<(), Fail> {
 #[test]
 fn keeps_two_lines_of_one_hash(rt: HostRuntime) -> Result<(), Fail> {
     let mut table = Recent::new(rt.alloc());
-    for line in &NEIGHBOURS {
+    for (line, _) in &NEIGHBOURS {
         table.put(line.as_bytes(), line.as_bytes(), false);
     }
-    for (line, stays) in NEIGHBOURS.iter().zip([false, true, true]) {
-        let there = found(rt.alloc(), &table, line, line.len())?;
-        assert!(rt; there.is_some() == stays, "{line}");
-        let is_right = there.map_or(true, |(text, _)| text.as_slice() == line.as_bytes());
-        assert!(rt; is_right, "{line}");
+    for (line, stays) in &NEIGHBOURS {
+        let is_there = found(rt.alloc(), &table, line, line.len())?.is_some();
+        assert!(rt; is_there == *stays, "{line}");
+        assert!(rt;
+            has(rt.alloc(), &table, line, line, false)? == *stays,
+            "{line}"
+        );
     }
     Ok(())
 }
@@ -117,6 +130,16 @@ fn compares_each_byte(rt: HostRuntime) -> Result<(), Fail> {
     Ok(())
 }
 
+/// Whether all bytes are this one.
+fn are_all(bytes: &[u8], wanted: u8) -> bool {
+    for byte in bytes {
+        if *byte != wanted {
+            return false;
+        }
+    }
+    true
+}
+
 #[test]
 fn appends_each_length(rt: HostRuntime) -> Result<(), Fail> {
     for count in 0..33usize {
@@ -127,8 +150,8 @@ fn appends_each_length(rt: HostRuntime) -> Result<(), Fail> {
         text.append_to(&mut texts)?;
         text.append_to(&mut texts)?;
         let is_right = texts.len() == 3 * count
-            && texts[..count].iter().all(|byte| *byte == b'-')
-            && texts[count..].iter().all(|byte| *byte == b'a');
+            && are_all(&texts[..count], b'-')
+            && are_all(&texts[count..], b'a');
         assert!(rt; is_right, "{count}");
     }
     Ok(())

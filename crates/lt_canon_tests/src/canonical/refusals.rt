@@ -5,7 +5,7 @@ use lt_registry::{ValidFault, ValidFaultKind};
 use lt_subtag::Subtag;
 use lt_tag::{TagFault, TagFaultKind};
 use lt_upgrade::{UpgradeCondition, UpgradeFault};
-use std::alloc::{AllocError, Global};
+use std::alloc::Global;
 use std::fmt::Display;
 use std::test::Fail;
 
@@ -13,6 +13,12 @@ use std::test::Fail;
 const UNKNOWN: ValidFault = ValidFault {
     kind: ValidFaultKind::UnknownLanguage,
     place: 1,
+};
+
+/// The fault of a tag whose script is not registered.
+const SCRIPT: ValidFault = ValidFault {
+    kind: ValidFaultKind::UnknownScript,
+    place: 2,
 };
 
 /// The fault of a text with another byte in its second subtag.
@@ -27,60 +33,81 @@ const FINDING: Finding = Finding {
     number: 48,
 };
 
+/// A record of a newer registry that makes a new step.
+const NEW_STEP: UpgradeFault = UpgradeFault::Fails {
+    condition: UpgradeCondition::NoNewVariantLanguage,
+    number: 7,
+};
+
 /// The variant that occurs twice.
 fn repeated() -> Result<Subtag, Fail> {
-    Subtag::read(b"alalc97").map_err(|fault| Fail::from(fault.name()))
+    Ok(Subtag::read(b"alalc97")?)
+}
+
+/// The names of the refusals below, in their order.
+const NAMES: &[&str] = &[
+    "UnknownLanguage",
+    "UnknownScript",
+    "ReplacementRepeats",
+    "OutOfMemory",
+    "BadByte",
+    "UnknownLanguage",
+    "ReplacementRepeats",
+    "OutOfMemory",
+    "C1",
+    "OutOfMemory",
+    "U5",
+    "OutOfMemory",
+];
+
+#[test]
+fn names(rt: HostRuntime) -> Result<(), Fail> {
+    let found = [
+        Refusal::Invalid(UNKNOWN).name(),
+        Refusal::Invalid(SCRIPT).name(),
+        Refusal::ReplacementRepeats(repeated()?).name(),
+        Refusal::OutOfMemory.name(),
+        TextRefusal::NotATag(BAD).name(),
+        TextRefusal::Invalid(UNKNOWN).name(),
+        TextRefusal::ReplacementRepeats(repeated()?).name(),
+        TextRefusal::OutOfMemory.name(),
+        RejectedCause::Finding(FINDING).name(),
+        RejectedCause::OutOfMemory.name(),
+        NEW_STEP.name(),
+        UpgradeFault::OutOfMemory.name(),
+    ];
+    assert!(rt; found.as_slice() == NAMES);
+    Ok(())
+}
+
+/// Whether a user is told this of a value.
+fn is_told<T: Display>(alloc: Global, value: &T, text: &str) -> bool {
+    matches!(format!(in alloc; "{value}"), Ok(found) if found.as_str() == text)
 }
 
 #[test]
-fn names_of_refusals(rt: HostRuntime) -> Result<(), Fail> {
-    assert!(rt; Refusal::Invalid(UNKNOWN).name() == "UnknownLanguage");
-    assert!(rt; Refusal::ReplacementRepeats(repeated()?).name() == "ReplacementRepeats");
-    assert!(rt; Refusal::OutOfMemory.name() == "OutOfMemory");
-    assert!(rt; TextRefusal::NotATag(BAD).name() == "BadByte");
-    assert!(rt; TextRefusal::Invalid(UNKNOWN).name() == "UnknownLanguage");
-    assert!(rt; TextRefusal::ReplacementRepeats(repeated()?).name() == "ReplacementRepeats");
-    assert!(rt; TextRefusal::OutOfMemory.name() == "OutOfMemory");
+fn messages_of_refusals(rt: HostRuntime) -> Result<(), Fail> {
+    let text = "BadByte 2: mend the text at this subtag, so that it is a language tag";
+    assert!(rt; is_told(rt.alloc(), &TextRefusal::NotATag(BAD), text));
+    let text = "replacements can repeat a variant: take one of the variants out";
+    assert!(rt; is_told(rt.alloc(), &Refusal::ReplacementRepeats(repeated()?), text));
+    let text =
+        "UnknownScript 2: mend the subtag at this place, or take a registry by which it is valid";
+    assert!(rt; is_told(rt.alloc(), &Refusal::Invalid(SCRIPT), text));
     Ok(())
 }
 
 #[test]
-fn names_of_causes(rt: HostRuntime) {
-    assert!(rt; RejectedCause::Finding(FINDING).name() == "C1");
-    assert!(rt; RejectedCause::OutOfMemory.name() == "OutOfMemory");
-}
-
-/// What a user is told.
-fn told<T: Display>(alloc: Global, value: &T) -> Result<String, AllocError> {
-    format!(in alloc; "{value}")
-}
-
-#[test]
-fn messages(rt: HostRuntime) -> Result<(), Fail> {
-    let alloc = rt.alloc();
-    assert_eq!(rt;
-        told(alloc, &RejectedCause::Finding(FINDING))?.as_str(),
-        "record 48 does not meet OwnName: mend this record, or take another registry"
-    );
-    assert_eq!(rt;
-        told(alloc, &TextRefusal::NotATag(BAD))?.as_str(),
-        "BadByte 2: mend the text at this subtag, so that it is a language tag"
-    );
-    assert_eq!(rt;
-        told(alloc, &Refusal::ReplacementRepeats(repeated()?))?.as_str(),
-        "replacements can repeat a variant: take one of the variants out"
-    );
-    assert_eq!(rt;
-        told(alloc, &TraceFault::NoSuchStep(3))?.as_str(),
-        "step 3 does not lead on: mend it, or take the registry for which the trace was made"
-    );
+fn messages_of_faults(rt: HostRuntime) {
+    let text = "record 48 does not meet OwnName: mend this record, or take another registry";
+    assert!(rt; is_told(rt.alloc(), &RejectedCause::Finding(FINDING), text));
+    let text =
+        "step 3 does not lead on: mend it, or take the registry for which the trace was made";
+    assert!(rt; is_told(rt.alloc(), &TraceFault::NoSuchStep(3), text));
     let fault = UpgradeFault::Fails {
         condition: UpgradeCondition::SameEnds,
         number: 9,
     };
-    assert_eq!(rt;
-        told(alloc, &fault)?.as_str(),
-        "record 9 does not meet SameEnds: keep the older registry, or mend the newer"
-    );
-    Ok(())
+    let text = "record 9 does not meet SameEnds: keep the older registry, or mend the newer";
+    assert!(rt; is_told(rt.alloc(), &fault, text));
 }

@@ -4,7 +4,7 @@ use lt_check::Checked;
 use lt_registry::{Lookup, ValidFault, ValidFaultKind};
 use lt_rewrite::{Step, StepKind};
 use lt_tag::{TagFault, read_tag};
-use lt_testing::{again, answered};
+use lt_testing::{again, retried};
 use std::alloc::Global;
 use std::process::Abort;
 use std::test::Fail;
@@ -53,12 +53,9 @@ fn is_verified<L: Lookup>(
 ) -> Result<bool, Fail> {
     let tag = again!(read_tag(alloc, text.as_bytes()))?;
     let trace = again!(two_steps(alloc, number, last))?;
-    let told = (tag, trace);
-    let answer = answered(
-        alloc,
-        &told,
-        || verify(alloc, checked, &told.0, &told.1),
-        |fault| *fault == TraceFault::OutOfMemory,
+    let answer = retried!(
+        verify(alloc, checked, &tag, &trace),
+        TraceFault::OutOfMemory
     );
     Ok(answer == wanted)
 }

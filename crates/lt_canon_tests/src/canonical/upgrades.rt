@@ -1,18 +1,9 @@
 //! The check of an upgrade between the sample and the sample with one change.
-use lt_check::Checked;
+use super::checked;
 use lt_registry::Lookup;
-use lt_upgrade::{UpgradeCondition, UpgradeFault, upgrade_check};
+use lt_upgrade::{UpgradeFault, upgrade_check};
 use std::alloc::Global;
 use std::test::Fail;
-
-/// A table that passes the check. It is handed back where memory is refused.
-pub(super) fn checked<L: Lookup + Drop>(alloc: Global, table: L) -> Result<Checked<L>, Fail> {
-    let answer = Checked::new(alloc, table);
-    match answer.or_else(|rejected| Checked::new(alloc, rejected.table)) {
-        Ok(checked) => Ok(checked),
-        Err(_) => Err(Fail::from("both registries pass")),
-    }
-}
 
 /// What the check of an upgrade finds: nothing, or the code of the condition and the record.
 pub(super) fn fault<A: Lookup + Drop, B: Lookup + Drop>(
@@ -69,13 +60,3 @@ pub(super) const UPGRADES: &[(usize, &str)] = &[
         "Type: region\nSubtag: XA..XB\n%%\nType: region\nSubtag: WB..YA\n%%\nType: region\nSubtag: WC..XY\n",
     ),
 ];
-
-#[test]
-fn names_of_faults(rt: HostRuntime) {
-    assert_eq!(rt; UpgradeFault::OutOfMemory.name(), "OutOfMemory");
-    let fails = UpgradeFault::Fails {
-        condition: UpgradeCondition::NoNewVariantLanguage,
-        number: 7,
-    };
-    assert_eq!(rt; fails.name(), "U5");
-}

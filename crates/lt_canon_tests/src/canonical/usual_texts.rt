@@ -1,5 +1,5 @@
 //! Texts whose subtags stay as they are.
-use super::upgrades::checked;
+use super::checked;
 use lt_canon::{Checked, append_looked_up_text, append_usual_text};
 use lt_registry::Lookup;
 use lt_testing::sample_with;
@@ -42,6 +42,14 @@ fn answer<L: Lookup>(
     Ok((told, texts))
 }
 
+/// The canonical texts of two texts that are looked up, one after the other.
+fn looked_up<L: Lookup>(alloc: Global, checked: &Checked<L>) -> Result<Vec<u8>, Fail> {
+    let mut texts = Vec::new(alloc);
+    append_looked_up_text(alloc, checked, b"IW", &mut texts)?;
+    append_looked_up_text(alloc, checked, b"ZH-yue", &mut texts)?;
+    Ok(texts)
+}
+
 #[test]
 fn texts_of_subtags_that_stay(rt: HostRuntime) -> Result<(), Fail> {
     let alloc = rt.alloc();
@@ -52,17 +60,6 @@ fn texts_of_subtags_that_stay(rt: HostRuntime) -> Result<(), Fail> {
         assert_eq!(rt; told, !canonical.is_empty(), "{text}");
         assert!(rt; answer.as_slice() == canonical.as_bytes(), "{text}");
     }
-    Ok(())
-}
-
-#[test]
-fn other_texts_are_looked_up(rt: HostRuntime) -> Result<(), Fail> {
-    let alloc = rt.alloc();
-    let table = sample_with(alloc, 48, "Type: region\nSubtag: 419\n")?;
-    let checked = checked(alloc, table)?;
-    let mut texts = Vec::new(alloc);
-    append_looked_up_text(alloc, &checked, b"IW", &mut texts)?;
-    append_looked_up_text(alloc, &checked, b"ZH-yue", &mut texts)?;
-    assert!(rt; texts.as_slice() == b"heyue".as_slice());
+    assert!(rt; looked_up(alloc, &checked)?.as_slice() == b"heyue".as_slice());
     Ok(())
 }

@@ -38,20 +38,12 @@ fn is_proper_tag<L: Lookup>(alloc: Global, table: &L, tag: &Tag) -> Result<bool,
     }
 }
 
-/// The tag to which a step leads, asked again where memory is refused and the tag is what it was.
-fn applied<L: Lookup>(
-    alloc: Global,
-    table: &L,
-    tag: &Tag,
-    step: &Step,
-    text: &str,
-) -> Result<Tag, ApplyFault>
+/// The tag to which a step leads, asked again where memory is refused.
+fn applied<L: Lookup>(alloc: Global, table: &L, tag: &Tag, step: &Step) -> Result<Tag, ApplyFault>
     requires { IsProper (L.listed table.now) tag.now }
 {
     match apply(alloc, table, tag, step) {
-        Err(ApplyFault::OutOfMemory) if is_printed(alloc, tag, text)? => {
-            apply(alloc, table, tag, step)
-        }
+        Err(ApplyFault::OutOfMemory) => apply(alloc, table, tag, step),
         answer => answer,
     }
 }
@@ -70,7 +62,7 @@ fn leads<L: Lookup>(
     if !is_proper {
         return Err(Fail::from("not proper"));
     }
-    let answer = applied(alloc, table, &tag, &step, text);
+    let answer = applied(alloc, table, &tag, &step);
     Ok(is_answer(alloc, answer, wanted)?)
 }
 

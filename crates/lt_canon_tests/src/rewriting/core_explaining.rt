@@ -1,12 +1,13 @@
 //! Tags with the steps on their cores.
 use super::core_of;
+use crate::steps::StepRow;
 use lt_registry::ListTable;
 use lt_rewrite::{Step, StepKind, explain_core, first_cycle};
 use std::alloc::Global;
 use std::test::Fail;
 
 /// A tag, and the kinds, places and records of the steps on its core.
-type Row = (&'static str, &'static [(StepKind, u32, u32)]);
+type Row = (&'static str, &'static [StepRow]);
 
 pub(super) const ROWS: &[Row] = &[
     (
@@ -46,11 +47,4 @@ pub(super) fn explained(alloc: Global, table: &ListTable, text: &str) -> Result<
         Err(_) => explain_core(table, core_of(alloc, text)?, 0, Vec::new(alloc))?,
     };
     Ok(steps)
-}
-
-/// Whether steps have these kinds, places and records.
-pub(super) fn are_steps(steps: &[Step], wanted: &[(StepKind, u32, u32)]) -> bool {
-    steps.len() == wanted.len()
-        && steps.iter().zip(wanted).all(|(step, other)| (step.kind, step.place, step.number)
-            == *other)
 }

@@ -4,6 +4,7 @@ ghost use Rattle.lt_registry.specs.Faults.{HasNoFault};
 ghost use Rattle.lt_rewrite.specs.Conditions.{HasEndingChain};
 
 use super::judge;
+use crate::steps::StepRow;
 use lt_registry::ListTable;
 use lt_rewrite::{Step, StepKind, explain_extensions, first_cycle};
 use lt_tag::{OutOfMemory, Tag, copy_extensions, read_tag};
@@ -12,7 +13,7 @@ use std::alloc::Global;
 use std::test::Fail;
 
 /// A tag of one subtag before its extensions, and the kinds, places and records of the steps on these.
-type Row = (&'static str, &'static [(StepKind, u32, u32)]);
+type Row = (&'static str, &'static [StepRow]);
 
 pub(super) const ROWS: &[Row] = &[
     (

@@ -1,12 +1,12 @@
 //! The calls that take memory, on their rows. Each test holds whichever growth of memory is refused:
 //! `bench/growth.py` runs it once for each growth, and refuses that one alone.
 use super::applying::steps_lead;
-use super::core_explaining::are_steps;
 use super::shortcuts::chain_ends_in;
 use super::{
     CHAINS, EXTENSIONS, LISTS, core_explaining, extension_settles_to, extensions_explaining,
     list_settles_to, sample_with_cycle,
 };
+use crate::steps::are_steps;
 use lt_registry::Lookup;
 use lt_rewrite::Shortcuts;
 use lt_testing::{again, sample};

@@ -1,10 +1,10 @@
 //! The ends of chains and normal forms, by shortcuts.
-use super::{CORES, core_of, same_core};
+use super::core_of;
 use lt_registry::{Kind, ListTable};
 use lt_rewrite::{Shortcuts, first_cycle};
 use lt_subtag::Subtag;
 use lt_tag::Core;
-use lt_testing::{again, sample};
+use lt_testing::again;
 use std::alloc::Global;
 use std::test::Fail;
 
@@ -25,7 +25,7 @@ pub(super) fn chain_ends_in(
 }
 
 /// The core normal form of a text's core.
-fn settled_core(alloc: Global, table: &ListTable, text: &str) -> Result<Core, Fail> {
+pub(super) fn settled_core(alloc: Global, table: &ListTable, text: &str) -> Result<Core, Fail> {
     let mut core = core_of(alloc, text)?;
     if first_cycle(table).is_some() {
         return Err(Fail::from("a cycle"));
@@ -33,14 +33,4 @@ fn settled_core(alloc: Global, table: &ListTable, text: &str) -> Result<Core, Fa
     let shortcuts = Shortcuts::of_table(alloc, table)?;
     shortcuts.settle_core(table, &mut core);
     Ok(core)
-}
-
-#[test]
-fn cores(rt: HostRuntime) -> Result<(), Fail> {
-    let table = sample(rt.alloc())?;
-    for (text, other) in CORES {
-        let settled = settled_core(rt.alloc(), &table, text)?;
-        assert!(rt; same_core(&settled, &core_of(rt.alloc(), other)?), "{text}");
-    }
-    Ok(())
 }

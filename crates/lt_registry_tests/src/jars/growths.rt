@@ -1,8 +1,12 @@
 //! What a call does where a growth of memory is refused.
-use super::{FAULTS, Fields, LONG_LINES, TEXTS, are_fields, are_records, is_one_field, long_line};
-use crate::retried;
-use lt_jar::{Device, Jar, JarFault, JarFaultKind, JarReader, Pieces, Record, RecordRef, read_jar};
-use lt_testing::{again, mark, returned_text, sample_text};
+use super::{
+    FAULTS, Fields, LONG_LINES, TEXTS, are_fields, are_records, is_one_field, long_line, readers,
+};
+use lt_jar::{
+    Device, Jar, JarFault, JarFaultKind, JarReader, Pieces, Record, RecordRef, first_place,
+    read_jar,
+};
+use lt_testing::{again, mark, retried, returned_text, sample_text};
 use std::alloc::{AllocError, Global};
 use std::io::{self, Read};
 use std::test::Fail;
@@ -85,7 +89,7 @@ struct LineByLine<'a> {
 
 impl Read for LineByLine<'_> {
     fn read(&mut self, buf: &mut [u8]) -> io::Result<usize> {
-        let end = match self.rest.iter().position(|byte| *byte == b'\n') {
+        let end = match first_place(b'\n', self.rest) {
             Some(end) => end.saturating_add(1),
             None => self.rest.len(),
         };
@@ -101,17 +105,10 @@ impl Read for LineByLine<'_> {
 
 /// The fault that a reader of records tells.
 fn fault_of<R: Read>(alloc: Global, device: &mut Device<R>) -> Option<JarFault> {
-    let Ok(mut reader) = JarReader::new(alloc, device) else {
-        return None;
-    };
-    for _ in 0..100 {
-        match reader.next() {
-            Ok(Some(_)) => {}
-            Ok(None) => return None,
-            Err(fault) => return Some(fault),
-        }
+    match JarReader::new(alloc, device) {
+        Ok(mut reader) => readers::fault_of(&mut reader),
+        Err(_) => None,
     }
-    None
 }
 
 /// Whether memory runs out, if it does, at the line that was given last.
@@ -297,24 +294,30 @@ fn is_small(record: RecordRef<'_>) -> bool {
         && are_fields(record.fields(), &[("A", "b")])
 }
 
+/// Whether a reader lends that record, whose calls take no memory.
+fn lends_small<R: Read>(alloc: Global, reader: &mut JarReader<'_, R>) -> bool {
+    match reader.next() {
+        Ok(Some(record)) => {
+            mark(alloc);
+            is_small(record)
+        }
+        _ => false,
+    }
+}
+
 #[test]
-fn a_record_without_growth(rt: HostRuntime) -> Result<(), Fail> {
+fn a_record_without_growth(rt: HostRuntime) -> Result<(), JarFault> {
     let mut device = Device::new(b"A: b\n".as_slice());
     let mut reader = JarReader::new(rt.alloc(), &mut device)?;
-    let Some(record) = reader.next()? else {
-        return Err(Fail::from("no record"));
-    };
-    mark(rt.alloc());
-    assert!(rt; is_small(record));
+    assert!(rt; lends_small(rt.alloc(), &mut reader));
     Ok(())
 }
 
 #[test]
-fn devices_without_growth(rt: HostRuntime) -> Result<(), Fail> {
+fn devices_without_growth(rt: HostRuntime) {
     mark(rt.alloc());
     let mut buffer = [0u8; 4];
     let mut device = Device::new(Pieces::once(b"abc", 2).failing_at(2));
-    assert!(rt; device.read(&mut buffer)? == 2);
+    assert!(rt; matches!(device.read(&mut buffer), Ok(2)));
     assert!(rt; device.read(&mut buffer).is_err() && device.failures() == 1);
-    Ok(())
 }

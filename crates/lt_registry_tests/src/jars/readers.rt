@@ -83,9 +83,13 @@ fn answers_of_calls(rt: HostRuntime) -> Result<(), Fail> {
 
 /// Whether a lent record has these fields.
 fn is_same(lent: RecordRef<'_>, fields: &[JarField]) -> bool {
+    for (index, one) in lent.fields().iter().enumerate() {
+        match fields.get(index) {
+            Some(other) if one.name() == other.name() && one.body() == other.body() => {}
+            _ => return false,
+        }
+    }
     lent.len() == fields.len()
-        && lent.fields().iter().zip(fields).all(|(one, other)| one.name() == other.name()
-            && one.body() == other.body())
 }
 
 /// Whether a reader lends these records, and no more.
@@ -100,7 +104,7 @@ fn lends<R: Read>(reader: &mut JarReader<'_, R>, records: &[Record]) -> bool {
 }
 
 /// The fault that a reader tells after its records, if there is one.
-fn fault_of<R: Read>(reader: &mut JarReader<'_, R>) -> Option<JarFault> {
+pub(super) fn fault_of<R: Read>(reader: &mut JarReader<'_, R>) -> Option<JarFault> {
     for _ in 0..100 {
         match reader.next() {
             Ok(Some(_)) => {}

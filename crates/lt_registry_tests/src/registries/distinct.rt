@@ -2,7 +2,6 @@
 use lt_registry::are_distinct;
 use lt_tag::{TagFault, read_tag};
 use std::alloc::Global;
-use std::test::Fail;
 
 /// Tags, and whether their variants are distinct.
 const ROWS: &[(&str, bool)] = &[
@@ -39,7 +38,6 @@ fn tells_each(alloc: Global) -> Result<bool, TagFault> {
 }
 
 #[test]
-fn variants_that_occur_twice(rt: HostRuntime) -> Result<(), Fail> {
-    assert!(rt; tells_each(rt.alloc())?);
-    Ok(())
+fn variants_that_occur_twice(rt: HostRuntime) {
+    assert!(rt; matches!(tells_each(rt.alloc()), Ok(true)));
 }

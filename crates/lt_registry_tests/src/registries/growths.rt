@@ -1,14 +1,13 @@
 //! What a call does where a growth of memory is refused.
 use super::answers::{JUDGED, PROPER, SUBTAGS, WHOLE_TAGS, finds_each, is_judgement, whole_number};
 use super::{RECORD_FAULTS, is_english};
-use crate::retried;
 use lt_jar::{Device, JarFault, JarFaultKind, Pieces, read_jar};
 use lt_registry::{
     ListTable, Lookup, RecordFault, RecordFaultKind, Registry, RegistryFault, SortedTable,
     ValidRefusal, proper, validate,
 };
 use lt_tag::{Tag, TagFault, read_tag};
-use lt_testing::{again, mark, returned_text, sample_text, shown};
+use lt_testing::{again, mark, retried, returned_text, sample_text, shown};
 use std::alloc::Global;
 use std::test::Fail;
 

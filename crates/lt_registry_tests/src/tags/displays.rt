@@ -44,6 +44,8 @@ fn prints_parts(alloc: Global, text: &str, core: &str, extension: &str) -> bool 
 fn parts_of_a_tag(rt: HostRuntime) {
     let text = "ZH-yue-hant-hk-U-CO-trad-X-AB";
     assert!(rt; prints_parts(rt.alloc(), text, "zh-yue-Hant-HK", "u-co-trad"));
+    let text = "ZH-HANT-hk-U-CO-TRAD-X-AB";
+    assert!(rt; prints_parts(rt.alloc(), text, "zh-Hant-HK", "u-co-trad"));
 }
 
 /// Whether this is printed of the fault of a text.
@@ -55,6 +57,7 @@ fn prints_fault(alloc: Global, text: &str, shown: &str) -> bool {
 fn faults_of_texts(rt: HostRuntime) {
     assert!(rt; prints_fault(rt.alloc(), "zh-Hant_TW", "BadByte 2"));
     assert!(rt; prints_fault(rt.alloc(), "en-latn-de-a", "Unfinished 5"));
+    assert!(rt; prints_fault(rt.alloc(), "he_IL", "BadByte 1"));
 }
 
 /// Whether this is printed of a subtag, as it is and to the right of six places.
@@ -68,5 +71,6 @@ fn prints_subtag(alloc: Global, bytes: &[u8], text: &str) -> bool {
 #[test]
 fn subtags_and_their_faults(rt: HostRuntime) {
     assert!(rt; prints_subtag(rt.alloc(), b"HANS", "hans,   hans"));
+    assert!(rt; prints_subtag(rt.alloc(), b"ZH", "zh,     zh"));
     assert!(rt; prints(rt.alloc(), &SubtagFault::BadByte, "BadByte"));
 }

@@ -1,12 +1,11 @@
 //! What a call does where a growth of memory is refused.
 use super::reading::{FAULTS, TEXTS};
-use crate::retried;
 use lt_subtag::Subtag;
 use lt_tag::{
-    Class, Core, Extension, OutOfMemory, TParts, Tag, TagFault, TagFaultKind, TransformFault,
-    UParts, append_tag, join_t, join_u, read_tag, split_t, split_u, write_tag,
+    Class, Core, Extension, OutOfMemory, Tag, TagFault, TagFaultKind, TransformFault, append_tag,
+    join_t, join_u, read_tag, split_t, split_u, write_tag,
 };
-use lt_testing::{again, mark};
+use lt_testing::{again, mark, retried};
 use std::alloc::{AllocError, Global};
 use std::test::Fail;
 
@@ -110,76 +109,95 @@ fn tags_are_copied(rt: HostRuntime) -> Result<(), TagFault> {
     Ok(())
 }
 
-/// Texts with a `u` extension.
-const UNICODE: &[&str] = &[
-    "en-u-foo-bar-nu-latn-ca-buddhist",
-    "en-u-bar-foo-ca-buddhist-nu-latn",
-    "en-u-11",
-    "en-u-foo-nu-latn",
+/// Texts with a `u` extension, and how many attributes and keywords it has.
+const UNICODE: &[(&str, usize, usize)] = &[
+    ("en-u-foo-bar-nu-latn-ca-buddhist", 2, 2),
+    ("en-u-bar-foo-ca-buddhist-nu-latn", 2, 2),
+    ("en-u-11", 0, 1),
+    ("en-u-foo-nu-latn", 1, 1),
+    ("th-u-attr-nu-thai-ca-buddhist", 1, 2),
 ];
 
-/// Whether a `u` extension is split into parts, and a copy of these is joined to it.
-fn unicode_is_joined(alloc: Global, extension: &Extension) -> Result<bool, OutOfMemory> {
+/// Whether a `u` extension is split into so many attributes and keywords, and a copy of these is joined to it.
+fn unicode_is_joined(
+    alloc: Global,
+    extension: &Extension,
+    counts: (usize, usize),
+) -> Result<bool, OutOfMemory> {
     if extension.singleton() != b'u' {
         return Ok(false);
     }
     let parts = again!(split_u(alloc, extension))?;
     let copy = again!(parts.copy(alloc))?;
-    Ok(matches!(again!(join_u(alloc, &copy)), Ok(joined) if joined == *extension))
+    let are_so_many = (parts.attributes.len(), parts.keywords.len()) == counts;
+    Ok(are_so_many && matches!(again!(join_u(alloc, &copy)), Ok(joined) if joined == *extension))
 }
 
 /// Whether the first extension of a text's tag is so.
-fn unicode_text(alloc: Global, text: &str) -> Result<bool, TagFault> {
+fn unicode_text(alloc: Global, text: &str, counts: (usize, usize)) -> Result<bool, TagFault> {
     let tag = tag_of(alloc, text)?;
     match tag.extensions() {
-        [first, ..] => Ok(unicode_is_joined(alloc, first)?),
+        [first, ..] => Ok(unicode_is_joined(alloc, first, counts)?),
         _ => Ok(false),
     }
 }
 
 #[test]
 fn unicode_extensions(rt: HostRuntime) -> Result<(), TagFault> {
-    for text in UNICODE {
-        assert!(rt; unicode_text(rt.alloc(), text)?, "{text}");
+    for (text, attributes, keywords) in UNICODE {
+        assert!(rt;
+            unicode_text(rt.alloc(), text, (*attributes, *keywords))?,
+            "{text}"
+        );
     }
     Ok(())
 }
 
-/// Texts whose first extension is a `t`, and whether it has parts.
-const TRANSFORMS: &[(&str, bool)] = &[
-    ("en-t-zh-yue-m0-names-a0-xyz", true),
-    ("en-t-yue-a0-xyz-m0-names", true),
-    ("en-t-de-latn-de-1901", true),
-    ("en-t-de-latn-at-1901-rozaj", true),
-    ("en-t-m0-aaa-M0-bbb", true),
-    ("en-t-de-m0-names", true),
-    ("en-t-m0", false),
-    ("en-t-zh-yue-m0", false),
-    ("en-t-m0-a0-aaa", false),
-    ("en-t-de-m0-xx", false),
-    ("en-t-m0-t-de", false),
-    ("en-t-1994-m0-aaa", false),
-    ("en-t-de-at-latn", false),
-    ("en-t-m0-aaa-de", false),
+/// Texts whose first extension is a `t`, and whether its parts have a source and how many fields they have, if it has parts.
+const TRANSFORMS: &[(&str, Option<(bool, usize)>)] = &[
+    ("en-t-zh-yue-m0-names-a0-xyz", Some((true, 2))),
+    ("en-t-yue-a0-xyz-m0-names", Some((true, 2))),
+    ("en-t-de-latn-de-1901", Some((true, 0))),
+    ("en-t-de-latn-at-1901-rozaj", Some((true, 0))),
+    ("en-t-m0-aaa-M0-bbb", Some((false, 2))),
+    ("en-t-de-m0-names", Some((true, 1))),
+    ("ja-t-it-latn-m0-names-k0-qwerty", Some((true, 2))),
+    ("en-t-m0", None),
+    ("en-t-zh-yue-m0", None),
+    ("en-t-m0-a0-aaa", None),
+    ("en-t-de-m0-xx", None),
+    ("en-t-m0-t-de", None),
+    ("en-t-1994-m0-aaa", None),
+    ("en-t-de-at-latn", None),
+    ("en-t-m0-aaa-de", None),
 ];
 
-/// Whether a copy of the parts of a `t` extension is joined to it. `BadTransform` where it has no parts.
-fn transform_is_joined(alloc: Global, extension: &Extension) -> Result<bool, TransformFault> {
+/// Whether a `t` extension has such parts, and a copy of these is joined to it. `BadTransform` where it has no parts.
+fn transform_is_joined(
+    alloc: Global,
+    extension: &Extension,
+    told: Option<(bool, usize)>,
+) -> Result<bool, TransformFault> {
     if extension.singleton() != b't' {
         return Ok(false);
     }
     let parts = retried!(split_t(alloc, extension), TransformFault::OutOfMemory)?;
     let copy = again!(parts.copy(alloc))?;
-    Ok(matches!(again!(join_t(alloc, &copy)), Ok(joined) if joined == *extension))
+    let is_told = told == Some((parts.source.is_some(), parts.fields.len()));
+    Ok(is_told && matches!(again!(join_t(alloc, &copy)), Ok(joined) if joined == *extension))
 }
 
-/// Whether the first extension of a text's tag has parts that are joined to it, or has none.
-fn transform_text(alloc: Global, text: &str, has_parts: bool) -> Result<bool, TagFault> {
+/// Whether the first extension of a text's tag has such parts that are joined to it, or has none.
+fn transform_text(
+    alloc: Global,
+    text: &str,
+    told: Option<(bool, usize)>,
+) -> Result<bool, TagFault> {
     let tag = tag_of(alloc, text)?;
     Ok(match tag.extensions() {
-        [first, ..] => match transform_is_joined(alloc, first) {
-            Ok(is_joined) => has_parts && is_joined,
-            Err(TransformFault::BadTransform) => !has_parts,
+        [first, ..] => match transform_is_joined(alloc, first, told) {
+            Ok(is_joined) => is_joined,
+            Err(TransformFault::BadTransform) => told.is_none(),
             Err(TransformFault::OutOfMemory) => false,
         },
         _ => false,
@@ -188,8 +206,8 @@ fn transform_text(alloc: Global, text: &str, has_parts: bool) -> Result<bool, Ta
 
 #[test]
 fn transforms(rt: HostRuntime) -> Result<(), TagFault> {
-    for (text, has_parts) in TRANSFORMS {
-        assert!(rt; transform_text(rt.alloc(), text, *has_parts)?, "{text}");
+    for (text, told) in TRANSFORMS {
+        assert!(rt; transform_text(rt.alloc(), text, *told)?, "{text}");
     }
     Ok(())
 }
@@ -230,11 +248,13 @@ fn set_others(core: &mut Core) {
 
 /// Whether the texts of subtags are these.
 fn are_texts(subtags: &[Subtag], texts: &[&[u8]]) -> bool {
+    for (index, subtag) in subtags.iter().enumerate() {
+        match texts.get(index) {
+            Some(text) if subtag.bytes() == *text => {}
+            _ => return false,
+        }
+    }
     subtags.len() == texts.len()
-        && subtags
-            .iter()
-            .zip(texts)
-            .all(|(subtag, text)| subtag.bytes() == *text)
 }
 
 /// Whether a core has the parts of `ms-min-Latn-419-1996-1ab2`.

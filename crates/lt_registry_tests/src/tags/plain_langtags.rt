@@ -7,7 +7,7 @@ use std::test::Fail;
 fn is_langtag(alloc: Global, texts: &[&[u8]]) -> Result<bool, Fail> {
     let mut subtags = Vec::new(alloc);
     for text in texts {
-        subtags.push(Subtag::read(text).map_err(|fault| fault.name())?)?;
+        subtags.push(Subtag::read(text)?)?;
     }
     Ok(is_plain_langtag(&subtags))
 }

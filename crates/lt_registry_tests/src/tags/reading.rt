@@ -50,6 +50,7 @@ pub const TEXTS: &[(&str, &str)] = &[
     ("en-GB-oed", "en-GB-oed"),
     ("zh-MIN", "zh-min"),
     ("X-a", "x-a"),
+    ("ZH-HANT-hk-U-CO-TRAD-X-AB", "zh-Hant-HK-u-co-trad-x-ab"),
 ];
 
 /// Texts, the place of the first hyphen of each, and what is before and after that.
@@ -76,34 +77,34 @@ fn texts_are_cut(rt: HostRuntime) {
     }
 }
 
-/// The texts of the grandfathered tags in the order of their numbers.
-const GRANDFATHERED: &[&str] = &[
-    "en-GB-oed",
-    "i-ami",
-    "i-bnn",
-    "i-default",
-    "i-enochian",
-    "i-hak",
-    "i-klingon",
-    "i-lux",
-    "i-mingo",
-    "i-navajo",
-    "i-pwn",
-    "i-tao",
-    "i-tay",
-    "i-tsu",
-    "sgn-BE-FR",
-    "sgn-BE-NL",
-    "sgn-CH-DE",
-    "art-lojban",
-    "cel-gaulish",
-    "no-bok",
-    "no-nyn",
-    "zh-guoyu",
-    "zh-hakka",
-    "zh-min",
-    "zh-min-nan",
-    "zh-xiang",
+/// The numbers and the texts of the grandfathered tags.
+const GRANDFATHERED: &[(u8, &str)] = &[
+    (1, "en-GB-oed"),
+    (2, "i-ami"),
+    (3, "i-bnn"),
+    (4, "i-default"),
+    (5, "i-enochian"),
+    (6, "i-hak"),
+    (7, "i-klingon"),
+    (8, "i-lux"),
+    (9, "i-mingo"),
+    (10, "i-navajo"),
+    (11, "i-pwn"),
+    (12, "i-tao"),
+    (13, "i-tay"),
+    (14, "i-tsu"),
+    (15, "sgn-BE-FR"),
+    (16, "sgn-BE-NL"),
+    (17, "sgn-CH-DE"),
+    (18, "art-lojban"),
+    (19, "cel-gaulish"),
+    (20, "no-bok"),
+    (21, "no-nyn"),
+    (22, "zh-guoyu"),
+    (23, "zh-hakka"),
+    (24, "zh-min"),
+    (25, "zh-min-nan"),
+    (26, "zh-xiang"),
 ];
 
 /// The number of the grandfathered tag of a text.
@@ -113,8 +114,8 @@ fn number_of(alloc: Global, text: &str) -> Result<Option<u8>, TagFault> {
 
 #[test]
 fn grandfathered_tags_have_numbers(rt: HostRuntime) -> Result<(), TagFault> {
-    for (number, text) in (1..=26u8).zip(GRANDFATHERED) {
-        assert!(rt; number_of(rt.alloc(), text)? == Some(number), "{text}");
+    for (number, text) in GRANDFATHERED {
+        assert!(rt; number_of(rt.alloc(), text)? == Some(*number), "{text}");
     }
     assert!(rt; number_of(rt.alloc(), "zh-min-x-a")?.is_none());
     Ok(())

@@ -13,11 +13,13 @@ fn has_parts(
 ) -> Result<bool, TagFault> {
     let tag = again!(read_tag(alloc, text.as_bytes()))?;
     let found = again!(parts(alloc, &tag))?;
-    let are_same = found
-        .iter()
-        .zip(wanted)
-        .all(|(part, row)| is_part(part, row));
-    Ok(are_same && found.len() == wanted.len())
+    for (index, part) in found.iter().enumerate() {
+        match wanted.get(index) {
+            Some(row) if is_part(part, row) => {}
+            _ => return Ok(false),
+        }
+    }
+    Ok(found.len() == wanted.len())
 }
 
 #[test]
