@@ -104,12 +104,22 @@ fn serve(
     serve_line(alloc, checked, preferences, &mut Device::new(lines))
 }
 
+/// Whether preferences serve this line.
+fn serves(
+    alloc: Global,
+    checked: &Checked<SortedTable>,
+    preferences: &[Preference],
+    line: &[u8],
+) -> bool {
+    let found = retried!(serve(alloc, checked, preferences), ToolFault::OutOfMemory);
+    matches!(found, Ok(Some(found)) if found.as_slice() == line)
+}
+
 #[test]
 fn a_line_is_served(rt: HostRuntime) -> Result<(), Fail> {
     let checked = checked_sample(rt.alloc())?;
     let header = b"fr;q=0.4, zh-yue-Hans;q=0.8";
     let preferences = again!(header_preferences(rt.alloc(), &checked, header))?;
-    let found = retried!(serve(rt.alloc(), &checked, &preferences), ToolFault::OutOfMemory);
-    assert!(rt; matches!(found, Ok(Some(found)) if found.as_slice() == b"yue\r"));
+    assert!(rt; serves(rt.alloc(), &checked, &preferences, b"yue\r"));
     Ok(())
 }
