@@ -81,14 +81,14 @@ edits:
 	@echo "Wrote tests/edits.judged. Next: git diff tests/edits.judged, and commit it."
 
 # The scripts of `make test`, side by side, over what the gate proved and built. What is packaged is what the bindings' script
-# built, over the checks of tests/trusted.py.
+# built.
 side-by-side:
 	mkdir -p build
 	cp crates/langtag/out/langtag crates/langtag/out/langtag.o build
 	+$(MAKE) --jobs=4 --output-sync=target --no-print-directory scripts
-scripts: packaging.sh edits_test.py csv_readers.py iso_codes.py runs.py program.sh messages.sh pages.py growths
+scripts: packaging.sh trusted.py edits_test.py csv_readers.py iso_codes.py runs.py program.sh messages.sh pages.py growths
 packaging.sh: bindings.sh
-bindings.sh: trusted.py packages.sh
+bindings.sh: packages.sh
 iso_codes.py pages.py: packages.sh
 %.sh:
 	tests/$@

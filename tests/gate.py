@@ -45,6 +45,18 @@ def linked(was, to, parts):
                 subprocess.run(["cp", "-a", source, made], check=True)
 
 
+def listing(crate, prove):
+    """How a program or a library for C is proved: its check lists the contracts that it assumes, in out/NAME.axioms as well."""
+    def run(command):
+        status = prove([*command, "--list-axioms"])
+        crate.out.seek(0)
+        with open(os.path.join(crate.folder, "out", crate.name + ".axioms"), "w", encoding="utf-8") as it:
+            it.write(crate.out.read())
+        return status
+
+    return run
+
+
 class Kept:
     """What proofs made, by sums of all that they depend on."""
 
@@ -66,7 +78,9 @@ class Kept:
         def run(crate, flags, tests):
             key, out, status = (crate.name, "tests" if tests else "proof"), os.path.join(crate.folder, "out"), 0
             place, own = self.places[key], os.path.join(ROOT, "crates", crate.name, "out")
-            made = [crate.name + "_tests"] if tests else ["rlib", crate.name, crate.name + ".o", crate.name + ".by-rattle"]
+            made = [crate.name + it for it in (["_tests"] if tests else ["", ".o", ".by-rattle", ".axioms"])] + ["rlib"] * (not tests)
+            if not tests and not crate.makes_rlib():
+                crate.prove = listing(crate, crate.prove)
             if key in self.taken:
                 os.utime(place)
                 linked(place, out, [*made, "checked"])
