@@ -102,7 +102,7 @@ def _parser() -> _Parser:
         if name in ("csv", "report"):
             command.add_argument("column", metavar="COLUMN", help="the name of the column in the heading, or else its number from 1")
             command.add_argument("--delimiter", metavar="C", type=_delimiter, default=",", help="the byte between fields, or tab; else ,")
-    commands.choices["csv"].add_argument("--keep", action="store_true", help="leave the column, and add the canonical tag as one more")
+    commands.choices["csv"].add_argument("--keep", action="store_true", help="leave the rows, and add the fields langtag and langtag_fault")
     commands.choices["show"].add_argument("tag", metavar="TAG", nargs="+", help="a language tag")
     report = commands.choices["report"]
     report.add_argument("file", metavar="FILE", nargs="?", default="-", help="the CSV, in UTF-8 and with a heading; else the standard input")
