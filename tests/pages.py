@@ -24,7 +24,11 @@ from pathlib import Path
 
 ROOT = Path(__file__).resolve().parent.parent
 PAGES = ["README.md", "docs/GUIDE.md", "docs/FAQ.md", "docs/MATCHING.md", "docs/INSTALL.md", "docs/updates.md", "docs/PROVED.md", "docs/tags.md",
-         "docs/validity.md", "docs/steps.md", "docs/conditions.md", "docs/record-jar.md", "docs/DECISIONS.md", "docs/langtag.1"]
+         "docs/validity.md", "docs/steps.md", "docs/conditions.md", "docs/record-jar.md", "docs/DECISIONS.md", "docs/langtag.1",
+         "docs/BINDINGS.md", "docs/C.md", "docs/PYTHON.md", "docs/RUST.md", "docs/NODE.md", "docs/JAVA.md", "docs/GO.md", "docs/WASM.md",
+         "docs/LIBRARY.md", "docs/READING.md", "docs/SCALE.md", "docs/SPEED.md"]
+# Its commands need the library, and tests/bindings.sh runs them.
+OF_THE_LIBRARY = ["docs/C.md"]
 INDENT = "    "
 MOST_WORDS = 39
 
@@ -162,7 +166,7 @@ def main():
             lines = (ROOT / page).read_text(encoding="utf-8").split("\n")
             long = [it for it in sentences(lines, page.endswith(".1")) if len(it.split()) > MOST_WORDS]
             print("".join(f"{page}: {len(it.split())} words: {it}\n" for it in long), end="")
-            right, wrong, lines = compare(page, lines, Path(folder))
+            right, wrong, lines = (0, 0, lines) if page in OF_THE_LIBRARY else compare(page, lines, Path(folder))
             passed, failed = passed + right + (not long), failed + wrong + len(long)
             if write:
                 (ROOT / page).write_text("\n".join(lines), encoding="utf-8")
