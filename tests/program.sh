@@ -252,7 +252,7 @@ tail -c 5 out > end; mv end out
 (exit "$ended"); is 'tsv: a long row' 0 '\tde\t\n' ''
 "$program" tsv --heading "$sample" 0 < rows > out 2> err; is 'tsv: the column 0' 3 '' "error: COLUMN is a number from 1, and not 0\n\nFor more information, try '--help'.\n"
 "$program" tsv --heading "$sample" 18446744073709551616 < rows > out 2> err; is 'tsv: a column beyond 64 bits' 3 '' "error: COLUMN is at most 18446744073709551615, and not 18446744073709551616\n\nFor more information, try '--help'.\n"
-"$program" tsv "$sample" two < rows > out 2> err; is 'tsv: a name without a heading' 3 '' "error: without --heading COLUMN is a number from 1, and not two\n\nFor more information, try '--help'.\n"
+"$program" tsv "$sample" two < rows > out 2> err; is 'tsv: a name without a heading' 3 '' "error: COLUMN two is a name: add --heading, or give a number from 1\n\nFor more information, try '--help'.\n"
 "$program" tsv "$sample" -1 < rows > out 2> usage; ended=$?
 head -n 1 usage > err
 (exit "$ended"); is 'tsv: the column -1' 3 '' "error: unexpected argument '-1' found\n"
@@ -404,7 +404,7 @@ run check .; is 'check: a folder' 4 'jar Read line 1\n' ''
 grep '^Usage: ' help > out
 (exit "$ended"); is help 0 'Usage: langtag <COMMAND>\n' ''
 sed -n '/^Status:/,$p' help > out
-(exit "$ended"); is 'help: the statuses' 0 'Status:\n  0  all was done\n  1  a tag was refused, two tags are different, steps are wrong,\n     or no line was printed\n  2  a registry, a table or an upgrade was refused\n  3  the words of the command are wrong\n  4  a file, the input, the output or memory failed\n\nlangtag help COMMAND says more of a command.\nThe manual, man langtag, has all of it.\n' ''
+(exit "$ended"); is 'help: the statuses' 0 'Status:\n  0  all was done\n  1  a tag was refused, two tags are different, steps are wrong,\n     or no line was printed\n  2  a registry, a table or an upgrade was refused\n  3  the command line is wrong\n  4  a file, the input, the output or memory failed\n\nlangtag help COMMAND says more of a command.\nThe manual, man langtag, has all of it.\n' ''
 "$program" --version < empty > version 2> err; ended=$?
 cut -d '(' -f 1 version > out
 (exit "$ended"); is version 0 "langtag $number \n" ''
