@@ -50,6 +50,17 @@ run classify ZH-yue-hant-hk; is classify 0 'langtag zh-yue-Hant-HK\n' ''
 run classify en_US; is 'classify refuses' 1 '! BadByte 1\n' ''
 run check "$sample"; is check 0 'ok 46\n' ''
 run check other; is 'check refuses' 2 'jar BadLine line 1\n' ''
+# the sample cut after each byte: a number of entries, or one line that says why not
+cut=
+for end in $(seq 0 "$(wc -c < "$sample")"); do
+    head -c "$end" "$sample" > front
+    run check front
+    case "$?$(cat out err)" in
+        0'ok '* | 2'jar '* | 2'record '* | 2'check '*) ;;
+        *) cut="$cut $end" ;;
+    esac
+done
+(exit 0); printf '%s' "$cut" > out; : > err; is 'check: the sample cut after each byte' 0 '' ''
 # the registry @: of the environment, and the installed one
 LANGTAG_REGISTRY=$sample run check @; is '@: by LANGTAG_REGISTRY' 0 'ok 46\n' ''
 LANGTAG_REGISTRY=old run upgrade @ new; is '@: the older registry' 2 'upgrade U1 record 3\n' ''
