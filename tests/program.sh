@@ -50,6 +50,17 @@ run classify ZH-yue-hant-hk; is classify 0 'langtag zh-yue-Hant-HK\n' ''
 run classify en_US; is 'classify refuses' 1 '! BadByte 1\n' ''
 run check "$sample"; is check 0 'ok 46\n' ''
 run check other; is 'check refuses' 2 'jar BadLine line 1\n' ''
+# the sample cut after each byte: a number of entries, or one line that says why not
+cut=
+for end in $(seq 0 "$(wc -c < "$sample")"); do
+    head -c "$end" "$sample" > front
+    run check front
+    case "$?$(cat out err)" in
+        0'ok '* | 2'jar '* | 2'record '* | 2'check '*) ;;
+        *) cut="$cut $end" ;;
+    esac
+done
+(exit 0); printf '%s' "$cut" > out; : > err; is 'check: the sample cut after each byte' 0 '' ''
 # the registry @: of the environment, and the installed one
 LANGTAG_REGISTRY=$sample run check @; is '@: by LANGTAG_REGISTRY' 0 'ok 46\n' ''
 LANGTAG_REGISTRY=old run upgrade @ new; is '@: the older registry' 2 'upgrade U1 record 3\n' ''
@@ -252,7 +263,7 @@ tail -c 5 out > end; mv end out
 (exit "$ended"); is 'tsv: a long row' 0 '\tde\t\n' ''
 "$program" tsv --heading "$sample" 0 < rows > out 2> err; is 'tsv: the column 0' 3 '' "error: COLUMN is a number from 1, and not 0\n\nFor more information, try '--help'.\n"
 "$program" tsv --heading "$sample" 18446744073709551616 < rows > out 2> err; is 'tsv: a column beyond 64 bits' 3 '' "error: COLUMN is at most 18446744073709551615, and not 18446744073709551616\n\nFor more information, try '--help'.\n"
-"$program" tsv "$sample" two < rows > out 2> err; is 'tsv: a name without a heading' 3 '' "error: without --heading COLUMN is a number from 1, and not two\n\nFor more information, try '--help'.\n"
+"$program" tsv "$sample" two < rows > out 2> err; is 'tsv: a name without a heading' 3 '' "error: COLUMN two is a name: add --heading, or give a number from 1\n\nFor more information, try '--help'.\n"
 "$program" tsv "$sample" -1 < rows > out 2> usage; ended=$?
 head -n 1 usage > err
 (exit "$ended"); is 'tsv: the column -1' 3 '' "error: unexpected argument '-1' found\n"
@@ -404,7 +415,7 @@ run check .; is 'check: a folder' 4 'jar Read line 1\n' ''
 grep '^Usage: ' help > out
 (exit "$ended"); is help 0 'Usage: langtag <COMMAND>\n' ''
 sed -n '/^Status:/,$p' help > out
-(exit "$ended"); is 'help: the statuses' 0 'Status:\n  0  all was done\n  1  a tag was refused, two tags are different, steps are wrong,\n     or no line was printed\n  2  a registry, a table or an upgrade was refused\n  3  the words of the command are wrong\n  4  a file, the input, the output or memory failed\n\nlangtag help COMMAND says more of a command.\nThe manual, man langtag, has all of it.\n' ''
+(exit "$ended"); is 'help: the statuses' 0 'Status:\n  0  all was done\n  1  a tag was refused, two tags are different, steps are wrong,\n     or no line was printed\n  2  a registry, a table or an upgrade was refused\n  3  the command line is wrong\n  4  a file, the input, the output or memory failed\n\nlangtag help COMMAND says more of a command.\nThe manual, man langtag, has all of it.\n' ''
 "$program" --version < empty > version 2> err; ended=$?
 cut -d '(' -f 1 version > out
 (exit "$ended"); is version 0 "langtag $number \n" ''

@@ -11,6 +11,8 @@ TOP = pathlib.Path(__file__).resolve().parent.parent
 TABLE = TOP / "tools/iso639-2.tsv"
 CODES = TOP / "crates/lt_terminal/src/codes.rt"
 OF_PYTHON = TOP / "bindings/python/bcp47/codes.py"
+# Codes that ISO 639-2 withdrew in 2008 and that library catalogues still have.
+WITHDRAWN = [("mol", "ro"), ("scc", "sr"), ("scr", "hr")]
 
 
 def rows():
@@ -56,8 +58,9 @@ def main():
         if source(words[0]) != rows():
             sys.exit(f"{TABLE.name} and {words[0]} differ")
         return
-    messages = [f"{three}: BCP 47 writes {two}." for three, two in rows()]
-    for path, content in ((CODES, code(messages)), (OF_PYTHON, code_of_python(rows()))):
+    pairs = sorted(rows() + WITHDRAWN)
+    messages = [f"{three}: BCP 47 writes {two}." for three, two in pairs]
+    for path, content in ((CODES, code(messages)), (OF_PYTHON, code_of_python(pairs))):
         if words:
             path.write_text(content)
         elif path.read_text() != content:

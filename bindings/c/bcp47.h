@@ -312,7 +312,7 @@ void bcp47_free(void *text);
 bcp47_outcome bcp47_verify(const bcp47_registry *registry, const char *text, size_t length, const bcp47_step *steps,
                            size_t count, const char *last, size_t last_length);
 
-/* Whether a newer registry keeps what an older one promised. Both may be the same. */
+/* Whether a newer registry keeps valid tags valid and equivalent tags equivalent. Both may be the same. */
 bcp47_outcome bcp47_upgrade_check(const bcp47_registry *older, const bcp47_registry *newer);
 
 /* The name of a number, as "NotATag", "BadByte" and "Extlang", which is "" where the number has none. */

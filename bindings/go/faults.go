@@ -27,9 +27,9 @@ const (
 	ErrUnknownLanguage
 	// The registry lacks the extlang: correct it, or get a newer registry.
 	ErrUnknownExtlang
-	// The extlang belongs to another language: put it after its own (zh-yue), or write it alone (yue).
+	// The extlang belongs to another language: put it after its language (zh-yue), or leave the language out (yue).
 	ErrExtlangPrefix
-	// A second extlang: keep one, or write it alone.
+	// A second extlang: keep only one.
 	ErrTooManyExtlangs
 	// The registry lacks the script: correct it, or get a newer registry.
 	ErrUnknownScript
@@ -55,7 +55,7 @@ const (
 	ErrTooManyRecords
 	// The file or the input can't be read to its end: see whether it is a folder, or closed, or a disk fails.
 	ErrRead
-	// 10,000,000 reads did not come to the end: give the bytes in larger pieces.
+	// After 10,000,000 reads the input had not ended: write larger pieces, or start the program again.
 	ErrTooManyTurns
 	// Reading failed before, at the place that is named: see what was answered then.
 	ErrFailed
@@ -97,21 +97,21 @@ const (
 	ErrC9
 	// The value of a whole tag leads on to another whole tag, or repeats a variant: mend the Preferred-Value.
 	ErrC10
-	// By its subtags a redundant tag leads elsewhere than by its value: mend the Preferred-Value.
+	// The subtags of a redundant tag lead to another tag than its Preferred-Value: mend the Preferred-Value.
 	ErrC11
 	// A range has a Preferred-Value: remove it.
 	ErrC12
 	// The newer registry lacks a subtag of the older one, or has no one range that holds a range of it: register it.
 	ErrU1
-	// By the newer registry a subtag and its older value lead to two subtags: lead both to one.
+	// In the newer registry a subtag and its older value lead to two subtags: lead both to one.
 	ErrU2
 	// The newer registry lacks an extlang, or gives it another Prefix or leads it elsewhere: keep what it was.
 	ErrU3
-	// By the newer registry a variant becomes a language no longer, or by other Prefixes, or another one: keep what it was.
+	// In the newer registry a variant no longer becomes a language, or has other Prefixes, or becomes another language: keep what it was.
 	ErrU4
-	// By the newer registry a variant of the older one becomes a language: remove its Preferred-Value.
+	// In the newer registry a variant of the older one becomes a language: remove its Preferred-Value.
 	ErrU5
-	// By the newer registry a whole tag and its older value lead to two canonical tags: lead both to one.
+	// In the newer registry a whole tag and its older value lead to two canonical tags: lead both to one.
 	ErrU6
 	// The first subtag of a language range has a digit: begin with a language of letters alone, or with *.
 	ErrBadFirst

@@ -13,7 +13,7 @@ _STATUSES = """status:
   0  all was done
   1  a tag was refused
   2  the registry was refused
-  3  the words of the command are wrong
+  3  the command line is wrong
   4  a file, the input or the output failed"""
 
 

@@ -8,7 +8,7 @@ use std::alloc::AllocError;
 
 /// What is said of a language that is longer than a code.
 const NAME_MESSAGE: &str =
-    "This is a name of a language and not a code: write en for English, de for German.";
+    "Codes of languages have two or three letters: write en for English, de for German.";
 
 /// The message that tells the code of two letters that BCP 47 writes for a code of three, in any letter case. None if there is
 /// no message for it.

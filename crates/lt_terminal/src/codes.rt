@@ -1,7 +1,7 @@
 //! The codes of three letters of ISO 639-2 that BCP 47 does not register. tools/language_codes.py writes this file.
 
 /// What is said of each: the code, and that of two letters that BCP 47 has for the language.
-pub(crate) static CODES: [&str; 204] = [
+pub(crate) static CODES: [&str; 207] = [
     "aar: BCP 47 writes aa.",
     "abk: BCP 47 writes ab.",
     "afr: BCP 47 writes af.",
@@ -123,6 +123,7 @@ pub(crate) static CODES: [&str; 204] = [
     "mkd: BCP 47 writes mk.",
     "mlg: BCP 47 writes mg.",
     "mlt: BCP 47 writes mt.",
+    "mol: BCP 47 writes ro.",
     "mon: BCP 47 writes mn.",
     "mri: BCP 47 writes mi.",
     "msa: BCP 47 writes ms.",
@@ -157,6 +158,8 @@ pub(crate) static CODES: [&str; 204] = [
     "rus: BCP 47 writes ru.",
     "sag: BCP 47 writes sg.",
     "san: BCP 47 writes sa.",
+    "scc: BCP 47 writes sr.",
+    "scr: BCP 47 writes hr.",
     "sin: BCP 47 writes si.",
     "slk: BCP 47 writes sk.",
     "slo: BCP 47 writes sk.",

@@ -19,7 +19,7 @@ Status:
   1  a tag was refused, two tags are different, steps are wrong,
      or no line was printed
   2  a registry, a table or an upgrade was refused
-  3  the words of the command are wrong
+  3  the command line is wrong
   4  a file, the input, the output or memory failed
 
 langtag help COMMAND says more of a command.
@@ -36,7 +36,7 @@ Example:
 Status:
   0  the text is a tag
   1  the text is no tag
-  3  the words of the command are wrong
+  3  the command line is wrong
   4  the output or memory failed
 
 The manual, man langtag, says what each fault means.",
@@ -52,7 +52,7 @@ Example:
 Status:
   0  the registry passed the check
   2  the registry was refused
-  3  the words of the command are wrong
+  3  the command line is wrong
   4  the file, the output or memory failed
 
 The manual, man langtag, says what each fault means.",
@@ -72,7 +72,7 @@ Status:
   0  each line has a canonical form
   1  a line was refused
   2  the registry was refused
-  3  the words of the command are wrong
+  3  the command line is wrong
   4  a file, the input, the output or memory failed
 
 The manual, man langtag, says what each fault means.",
@@ -90,7 +90,7 @@ Status:
   0  each line has a canonical form
   1  a line was refused
   2  the registry or the table was refused
-  3  the words of the command are wrong
+  3  the command line is wrong
   4  a file, the input, the output or memory failed
 
 The manual, man langtag, says what each fault means.",
@@ -108,7 +108,7 @@ Status:
   0  each tag has a canonical form
   1  a tag was refused
   2  the registry or the table was refused
-  3  the words of the command are wrong, or the column is missing or
+  3  the command line is wrong, or the column is missing or
      stands twice
   4  a file, the input, the output or memory failed
 
@@ -128,7 +128,7 @@ Status:
   0  each tag has a canonical form
   1  a tag was refused
   2  the registry or the table was refused
-  3  the words of the command are wrong, or the column is missing or
+  3  the command line is wrong, or the column is missing or
      stands twice
   4  a file, the input, the output or memory failed
 
@@ -148,7 +148,7 @@ Status:
   0  a line was printed
   1  no line was printed
   2  the registry was refused
-  3  the words of the command are wrong, or a range or a header was
+  3  the command line is wrong, or a range or a header was
      refused
   4  a file, the input, the output or memory failed
 
@@ -166,7 +166,7 @@ Status:
   0  the tag has a canonical form
   1  the tag was refused
   2  the registry was refused
-  3  the words of the command are wrong
+  3  the command line is wrong
   4  a file, the output or memory failed
 
 The manual, man langtag, says what each fault means.",
@@ -183,7 +183,7 @@ Status:
   0  the tags are equivalent
   1  the tags are different, or one was refused
   2  the registry was refused
-  3  the words of the command are wrong
+  3  the command line is wrong
   4  a file, the output or memory failed
 
 The manual, man langtag, says what each fault means.",
@@ -203,7 +203,7 @@ Status:
   0  the tag has a canonical form
   1  the tag was refused
   2  the registry was refused
-  3  the words of the command are wrong
+  3  the command line is wrong
   4  a file, the output or memory failed
 
 The manual, man langtag, says what each fault means.",
@@ -220,14 +220,14 @@ Status:
   0  the lines explain the tag
   1  they do not, or the tag was refused
   2  the registry was refused
-  3  the words of the command are wrong
+  3  the command line is wrong
   4  a file, the input, the output or memory failed
 
 The manual, man langtag, says what each fault means.",
 };
 
 pub(crate) static UPGRADE: Help = Help {
-    about: "Tells whether a newer registry keeps what an older one promised",
+    about: "Tells whether a newer registry keeps tags valid and equivalent",
     after: "\
 Example:
     $ langtag upgrade registry.txt registry.txt
@@ -236,7 +236,7 @@ Example:
 Status:
   0  valid tags stay valid, and equivalent tags stay equivalent
   2  a registry or the upgrade was refused
-  3  the words of the command are wrong
+  3  the command line is wrong
   4  a file, the output or memory failed
 
 The manual, man langtag, says what each fault means.",
@@ -257,7 +257,7 @@ Status:
   0  each tag has a canonical form
   1  a tag was refused
   2  the registry was refused
-  3  the words of the command are wrong
+  3  the command line is wrong
   4  a file, the output or memory failed
 
 The manual, man langtag, says what each fault means.",
@@ -274,7 +274,7 @@ Status:
   0  each line has a canonical form
   1  a line was refused
   2  the registry was refused
-  3  the words of the command are wrong
+  3  the command line is wrong
   4  a file, the input, the output or memory failed
 
 The manual, man langtag, says what each member is.",

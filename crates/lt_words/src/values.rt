@@ -154,7 +154,7 @@ pub(crate) fn column_of(alloc: Global, text: &str, heading: bool) -> Result<Colu
     }
     if !heading {
         return Err(WordsFault::Usage(format!(in alloc;
-            "error: without --heading COLUMN is a number from 1, and not {text}\n\nFor more information, try '--help'.\n"
+            "error: COLUMN {text} is a name: add --heading, or give a number from 1\n\nFor more information, try '--help'.\n"
         )?));
     }
     Ok(Column::Name(String::from_str(alloc, text)?))

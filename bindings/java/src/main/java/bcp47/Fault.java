@@ -23,9 +23,9 @@ public enum Fault {
     UNKNOWN_LANGUAGE(8),
     /** The registry lacks the extlang: correct it, or get a newer registry. */
     UNKNOWN_EXTLANG(9),
-    /** The extlang belongs to another language: put it after its own (zh-yue), or write it alone (yue). */
+    /** The extlang belongs to another language: put it after its language (zh-yue), or leave the language out (yue). */
     EXTLANG_PREFIX(10),
-    /** A second extlang: keep one, or write it alone. */
+    /** A second extlang: keep only one. */
     TOO_MANY_EXTLANGS(11),
     /** The registry lacks the script: correct it, or get a newer registry. */
     UNKNOWN_SCRIPT(12),
@@ -51,7 +51,7 @@ public enum Fault {
     TOO_MANY_RECORDS(22),
     /** The file or the input can't be read to its end: see whether it is a folder, or closed, or a disk fails. */
     READ(23),
-    /** 10,000,000 reads did not come to the end: give the bytes in larger pieces. */
+    /** After 10,000,000 reads the input had not ended: write larger pieces, or start the program again. */
     TOO_MANY_TURNS(24),
     /** Reading failed before, at the place that is named: see what was answered then. */
     FAILED(25),
@@ -93,21 +93,21 @@ public enum Fault {
     C9(43),
     /** The value of a whole tag leads on to another whole tag, or repeats a variant: mend the Preferred-Value. */
     C10(44),
-    /** By its subtags a redundant tag leads elsewhere than by its value: mend the Preferred-Value. */
+    /** The subtags of a redundant tag lead to another tag than its Preferred-Value: mend the Preferred-Value. */
     C11(45),
     /** A range has a Preferred-Value: remove it. */
     C12(46),
     /** The newer registry lacks a subtag of the older one, or has no one range that holds a range of it: register it. */
     U1(47),
-    /** By the newer registry a subtag and its older value lead to two subtags: lead both to one. */
+    /** In the newer registry a subtag and its older value lead to two subtags: lead both to one. */
     U2(48),
     /** The newer registry lacks an extlang, or gives it another Prefix or leads it elsewhere: keep what it was. */
     U3(49),
-    /** By the newer registry a variant becomes a language no longer, or by other Prefixes, or another one: keep what it was. */
+    /** In the newer registry a variant no longer becomes a language, or has other Prefixes, or becomes another language: keep what it was. */
     U4(50),
-    /** By the newer registry a variant of the older one becomes a language: remove its Preferred-Value. */
+    /** In the newer registry a variant of the older one becomes a language: remove its Preferred-Value. */
     U5(51),
-    /** By the newer registry a whole tag and its older value lead to two canonical tags: lead both to one. */
+    /** In the newer registry a whole tag and its older value lead to two canonical tags: lead both to one. */
     U6(52),
     /** The first subtag of a language range has a digit: begin with a language of letters alone, or with *. */
     BAD_FIRST(53),
