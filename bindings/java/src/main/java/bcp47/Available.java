@@ -30,7 +30,7 @@ public final class Available implements AutoCloseable {
     }
 
     private int ask(CharSequence accept, int[] places) {
-        byte[] bytes = Native.bytes(accept);
+        byte[] bytes = Native.bytes(accept == null ? "*" : accept);
         long[] ended = Native.ended();
         int found = held.ask(address -> Native.best(address, bytes, places, ended));
         RefusedTag.check(ended, null, accept);
@@ -40,7 +40,7 @@ public final class Available implements AutoCloseable {
     /**
      * The tag to serve to a reader (RFC 9110, 12.5.4; RFC 4647, 3.4).
      *
-     * @param accept an Accept-Language header
+     * @param accept an Accept-Language header; null where there is none, so that the reader takes any tag
      * @return the tag, as it was handed in, or null where no range of the header serves one, so that the service takes its default
      * @throws RefusedTag where it is no such header
      */
@@ -52,7 +52,7 @@ public final class Available implements AutoCloseable {
     /**
      * All tags that a header accepts.
      *
-     * @param accept an Accept-Language header
+     * @param accept an Accept-Language header; null where there is none, so that the reader takes any tag
      * @return the tags, from the greatest weight to the least
      * @throws RefusedTag where it is no such header
      */

@@ -186,7 +186,7 @@ final class Calls {
             is("BadHeader 2 en, e_n", refused.refusal().status() + " " + refused.place() + " " + refused.tag());
         }
         is("ReplacementRepeats", thrown(RefusedTag.class, () -> available.best("ja-Latn-hepburn-alalc97-heploc")).fault().toString());
-        thrown(NullPointerException.class, () -> available.best(null));
+        is("en [en, zh-yue, de-DE, he]", available.best(null) + " " + available.filter(null));
         var pool = Executors.newFixedThreadPool(70);
         List<Callable<Void>> askers = IntStream.range(0, 70).<Callable<Void>>mapToObj(i -> () -> {
             for (int n = 0; n < 200; n++) {
