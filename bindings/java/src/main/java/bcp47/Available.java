@@ -40,7 +40,7 @@ public final class Available implements AutoCloseable {
     /**
      * The tag to serve to a reader (RFC 9110, 12.5.4; RFC 4647, 3.4).
      *
-     * @param accept an Accept-Language header
+     * @param accept an Accept-Language header, or <code>*</code> where a request has none
      * @return the tag, as it was handed in, or null where no range of the header serves one, so that the service takes its default
      * @throws RefusedTag where it is no such header
      */
@@ -52,7 +52,7 @@ public final class Available implements AutoCloseable {
     /**
      * All tags that a header accepts.
      *
-     * @param accept an Accept-Language header
+     * @param accept an Accept-Language header, or <code>*</code> where a request has none
      * @return the tags, from the greatest weight to the least
      * @throws RefusedTag where it is no such header
      */
