@@ -109,7 +109,7 @@ public final class Registry implements AutoCloseable {
     }
 
     /**
-     * The canonical text of a tag, or why there is none: nothing is thrown for a tag that is refused, which takes a third
+     * The canonical text of a tag, or why there is none: nothing is thrown for a tag that is refused, which takes a seventh
      * of the time of an exception.
      *
      * @param tag a tag
