@@ -55,7 +55,7 @@ inside = parts.kit_below("langtag", found) | parts.kit_below("bcp47_c", found)
 inside -= {"std_collections"} | parts.STANDARD["program"]
 named = re.findall(r"^  (\w+) +((?:MIT|Apache).*?)  ", Path("LICENSE").read_text(), re.M)
 copyright = Path("packaging/debian/copyright").read_text()
-packaged = {name for line in re.findall(r"^Files: (\w.*)", copyright, re.M) for name in line.split()}
+packaged = {name for name in parts.LICENCES if re.search(rf"\b{name}\b", copyright)}
 if not dict(named) == parts.LICENCES or not set(parts.LICENCES) == inside == packaged:
     sys.exit(f"crates.txt: {sorted(inside)}, LICENSE: {named}, copyright: {sorted(packaged)}")
 END
