@@ -423,8 +423,8 @@ cut -d '(' -f 1 version > out
 "$program" upgrade old < empty > out 2> usage; ended=$?
 head -c 7 usage > err
 (exit "$ended"); is usage 3 '' 'error: '
-"$program" classify $'\xff' < empty > out 2> err; is 'a word that is not UTF-8' 3 '' "error: word 2 is not UTF-8: \\\\xff\n\nFor more information, try '--help'.\n"
-"$program" $'\xe4 \\\e' < empty > out 2> err; is 'a command that is not UTF-8' 3 '' "error: word 1 is not UTF-8: \\\\xe4 \\\\x5c\\\\x1b\n\nFor more information, try '--help'.\n"
+"$program" classify $'\xff' < empty > out 2> err; is 'a word that is not UTF-8' 3 '' "error: argument 2 is not UTF-8: \\\\xff\n\nFor more information, try '--help'.\n"
+"$program" $'\xe4 \\\e' < empty > out 2> err; is 'a command that is not UTF-8' 3 '' "error: argument 1 is not UTF-8: \\\\xe4 \\\\x5c\\\\x1b\n\nFor more information, try '--help'.\n"
 long=$(head -c 100000 /dev/zero | tr '\0' a)
 "$program" classify "$long" < empty > out 2> err; is 'a long word' 1 '! TooLong 0\n' ''
 

@@ -26,7 +26,7 @@ escaped bytes = flat_map escaped_byte bytes
 -- the line for a word that is not UTF-8: its number, and its bytes as they are shown
 abbrev pub word_line : (number : ℕ) → (shown : List ℕ) → List ℕ
 word_line number shown =
-    codes "error: word " ++ decimal number ++ codes " is not UTF-8: " ++ shown
+    codes "error: argument " ++ decimal number ++ codes " is not UTF-8: " ++ shown
     ++ codes "\n\nFor more information, try '--help'.\n"
 
 -- a word is not UTF-8, and the fault is the line that says so; OutOfMemory may be answered of any word

@@ -54,7 +54,7 @@ pub fn escaped(alloc: Global, bytes: &[u8]) -> Result<String, AllocError>
 fn word_line(alloc: Global, number: usize, shown: &str) -> Result<String, AllocError>
     ensures { IfOk result (λ text. string_bytes text ≡ spec.word_line number shown.now) }
 {
-    let mut said = format!(in alloc; "error: word {number} is not UTF-8: ")?;
+    let mut said = format!(in alloc; "error: argument {number} is not UTF-8: ")?;
     said.push_str(shown)?;
     said.push_str("\n\nFor more information, try '--help'.\n")?;
     Ok(said)
