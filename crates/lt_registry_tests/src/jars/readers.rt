@@ -157,13 +157,9 @@ fn line_after(text: &[u8]) -> u64 {
     line
 }
 
-/// Whether a reader of a text in pieces of 64, whose read of this number fails, tells so in the line that is being read, and
-/// then that it failed there.
-fn fails_in_read(alloc: Global, text: &[u8], number: usize) -> Result<bool, JarFault> {
-    let front = number.saturating_sub(1).saturating_mul(64);
-    let line = line_after(text.get(..front).unwrap_or(text));
-    let mut device = Device::new(Pieces::once(text, 64).failing_at(number as u64));
-    let mut reader = JarReader::new(alloc, &mut device)?;
+/// Whether a reader of a device tells that a read failed in this line, and then that it failed there itself.
+fn fails_in<R: Read>(alloc: Global, device: &mut Device<R>, line: u64) -> Result<bool, JarFault> {
+    let mut reader = JarReader::new(alloc, device)?;
     let read = JarFault {
         kind: JarFaultKind::Read,
         line,
@@ -176,6 +172,14 @@ fn fails_in_read(alloc: Global, text: &[u8], number: usize) -> Result<bool, JarF
         fault_of(&mut reader) == Some(read)
             && matches!(reader.next(), Err(fault) if fault == failed),
     )
+}
+
+/// Whether a text in pieces of 64, whose read of this number fails, does so in the line that is being read.
+fn fails_in_read(alloc: Global, text: &[u8], number: usize) -> Result<bool, JarFault> {
+    let front = number.saturating_sub(1).saturating_mul(64);
+    let line = line_after(text.get(..front).unwrap_or(text));
+    let mut device = Device::new(Pieces::once(text, 64).failing_at(number as u64));
+    fails_in(alloc, &mut device, line)
 }
 
 /// The last of these reads is the one at the end of the sample.
