@@ -51,10 +51,11 @@ const CANONICAL: &[(&str, &str)] = &[
     ),
 ];
 
-/// Texts that have no canonical text, with the names of their refusals, and the places of their faults.
+/// Texts that have no canonical text, with the names and the places of their faults, or with the variant that replacements
+/// repeat and 0.
 const REFUSED: &[(&str, &str, u32)] = &[
-    ("ja-Latn-heploc-alalc97", "ReplacementRepeats", 0),
-    ("en-t-ja-heploc-alalc97", "ReplacementRepeats", 0),
+    ("ja-Latn-heploc-alalc97", "alalc97", 0),
+    ("en-t-ja-heploc-alalc97", "alalc97", 0),
     ("zh-min-x-a", "ExtlangPrefix", 2),
     ("zh-gan-yue", "TooManyExtlangs", 3),
     ("fr", "UnknownLanguage", 1),
@@ -96,16 +97,19 @@ fn comes_to<L: Lookup>(alloc: Global, checked: &Checked<L>, text: &[u8], canonic
     }
 }
 
-/// The place of the fault of a refusal, or 0.
-fn place_of(refusal: &TextRefusal) -> u32 {
+/// Whether a refusal is for a fault of this name at this place, or for this variant.
+fn is_refusal(refusal: TextRefusal, name: &str, place: u32) -> bool {
     match refusal {
-        TextRefusal::NotATag(fault) => fault.place,
-        TextRefusal::Invalid(fault) => fault.place,
-        _ => 0,
+        TextRefusal::NotATag(fault) => fault.kind.name() == name && fault.place == place,
+        TextRefusal::Invalid(fault) => fault.kind.name() == name && fault.place == place,
+        TextRefusal::ReplacementRepeats(repeated) => {
+            repeated.bytes() == name.as_bytes() && place == 0
+        }
+        TextRefusal::OutOfMemory => false,
     }
 }
 
-/// Whether a text is refused by this name, for a fault at this place.
+/// Whether a text is refused so.
 fn is_refused<L: Lookup>(
     alloc: Global,
     checked: &Checked<L>,
@@ -114,8 +118,8 @@ fn is_refused<L: Lookup>(
     place: u32,
 ) -> bool {
     match written(alloc, checked, text) {
-        Ok(_) => false,
-        Err(refusal) => refusal.name() == name && place_of(&refusal) == place,
+        Err(refusal) => is_refusal(refusal, name, place),
+        Ok(_written) => false,
     }
 }
 
