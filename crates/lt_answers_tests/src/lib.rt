@@ -1,5 +1,5 @@
-//! Tests of what `lt_show`, `lt_json`, `lt_codes`, `lt_range` and `lt_select` make public, and the uses of `bcp47` that
-//! `docs/LIBRARY.md` shows.
+//! Tests of what `lt_show`, `lt_json`, `lt_codes`, `lt_lines`, `lt_range` and `lt_select` make public, and the uses of `bcp47`
+//! that `docs/LIBRARY.md` shows.
 #![tactic(auto)]
 
 #[cfg(test)]
@@ -9,7 +9,11 @@ mod codes;
 #[cfg(test)]
 mod json;
 #[cfg(test)]
+mod lines;
+#[cfg(test)]
 mod matched;
+#[cfg(test)]
+mod pages;
 #[cfg(test)]
 mod ranges;
 #[cfg(test)]

@@ -4,8 +4,11 @@ mod distinct;
 mod growths;
 mod tables;
 
-use lt_registry::{Entry, EntryName, EntryValue, Kind, Lookup};
-use std::alloc::Global;
+use lt_jar::{JarFault, JarFaultKind, read_jar};
+use lt_registry::{
+    Entry, EntryName, EntryValue, Kind, Lookup, RecordFault, RecordFaultKind, Registry,
+};
+use std::alloc::{AllocError, Global};
 use std::test::Fail;
 use tables::list_table;
 
@@ -29,6 +32,43 @@ const RECORD_FAULTS: &[(&str, &str)] = &[
     ("Type: language\nSubtag: a...b", "BadRange"),
     ("Type: variant\nSubtag: 1901\nPrefix:", "BadPrefix"),
 ];
+
+/// The text of this many records of one line, whose type is unknown, and a line to separate a next one.
+fn many_records(alloc: Global, count: usize) -> Result<String, AllocError> {
+    let mut text = String::new(alloc);
+    for _ in 0..count {
+        text.push_str("Type: x\n%%\n")?;
+    }
+    Ok(text)
+}
+
+/// The first of those records is at fault.
+const FIRST_UNKNOWN: RecordFault = RecordFault {
+    kind: RecordFaultKind::UnknownType,
+    number: 1,
+};
+
+/// The line of one record more.
+const ONE_MORE: JarFault = JarFault {
+    kind: JarFaultKind::TooManyRecords,
+    line: 200_001,
+};
+
+#[test]
+fn the_most_records(rt: HostRuntime) -> Result<(), Fail> {
+    let mut text = many_records(rt.alloc(), 100_000)?;
+    let jar = read_jar(rt.alloc(), text.as_bytes())?;
+    let records = jar.records();
+    if records.len() != 100_000 {
+        return Err(Fail::from("another number of records"));
+    }
+    let answer = Registry::from_records(rt.alloc(), records);
+    assert!(rt; matches!(answer, Err(fault) if fault == FIRST_UNKNOWN));
+    text.push_str("Type: x")?;
+    let answer = read_jar(rt.alloc(), text.as_bytes());
+    assert!(rt; matches!(answer, Err(fault) if fault == ONE_MORE));
+    Ok(())
+}
 
 /// Whether an entry is that of a second record, of the language `en` alone.
 fn is_english(entry: &Entry) -> bool {

@@ -1,4 +1,5 @@
 //! What a run does where a growth of memory is refused.
+use crate::pages::{Page, empty_page, text_of};
 use crate::tables::checked_sample;
 use lt_check::Checked;
 use lt_jar::Device;
@@ -6,17 +7,7 @@ use lt_json::write_objects;
 use lt_registry::SortedTable;
 use lt_stream::ToolFault;
 use std::alloc::Global;
-use std::io::Cursor;
 use std::test::Fail;
-
-/// Room for what a run writes, which then takes no memory for it.
-type Page = Cursor<[u8; 2048]>;
-
-/// What was written.
-fn text_of(page: &Page) -> &[u8] {
-    let length = page.position() as usize;
-    page.get_ref().get(..length).unwrap_or(&[])
-}
 
 const INPUT: &[u8] = b"zh-yue-u-attr-co-trad-t-he-m0-true-a-bc-x-a\r\nfr\n\xff";
 
@@ -25,7 +16,7 @@ const FRONT: &[u8] =
 
 /// How a run over the lines ends, and what it wrote.
 fn run(alloc: Global, checked: &Checked<SortedTable>) -> (Result<(), ToolFault>, Page) {
-    let mut page = Cursor::new([0; 2048]);
+    let mut page = empty_page();
     let (_, end) = {
         let mut output = Device::new(&mut page);
         write_objects(alloc, checked, &mut Device::new(INPUT), &mut output)

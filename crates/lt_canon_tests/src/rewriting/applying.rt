@@ -6,7 +6,7 @@ ghost use Rattle.lt_registry.specs.Faults.{RepeatsAtMost};
 use lt_registry::{Lookup, proper};
 use lt_rewrite::{ApplyFault, Step, StepKind, apply};
 use lt_tag::{OutOfMemory, Tag, read_tag, write_tag};
-use lt_testing::again;
+use lt_testing::{again, sorted_sample};
 use std::alloc::Global;
 use std::process::Abort;
 use std::test::Fail;
@@ -121,4 +121,9 @@ pub(super) fn steps_lead<L: Lookup>(rt: &impl Abort, alloc: Global, table: &L) -
         assert!(rt; leads(alloc, table, text, step, wanted)?, "{text}");
     }
     Ok(())
+}
+
+#[test]
+fn steps_by_the_sorted_table(rt: HostRuntime) -> Result<(), Fail> {
+    steps_lead(&rt, rt.alloc(), &sorted_sample(rt.alloc())?)
 }

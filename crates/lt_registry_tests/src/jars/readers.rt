@@ -1,5 +1,7 @@
 //! What a reader of records answers call by call: records, faults, failed reads, and what comes after them.
-use lt_jar::{Device, Jar, JarFault, JarField, JarReader, Pieces, Record, RecordRef, read_jar};
+use lt_jar::{
+    Device, Jar, JarFault, JarFaultKind, JarField, JarReader, Pieces, Record, RecordRef, read_jar,
+};
 use lt_testing::sample_text;
 use std::alloc::{AllocError, Global};
 use std::io::Read;
@@ -140,6 +142,55 @@ fn sample_cut_after_each_byte(rt: HostRuntime) -> Result<(), Fail> {
     for end in 0..=text.len() {
         let cut = text.as_bytes().get(..end).unwrap_or(&[]);
         assert!(rt; agree(rt.alloc(), cut)?, "{end}");
+    }
+    Ok(())
+}
+
+/// The number of the line that follows a text's line feeds.
+fn line_after(text: &[u8]) -> u64 {
+    let mut line = 1u64;
+    for byte in text {
+        if *byte == b'\n' {
+            line = line.saturating_add(1);
+        }
+    }
+    line
+}
+
+/// Whether a reader of a device tells that a read failed in this line, and then that it failed there itself.
+fn fails_in<R: Read>(alloc: Global, device: &mut Device<R>, line: u64) -> Result<bool, JarFault> {
+    let mut reader = JarReader::new(alloc, device)?;
+    let read = JarFault {
+        kind: JarFaultKind::Read,
+        line,
+    };
+    let failed = JarFault {
+        kind: JarFaultKind::Failed,
+        line,
+    };
+    Ok(
+        fault_of(&mut reader) == Some(read)
+            && matches!(reader.next(), Err(fault) if fault == failed),
+    )
+}
+
+/// Whether a text in pieces of 64, whose read of this number fails, does so in the line that is being read.
+fn fails_in_read(alloc: Global, text: &[u8], number: usize) -> Result<bool, JarFault> {
+    let front = number.saturating_sub(1).saturating_mul(64);
+    let line = line_after(text.get(..front).unwrap_or(text));
+    let mut device = Device::new(Pieces::once(text, 64).failing_at(number as u64));
+    fails_in(alloc, &mut device, line)
+}
+
+/// The last of these reads is the one at the end of the sample.
+#[test]
+fn sample_with_each_read_failing(rt: HostRuntime) -> Result<(), Fail> {
+    let text = sample_text(rt.alloc())?;
+    for number in 1..=32usize {
+        assert!(rt;
+            fails_in_read(rt.alloc(), text.as_bytes(), number)?,
+            "{number}"
+        );
     }
     Ok(())
 }

@@ -1,5 +1,6 @@
 //! What a run does where a growth of memory is refused.
 use super::ranges_of;
+use crate::pages::{Page, empty_page, text_of};
 use crate::tables::checked_sample;
 use lt_check::Checked;
 use lt_jar::{Device, Pieces};
@@ -9,17 +10,7 @@ use lt_select::{Scheme, look_up_line, select_lines, serve_line};
 use lt_stream::ToolFault;
 use lt_testing::{again, retried};
 use std::alloc::Global;
-use std::io::Cursor;
 use std::test::Fail;
-
-/// Room for what a run writes, which then takes no memory for it.
-type Page = Cursor<[u8; 64]>;
-
-/// What was written.
-fn text_of(page: &Page) -> &[u8] {
-    let length = page.position() as usize;
-    page.get_ref().get(..length).unwrap_or(&[])
-}
 
 const INPUT: &[u8] = b"zh-yue-x-a-b-c\r\nfr\n\nde_\nyue";
 
@@ -31,7 +22,7 @@ fn run(
     checked: &Checked<SortedTable>,
     ranges: &[LanguageRange],
 ) -> (Result<u64, ToolFault>, Page) {
-    let mut page = Cursor::new([0; 64]);
+    let mut page = empty_page();
     let end = {
         let mut output = Device::new(&mut page);
         let scheme = Scheme::Extended;
