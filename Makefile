@@ -85,6 +85,7 @@ edits:
 side-by-side:
 	mkdir -p build
 	cp crates/langtag/out/langtag crates/langtag/out/langtag.o build
+	bindings/c/build.sh
 	+$(MAKE) --jobs=4 --output-sync=target --no-print-directory scripts
 scripts: packaging.sh trusted.py edits_test.py csv_readers.py iso_codes.py runs.py program.sh messages.sh pages.py growths
 packaging.sh: bindings.sh

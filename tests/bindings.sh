@@ -1,6 +1,6 @@
 #!/bin/bash
-# Builds the library for C and what stands on it, and runs their tests: C, and beside it Python, SQLite and PostgreSQL, C++, Rust, Node.js,
-# Java, Go and Dask. Each has to answer 200,000 tags as the program does. The last line counts; the status
+# Builds what stands on the library for C, which `make lib` built, and runs its tests: C, and beside it Python, SQLite and PostgreSQL, C++,
+# Rust, Node.js, Java, Go and Dask. Each has to answer 200,000 tags as the program does. The last line counts; the status
 # is 1 if any test failed.
 #
 # Usage: tests/bindings.sh [PROGRAM [PART..]]     build/langtag, and all; the parts are python, sql, cpp, rust, node, java, go and dask
@@ -8,7 +8,7 @@ set -e
 cd "$(dirname "$0")/.."
 program=$(realpath "${1:-build/langtag}")
 tests/packages.sh
-make -s lib
+[ -e build/libbcp47.a ] || make -s lib
 folder=$(mktemp -d)
 chmod 755 "$folder"
 trap 'rm -rf "$folder"' EXIT

@@ -57,6 +57,13 @@ def listing(crate, prove):
     return run
 
 
+def called(words, folder=ROOT, **how):
+    """Runs a command in a folder of the repository."""
+    # (make gives its recipes an open list of jobs, which is not meant for this command)
+    free = {name: value for name, value in os.environ.items() if not name.startswith("MAKE")}
+    return subprocess.run(words, cwd=folder, env=free, stdin=subprocess.DEVNULL, **how)
+
+
 class Kept:
     """What proofs made, by sums of all that they depend on."""
 
@@ -78,7 +85,8 @@ class Kept:
         def run(crate, flags, tests):
             key, out, status = (crate.name, "tests" if tests else "proof"), os.path.join(crate.folder, "out"), 0
             place, own = self.places[key], os.path.join(ROOT, "crates", crate.name, "out")
-            made = [crate.name + it for it in (["_tests"] if tests else ["", ".o", ".by-rattle", ".axioms"])] + ["rlib"] * (not tests)
+            library = "lib%s.a" % crate.name
+            made = [crate.name + "_tests"] if tests else ["rlib", library, *(crate.name + it for it in ("", ".o", ".by-rattle", ".axioms"))]
             if not tests and not crate.makes_rlib():
                 crate.prove = listing(crate, crate.prove)
             if key in self.taken:
@@ -97,8 +105,13 @@ class Kept:
                 shutil.rmtree(place, ignore_errors=True)
                 os.rename(room, place)
             linked(out, own, made)
-            if crate.is_static:
+            if crate.is_static and not os.path.exists(os.path.join(place, library)):
+                # (compiled here, beside the proofs of the program's last crates, since it takes minutes)
                 edits.unpack(crate, os.path.join(out, "checked"), os.path.join(own, "incremental"))
+                ran = called(["rt", "lib", "--cpu", "x86-64"], os.path.dirname(own), stdout=crate.out, stderr=crate.out)
+                if ran.returncode:
+                    return ran.returncode
+                linked(own, place, [library])
             return 0
 
         return run
@@ -130,16 +143,11 @@ class Gate:
         tasks = {it: (task[0], 0 if it in self.kept.taken else task[1], *task[2:]) for it, task in tasks.items()}
         tasks.update({(name, "edits"): self.ledger.crates[name].task([(name, "proof")], due) for name, due in self.due.items()})
         waits = [(it.name, "proof") for it in self.crates if not it.makes_rlib()] + [(it, "tests") for it in self.words.after]
-        run = lambda given, jobs: not self.words.command or self.command()
+        run = lambda given, jobs: not self.words.command or not called(self.words.command).returncode
         tasks["the scripts", "scripts"] = waits, 2000 * bool(self.words.command), 0, run
         found = build.Lanes(rt, tasks).run()
         self.is_well = all(found.values())
         return {**found, **{(name, "edits"): ([], [], []) for name in self.due}}
-
-    def command(self):
-        # (make gives its recipes an open list of jobs, which is not meant for this command)
-        free = {name: value for name, value in os.environ.items() if not name.startswith("MAKE")}
-        return not subprocess.run(self.words.command, cwd=ROOT, env=free, stdin=subprocess.DEVNULL).returncode
 
     def run(self):
         os.chdir(COPY)
