@@ -10,7 +10,8 @@ trap 'wineserver -k 2> /dev/null; rm -rf "$folder"' EXIT
 export WINEPREFIX=$folder/prefix WINEDEBUG=-all
 wineboot -i > /dev/null 2>&1
 
-printf '#!/bin/sh\nexec wine %s/langtag.exe "$@"\n' "$built" > "$folder/langtag"
+# (wine opens /dev/fd/63 in another process, where it may be a pipe that gives nothing)
+printf '#!/bin/sh\nexec timeout 60 wine %s/langtag.exe "$@"\n' "$built" > "$folder/langtag"
 chmod 755 "$folder/langtag"
 tests/program.sh "$folder/langtag" > "$folder/told" 2>&1
 grep -ao 'failed: .*: status [0-9]*' "$folder/told" | sed 's/^failed: //; s/: status.*//' | sort > "$folder/others"
