@@ -15,19 +15,24 @@ printf '#!/bin/sh\nexec timeout 60 wine %s/langtag.exe "$@"\n' "$built" > "$fold
 chmod 755 "$folder/langtag"
 tests/program.sh "$folder/langtag" > "$folder/told" 2>&1
 grep -ao 'failed: .*: status [0-9]*' "$folder/told" | sed 's/^failed: //; s/: status.*//' | sort > "$folder/others"
-# What differs: words are UTF-16 there, and a command line has at most 32,767 of its units; a folder is no file that opens; there are no
-# closed streams, /dev/zero and names of pipes; wine takes more memory than these runs allow, and adds codes of its own at a terminal of Linux.
+# What differs: @ needs LANGTAG_REGISTRY there; words are UTF-16, and a command line has at most 32,767 of its units; a folder is no file that
+# opens; a reader that goes away is told from no other failure; there are no closed streams, /dev/zero and names of pipes; wine takes more memory
+# than these runs allow, and adds codes of its own at a terminal of Linux.
 sort > "$folder/known" << 'END'
+@: an empty LANGTAG_REGISTRY is none
+@: the installed one
 a command that is not UTF-8
 a long row at a terminal
 a long run at a terminal
 a long word
+a reader that goes away
 a word that is not UTF-8
 canon --summary at a terminal
 canon at a terminal
 canon at a terminal: one line
 check -: closed input
 check at a terminal: a record
+check at a terminal: a record that came through a pipe
 check at a terminal: no file
 check: a folder
 classify at a terminal
