@@ -1,5 +1,6 @@
--- A walk along a chain of values, value by value. After as many values as there are records it has ended or never will; and
--- it may stop at a record that is before its own in an order, since the chain of that one is judged too (`first_cycle`).
+-- A walk along a chain of values, value by value. After as many values as there are records it has ended or never will.
+-- It may also stop at a record that is before its own in an order, since the chain of that one is judged too
+-- (`first_cycle`).
 use Rattle.std.proofs.Common.{◌≡◌, ◌≢◌, ℕ, zero, suc, ◌≤◌, ◌<◌, inl, inr, Bool, true, false, cond, eqb, List, [], ◌∷◌, Option, Some, None, refl, sym, ap, ◌∙◌, subst, length, slice_get, arith, ◌+◌, Result, IfOk, OnErr, not, get_or, All, MatchBool, Bor, is_some, Contains}
 use Rattle.std.specs.List.{AllByRecursion, list_any, IsDistinct}
 use Rattle.std.proofs.lemmas.Map.Steps.{length-le_from_distinct_below}
@@ -180,8 +181,6 @@ own_cycle t u s n r h = h
 
 -- A walk from a record's value to the end of the chain or to a record before it in an order.
 
--- what follows a subtag in a chain is what follows by its entry
-
 -- of a kind without chains no value follows, whether there is an entry `o` or not
 nothing_follows : (o : Option EntryParts) → None ≡ option_and_then {U = List ℕ} (λ (e : EntryParts). None) o
 nothing_follows None = refl
@@ -239,8 +238,6 @@ at_limit R order e k v s n W all None h true i = λ earlier. ends_there R e k v 
 at_limit R order e k v s n W all (Some t) h false i =
     λ ends. walk_cycles R k v s t.now (W.walked ∙ ap (λ m. chase (next_value R k) m v) all) (sym h) (subst (λ (d : Kind). Ends (next_value R d) v) (sym W.of_kind) (ends v W.from))
 at_limit t order e k v s n u all w h x i = cc
-
--- all records
 
 -- where each record's chain ends if those of the records before it do, the chains of all records before a place `n` end
 earlier_end : (R : List EntryParts) (order : Order) → All (EndsAfterEarlier R order) R → (n : ℕ) → EarlierEnd R order n

@@ -23,8 +23,6 @@ use Rattle.lt_rewrite.proofs.Entries.{chains_end, variant_languages_final, no_la
 use Rattle.lt_rewrite.proofs.NormalForms.{IsFormOf, star_form, form_is_normal, normal_is_form}
 use Rattle.lt_rewrite.proofs.CoreSteps.{AtRest, Pick, Picked, along, by_extlang, by_region, by_script, by_variant, by_variant_language, distinct_filter, distinct_unmap, distinct_without, each_step, filter_without, language_reached, merge, one_leftmost, pick, rests, step}
 
--- The core normal form: each subtag at the end of its chain, and VariantLanguage steps taken.
-
 -- the variant has a language value
 pub has_variant_language : List EntryParts → List ℕ → Bool
 has_variant_language R v = is_some (language_value R v)

@@ -148,8 +148,6 @@ steps_keep_proper R G C c d P s =
     let n = (core_step_no_longer R c d s).variants in
     search (rules, arith)
 
--- no proper core spells a grandfathered tag
-
 -- whether no subtag occurs twice
 unfoldable pub distinct_test : List (List ℕ) → Bool
 distinct_test [] = true

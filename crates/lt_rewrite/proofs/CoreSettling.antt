@@ -1,4 +1,4 @@
--- What the parts of the code that settle a core reach, and where they rest.
+-- What the parts of the code that settle a core reach, and where they rest. Only the chains' ends are used.
 use Rattle.std.proofs.Common.{rules, ◌≡◌, ℕ, suc, List, [], ◌∷◌, ◌++◌, Option, Some, None, refl, sym, ap, ◌∙◌, subst, length, take, drop, arith, ◌≤◌, ◌+◌, ◌<◌, get_or, set, All, Bor}
 use Rattle.std.specs.List.{AllByRecursion, remove}
 use Rattle.std.specs.Option.{option_copied}
@@ -16,8 +16,6 @@ use Rattle.lt_rewrite.proofs.PartLists.{round, if_some_is}
 use Rattle.lt_rewrite.proofs.Stars.{star_trans}
 use Rattle.lt_rewrite.proofs.CoreSteps.{along, by_extlang, by_variant, by_variant_language, rests, sole}
 use Rattle.lt_rewrite.proofs.CoreForms.{last}
-
--- What the parts of the code that settle a core reach, and where they rest. Only the chains' ends are used.
 
 -- core steps lead from `c` to `d`, which differs in its variants alone: they are `end` in number, and those before
 -- `index` are at the ends of their chains

@@ -29,8 +29,6 @@ use Rattle.lt_rewrite.specs.Orderings.{ListStep}
 use Rattle.lt_rewrite.specs.Conditions.{MeetsCoreConditions}
 use Rattle.lt_rewrite.proofs.PartForms.{t_form, t_formed, t_shaped, t_step_length, u_form, u_formed, u_shaped, u_step_length, with_source}
 
--- The normal form of an extension and of a list of extensions, where each core has one.
-
 -- the order of extensions by their singletons is total
 pub singleton_total : IsTotalOrder singleton_cmp
 singleton_total = on_total (λ (e : ExtensionParts). e.singleton) nat_cmp_total

@@ -31,8 +31,6 @@ use Rattle.lt_rewrite.specs.ExtensionsSettling.{SettlesAt, Settles, placed}
 use Rattle.lt_rewrite.proofs.PartForms.{key_total, t_formed, t_shaped, text_total, u_formed, u_shaped, with_parts}
 use Rattle.lt_rewrite.proofs.ExtensionForms.{each_rests, extension_step_singleton, extensions_formed, extensions_step_values, from_normal, to_part}
 
--- The laws of the steps on extensions.
-
 -- where `form` gives the normal form, steps from each `a` lead to one normal form
 one_form : {A : Type 0} {Step : A → A → Type 0} {form : A → A} → IsFormOf Step form → (a : A) → HasOneForm Step a
 one_form {form = form} F a = record { form = form a; normal = form_is_normal F a; only = λ b n. sym (normal_is_form F a b n) }
@@ -63,8 +61,6 @@ pub unicode_settles : (p q : UForm) → IsNormalForm (ListStep true text_cmp) p.
 unicode_settles p q a k =
     subst (IsNormalForm UnicodeStep p)
     (ap₂ with_parts (normal_is_form (sorting_is_form true text_cmp text_total) p.attributes q.attributes a) (normal_is_form (sorting_is_form true key_cmp key_total) (map untrue p.keywords) q.keywords k)) (form_is_normal u_formed p)
-
--- where the first extension of a singleton is
 
 -- where a search gives an index `a` below the length `b` and None else, None means that there is none
 not_found : (a b : ℕ) → cond (ltb a b) (Some a) None ≡ None → b ≤ a
@@ -101,8 +97,6 @@ pub found_settles : (R : List EntryParts) (n : ℕ) (es : List ExtensionParts) (
 found_settles R n es place e f h is normal =
     let found = found_there es n place e h is in
     record { within = found.within; from = e; there = is; of_singleton = found.of_singleton; normal = normal found.of_singleton }
-
--- one extension among others
 
 -- the singleton of an extension
 abbrev singleton_of : ExtensionParts → ℕ

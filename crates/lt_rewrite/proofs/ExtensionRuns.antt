@@ -88,8 +88,6 @@ t_explained R G start {es = es} {i = i} {e = e} {p = p} {q = q} {old = old} {new
     p q e old new (λ j. record { singleton = sym found.of_singleton j; subtags = from.spelled j }) from.shaped a none in
     record { settles = record { within = found.within; from = e; there = is; of_singleton = found.of_singleton; normal = l.0 }; adds = l.1 }
 
--- extensions in order by their singletons
-
 -- the singleton of an extension
 abbrev pub singleton_of : ExtensionParts → ℕ
 singleton_of e = e.singleton
@@ -167,8 +165,6 @@ module _ (R : List EntryParts) (start n most : ℕ) (own : (k : ℕ) (e : Extens
 pub few_before : (i : ℕ) (es : List ExtensionParts) → length (spell_extensions (take i es)) ≤ length (spell_extensions es)
 few_before i es = front_few spell_extension es i
 
--- what the phases keep
-
 -- if it is a `t` extension, it has the form of one (RFC 6497, 2.2)
 abbrev pub HasForm : ExtensionParts → Type 0
 HasForm e = e.singleton ≡ transform → (p : TForm) × IsTransform e.subtags p
@@ -191,8 +187,6 @@ distinct_step es fs (by_swap before a b after s) d =
     subst Distinct (sym (ap (map singleton_of) s.result ∙ map-append singleton_of before (b ∷ a ∷ after)))
     (distinct_swapped (map singleton_of before) a.singleton b.singleton (map singleton_of after) (subst Distinct (ap (map singleton_of) s.there ∙ map-append singleton_of before (a ∷ b ∷ after)) d))
 distinct_step es fs (by_drop before a between b after o s) d = absurd cc
-
--- exchanges
 
 -- a SwapExtensions step leads from one list of extensions, which begins after the given number of subtags, to another
 abbrev pub Swapping : ℕ → List ExtensionParts → Step → List ExtensionParts → Type 0
@@ -228,8 +222,6 @@ module _ (R : List EntryParts) (start : ℕ) where
         record { leads = (among s.0, s.1); first = none_earlier x y step h },
       )) es fs old new k a in
       record { kept = lift.0; ordered = rising_at_rest none; adds = lift.1 }
-
--- an extension in its place
 
 -- what `Explains` tells of an extension with the singleton `n`, `Settles` tells of it without the steps
 pub settles_of : (R : List EntryParts) (n start : ℕ) (es : List ExtensionParts) (o : Option (ℕ × ExtensionParts)) (old new : List Step) → Explains R n start es o old new → Settles R n es o
@@ -274,8 +266,6 @@ pub record UPlaced (R : List EntryParts) (start : ℕ) (es fs : List ExtensionPa
   pub ordered : IsRising singleton_cmp fs
   pub u_rests : AllByRecursion (λ x. x.singleton ≡ unicode → Rests (ExtensionStep R) x) fs
   pub adds : AddsOnExtensions R start es fs old new
-
--- one phase after another
 
 module _ (R : List EntryParts) (start : ℕ) {es fs gs hs : List ExtensionParts} (o : Option (ℕ × ExtensionParts)) {old new : List Step} (newer : List Step) where
   -- the phase of the `u` extension, after that of exchanges

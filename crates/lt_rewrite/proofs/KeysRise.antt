@@ -144,8 +144,6 @@ rise last (s ∷ ss) h =
     by_key true key k n r = by_after key (comes_after last s) refl k n r
     by_key false key k n r = by_type last refl key (is_type s) refl k n r
 
--- ---- the parts of a `u` extension of them
-
 -- the parts of a `u` extension's subtags: the attributes before the first key, and the keywords
 abbrev pub parts : List (List ℕ) → UForm
 parts ss = record { attributes = before is_key ss; keywords = keywords_of ss }

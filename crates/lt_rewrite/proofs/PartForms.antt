@@ -114,8 +114,6 @@ pub u_formed : IsFormOf UnicodeStep u_form
 u_formed =
     formed_by u_kept (λ p. pair_settles with_parts (λ as' bs ks s. on_attributes s refl) keyword_step u_parts (form_is_normal (sorting_is_form true text_cmp text_total) p.attributes) (form_is_normal keywords_formed p.keywords))
 
--- the shapes of the parts
-
 -- where each part spells a subtag, a list that is not empty does
 some_spelled : {A : Type 0} (spell : A → List (List ℕ)) → ((a : A) → 0 < length (spell a)) → (xs : List A) → xs ≢ [] → 0 < length (flat_map spell xs)
 some_spelled spell h [] n = absurd (n refl)
@@ -210,8 +208,6 @@ module _ (R : List EntryParts) (C : MeetsCoreConditions R) where
   t_formed =
       formed_by t_kept (λ p. transform_settles R p (t_form p) (source_formed p.source) (form_is_normal (sorting_is_form false separator_cmp separator_total) p.fields))
 
--- the shapes of the parts
-
 module _ (R : List EntryParts) (S : (c d : CoreParts) → IsCore c → CoreStep R c d → IsCore d) where
   -- a step on the parts of a `t` extension keeps their shapes
   pub t_shaped : (p q : TForm) → TransformStep R p q → IsT p → IsT q
@@ -234,8 +230,6 @@ t_step_length R p q (on_source c d from to s same_fields) =
     omega (arith, length-append {A = List ℕ}, spelled_no_longer c d (core_step_no_longer R c d s), ap (λ o. length (spell_source o)) from, ap (λ o. length (spell_source o)) to, ap (λ fs. length (flat_map spell_field fs)) same_fields)
 t_step_length R p q (on_fields h s) =
     omega (arith, length-append {A = List ℕ}, ap (λ o. length (spell_source o)) h, spelled_step spell_field p.fields q.fields s)
-
--- How many subtags attributes spell.
 
 -- attributes are as many as their subtags
 pub attributes_count : (xs : List (List ℕ)) → length (flat_map (λ a. a ∷ []) xs) ≡ length xs

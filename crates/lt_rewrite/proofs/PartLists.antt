@@ -75,8 +75,6 @@ all_both P Q S f (x ∷ xs) h k = (f x h.0 k.0, all_both P Q S f xs h.1 k.1)
 pub others_same : {A : Type 0} (x y : A) (xs ys : List A) → x ∷ xs ≡ y ∷ ys → xs ≡ ys
 others_same x y xs ys e = cc
 
--- the subtags of parts
-
 -- a step on a list makes its subtags no more
 pub spelled_step : {A : Type 0} (spell : A → List (List ℕ)) {once : Bool} {cmp : A → A → Ordering} (xs ys : List A) → ListStep once cmp xs ys → length (flat_map spell ys) ≤ length (flat_map spell xs)
 spelled_step spell xs ys (by_swap before a b after s) =
@@ -88,8 +86,6 @@ spelled_step spell xs ys (by_drop before a between b after o s) =
 pub spelled_replaced : {A : Type 0} (spell : A → List (List ℕ)) (before : List A) (v w : A) (after : List A) → length (spell w) ≤ length (spell v) → length (flat_map spell (before ++ w ∷ after)) ≤ length (flat_map spell (before ++ v ∷ after))
 spelled_replaced spell before v w after h =
     simp (flat_map-append, length-append) (omega arith)
-
--- the number of parts
 
 -- a step on a list makes its parts no more
 pub length_step : {A : Type 0} {once : Bool} {cmp : A → A → Ordering} (xs ys : List A) → ListStep once cmp xs ys → length ys ≤ length xs
@@ -109,8 +105,6 @@ step_some xs ys (by_drop before a between b after o s) e = empty_middle before a
 pub some_long : {A : Type 0} (xs : List A) → xs ≢ [] → 0 < length xs
 some_long [] h = absurd (h refl)
 some_long (x ∷ xs) h = omega arith
-
--- what holds of what may be there
 
 -- what holds of an optional value, if there is one, holds of the value
 pub if_some_is : {A : Type 0} (P : A → Type 0) (o : Option A) (a : A) → o ≡ Some a → IfSome o P → P a
@@ -157,8 +151,6 @@ same_by Q l r more (x ∷ xs) (y ∷ ys) v w us vs e q =
 pub same_cut : {A : Type 0} (xs ys : List A) (v w : A) (us vs : List A) → xs ++ v ∷ us ≡ ys ++ w ∷ vs → length xs ≡ length ys → SameCut xs ys v w us vs
 same_cut xs ys v w us vs e l =
     same_by (λ a b. length a ≡ length b) (λ y ys h. omega arith) (λ x xs h. omega arith) (λ x xs ys h. omega arith) xs ys v w us vs e l
-
--- lists of parts
 
 -- two cuts with as many subtags before them are the same, if each part has a subtag
 pub same_flat : {A : Type 0} (spell : A → List (List ℕ)) → ((a : A) → spell a ≢ []) → (xs ys : List A) (v w : A) (us vs : List A) → xs ++ v ∷ us ≡ ys ++ w ∷ vs → length (flat_map spell xs) ≡ length (flat_map spell ys) → SameCut xs ys v w us vs

@@ -20,8 +20,6 @@ use Rattle.lt_rewrite.specs.Shortcuts.{IsOnward, LeadsTo, IsShortcut, LeadOn}
 use Rattle.std.specs.List.Sorted.{IsNonDecreasingBy}
 use Rattle.lt_rewrite.proofs.ChainWalks.{chain_ends_within, next, next_by, some, walk_form}
 
--- Walks along a chain of values that pass over a part of it.
-
 -- onward by `n` values, and then by `m`, is onward by `n` + `m`
 onward_trans : (f : List ℕ → Option (List ℕ)) (n m : ℕ) (s t u : List ℕ) → IsOnward f n s t → IsOnward f m t u → IsOnward f (n + m) s u
 onward_trans f n m s t u a b = (b.0 + a.0, omega (arith, a.1, b.1), chase_plus f b.0 a.0 s ∙ ap (chase f b.0) a.2 ∙ b.2)
@@ -51,8 +49,6 @@ onward_endless R k s t u a e ends = let none : next_value R k t ≡ None = onwar
 -- what is onward from a subtag has the form of the kind, if the subtag has it
 pub onward_form : (R : List EntryParts) → IsRegistry R → (k : Kind) (n : ℕ) (s t : List ℕ) → IsOnward (next_value R k) n s t → has_form k s ≡ true → has_form k t ≡ true
 onward_form R G k n s t a h = walk_form R G k a.0 s t a.2 h
-
--- each place and its shortcut
 
 -- what holds of each other index and its number, and of the index `n` and `j`, holds of all once `j` is at `n`
 pub each_set : (P : ℕ → ℕ → Type 0) (xs : List ℕ) (n j : ℕ) → ((i k : ℕ) → (i ≡ n → ⊥) → slice_get xs i ≡ Some k → P i k) → P n j → (i k : ℕ) → slice_get (set xs n j) i ≡ Some k → P i k

@@ -27,8 +27,6 @@ use Rattle.lt_rewrite.specs.declared.steps.StepKind.TheVariants as steps
 use Rattle.lt_rewrite.proofs.CoreLeading.{core_high, core_rank, one_spot, same_step}
 use Rattle.lt_rewrite.proofs.ExtensionLeading.{Says, UnicodeKind, as_kind, as_swap, behind, drop_attribute, drop_keyword, drop_true, in_u, inside_t, inside_u, moved, of_t, of_u, order, said, swap_attributes, swap_keywords, to_fields, to_swaps, told}
 
--- The kind and the place of a step determine its record and its result.
-
 -- two steps of one kind at one place
 record SameSpot (step other : Step) : Type 0 where
   pub kind : step.kind ≡ other.kind

@@ -16,14 +16,14 @@ use Rattle.lt_rewrite.specs.Orderings.{SwapsAt, DropsAt}
 use Rattle.lt_rewrite.specs.Extensions.{DropsTrue, UnicodeStep, TransformStep, ExtensionStep, ExtensionsStep}
 use Rattle.lt_rewrite.specs.declared.steps.Step.{Step}
 
--- the answer of a call that takes a step, where `Leads` tells to what the step leads: if true, it leads to the value
--- `new`, which is there after the call; if false, to none
+-- the answer of a call that takes a step, where `Leads` tells to what the step leads: true says that it leads to `new`,
+-- the value after the call, and false that it leads to none
 abbrev pub Answers : {A : Type 0} → (A → Type 0) → A → Bool → Type 0
 Answers Leads new true = Leads new
 Answers {A} Leads new false = (other : A) → Leads other → ⊥
 
--- what a call makes by a step, where `Leads` tells to what the step leads: a value to which it leads, or None where it
--- leads to none
+-- what a call makes by a step, where `Leads` tells to what the step leads: a value to which it leads, or None if there
+-- is no such value
 abbrev pub Changes : {A : Type 0} → (A → Type 0) → Option A → Type 0
 Changes Leads (Some new) = Leads new
 Changes {A} Leads None = (other : A) → Leads other → ⊥
@@ -37,8 +37,8 @@ pub record IsValueBy (R : List EntryParts) (kind : Kind) (s : List ℕ) (number 
 abbrev pub CoreLeads : List EntryParts → ℕ → CoreParts → Step → CoreParts → Type 0
 CoreLeads R start c step d = (s : CoreStep R c d) × (core_label R start s ≡ step)
 
--- `place` is that of the first subtag of the part at `index`, in a list `xs` that begins after `start` subtags; `spell`
--- gives the subtags of a part
+-- the part at `index` begins at `place`, in a list `xs` that begins after `start` subtags; `spell` gives the subtags of
+-- a part
 abbrev pub IsPlaceOf : {A : Type 0} → (A → List (List ℕ)) → ℕ → List A → ℕ → ℕ → Type 0
 IsPlaceOf spell start xs index place = place ≡ start + length (flat_map spell (take index xs)) + 1
 
@@ -48,8 +48,8 @@ pub record HasLike {A : Type 0} (cmp : A → A → Ordering) (xs : List A) (inde
   pub before : earlier < index
   pub alike : (default : A) → cmp (slice_index_or xs index default) (slice_index_or xs earlier default) ≡ Equal
 
--- two neighbours in falling order change places, the first of which begins at `place`; the list begins after `start`
--- subtags, and `spell` gives those of a part
+-- two neighbours in falling order change places, and the first of them begins at `place`; the list begins after `start`
+-- subtags, and `spell` gives the subtags of a part
 pub record SwapLeads {A : Type 0} (cmp : A → A → Ordering)
     (spell : A → List (List ℕ)) (start place : ℕ) (xs ys : List A) : Type 0 where
   pub before : List A
@@ -60,7 +60,7 @@ pub record SwapLeads {A : Type 0} (cmp : A → A → Ordering)
   pub at : place ≡ start + length (flat_map spell before) + 1
 
 -- a part that begins at `place` is dropped, since an earlier one is equal to it in order; the list begins after `start`
--- subtags, and `spell` gives those of a part
+-- subtags, and `spell` gives the subtags of a part
 pub record DropLeads {A : Type 0} (cmp : A → A → Ordering)
     (spell : A → List (List ℕ)) (start place : ℕ) (xs ys : List A) : Type 0 where
   pub before : List A
@@ -92,7 +92,7 @@ abbrev pub ExtensionLeads : List EntryParts → ℕ → ExtensionParts → Step 
 ExtensionLeads R start e step f = (s : ExtensionStep R e f) × (extension_label R start s ≡ step)
 
 -- the step leads from the extension at an index to `f`, where the extensions begin after `start` subtags; `default`
--- stands for one beyond the end
+-- stands for an extension beyond the end
 abbrev pub LeadsAt : List EntryParts → ℕ → List ExtensionParts → Step → ℕ → ExtensionParts → Type 0
 LeadsAt R start es step index f =
     (default : ExtensionParts)

@@ -8,7 +8,7 @@ use Rattle.lt_registry.specs.declared.entries.Kind.TheVariants as kinds
 use Rattle.lt_rewrite.specs.CoreSteps.{Ends, EndsIn}
 use Rattle.lt_rewrite.specs.Conditions.{next_value}
 
--- the chain of values from a subtag of a kind ends in `d`; for an extlang it is that of its replacement as a language
+-- the chain of values from a subtag of a kind ends in `d`; that of an extlang begins at its replacement, a language
 abbrev pub ChainEndsIn : List EntryParts → Kind → List ℕ → List ℕ → Type 0
 ChainEndsIn R kinds.Extlang s d = EndsIn (next_value R kinds.Language) (replacement R s) d
 ChainEndsIn R kinds.Language s d = EndsIn (next_value R kinds.Language) s d
@@ -28,8 +28,8 @@ ChainEnds R kinds.Variant s = Ends (next_value R kinds.Variant) s
 ChainEnds R kinds.Grandfathered s = Ends (next_value R kinds.Grandfathered) s
 ChainEnds R kinds.Redundant s = Ends (next_value R kinds.Redundant) s
 
--- the value of an entry that comes next in a chain of values of the kind: of a variant only a variant; none of an
--- extlang and of a whole tag
+-- the value of an entry that comes next in a chain of values of the kind: after a variant only a variant comes next,
+-- and after an extlang or a whole tag none
 abbrev pub following : Kind → EntryParts → Option (List ℕ)
 following kinds.Language e = one_of e.value
 following kinds.Extlang e = None

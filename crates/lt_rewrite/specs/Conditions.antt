@@ -53,7 +53,7 @@ pub record IsFinalLanguage (R : List EntryParts) (l : List ℕ) : Type 0 where
   pub registered : is_registered R kinds.Language l ≡ true
   pub final : preferred_value R kinds.Language l ≡ None
 
--- The extlang is one subtag, and its one Prefix is a final language. It and its replacement are registered as
+-- The extlang is one subtag, and its one Prefix is a final language. The extlang and its replacement are registered as
 -- languages, and the chains of values from both end in one language (RFC 5646, 2.2.2).
 pub record IsFittingExtlang (R : List EntryParts) (e : EntryParts) : Type 0 where
   pub subtag : List ℕ
@@ -97,8 +97,8 @@ second_entry R (x ∷ xs) vs = entry R kinds.Extlang x
 second_entry R [] (v ∷ vs) = entry R kinds.Variant v
 second_entry R [] [] = None
 
--- A grandfathered record has one of the 26 tags. And the record, of whatever kind, is not the entry of the second
--- subtag of one of these tags that, read as a langtag, would be valid (C8; RFC 5646, 2.2.8).
+-- A grandfathered record has one of the 26 tags. If one of these tags would be valid when read as a langtag, then the
+-- record, of whatever kind, is not the entry of its second subtag (C8; RFC 5646, 2.2.8).
 pub record HasFittingGrandfathered (R : List EntryParts) (e : EntryParts) : Type 0 where
   pub named : e.kind ≡ kinds.Grandfathered → (number : ℕ) × (e.name ≡ names.Whole (Grandfathered number))
   pub regular : (c : CoreParts) (number : ℕ) → IsCore c → IsGrandfathered (spell_core c) number → IsProperCore R c →

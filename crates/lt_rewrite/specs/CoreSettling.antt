@@ -1,4 +1,4 @@
--- Cores some of whose subtags are at the ends of their chains, and the variant of a VariantLanguage step (RFC 5646,
+-- When the subtags of a core are at the ends of their chains, and which variant a VariantLanguage step drops (RFC 5646,
 -- 4.5).
 use Rattle.std.specs.Prelude.{ℕ, ◌≡◌, ◌<◌, suc, List, ◌∷◌, ◌++◌, Some, None, All, IfSome, length, take, drop}
 use Rattle.std.specs.List.{AllByRecursion}
@@ -28,8 +28,8 @@ HasFinalVariants R c = All (λ v. variant_value R v ≡ None) c.variants
 abbrev pub HasNoVariantLanguage : List EntryParts → CoreParts → Type 0
 HasNoVariantLanguage R c = All (λ v. language_beside R c.language v ≡ None) c.variants
 
--- the variant at an index is the leftmost with a VariantLanguage step beside the core's language, and the step leads to
--- `m`
+-- the variant at an index is the leftmost with a VariantLanguage step beside the core's language, and the step makes
+-- `m` the language
 pub record IsFirstVariantLanguage (R : List EntryParts) (c : CoreParts) (index : ℕ) (m : List ℕ) : Type 0 where
   pub within : index < length c.variants
   pub variant : List ℕ

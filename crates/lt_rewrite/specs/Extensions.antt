@@ -25,8 +25,8 @@ separator_cmp a b = text_cmp a.separator b.separator
 abbrev pub singleton_cmp : ExtensionParts → ExtensionParts → Ordering
 singleton_cmp a b = nat_cmp a.singleton b.singleton
 
--- the keyword `k`, between `before` and `after`, loses its only type, `true`, by which the keywords `p` become `q`
--- (this project's own)
+-- the keyword `k`, between `before` and `after`, loses its only type, `true`, so that the keywords `p` become `q` (this
+-- project's own)
 pub record DropsTrue (before : List KeywordParts) (k : KeywordParts) (after : List KeywordParts)
     (p q : List KeywordParts) : Type 0 where
   pub there : p ≡ before ++ k ∷ after

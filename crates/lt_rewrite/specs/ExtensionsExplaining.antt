@@ -9,7 +9,7 @@ use Rattle.lt_rewrite.specs.Runs.{extension_rank, Adds}
 use Rattle.lt_rewrite.specs.ExtensionsSettling.{SettlesAt}
 use Rattle.lt_rewrite.specs.declared.steps.Step.{Step}
 
--- the extension at an index has the singleton, `f` is its normal form, and `new` is `old` with the steps to it added;
+-- the extension at an index has this singleton, `f` is its normal form, and `new` is `old` with the steps to `f` added;
 -- the extensions begin after `start` subtags
 pub record ExplainsAt (R : List EntryParts) (singleton start : ℕ) (es : List ExtensionParts)
     (index : ℕ) (f : ExtensionParts) (old new : List Step) : Type 0 where
@@ -17,8 +17,9 @@ pub record ExplainsAt (R : List EntryParts) (singleton start : ℕ) (es : List E
   pub adds : Adds (ExtensionLeads R (start + length (spell_extensions (take index es)) + 1))
       (λ _ step. extension_rank step) settles.from f old new
 
--- the extension with the singleton, if there is one, is given by its index and its normal form, and `new` is `old` with
--- the steps to it added; if there is none, `new` is `old`; the extensions begin after `start` subtags
+-- `Some` gives the index of an extension with this singleton and its normal form, and `new` is `old` with the steps to
+-- that form added; `None` says that there is no such extension, and `new` is `old`; the extensions begin after `start`
+-- subtags
 abbrev pub Explains : List EntryParts → ℕ → ℕ → List ExtensionParts
     → Option (ℕ × ExtensionParts) → List Step → List Step → Type 0
 Explains R singleton start es None old new = AllByRecursion (λ e. e.singleton ≢ singleton) es × (new ≡ old)

@@ -15,12 +15,13 @@ pub record SettlesAt (R : List EntryParts) (singleton : ℕ)
   pub of_singleton : from.singleton ≡ singleton
   pub normal : IsNormalForm (ExtensionStep R) from f
 
--- the index and the normal form of the extension with this singleton, or None where each of it is in its normal form
+-- `Some` gives the index among `es` of an extension with this singleton, and its normal form, which it may have
+-- already; `None` says that no step changes such an extension, or that there is none
 abbrev pub Settles : List EntryParts → ℕ → List ExtensionParts → Option (ℕ × ExtensionParts) → Type 0
 Settles R singleton es None = AllByRecursion (λ e. e.singleton ≡ singleton → Rests (ExtensionStep R) e) es
 Settles R singleton es (Some settled) = SettlesAt R singleton es settled.0 settled.1
 
--- the extensions, where the one at the given index is replaced by the normal form given with it, if there is one
+-- the extensions, with the normal form that is given in the place of the one at its index; as they are if none is given
 abbrev pub placed : Option (ℕ × ExtensionParts) → List ExtensionParts → List ExtensionParts
 placed None es = es
 placed (Some settled) es = slice_set es settled.0 settled.1

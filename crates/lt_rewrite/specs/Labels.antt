@@ -53,7 +53,7 @@ place_at c at_region = before_region c + 1
 place_at c (at_variant i) = before_variants c + i + 1
 place_at c (at_variant_language i) = before_variants c + i + 1
 
--- the name of a step on a core; the core begins after `start` subtags
+-- the name of a step on a core that begins after `start` subtags
 abbrev pub core_label : (R : List EntryParts) (start : ℕ) {c d : CoreParts} → CoreStep R c d → Step
 core_label R start {c} s =
     step_at (kind_at s.spot) (start + place_at c s.spot) (number_of (entry R (subtag_kind_at s.spot) s.subtag))

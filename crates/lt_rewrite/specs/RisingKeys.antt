@@ -22,8 +22,8 @@ comes_after (Some last) key = is_above (text_cmp key last)
 abbrev pub is_type : List ℕ → Bool
 is_type s = is_long s && not (bytes_eq s (codes "true"))
 
--- the last key once a subtag follows it: that subtag if it is a later key, the same key if it is a type other than
--- `true`; else None
+-- the last key once the subtag `s` follows it: `s` if that is a later key, the same last key if `s` is a type other
+-- than `true`, and else None
 abbrev pub next_key : Option (List ℕ) → List ℕ → Option (List ℕ)
 next_key last s =
     if is_key s then (if comes_after last s then Some s else None)

@@ -32,8 +32,8 @@ rank_of steps.SwapFields = 20
 abbrev pub kind_rank : Step → ℕ
 kind_rank step = rank_of step.kind
 
--- the rank of a step on extensions, where each step on a core is one on a source, after DropTrue (13) and before
--- SwapFields (20)
+-- the rank of a step on extensions: a step on a core is there one on a source, and its rank is between those of
+-- DropTrue (13) and SwapFields (20)
 abbrev pub extension_rank : Step → ℕ
 extension_rank step = if nat_le (kind_rank step) 6 then kind_rank step + 13 else kind_rank step
 
@@ -92,16 +92,16 @@ pub record IsFirstOnCore (R : List EntryParts) (start : ℕ) (c : CoreParts) (st
 abbrev pub AddsOnCore : List EntryParts → ℕ → CoreParts → CoreParts → List Step → List Step → Type 0
 AddsOnCore R start c d old new = Adds (CoreLeads R start) (λ _ step. kind_rank step) c d old new
 
--- by a step of this kind, which uses no record, two neighbours in falling order change places, by which the list `xs`
--- becomes `ys`; it begins after `start` subtags, and `spell` gives those of a part
+-- by a step of this kind, which uses no record, two neighbours in falling order change places, so that the list `xs`
+-- becomes `ys`; the list begins after `start` subtags, and `spell` gives the subtags of a part
 pub record SwapsBy {A : Type 0} (cmp : A → A → Ordering) (spell : A → List (List ℕ))
     (kind : StepKind) (start : ℕ) (xs : List A) (step : Step) (ys : List A) : Type 0 where
   pub of_kind : step.kind ≡ kind
   pub unnumbered : step.number ≡ 0
   pub leads : SwapLeads cmp spell start step.place xs ys
 
--- by a step of this kind, which uses no record, a part is dropped to which an earlier one is equal in the order, by
--- which the list `xs` becomes `ys`; it begins after `start` subtags, and `spell` gives those of a part
+-- by a step of this kind, which uses no record, a part that is equal in the order to an earlier one is dropped, so that
+-- the list `xs` becomes `ys`; the list begins after `start` subtags, and `spell` gives the subtags of a part
 pub record DropsBy {A : Type 0} (cmp : A → A → Ordering) (spell : A → List (List ℕ))
     (kind : StepKind) (start : ℕ) (xs : List A) (step : Step) (ys : List A) : Type 0 where
   pub of_kind : step.kind ≡ kind
@@ -125,7 +125,7 @@ pub record IsFirstRepeat {A : Type 0} (cmp : A → A → Ordering) (xs : List A)
   pub repeats : HasLike cmp xs index
   pub leftmost : (other : ℕ) → other < index → HasLike cmp xs other → ⊥
 
--- by a step DropTrue one of the keywords `ks` loses its only type, `true`, by which they become `ls`; they begin after
+-- by a DropTrue step one of the keywords `ks` loses its only type, `true`, so that they become `ls`; they begin after
 -- `start` subtags
 pub record DropsTrueBy (start : ℕ) (ks : List KeywordParts) (step : Step) (ls : List KeywordParts) : Type 0 where
   pub of_kind : step.kind ≡ steps.DropTrue

@@ -12,7 +12,8 @@ use Rattle.lt_rewrite.specs.ChainEnds.{following}
 abbrev pub IsOnward : (List ℕ → Option (List ℕ)) → ℕ → List ℕ → List ℕ → Type 0
 IsOnward f n s t = (m : ℕ) × (n ≤ m) × (chase f m s ≡ t)
 
--- a record of the kind is at the place in the list `R`, and its value is onward by `n` values from the subtag `v`
+-- a record of the kind is at `place` in the list `R`, and its value is `n` values or more on from the subtag `v`, or
+-- the end of a chain that is shorter
 pub record LeadsTo (R : List EntryParts) (kind : Kind) (n : ℕ) (v : List ℕ) (place : ℕ) : Type 0 where
   pub entry : EntryParts
   pub there : slice_get R place ≡ Some entry
@@ -21,12 +22,13 @@ pub record LeadsTo (R : List EntryParts) (kind : Kind) (n : ℕ) (v : List ℕ) 
   pub follows : following entry.kind entry ≡ Some value
   pub onward : IsOnward (next_value R kind) n v value
 
--- from the record at `i` a shortcut leads to the record at `j`, onward by `n` values
+-- from the record at `i` a shortcut of `n` values leads to the record at `j`
 abbrev pub IsShortcut : List EntryParts → ℕ → ℕ → ℕ → Type 0
 IsShortcut R n i j =
     (e : EntryParts) (v : List ℕ) → slice_get R i ≡ Some e → following e.kind e ≡ Some v → LeadsTo R e.kind n v j
 
--- the shortcuts lead onward by `n` values: `places` has for each record that of a record, which may be itself
+-- the shortcuts lead onward by `n` values: for each record `places` has the place of the one to which its shortcut
+-- leads, which may be itself
 pub record LeadOn (R : List EntryParts) (n : ℕ) (places : List ℕ) : Type 0 where
   pub one_each : length places ≡ length R
   pub within : (i j : ℕ) → slice_get places i ≡ Some j → j < length R
@@ -37,7 +39,8 @@ pub record LeadOn (R : List EntryParts) (n : ℕ) (places : List ℕ) : Type 0 w
 abbrev pub GrowNoMore : List ℕ → Type 0
 GrowNoMore places = (R : List EntryParts) (n : ℕ) → LeadOn R n places → LeadOn R (n + n) places
 
--- the shortcuts that are kept of a registry: for each record, the place of one, which may be its own
+-- the shortcuts that are kept of a registry: for each record the place of the one to which its shortcut leads, which
+-- may be its own
 pub record ShortcutParts : Type 0 where
   pub places : List ℕ
 

@@ -2,17 +2,20 @@ use Rattle.lt_registry.proofs.ValidityLaws.{proper_law}
 use Rattle.lt_rewrite.proofs.TagLeading.{not_proper}
 use Rattle.lt_rewrite.proofs.applying.apply.Goals as goal
 
+-- `change` found no tag to which the step leads, so it leads to no proper one
 pub returns-in_default-clause-err : goal.returns-in_default-clause-err
 returns-in_default-clause-err g c =
     let none = rw c.in_default.is at c.in_ok-changed.ensures in
     λ u m. none u m.0.to.tag (m.0.change, m.1)
 
+-- the tag to which the step leads is proper
 pub returns-then-branch-clause-ok : goal.returns-then-branch-clause-ok
 returns-then-branch-clause-ok g c =
     let R = g.L.Lookup.listed c.args.table.now in
     let leads = rw c.in-Some.is at c.in_ok-changed.ensures in
     (record { from = c.requires; to = (proper_law R c.in-Some.changed c.extensions.ensures.tag).1 (c.in_ok-proper.ensures.answer.0 c.if-branch.true); change = leads.0 }, leads.1)
 
+-- the step leads to one tag at most, and this one is not proper
 pub returns-else-branch-clause-err : goal.returns-else-branch-clause-err
 returns-else-branch-clause-err g c =
     let R = g.L.Lookup.listed c.args.table.now in

@@ -6,6 +6,7 @@ use Rattle.lt_rewrite.proofs.TagLeading.{fits, few_subtags, core_changed, extens
 use Rattle.lt_rewrite.proofs.ExtensionForms.{extensions_step_count}
 use Rattle.lt_rewrite.proofs.applying.change_parts.Goals as goal
 
+-- the step changes the core, beside which the tag's extensions, few as they are, stay
 pub returns-in-Some : goal.returns-in-Some
 returns-in-Some g c =
     let t = c.args.tag.now in
@@ -14,12 +15,14 @@ returns-in-Some g c =
     let leads = rw c.in-Some.is at c.in_ok-changed.ensures in
     (rw same (core_changed (g.L.Lookup.listed c.args.table.now) t c.args.step c.args.core.now c.in-Some.changed c.requires.core leads), omega (arith, few, ap length same))
 
+-- a tag has at most 1024 extensions of at most 1025 subtags each, so with its core it is within the bound
 pub change_extensions-requires : goal.change_extensions-requires
 change_extensions-requires g c =
     let t = c.args.tag.now in
     let f = fits t c.extensions-2.ensures.tag.counts in
     omega (arith, few_subtags (extensions_of t) f.1, f.0, ap (λ es. length (spell_extensions es)) c.extensions-2.ensures.value, c.core_length.ensures.few)
 
+-- the step changes the extensions, beside which the core stays; they become no more by it
 pub returns-in_ok-copy-in-Some-2 : goal.returns-in_ok-copy-in-Some-2
 returns-in_ok-copy-in-Some-2 g c =
     let R = g.L.Lookup.listed c.args.table.now in
@@ -31,6 +34,7 @@ returns-in_ok-copy-in-Some-2 g c =
       omega (arith, extensions_step_count R (extensions_of t) fs leads.0, (fits t c.extensions-2.ensures.tag.counts).0),
     )
 
+-- the step is no Whole step, and leads on neither from the core nor from the extensions
 pub returns-in-None : goal.returns-in-None
 returns-in-None g c =
     kept (g.L.Lookup.listed c.args.table.now) c.args.tag.now c.args.step c.args.core.now c.requires.core c.requires.kind (rw c.in_default.is at c.in_ok-changed.ensures)

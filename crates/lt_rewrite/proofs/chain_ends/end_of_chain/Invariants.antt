@@ -3,6 +3,6 @@ use Rattle.lt_rewrite.specs.CoreSteps.{chase}
 use Rattle.lt_rewrite.specs.Conditions.{next_value}
 use Rattle.lt_rewrite.proofs.chain_ends.end_of_chain.Given as goal
 
--- this many values have been followed
+-- `end` is as many values on from the subtag as there were turns
 abbrev pub invariant-loop-step : goal.invariant-loop-step
 invariant-loop-step g l = l.end ≡ chase (next_value (g.L.Lookup.listed l.table) l.kind) l._step l.subtag

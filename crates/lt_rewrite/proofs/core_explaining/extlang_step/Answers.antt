@@ -5,6 +5,7 @@ use Rattle.lt_rewrite.specs.CoreSteps.{at_extlang}
 use Rattle.lt_rewrite.proofs.CoreLeading.{first_part}
 use Rattle.lt_rewrite.proofs.core_explaining.extlang_step.Goals as goal
 
+-- there is exactly one extlang, so this is the one Extlang step
 pub returns : goal.returns
 returns g c =
     let R = g.L.Lookup.listed c.args.table.now in

@@ -7,6 +7,7 @@ use Rattle.lt_rewrite.proofs.CoreSteps.{none_of, there_alone}
 use Rattle.lt_rewrite.proofs.CoreLeading.{first_part}
 use Rattle.lt_rewrite.proofs.core_explaining.language_step.Goals as goal
 
+-- there are no extlangs, and the language has a value, so this is the one Language step
 pub returns : goal.returns
 returns g c =
     let R = g.L.Lookup.listed c.args.table.now in

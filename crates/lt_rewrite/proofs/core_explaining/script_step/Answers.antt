@@ -4,6 +4,7 @@ use Rattle.lt_rewrite.specs.CoreSteps.{at_script}
 use Rattle.lt_rewrite.proofs.CoreLeading.{first_part}
 use Rattle.lt_rewrite.proofs.core_explaining.script_step.Goals as goal
 
+-- there is a script, and it has a value, so this is the one Script step
 pub returns : goal.returns
 returns g c =
     first_part (g.L.Lookup.listed c.args.table.now) c.args.start c.args.core.now _ at_script c.in_ok-script.script.now c.in_ok-value.field-0.now tt refl

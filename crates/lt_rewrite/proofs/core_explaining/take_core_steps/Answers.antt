@@ -5,12 +5,14 @@ use Rattle.lt_rewrite.proofs.CoreLaws.{weight_falls}
 use Rattle.lt_rewrite.proofs.FirstSteps.{adds_more}
 use Rattle.lt_rewrite.proofs.core_explaining.take_core_steps.Goals as goal
 
+-- a step makes the weight of the core less, since the chains of the registry end
 pub loop-step-smaller : goal.loop-step-smaller
 loop-step-smaller g c =
     let R = g.L.Lookup.listed c.args.table.now in
     let step = applied R c.args.start c.loop-step.core c.apply_to_core.new.core c.in-Some.step c.apply_to_core.result c.in-Some.ensures c.apply_to_core.ensures in
     weight_falls R c.requires.chains c.loop-step.core c.apply_to_core.new.core step.leads.0
 
+-- a turn takes one step more, the first that leads on from where the others led
 pub loop-step-preserved : goal.loop-step-preserved
 loop-step-preserved g c =
     let R = g.L.Lookup.listed c.args.table.now in

@@ -4,11 +4,13 @@ use Rattle.lt_tag.specs.Parts.{CoreParts}
 use Rattle.lt_rewrite.proofs.CoreSettling.{rests_settled}
 use Rattle.lt_rewrite.proofs.core_settling.settle_along.Goals as goal
 
+-- there are no extlangs, and script, region, language and variants are settled, so no step is left
 pub returns-then-is_empty : goal.returns-then-is_empty
 returns-then-is_empty g c =
     let settled = c.settle_all_variant_languages.ensures in
     rests_settled (g.L.Lookup.listed c.args.table.now) c.args.core.now c.settle_script.new.core c.settle_region.new.core c.settle_extlang.new.core _ (search rules) settled.reached settled.variants (λ e. (settled.language, settled.variant_languages)) settled.others
 
+-- script, region and variants are settled; with the extlangs that stay, the language has no step
 pub returns-else-is_empty : goal.returns-else-is_empty
 returns-else-is_empty g c =
     let settled = c.settle_variants.ensures in

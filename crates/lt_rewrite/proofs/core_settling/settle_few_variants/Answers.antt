@@ -5,6 +5,7 @@ use Rattle.lt_rewrite.proofs.CoreSettling.{one_settled, all_settled}
 use Rattle.lt_rewrite.proofs.VariantPlaces.{placed_more}
 use Rattle.lt_rewrite.proofs.core_settling.settle_few_variants.Goals as goal
 
+-- a turn puts one variant more at the end of its chain, and adds the place of the end's entry
 pub loop-index-preserved : goal.loop-index-preserved
 loop-index-preserved g c =
     let R = g.L.Lookup.listed c.args.table.now in
@@ -19,6 +20,7 @@ loop-index-preserved g c =
           (placed_more R core.variants c.loop-index.places.items i e.1 e.0 (omega (arith, c.loop-index-test.true, c.loop-index.invariant.settled.count)) c.settled_variant-end.ensures.place c.loop-index.invariant.places));
     }
 
+-- no variant is left, so `places` are those of all
 pub returns-clause-places : goal.returns-clause-places
 returns-clause-places g c =
     let R = g.L.Lookup.listed c.args.table.now in

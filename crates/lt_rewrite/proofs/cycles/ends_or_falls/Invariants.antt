@@ -4,6 +4,6 @@ use Rattle.lt_rewrite.specs.CoreSteps.{chase}
 use Rattle.lt_rewrite.specs.Conditions.{next_value}
 use Rattle.lt_rewrite.proofs.cycles.ends_or_falls.Given as goal
 
--- this many values have been followed
+-- the subtag is as many values on from the record's value as there were turns
 abbrev pub invariant-loop-step : goal.invariant-loop-step
 invariant-loop-step g l = (v : List ℕ) → one_of l.entry.value ≡ Some v → l.subtag ≡ chase (next_value (g.L.Lookup.listed l.table) l.kind) l._step v

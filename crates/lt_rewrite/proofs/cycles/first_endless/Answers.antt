@@ -9,6 +9,7 @@ use Rattle.lt_rewrite.proofs.ChainWalks.{file_order}
 use Rattle.lt_rewrite.proofs.ShortcutWalks.{lower_are_before, first_there}
 use Rattle.lt_rewrite.proofs.cycles.first_endless.Goals as goal
 
+-- the chain of this record has no end, and those of all before it, which have the lower numbers, end
 pub returns-then-not-ends_or_falls : goal.returns-then-not-ends_or_falls
 returns-then-not-ends_or_falls g c =
     let R = g.L.Lookup.listed c.args.table.now in
@@ -19,6 +20,7 @@ returns-then-not-ends_or_falls g c =
     let so_far : All (HasEndingChain R) (take i R) = subst (λ xs. All (HasEndingChain R) (take i xs)) c.entries-entry-items.ensures.value c.loop-entry.invariant in
     subst (IsFirstCycle R) (sym c.number.ensures.value) (first_there R i e c.entries-entry-items.ensures.rising within there so_far c.if-not-ends_or_falls.ensures)
 
+-- the chains of the records of lower numbers end, so the chain of this one does
 pub loop-entry-preserved : goal.loop-entry-preserved
 loop-entry-preserved g c =
     let R = g.L.Lookup.listed c.args.table.now in
@@ -30,6 +32,7 @@ loop-entry-preserved g c =
     let earlier : EarlierEnd R orders.File (place orders.File e.number) = file_order R e (lower_are_before (HasEndingChain R) R i e c.entries-entry-items.ensures.rising within there so_far) in
     All-more (HasEndingChain R) c.entries-entry-items.result.now i e c.loop-entry-test.true c.loop-entry.invariant (subst (HasEndingChain R) c.entry-item.is (c.if-not-ends_or_falls.ensures earlier))
 
+-- no record is left, so each chain ends
 pub returns : goal.returns
 returns g c =
     let R = g.L.Lookup.listed c.args.table.now in

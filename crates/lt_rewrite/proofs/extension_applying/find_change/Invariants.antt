@@ -4,7 +4,7 @@ use Rattle.lt_tag.specs.Spelling.{spell_extensions}
 use Rattle.lt_rewrite.specs.Applying.{LeadsAt}
 use Rattle.lt_rewrite.proofs.extension_applying.find_change.Given as goal
 
--- where this extension begins, and that the step acts inside none before it
+-- `place` is where this extension begins, and the step acts inside none before it
 abbrev pub invariant-loop-index : goal.invariant-loop-index
 invariant-loop-index g l = record {
   here : l.place ≡ l.start + length (spell_extensions (take l.index l.extensions)) + 1;

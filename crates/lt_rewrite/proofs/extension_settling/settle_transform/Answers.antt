@@ -11,6 +11,7 @@ use Rattle.lt_rewrite.proofs.PartForms.{OnSome, none_settles, source_settles, tr
 use Rattle.lt_rewrite.proofs.extension_settling.settle_transform.Goals as goal
 use Rattle.lt_rewrite.proofs.extension_settling.settle_transform.Goals.{in-Some, in_default}
 
+-- the fields are in order, and the source, if there is one, is in its normal form, so no step is left
 pub returns-clause-settled : goal.returns-clause-settled
 returns-clause-settled g c =
     let R = g.L.Lookup.listed c.args.table.now in
@@ -29,10 +30,12 @@ returns-clause-settled g c =
           (subst (λ (o : Option CoreParts). IsNormalForm (OnSome R) o c.parts.inside.source) source (subst (λ (o : Option CoreParts). IsNormalForm (OnSome R) o o) (sym w.in_default.is) (none_settles R))) fields)
     ]
 
+-- each step to the normal form keeps the shape of the parts
 pub returns-clause-shaped : goal.returns-clause-shaped
 returns-clause-shaped g c =
     star_keeps IsT (t_shaped (g.L.Lookup.listed c.args.table.now) (step_shaped (g.L.Lookup.listed c.args.table.now) c.recall_forms.ensures)) (returns-clause-settled g c).reached
 
+-- each step to the normal form makes the subtags no more
 pub returns-clause-few : goal.returns-clause-few
 returns-clause-few g c =
     star_no_more (λ (t : TForm). length (spell_t t)) (t_step_length (g.L.Lookup.listed c.args.table.now)) (returns-clause-settled g c).reached

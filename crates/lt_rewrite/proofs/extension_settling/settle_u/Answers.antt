@@ -12,6 +12,7 @@ use Rattle.lt_rewrite.proofs.PartForms.{u_shaped, u_step_length}
 use Rattle.lt_rewrite.proofs.ExtensionLaws.{unicode_settles}
 use Rattle.lt_rewrite.proofs.extension_settling.settle_u.Goals as goal
 
+-- a turn takes a sole type `true` from one keyword more
 pub loop-keyword-preserved : goal.loop-keyword-preserved
 loop-keyword-preserved c =
     let ys : List KeywordParts = c.loop-keyword.keyword-items in
@@ -23,6 +24,7 @@ loop-keyword-preserved c =
 all_of : (xs ys : List KeywordParts) (i : ℕ) → length xs ≤ i → ys ≡ map untrue (take i xs) ++ drop i xs → ys ≡ map untrue xs
 all_of xs ys i h e = e ∙ ap (λ zs. map untrue (take i xs) ++ zs) (drop_all i xs h) ∙ append-nil (map untrue (take i xs)) ∙ ap (map untrue) (take_all i xs h)
 
+-- attributes and keywords are in order, each once, and no keyword has the sole type `true`, so no step is left
 pub returns-clause-settled : goal.returns-clause-settled
 returns-clause-settled c =
     let p : UForm = c.args.parts.now in
@@ -37,10 +39,12 @@ returns-clause-settled c =
     (take_at ys (drop (length ys) c.parts.inside.keywords.items) c.parts.inside.keywords.len (omega (arith, c.loop-keyword.auto.keyword-items, c.deref_mut-keyword-items.ensures.len))) c.put_in_order-2.ensures in
     unicode_settles p q attributes (subst (λ zs. IsNormalForm (ListStep true key_cmp) zs q.keywords) bare last)
 
+-- each step to the normal form keeps the shape of the parts
 pub returns-clause-shaped : goal.returns-clause-shaped
 returns-clause-shaped c =
     star_keeps IsU u_shaped (returns-clause-settled c).reached
 
+-- each step to the normal form makes the subtags no more
 pub returns-clause-few : goal.returns-clause-few
 returns-clause-few c =
     star_no_more (λ (u : UForm). length (spell_u u)) u_step_length (returns-clause-settled c).reached

@@ -9,6 +9,7 @@ use Rattle.lt_rewrite.proofs.ExtensionLaws.{settled_within}
 use Rattle.lt_rewrite.proofs.ExtensionRuns.{HasForm, IsKept, swapped, settles_of, after_u, after_t}
 use Rattle.lt_rewrite.proofs.extensions_explaining.explain_extensions.Goals as goal
 
+-- exchanges make the subtags no more, so the places are still within the bound
 pub explained_unicode-requires : goal.explained_unicode-requires
 explained_unicode-requires g c =
     let R : List EntryParts = g.L.Lookup.listed c.args.table.now in
@@ -16,6 +17,7 @@ explained_unicode-requires g c =
     let s = swapped R c.args.start k c.in_ok-explain_swaps.ensures.adds c.in_ok-explain_swaps.ensures.at_rest in
     record { few = subst (λ (l : List ExtensionParts). c.args.start + length (spell_extensions l) ≤ 1100000) (sym c.deref.ensures.value) s.kept.few }
 
+-- the extension that was explained is one of the list
 pub put_back-requires : goal.put_back-requires
 put_back-requires g c =
     let R : List EntryParts = g.L.Lookup.listed c.args.table.now in
@@ -24,6 +26,7 @@ put_back-requires g c =
     let h = subst (λ l. Explains R unicode c.args.start l u c.explain_swaps.new.steps.items c.explained_unicode.new.steps.items) c.deref.ensures.value (c.in_ok-unicode.ensures R) in
     settled_within R unicode fs u (settles_of R unicode c.args.start fs u c.explain_swaps.new.steps.items c.explained_unicode.new.steps.items h)
 
+-- exchanges and steps in the `u` extension make the subtags no more, and leave a `t` extension as it is
 pub explained_transform-requires : goal.explained_transform-requires
 explained_transform-requires g c =
     let R : List EntryParts = g.L.Lookup.listed c.args.table.now in
@@ -36,6 +39,7 @@ explained_transform-requires g c =
       few = subst (λ (l : List ExtensionParts). c.args.start + length (spell_extensions l) ≤ 1100000) (sym c.deref-2.ensures.value) p.kept.few;
     }
 
+-- exchanges, then the steps in `u`, then those in `t` are one run of first steps, after which none is left
 pub returns : goal.returns
 returns g c =
     let R : List EntryParts = g.L.Lookup.listed c.args.table.now in

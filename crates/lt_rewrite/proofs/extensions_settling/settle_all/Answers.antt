@@ -8,12 +8,14 @@ use Rattle.lt_rewrite.specs.ExtensionsSettling.{Settles, placed}
 use Rattle.lt_rewrite.proofs.ExtensionLaws.{extensions_settle, settled_within}
 use Rattle.lt_rewrite.proofs.extensions_settling.settle_all.Goals as goal
 
+-- the extension that was settled is one of the list
 pub put_back-requires : goal.put_back-requires
 put_back-requires g c =
     let R = g.L.Lookup.listed c.args.table.now in
     let u : Option (ℕ × ExtensionParts) = c.in_ok-unicode.unicode in
     settled_within R unicode c.args.extensions.now.items u (subst (λ es. Settles R unicode es u) c.deref.ensures.value (c.in_ok-unicode.ensures R))
 
+-- with the normal forms of `u` and `t` in their places, the extensions in order are in their normal form
 pub returns-clause-ok : goal.returns-clause-ok
 returns-clause-ok g c =
     let R = g.L.Lookup.listed c.args.table.now in

@@ -7,9 +7,11 @@ use Rattle.lt_rewrite.proofs.ExtensionForms.{transform_settled}
 use Rattle.lt_rewrite.proofs.ExtensionLaws.{found_there, found_settles, form_of_transform as transform_form}
 use Rattle.lt_rewrite.proofs.extensions_settling.settled_transform.Goals as goal
 
+-- the extension was found by its singleton `t`
 pub split_t-requires : goal.split_t-requires
 split_t-requires g c = (found_there c.args.extensions.now transform c.in-Some.place c.index-extensions-place.result (sym c.place_of.ensures ∙ c.in-Some.is) c.index-extensions-place.is).of_singleton
 
+-- BadTransform says that the extension has not the form of a `t` extension, but each `t` extension has it
 pub unreachable-requires : goal.unreachable-requires
 unreachable-requires g c =
     let es = c.args.extensions.now in
@@ -17,6 +19,7 @@ unreachable-requires g c =
     let parts = transform_form es c.in-Some.place e (found_there es transform c.in-Some.place e (sym c.place_of.ensures ∙ c.in-Some.is) c.index-extensions-place.is) c.index-extensions-place.is c.requires.transforms in
     (rw c.in-Err-BadTransform.field-0-is at c.in-Err-BadTransform.ensures.fault) parts.0 parts.1
 
+-- the normal form of the parts spells that of the extension
 pub returns : goal.returns
 returns g c =
     let R = g.L.Lookup.listed c.args.table.now in

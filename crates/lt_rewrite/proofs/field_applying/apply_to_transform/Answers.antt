@@ -3,9 +3,11 @@ use Rattle.lt_rewrite.proofs.ExtensionLeading.{source_answers, no_source}
 use Rattle.lt_rewrite.proofs.field_applying.apply_to_transform.Goals as goal
 use Rattle.lt_rewrite.proofs.field_applying.apply_to_transform.Goals.{in-Some, in-None}
 
+-- an exchange of fields is the same step in each registry
 pub returns-in-SwapFields : goal.returns-in-SwapFields
 returns-in-SwapFields g c = c.swap_fields.ensures (g.L.Lookup.listed c.args.table.now)
 
+-- a step of another kind than SwapFields is one on the source, so without a source there is none
 pub returns : goal.returns
 returns g c =
     let R = g.L.Lookup.listed c.args.table.now in

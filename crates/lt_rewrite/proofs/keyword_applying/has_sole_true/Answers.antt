@@ -13,6 +13,7 @@ sole_true false only types e h =
     let yes = (bytes_eq-Decides only (codes "true")).1 same in
     cc
 
+-- there is one type, so the types are exactly `true` if it is
 pub returns-in-len1 : goal.returns-in-len1
 returns-in-len1 c =
     let only : List ℕ = c.only-item.result in

@@ -3,7 +3,7 @@ use Rattle.std.specs.Prelude.{flat_map}
 use Rattle.lt_rewrite.specs.Applying.{IsPlaceOf}
 use Rattle.lt_rewrite.proofs.part_applying.index_at.Given as goal
 
--- where this part begins, and none before it begins at the place
+-- `here` is where this part begins, and none before it begins at the place that is looked for
 abbrev pub invariant-loop-index : goal.invariant-loop-index
 invariant-loop-index g l = record {
   here : l.here ≡ l.start + length (flat_map g.P.Spelled.spell (take l.index l.parts)) + 1;

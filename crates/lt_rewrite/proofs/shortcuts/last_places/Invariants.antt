@@ -10,5 +10,6 @@ invariant-loop-steps g l = record {
   lead : LeadOn (g.L.Lookup.listed l.table) l.steps l.places.items;
 }
 
+-- the steps come closer to the number of places
 abbrev pub decreases-loop-steps : goal.decreases-loop-steps
 decreases-loop-steps g l = length l.places.items - l.steps

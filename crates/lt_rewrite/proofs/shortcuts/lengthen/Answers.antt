@@ -4,6 +4,7 @@ use Rattle.std.proofs.lemmas.Option.{slice_get-get_or}
 use Rattle.lt_rewrite.proofs.ShortcutWalks.{each_set, one_doubled, all_doubled, unmoved}
 use Rattle.lt_rewrite.proofs.shortcuts.lengthen.Goals as goal
 
+-- a turn makes one shortcut more twice as long; while none has changed, the places are what they were
 pub loop-index-preserved : goal.loop-index-preserved
 loop-index-preserved c =
     let places : List ℕ = c.loop-index.places in
@@ -20,5 +21,6 @@ loop-index-preserved c =
       doubled = λ R n lead. one_doubled R n i j k places at next (c.loop-index.invariant.doubled R n lead);
     }
 
+-- no shortcut is left, so all are twice as long
 pub returns-clause-doubled : goal.returns-clause-doubled
 returns-clause-doubled c = λ R n lead. all_doubled R n c.loop-index.index c.loop-index.places (omega arith) (c.loop-index.invariant.doubled R n lead)

@@ -4,7 +4,7 @@ use Rattle.lt_rewrite.specs.Shortcuts.{LeadOn}
 use Rattle.lt_rewrite.proofs.ShortcutWalks.{PartDoubled}
 use Rattle.lt_rewrite.proofs.shortcuts.lengthen.Given as goal
 
--- those so far are twice as long
+-- the shortcuts so far are twice as long, and all are places in the list
 abbrev pub invariant-loop-index : goal.invariant-loop-index
 invariant-loop-index l = record {
   within : (i j : ℕ) → slice_get l.places i ≡ Some j → j < length l.places;

@@ -5,6 +5,7 @@ use Rattle.lt_registry.specs.Parts.{EntryParts}
 use Rattle.lt_rewrite.proofs.ShortcutWalks.{not_falling, numbered_there, first_not_lower}
 use Rattle.lt_rewrite.proofs.shortcuts.place_of.Goals as goal
 
+-- the numbers rise, so the record that has this number is the entry
 pub returns-in-Some : goal.returns-in-Some
 returns-in-Some c =
     let R = c.args.entries.now in
@@ -13,6 +14,7 @@ returns-in-Some c =
     numbered_there R c.requires.rising i other c.args.entry.now (slice_get_read R (length R) i other refl c.in-Some.ensures.lookup.3.0 c.in-Some.ensures.lookup.1) c.requires.there
     (omega (arith, c.if-number.true, c.number.ensures.value, c.number-number.ensures.value))
 
+-- the numbers rise, so the first record whose number is not lower is the entry
 pub returns-in_default : goal.returns-in_default
 returns-in_default c =
     let R = c.args.entries.now in

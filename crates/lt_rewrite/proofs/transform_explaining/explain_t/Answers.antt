@@ -9,6 +9,7 @@ use Rattle.lt_rewrite.proofs.CoreLaws.{step_shaped}
 use Rattle.lt_rewrite.proofs.PartForms.{t_shaped}
 use Rattle.lt_rewrite.proofs.transform_explaining.explain_t.Goals as goal
 
+-- the run on the source and then the one on the fields are one run on the parts, after which no step is left
 pub returns : goal.returns
 returns g c =
     let R = g.L.Lookup.listed c.args.table.now in

@@ -8,10 +8,12 @@ use Rattle.lt_rewrite.proofs.PartRuns.{bare, bare_kept, bare_more, bare_all, bar
 use Rattle.lt_rewrite.proofs.unicode_explaining.drop_trues.Goals as goal
 use Rattle.lt_rewrite.proofs.unicode_explaining.drop_trues.Goals.{then-has_sole_true+in_ok-push, else-has_sole_true}
 
+-- the place of this key is at most one past the last subtag, so the next place is in range
 pub overflow_add-here-then-has_sole_true : goal.overflow_add-here-then-has_sole_true
 overflow_add-here-then-has_sole_true c =
     omega (arith, c.requires, bare_few c.args.start c.loop-index.invariant)
 
+-- the place of this key is at most one past the last subtag, so the next place is below 2^32
 pub overflow_cast-here : goal.overflow_cast-here
 overflow_cast-here c =
     omega (arith, c.requires, bare_few c.args.start c.loop-index.invariant)
@@ -24,6 +26,7 @@ set_count ks ls i k l n h e is count = count ∙ ap (λ x. length (spell_keyword
 same_count : (ks ls : List KeywordParts) (i : ℕ) (k l : KeywordParts) (n : ℕ) → i < length ks → ls ≡ ks → k ≡ get_or ks i k → l ≡ get_or ls i l → n ≡ length (spell_keyword l) → n ≡ length (spell_keyword k)
 same_count ks ls i k l n h e was is count = count ∙ ap (λ x. length (spell_keyword x)) (is ∙ ap (λ xs. get_or xs i l) e ∙ sym (get_or_read ks i k h was l))
 
+-- a turn takes the sole type `true` from this keyword by a DropTrue step, or it has none and stays as it is
 pub loop-index-preserved : goal.loop-index-preserved
 loop-index-preserved c =
     let ks = c.loop-index.keywords.items in
@@ -45,10 +48,12 @@ loop-index-preserved c =
           rw (now, stay, count) (bare_kept c.args.start c.loop-index.invariant k within c.index.ensures w.if-has_sole_true.ensures)
     ]
 
+-- the place of the next key, too, is at most one past the last subtag
 pub overflow_add-here-in-loop-index : goal.overflow_add-here-in-loop-index
 overflow_add-here-in-loop-index c =
     omega (arith, c.requires, bare_few c.args.start (loop-index-preserved c))
 
+-- no keyword is left, so none has the sole type `true`
 pub returns-clause-at_rest : goal.returns-clause-at_rest
 returns-clause-at_rest c =
     bare_all c.args.start c.loop-index.invariant

@@ -17,26 +17,32 @@ all_few start p xs ks e h =
     let f = ap (λ u. length (spell_u u)) e in
     omega (arith, h, attributes_count xs, length-append xs (flat_map spell_keyword ks), f)
 
+-- the attributes are among the subtags of the extension
 pub explain_drops-requires : goal.explain_drops-requires
 explain_drops-requires c =
     omega (arith, all_few c.args.start c.args.parts.now c.parts.inside.attributes.items c.parts.inside.keywords.items c.parts.view_is c.requires.few)
 
+-- drops have made the attributes no more
 pub explain_swaps-requires : goal.explain_swaps-requires
 explain_swaps-requires c =
     omega (arith, all_few c.args.start c.args.parts.now c.parts.inside.attributes.items c.parts.inside.keywords.items c.parts.view_is c.requires.few, drops_few c.in_ok-explain_drops.ensures.adds)
 
+-- drops and exchanges have made the attributes no more, after which the keywords begin
 pub explain_drops-requires-2 : goal.explain_drops-requires-2
 explain_drops-requires-2 c =
     omega (arith, all_few c.args.start c.args.parts.now c.parts.inside.attributes.items c.parts.inside.keywords.items c.parts.view_is c.requires.few, drops_few c.in_ok-explain_drops.ensures.adds, swaps_few c.in_ok-explain_swaps.ensures.adds, attributes_count c.explain_swaps.new.parts.items, c.len.ensures, c.explain_swaps.new.parts.ok.0)
 
+-- drops have made the keywords no more
 pub explain_swaps-requires-2 : goal.explain_swaps-requires-2
 explain_swaps-requires-2 c =
     omega (arith, all_few c.args.start c.args.parts.now c.parts.inside.attributes.items c.parts.inside.keywords.items c.parts.view_is c.requires.few, drops_few c.in_ok-explain_drops.ensures.adds, swaps_few c.in_ok-explain_swaps.ensures.adds, attributes_count c.explain_swaps.new.parts.items, c.len.ensures, c.explain_swaps.new.parts.ok.0, drops_few c.in_ok-explain_drops-2.ensures.adds)
 
+-- drops and exchanges have made the keywords no more
 pub drop_trues-requires : goal.drop_trues-requires
 drop_trues-requires c =
     omega (arith, all_few c.args.start c.args.parts.now c.parts.inside.attributes.items c.parts.inside.keywords.items c.parts.view_is c.requires.few, drops_few c.in_ok-explain_drops.ensures.adds, swaps_few c.in_ok-explain_swaps.ensures.adds, attributes_count c.explain_swaps.new.parts.items, c.len.ensures, c.explain_swaps.new.parts.ok.0, drops_few c.in_ok-explain_drops-2.ensures.adds, swaps_few c.in_ok-explain_swaps-2.ensures.adds)
 
+-- the runs of the five kinds, one after another, are one run on the parts, after which no step is left
 pub returns : goal.returns
 returns c =
     let explained = rw c.parts.view_is at

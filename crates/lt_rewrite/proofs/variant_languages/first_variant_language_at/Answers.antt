@@ -6,6 +6,7 @@ use Rattle.lt_rewrite.proofs.CoreSettling.{first_variant_language_at, none_more}
 use Rattle.lt_rewrite.proofs.VariantPlaces.{placed_at}
 use Rattle.lt_rewrite.proofs.variant_languages.first_variant_language_at.Goals as goal
 
+-- the place at this index is that of the entry of the variant at this index
 pub variant_language_at-requires : goal.variant_language_at-requires
 variant_language_at-requires g c =
     let R = g.L.Lookup.listed c.args.table.now in
@@ -13,12 +14,15 @@ variant_language_at-requires g c =
     (subst (λ vs. ArePlaces R vs c.args.places.now) (sym c.variants-variants.ensures.value) c.requires.places)
     c.loop-index-test.true c.index-variants-index.is
 
+-- this variant leads to the language, and none before it leads to one
 pub returns-in-Some-clause-variant_language : goal.returns-in-Some-clause-variant_language
 returns-in-Some-clause-variant_language g c = search (rules, first_variant_language_at)
 
+-- a turn passes over a variant without a VariantLanguage step
 pub loop-index-preserved : goal.loop-index-preserved
 loop-index-preserved g c = search (rules, none_more (g.L.Lookup.listed c.args.table.now) c.args.core.now)
 
+-- no variant is left, so none has a VariantLanguage step
 pub returns-clause-variant_language : goal.returns-clause-variant_language
 returns-clause-variant_language g c =
     let P : List ℕ → Type 0 = λ v. language_beside (g.L.Lookup.listed c.args.table.now) c.args.core.now.language v ≡ None in

@@ -4,6 +4,7 @@ use Rattle.lt_registry.specs.declared.entries.Kind.TheVariants as kinds
 use Rattle.lt_rewrite.proofs.Forms.{form_under, short_value_form}
 use Rattle.lt_rewrite.proofs.variant_languages.variant_language_at.Goals as goal
 
+-- the value is that of a variant, and short, so it has the form of a language
 pub returns-in-Some-one_value-clause-form : goal.returns-in-Some-one_value-clause-form
 returns-in-Some-one_value-clause-form g c =
     short_value_form c.in-Some-one_value.value.now

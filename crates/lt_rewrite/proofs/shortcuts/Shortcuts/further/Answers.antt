@@ -6,6 +6,7 @@ use Rattle.lt_rewrite.specs.Shortcuts.{IsOnward, ShortcutParts}
 use Rattle.lt_rewrite.proofs.ShortcutWalks.{onward_form, led_far, some_follows}
 use Rattle.lt_rewrite.proofs.shortcuts.Shortcuts.further.Goals as goal
 
+-- the shortcut of the subtag's entry leads to a record whose value is as far on as there are records
 pub returns-clause-onward : goal.returns-clause-onward
 returns-clause-onward g c =
     let R = g.L.Lookup.listed c.args.table.now in
@@ -18,6 +19,7 @@ returns-clause-onward g c =
     let same : far.0 ≡ c.in-Some-following.value.now = cc (far.1, c.in-Some-following.ensures) in
     subst (IsOnward (next_value R k) (length R) s) same far.2
 
+-- each value of a chain has the form of its kind, if the subtag has it
 pub returns-clause-form : goal.returns-clause-form
 returns-clause-form g c =
     let R = g.L.Lookup.listed c.args.table.now in
