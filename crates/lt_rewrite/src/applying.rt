@@ -21,7 +21,8 @@ use lt_subtag::Subtag;
 use lt_tag::{Core, Extension, OutOfMemory, Tag, copy_extensions, copy_subtags};
 use std::alloc::Global;
 
-/// The preferred value of a whole tag, if its record has this number; else None.
+/// The preferred value of a whole tag. None if the tag has no record, if the record has another number, or if it has no
+/// value.
 fn whole_value_by<'a, L: Lookup>(table: &'a L, tag: &Tag, number: u32) -> Option<&'a Tag>
     ensures { MatchOption result
         ((other : TagForm) → IsWholeValueBy (L.listed table.now) tag.now number other → ⊥)
@@ -34,8 +35,8 @@ fn whole_value_by<'a, L: Lookup>(table: &'a L, tag: &Tag, number: u32) -> Option
     tag_value(entry)
 }
 
-/// The preferred value of a whole tag, to which a Whole step leads. None if the step leads nowhere. Refused only where
-/// memory runs out.
+/// The preferred value of a whole tag, to which a step leads, which must be a Whole step. None if it leads nowhere.
+/// Refused only where memory runs out.
 fn change_whole<L: Lookup>(
     alloc: Global,
     table: &L,
@@ -74,8 +75,8 @@ fn change_core<L: Lookup>(
     }
 }
 
-/// The extensions that a step makes of those of a tag, which begin after `start` subtags. None if it leads nowhere.
-/// Refused only where memory runs out.
+/// The extensions that a step makes of those of a tag, which begin after `start` subtags. `start` and their subtags must
+/// be at most 1,100,000 together. None if the step leads nowhere. Refused only where memory runs out.
 fn change_extensions<L: Lookup>(
     alloc: Global,
     table: &L,
@@ -96,8 +97,8 @@ fn change_extensions<L: Lookup>(
     }
 }
 
-/// The core and the extensions that a step makes of those of the langtag `tag`, whose core is `core`. None if it leads
-/// nowhere. Refused only where memory runs out.
+/// The core and the extensions that a step makes of those of the langtag `tag`. `core` must be the core of the tag, and
+/// the step no Whole step. None if it leads nowhere. Refused only where memory runs out.
 fn change_parts<L: Lookup>(
     alloc: Global,
     table: &L,
@@ -121,7 +122,8 @@ fn change_parts<L: Lookup>(
     }
 }
 
-/// The langtag of these parts. None if it spells a grandfathered tag, which is no langtag (RFC 5646, 2.2.8).
+/// The langtag of these parts. There must be at most 1,024 extensions and as many subtags of private use. None if it
+/// spells a grandfathered tag, which is no langtag (RFC 5646, 2.2.8).
 fn langtag(core: Core, extensions: Vec<Extension>, private: Vec<Subtag>) -> Option<Tag>
     requires few_extensions { length extensions.items ≤ longest_text }
     requires few_private { length private.items ≤ longest_text }
@@ -135,8 +137,8 @@ fn langtag(core: Core, extensions: Vec<Extension>, private: Vec<Subtag>) -> Opti
     Some(Tag::from_parts(core, extensions, private))
 }
 
-/// The tag to which a step leads from a proper tag, whether or not it is proper itself. None if the step leads nowhere,
-/// or to what spells a grandfathered tag. Refused only where memory runs out.
+/// The tag to which a step leads from a tag, which must be proper; the one to which it leads need not be. None if the
+/// step leads nowhere, or to what spells a grandfathered tag. Refused only where memory runs out.
 fn change<L: Lookup>(
     alloc: Global,
     table: &L,

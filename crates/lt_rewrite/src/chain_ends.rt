@@ -36,8 +36,8 @@ impl fmt::Display for Cycle {
 
 impl std::error::Error for Cycle {}
 
-/// The value of an entry, if it follows in a chain of values of this kind; else None. In a chain of variants only variants
-/// follow.
+/// The value of an entry that follows in a chain of values of this kind; in a chain of variants only variants follow. None
+/// if the entry has no such value, or if the kind is that of extlangs or of whole tags, which have no chains.
 pub(crate) fn following(kind: Kind, entry: &Entry) -> Option<&Subtag>
     ensures { option_copied result ≡ following kind entry.now }
 {

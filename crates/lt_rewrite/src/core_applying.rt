@@ -23,7 +23,8 @@ pub(crate) fn record_number<L: Lookup>(table: &L, kind: Kind, subtag: &Subtag) -
     }
 }
 
-/// The preferred value of a subtag, if its record has this number; else None.
+/// The preferred value of a subtag. None if the subtag has no record, if the record has another number, or if it has no
+/// value.
 fn value_by<'a, L: Lookup>(
     table: &'a L,
     kind: Kind,
@@ -71,8 +72,8 @@ pub(crate) fn before_variants(core: &Core) -> usize
     }
 }
 
-/// The index of the variant at a place, counted from 1, in a core that begins after `start` subtags. None if there is
-/// no variant.
+/// The index of the variant at a place, counted from 1, in a core that begins after `start` subtags, at most 1,200,000.
+/// None if there is no variant at this place.
 fn variant_at(core: &Core, start: usize, place: u32) -> Option<usize>
     requires { start ≤ 1200000 }
     ensures { MatchOption result
@@ -87,8 +88,8 @@ fn variant_at(core: &Core, start: usize, place: u32) -> Option<usize>
     Some(place - before)
 }
 
-/// Takes an Extlang step: the replacement of the only extlang becomes the language. False, and nothing changes, if the core
-/// has no such step. The core begins after `start` subtags.
+/// Takes an Extlang step, which `step` must be: the replacement of the only extlang becomes the language. False, and nothing
+/// changes, if the core has no such step. The core begins after `start` subtags, at most 1,200,000.
 fn replace_extlang<L: Lookup>(table: &L, core: &mut Core, start: usize, step: Step) -> bool
     requires kind { step.kind ≡ kinds.Extlang }
     requires few { start ≤ 1200000 }
@@ -109,8 +110,8 @@ fn replace_extlang<L: Lookup>(table: &L, core: &mut Core, start: usize, step: St
     true
 }
 
-/// Takes a Language step: the language is replaced by its value. False, and nothing changes, if the core has no such step.
-/// The core begins after `start` subtags.
+/// Takes a Language step, which `step` must be: the language is replaced by its value. False, and nothing changes, if the
+/// core has no such step. The core begins after `start` subtags, at most 1,200,000.
 fn replace_language<L: Lookup>(table: &L, core: &mut Core, start: usize, step: Step) -> bool
     requires kind { step.kind ≡ kinds.Language }
     requires few { start ≤ 1200000 }
@@ -131,8 +132,8 @@ fn replace_language<L: Lookup>(table: &L, core: &mut Core, start: usize, step: S
     }
 }
 
-/// Takes a Script step: the script is replaced by its value. False, and nothing changes, if the core has no such step. The
-/// core begins after `start` subtags.
+/// Takes a Script step, which `step` must be: the script is replaced by its value. False, and nothing changes, if the core
+/// has no such step. The core begins after `start` subtags, at most 1,200,000.
 fn replace_script<L: Lookup>(table: &L, core: &mut Core, start: usize, step: Step) -> bool
     requires kind { step.kind ≡ kinds.Script }
     requires few { start ≤ 1200000 }
@@ -153,8 +154,8 @@ fn replace_script<L: Lookup>(table: &L, core: &mut Core, start: usize, step: Ste
     }
 }
 
-/// Takes a Region step: the region is replaced by its value. False, and nothing changes, if the core has no such step. The
-/// core begins after `start` subtags.
+/// Takes a Region step, which `step` must be: the region is replaced by its value. False, and nothing changes, if the core
+/// has no such step. The core begins after `start` subtags, at most 1,200,000.
 fn replace_region<L: Lookup>(table: &L, core: &mut Core, start: usize, step: Step) -> bool
     requires kind { step.kind ≡ kinds.Region }
     requires few { start ≤ 1200000 }
@@ -175,8 +176,8 @@ fn replace_region<L: Lookup>(table: &L, core: &mut Core, start: usize, step: Ste
     }
 }
 
-/// Takes a Variant step: a variant is replaced in its place by its value, which is a variant. False, and nothing changes, if
-/// the core has no such step. The core begins after `start` subtags.
+/// Takes a Variant step, which `step` must be: a variant is replaced in its place by its value, which is a variant. False,
+/// and nothing changes, if the core has no such step. The core begins after `start` subtags, at most 1,200,000.
 fn replace_variant<L: Lookup>(table: &L, core: &mut Core, start: usize, step: Step) -> bool
     requires kind { step.kind ≡ kinds.Variant }
     requires few { start ≤ 1200000 }
@@ -196,9 +197,9 @@ fn replace_variant<L: Lookup>(table: &L, core: &mut Core, start: usize, step: St
     true
 }
 
-/// Takes a VariantLanguage step: the leftmost variant that has a language as its value, and the core's language as a Prefix,
-/// is dropped, and its value becomes the language. False, and nothing changes, if the core has no such step. The core begins
-/// after `start` subtags.
+/// Takes a VariantLanguage step, which `step` must be. The leftmost variant that has a language as its value, and the core's
+/// language as a Prefix, is dropped, and its value becomes the language. False, and nothing changes, if the core has no such
+/// step. The core begins after `start` subtags, at most 1,200,000.
 fn apply_variant_language<L: Lookup>(table: &L, core: &mut Core, start: usize, step: Step) -> bool
     requires kind { step.kind ≡ kinds.VariantLanguage }
     requires few { start ≤ 1200000 }
@@ -221,7 +222,8 @@ fn apply_variant_language<L: Lookup>(table: &L, core: &mut Core, start: usize, s
     true
 }
 
-/// Takes a step on a core that begins after `start` subtags. False, and nothing changes, if the core has no such step.
+/// Takes a step on a core that begins after `start` subtags, at most 1,200,000. False, and nothing changes, if the core has
+/// no such step.
 pub(crate) fn apply_to_core<L: Lookup>(table: &L, core: &mut Core, start: usize, step: Step) -> bool
     requires { start ≤ 1200000 }
     ensures { Answers (CoreLeads (L.listed table.now) start core.old step) core.new result }

@@ -20,8 +20,8 @@ use lt_registry::{Kind, Lookup};
 use lt_subtag::Subtag;
 use lt_tag::Core;
 
-/// The end of the chain of values that begins with a subtag, in a registry whose chains end. It is found by shortcuts
-/// if there are some.
+/// The end of the chain of values that begins with a subtag. It is found by shortcuts if there are some. The chains of
+/// the registry must end, and the shortcuts be those of the table.
 fn certain_end<L: Lookup>(
     table: &L,
     shortcuts: Option<&Shortcuts>,
@@ -43,7 +43,8 @@ fn certain_end<L: Lookup>(
     }
 }
 
-/// Replaces the script, if there is one, by the end of its chain of values.
+/// Replaces the script, if there is one, by the end of its chain of values. The chains of the registry must end, and the
+/// shortcuts, if there are some, be those of the table.
 #[tactic(auto, using(crate::specs::Rewriting::done))]
 fn settle_script<L: Lookup>(table: &L, shortcuts: Option<&Shortcuts>, core: &mut Core)
     requires chains { All (HasEndingChain (L.listed table.now)) (L.listed table.now) }
@@ -58,7 +59,8 @@ fn settle_script<L: Lookup>(table: &L, shortcuts: Option<&Shortcuts>, core: &mut
     }
 }
 
-/// Replaces the region, if there is one, by the end of its chain of values.
+/// Replaces the region, if there is one, by the end of its chain of values. The chains of the registry must end, and the
+/// shortcuts, if there are some, be those of the table.
 #[tactic(auto, using(crate::specs::Rewriting::done))]
 fn settle_region<L: Lookup>(table: &L, shortcuts: Option<&Shortcuts>, core: &mut Core)
     requires chains { All (HasEndingChain (L.listed table.now)) (L.listed table.now) }
@@ -73,7 +75,8 @@ fn settle_region<L: Lookup>(table: &L, shortcuts: Option<&Shortcuts>, core: &mut
     }
 }
 
-/// Replaces each variant by the end of its chain of variants.
+/// Replaces each variant by the end of its chain of variants. The chains of the registry must end, and the shortcuts, if
+/// there are some, be those of the table.
 #[tactic(auto, using(crate::proofs::CoreSettling::none_settled))]
 fn settle_variants<L: Lookup>(table: &L, shortcuts: Option<&Shortcuts>, core: &mut Core)
     requires chains { All (HasEndingChain (L.listed table.now)) (L.listed table.now) }
@@ -102,7 +105,8 @@ fn settle_extlang<L: Lookup>(table: &L, core: &mut Core)
     }
 }
 
-/// Replaces the language of a core without extlangs by the end of its chain of values.
+/// Replaces the language of a core, which must have no extlangs, by the end of its chain of values. The chains of the
+/// registry must end, and the shortcuts, if there are some, be those of the table.
 fn settle_language<L: Lookup>(table: &L, shortcuts: Option<&Shortcuts>, core: &mut Core)
     requires chains { All (HasEndingChain (L.listed table.now)) (L.listed table.now) }
     requires shortcuts { IfSome shortcuts (λ s. AreShortcuts (L.listed table.now) s.now) }
@@ -115,8 +119,8 @@ fn settle_language<L: Lookup>(table: &L, shortcuts: Option<&Shortcuts>, core: &m
     core.set_language(end);
 }
 
-/// The language to which a variant leads beside a language by a VariantLanguage step: its value, if that is a language
-/// and `language` is one of its Prefixes. Else None.
+/// The language to which a variant leads beside a language by a VariantLanguage step: the variant's value, if that is a
+/// language, and if `language` is one of the variant's Prefixes. Else None.
 fn variant_language<'a, L: Lookup>(
     table: &'a L,
     language: &Subtag,
@@ -150,8 +154,9 @@ pub(crate) fn first_variant_language<L: Lookup>(table: &L, core: &Core) -> Optio
     None
 }
 
-/// Replaces the language of a core without extlangs by the end of its chain of values. As long as there is a VariantLanguage
-/// step, it takes that, and follows the chain of the new language.
+/// Replaces the language of a core by the end of its chain of values. As long as there is a VariantLanguage step, it takes
+/// that, and follows the chain of the new language. The core must have no extlangs, and its variants must be at the ends of
+/// their chains. The chains of the registry must end, and the shortcuts, if there are some, be those of the table.
 fn settle_variant_languages<L: Lookup>(table: &L, shortcuts: Option<&Shortcuts>, core: &mut Core)
     requires chains { All (HasEndingChain (L.listed table.now)) (L.listed table.now) }
     requires shortcuts { IfSome shortcuts (λ s. AreShortcuts (L.listed table.now) s.now) }
@@ -171,9 +176,9 @@ fn settle_variant_languages<L: Lookup>(table: &L, shortcuts: Option<&Shortcuts>,
     }
 }
 
-/// Replaces each of at most 256 variants by the end of its chain of variants, by shortcuts. To `places`, which is
-/// empty, it adds for each the index of the entry of this end in the table. An array of 256 takes no memory from the
-/// allocator.
+/// Replaces each of at most 256 variants by the end of its chain of variants, by the shortcuts of the table. To `places`,
+/// which must be empty, it adds for each variant the index of the entry of this end in the table. The chains of the
+/// registry must end. An array of 256 takes no memory from the allocator.
 #[tactic(auto, using(crate::proofs::CoreSettling::none_settled, crate::proofs::CoreSettling::all_final))]
 fn settle_few_variants<L: Lookup>(
     table: &L,
@@ -198,8 +203,8 @@ fn settle_few_variants<L: Lookup>(
 }
 
 /// Replaces the variants, at most 256, by the ends of their chains of variants, and the language by the end of its chain,
-/// also after each VariantLanguage step, which it takes as long as there is one. By shortcuts, each variant is looked up
-/// once.
+/// also after each VariantLanguage step, which it takes as long as there is one. By the shortcuts, which must be those of
+/// the table, each variant is looked up once. The core must have no extlangs, and the chains of the registry must end.
 fn settle_few_variant_languages<L: Lookup>(table: &L, shortcuts: &Shortcuts, core: &mut Core)
     requires chains { All (HasEndingChain (L.listed table.now)) (L.listed table.now) }
     requires shortcuts { AreShortcuts (L.listed table.now) shortcuts.now }
@@ -224,7 +229,9 @@ fn settle_few_variant_languages<L: Lookup>(table: &L, shortcuts: &Shortcuts, cor
 
 /// Replaces the variants by the ends of their chains of variants, and the language by the end of its chain, also after
 /// each VariantLanguage step, which it takes as long as there is one. Without shortcuts, or with fewer than 16 or more
-/// than 256 variants, each is looked up again for each language; the array has room for the indices of 256 entries.
+/// than 256 variants, each variant is looked up again for each language; the array has room for the indices of 256
+/// entries. The core must have no extlangs. The chains of the registry must end, and the shortcuts, if there are some, be
+/// those of the table.
 #[tactic(auto, using(crate::proofs::Stars::star_trans))]
 fn settle_all_variant_languages<L: Lookup>(
     table: &L,
@@ -252,7 +259,8 @@ fn settle_all_variant_languages<L: Lookup>(
     }
 }
 
-/// Puts a core into its core normal form, by shortcuts along the chains if there are some.
+/// Puts a core into its core normal form, by shortcuts along the chains if there are some. The chains of the registry must
+/// end, and the shortcuts be those of the table.
 pub(crate) fn settle_along<L: Lookup>(table: &L, shortcuts: Option<&Shortcuts>, core: &mut Core)
     requires chains { All (HasEndingChain (L.listed table.now)) (L.listed table.now) }
     requires shortcuts { IfSome shortcuts (λ s. AreShortcuts (L.listed table.now) s.now) }

@@ -31,8 +31,8 @@ impl Order {
 }
 
 /// Whether the chain of values from a record's value ends, or comes to a record that is before this one in an order. If
-/// so for every record, all chains end, since the chain of the earlier record is followed too. False only if the chain
-/// has no end.
+/// that is true of every record, all chains end, since the chain of the earlier record is followed too. False only if the
+/// chain has no end.
 fn ends_or_falls<L: Lookup>(table: &L, order: Order, entry: &Entry) -> bool
     ensures { MatchBool result (EndsAfterEarlier (L.listed table.now) order entry.now) (HasEndingChain (L.listed table.now) entry.now → ⊥) }
 {

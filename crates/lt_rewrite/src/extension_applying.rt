@@ -15,8 +15,8 @@ use lt_registry::Lookup;
 use lt_tag::{Extension, OutOfMemory, TransformFault, join_t, join_u, split_t, split_u};
 use std::alloc::Global;
 
-/// The `u` extension that a step makes of one whose singleton has the place `start`. None if the step leads nowhere.
-/// Refused only where memory runs out.
+/// The extension that a step makes of one that must be a `u` extension, and whose singleton has the place `start`, at most
+/// 1,150,000. None if the step leads nowhere. Refused only where memory runs out.
 fn apply_in_unicode(
     alloc: Global,
     extension: &Extension,
@@ -34,8 +34,9 @@ fn apply_in_unicode(
     Ok(Some(join_u(alloc, &parts)?))
 }
 
-/// The `t` extension that a step makes of one whose singleton has the place `start`. None if the step leads nowhere, as
-/// where the subtags are not those of a `t` extension. Refused only where memory runs out.
+/// The extension that a step makes of one that must have the singleton `t`, at the place `start`, at most 1,150,000. None
+/// if the step leads nowhere, for example since the subtags are not those of a `t` extension. Refused only where memory
+/// runs out.
 fn apply_in_transform<L: Lookup>(
     alloc: Global,
     table: &L,
@@ -60,8 +61,8 @@ fn apply_in_transform<L: Lookup>(
     Ok(Some(join_t(alloc, &parts)?))
 }
 
-/// The extension that a step makes of one whose singleton has the place `start`. None if the step leads nowhere, as on
-/// all extensions but `u` and `t`. Refused only where memory runs out.
+/// The extension that a step makes of one whose singleton has the place `start`, at most 1,150,000. None if the step leads
+/// nowhere, which is true of every step on another extension than `u` and `t`. Refused only where memory runs out.
 fn apply_to_extension<L: Lookup>(
     alloc: Global,
     table: &L,
@@ -82,8 +83,9 @@ fn apply_to_extension<L: Lookup>(
     Ok(None)
 }
 
-/// The index of the extension inside which a step acts, and what it makes of that. None if it acts inside none. The
-/// extensions begin after `start` subtags. Refused only where memory runs out.
+/// The index of the extension inside which a step acts, and what the step makes of that extension. None if it acts inside
+/// none. The extensions begin after `start` subtags, and `start` and their subtags must be at most 1,100,000 together.
+/// Refused only where memory runs out.
 fn find_change<L: Lookup>(
     alloc: Global,
     table: &L,
@@ -107,8 +109,9 @@ fn find_change<L: Lookup>(
     Ok(None)
 }
 
-/// Takes a SwapExtensions step: two neighbouring extensions change places. False, and nothing changes, if there is no such
-/// step. The extensions begin after `start` subtags.
+/// Takes a SwapExtensions step, which `step` must be: two neighbouring extensions change places. False, and nothing changes,
+/// if there is no such step. The extensions begin after `start` subtags, and `start` and their subtags must be at most
+/// 1,100,000 together.
 #[tactic(auto, using(crate::proofs::ExtensionLeading::swaps_answers))]
 fn swap_extensions(extensions: &mut Vec<Extension>, start: usize, step: Step) -> bool
     requires kind { step.kind ≡ kinds.SwapExtensions }
@@ -122,8 +125,8 @@ fn swap_extensions(extensions: &mut Vec<Extension>, start: usize, step: Step) ->
     swap_at(extensions, start, step.place)
 }
 
-/// Takes a step on extensions that begin after `start` subtags. False, and nothing changes, if there is no such step.
-/// Refused only where memory runs out.
+/// Takes a step on extensions that begin after `start` subtags; `start` and their subtags must be at most 1,100,000
+/// together. False, and nothing changes, if there is no such step. Refused only where memory runs out.
 pub(crate) fn apply_to_extensions<L: Lookup>(
     alloc: Global,
     table: &L,

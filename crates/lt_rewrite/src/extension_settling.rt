@@ -34,10 +34,10 @@ pub(crate) fn recall_forms<L: Lookup>(table: &L)
     let _entries = table.entries();
 }
 
-/// Puts the parts of a `u` extension into their normal form (RFC 6067, 2.1.1): sole types `true` are dropped, of equal
-/// attributes and of keywords of one key the first stays, and both are in their order. The types of a keyword keep
-/// theirs. Parts that may be given to `join_u` still may be. It takes no memory, and so is never refused; `_alloc` is
-/// not used.
+/// Puts the parts of a `u` extension into their normal form (RFC 6067, 2.1.1). Sole types `true` are dropped. Of equal
+/// attributes, and of keywords of one key, the first stays. Attributes and keywords come in their order, while the types
+/// of a keyword keep theirs. Parts that may be given to `join_u` still may be. It takes no memory, and so is never
+/// refused; `_alloc` is not used.
 pub fn settle_u(_alloc: Global, parts: &mut UParts) -> Result<(), OutOfMemory>
     ensures settled { IsNormalForm UnicodeStep parts.old parts.new }
     ensures shaped { IsU parts.old → IsU parts.new }
@@ -53,7 +53,7 @@ pub fn settle_u(_alloc: Global, parts: &mut UParts) -> Result<(), OutOfMemory>
 }
 
 /// Puts the parts of a `t` extension into their normal form, by shortcuts along the chains if there are some. The
-/// chains of the registry end.
+/// chains of the registry must end, and the shortcuts be those of the table.
 pub(crate) fn settle_transform<L: Lookup>(
     table: &L,
     shortcuts: Option<&Shortcuts>,
@@ -73,10 +73,10 @@ pub(crate) fn settle_transform<L: Lookup>(
     }
 }
 
-/// Puts the parts of a `t` extension into their normal form (RFC 6497, 2.2 and 2.3): the source is put into its core
-/// normal form, and the fields into the order of their separators, where those of one separator keep their order. The
-/// values of a field keep theirs. Parts that may be given to `join_t` still may be. The chains of the registry end, as
-/// they do where `first_cycle` is None. It takes no memory, and so is never refused; `_alloc` is not used.
+/// Puts the parts of a `t` extension into their normal form (RFC 6497, 2.2 and 2.3): the source comes into its core
+/// normal form, and the fields into the order of their separators. Fields of one separator keep their order, and so do
+/// the values of a field. Parts that may be given to `join_t` still may be. The chains of the registry end, as they do
+/// where `first_cycle` is None. It takes no memory, and so is never refused; `_alloc` is not used.
 pub fn settle_t<L: Lookup>(_alloc: Global, table: &L, parts: &mut TParts) -> Result<(), OutOfMemory>
     requires { All (HasEndingChain (L.listed table.now)) (L.listed table.now) }
     ensures settled { IsNormalForm (TransformStep (L.listed table.now)) parts.old parts.new }

@@ -23,7 +23,8 @@ use lt_registry::Lookup;
 use lt_tag::{Extension, OutOfMemory, TransformFault, join_t, join_u, split_t, split_u};
 use std::alloc::Global;
 
-/// How many subtags the extensions before an index have, their singletons among them.
+/// How many subtags the extensions before an index have, their singletons among them. The index must be at most the number
+/// of extensions, which must have at most 1,100,000 subtags.
 fn subtags_before(extensions: &[Extension], index: usize) -> usize
     requires within { index ≤ length extensions.now }
     requires few { length (spell_extensions extensions.now) ≤ 1100000 }
@@ -37,7 +38,8 @@ fn subtags_before(extensions: &[Extension], index: usize) -> usize
 }
 
 /// The index of the `u` extension and its normal form, to which its steps lead; they are added to `steps`. None if
-/// there is no such extension. The extensions begin after `start` subtags. Refused only where memory runs out.
+/// there is no such extension. The extensions begin after `start` subtags, and `start` and their subtags must be at most
+/// 1,100,000 together. Refused only where memory runs out.
 #[tactic(auto, using(crate::proofs::ExtensionRuns::few_before))]
 fn explained_unicode(
     alloc: Global,
@@ -58,8 +60,9 @@ fn explained_unicode(
 }
 
 /// The index of the `t` extension and its normal form, to which its steps lead; they are added to `steps`. None if
-/// there is no such extension. The extensions begin after `start` subtags. A `t` extension has the form of one, and the
-/// chains of the registry end. Refused only where memory runs out.
+/// there is no such extension. The extensions begin after `start` subtags, and `start` and their subtags must be at most
+/// 1,100,000 together. A `t` extension must have the form of one, and the chains of the registry must end. Refused only
+/// where memory runs out.
 #[tactic(auto, using(crate::proofs::ExtensionRuns::few_before))]
 fn explained_transform<L: Lookup>(
     alloc: Global,

@@ -29,7 +29,8 @@ pub(crate) fn place_of(extensions: &[Extension], singleton: u8) -> Option<usize>
 }
 
 /// The index of the `u` extension, and its normal form. None if there is no such extension, or if its keys rise, which
-/// shows that it is in its normal form; neither takes memory. Refused only where memory runs out.
+/// shows that it is in its normal form; neither takes memory. Each singleton must occur once. Refused only where memory
+/// runs out.
 #[tactic(auto, using(crate::proofs::ExtensionLaws::none_settles))]
 fn settled_unicode(
     alloc: Global,
@@ -51,8 +52,8 @@ fn settled_unicode(
 }
 
 /// The index of the `t` extension, and its normal form, by shortcuts along the chains if there are some. None if there
-/// is no such extension. A `t` extension has the form of one, and the chains of the registry end. Refused only where
-/// memory runs out.
+/// is no such extension. A `t` extension must have the form of one. The chains of the registry must end, and the shortcuts
+/// be those of the table. Refused only where memory runs out.
 #[tactic(auto, using(crate::proofs::ExtensionLaws::none_settles))]
 fn settled_transform<L: Lookup>(
     alloc: Global,
@@ -79,7 +80,8 @@ fn settled_transform<L: Lookup>(
     Ok(Some((place, join_t(alloc, &parts)?)))
 }
 
-/// Puts an extension in the place of the one at the index given with it. Does nothing if `settled` is None.
+/// Puts an extension in the place of the one at the index given with it, which must be in the list. Does nothing if
+/// `settled` is None.
 pub(crate) fn put_back(extensions: &mut Vec<Extension>, settled: Option<(usize, Extension)>)
     requires { IfSome settled (λ settled. settled.0 < length extensions.old.items) }
     ensures { extensions.new.items ≡ placed settled extensions.old.items }
@@ -89,8 +91,9 @@ pub(crate) fn put_back(extensions: &mut Vec<Extension>, settled: Option<(usize, 
     }
 }
 
-/// Puts a list of extensions into its normal form, by shortcuts along the chains if there are some, under the
-/// conditions of `settle_extensions`. Refused only where memory runs out; the list is then what it was.
+/// Puts a list of extensions into its normal form, by shortcuts along the chains if there are some, which must be those of
+/// the table. Each singleton must occur once, a `t` extension must have the form of one, and the chains of the registry
+/// must end. Refused only where memory runs out; the list is then what it was.
 pub(crate) fn settle_all<L: Lookup>(
     alloc: Global,
     table: &L,
@@ -114,7 +117,7 @@ pub(crate) fn settle_all<L: Lookup>(
 }
 
 /// Puts a list of extensions into its normal form (RFC 5646, 4.5, rule 1): the `u` and the `t` extension come
-/// to theirs, and the extensions are in the order of their singletons. Each singleton occurs once, a `t`
+/// to their normal forms, and the extensions to the order of their singletons. Each singleton occurs once, a `t`
 /// extension has the form of one, and the chains of the registry end, as they do where `first_cycle` is None.
 /// Memory is taken only for a `u` or a `t` extension. The only refusal is running out of memory; the list is
 /// then what it was.

@@ -32,8 +32,9 @@ pub(crate) fn source_length(source: &Option<Core>) -> usize
     }
 }
 
-/// Takes a SwapFields step: two neighbouring fields change places. False, and nothing changes, if there is no such step. The
-/// extension's singleton has the place `start`.
+/// Takes a SwapFields step, which `step` must be: two neighbouring fields change places. False, and nothing changes, if
+/// there is no such step. The extension's singleton has the place `start`, and the last subtag must have one of at most
+/// 1,200,000.
 fn swap_fields(parts: &mut TParts, start: usize, step: Step) -> bool
     requires kind { step.kind ≡ kinds.SwapFields }
     requires few { start + length (spell_t parts.old) ≤ 1200000 }
@@ -47,8 +48,8 @@ fn swap_fields(parts: &mut TParts, start: usize, step: Step) -> bool
     swap_at(&mut parts.fields, first_field, step.place)
 }
 
-/// Takes a step on the parts of a `t` extension whose singleton has the place `start`. False, and nothing changes, if there
-/// is no such step.
+/// Takes a step on the parts of a `t` extension whose singleton has the place `start`, and whose last subtag must have one of
+/// at most 1,200,000. False, and nothing changes, if there is no such step.
 pub(crate) fn apply_to_transform<L: Lookup>(
     table: &L,
     parts: &mut TParts,

@@ -25,7 +25,8 @@ pub(crate) fn drop_types(keyword: &mut Keyword)
 }
 
 /// Takes the types from the keyword whose first type has this place, if they are exactly `true`. False, and nothing
-/// changes, if there is no such keyword. The keywords begin after `start` subtags.
+/// changes, if there is no such keyword. The keywords begin after `start` subtags, and the place after their last subtag must
+/// be below 2^32.
 fn drop_true_at(keywords: &mut Vec<Keyword>, start: usize, place: u32) -> bool
     requires { start + 1 + length (flat_map spell_keyword keywords.old.items) < 2 ^ 32 }
     ensures { Answers (TrueLeads start place keywords.old.items) keywords.new.items result }
@@ -41,8 +42,8 @@ fn drop_true_at(keywords: &mut Vec<Keyword>, start: usize, place: u32) -> bool
     true
 }
 
-/// Takes a step on the parts of a `u` extension whose singleton has the place `start`. False, and nothing changes, if there
-/// is no such step.
+/// Takes a step on the parts of a `u` extension whose singleton has the place `start`. The place after its last subtag must
+/// be below 2^32. False, and nothing changes, if there is no such step.
 pub(crate) fn apply_to_unicode(parts: &mut UParts, start: usize, step: Step) -> bool
     requires { start + 1 + length (spell_u parts.old) < 2 ^ 32 }
     ensures { Answers (UnicodeLeads start parts.old step) parts.new result }

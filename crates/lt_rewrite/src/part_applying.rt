@@ -59,7 +59,7 @@ impl Spelled for Field {
 }
 
 /// The index of the part whose first subtag has this place, counted from 1, in a list that begins after `start`
-/// subtags. None if there is none.
+/// subtags. The places must be below 2^32. None if no part begins at this place.
 pub(crate) fn index_at<P: Spelled>(parts: &[P], start: usize, place: u32) -> Option<usize>
     requires { start + length (flat_map P.spell parts.now) < 2 ^ 32 }
     ensures { MatchOption result
@@ -77,7 +77,7 @@ pub(crate) fn index_at<P: Spelled>(parts: &[P], start: usize, place: u32) -> Opt
     None
 }
 
-/// Whether a part that is equal in the order to the part at an index is before it.
+/// Whether a part that is equal in the order to the part at an index is before it. The index must be within the list.
 pub(crate) fn has_like<P: Part>(parts: &[P], index: usize) -> bool
     requires { index < length parts.now }
     ensures { MatchBool result (HasLike P.order parts.now index) (HasLike P.order parts.now index → ⊥) }
@@ -91,7 +91,7 @@ pub(crate) fn has_like<P: Part>(parts: &[P], index: usize) -> bool
 }
 
 /// Exchanges the part whose first subtag has this place and the next one, if they are in falling order. False, and nothing
-/// changes, if there is no such part. The list begins after `start` subtags.
+/// changes, if there is no such part. The list begins after `start` subtags, and the places must be below 2^32.
 pub(crate) fn swap_at<P: Spelled>(parts: &mut Vec<P>, start: usize, place: u32) -> bool
     requires { start + length (flat_map P.spell parts.old.items) < 2 ^ 32 }
     ensures { Answers (SwapLeads P.order P.spell start place parts.old.items) parts.new.items result }
@@ -112,7 +112,7 @@ pub(crate) fn swap_at<P: Spelled>(parts: &mut Vec<P>, start: usize, place: u32) 
 }
 
 /// Drops the part whose first subtag has this place, if one before it is equal in the order. False, and nothing
-/// changes, if there is no such part. The list begins after `start` subtags.
+/// changes, if there is no such part. The list begins after `start` subtags, and the places must be below 2^32.
 pub(crate) fn drop_at<P: Spelled>(parts: &mut Vec<P>, start: usize, place: u32) -> bool
     requires { start + length (flat_map P.spell parts.old.items) < 2 ^ 32 }
     ensures { Answers (DropLeads P.order P.spell start place parts.old.items) parts.new.items result }

@@ -5,8 +5,8 @@ ghost use Rattle.lt_rewrite.specs.RisingKeys as rising;
 use lt_subtag::Subtag;
 use std::cmp::Ordering;
 
-/// Whether a key comes after the last one in the order of keys (RFC 6067, 2.1.1). The first key, which has none before it,
-/// does.
+/// Whether a key comes after the last one in the order of keys (RFC 6067, 2.1.1). True of the first key, which has none
+/// before it.
 fn comes_after(last: &Option<Subtag>, key: &Subtag) -> bool
     ensures { result ≡ rising.comes_after last.now key.now }
 {
@@ -24,9 +24,9 @@ fn is_type(subtag: &Subtag) -> bool
     3 <= subtag.bytes().len() && subtag.bytes() != b"true".as_slice()
 }
 
-/// The last key of a `u` extension once a subtag follows it: the subtag if it is a key after the last one in the order
-/// of keys (RFC 6067, 2.1.1), or the last key if the subtag is a type of it other than `true`. None if it is neither:
-/// then the extension may not be in its normal form. `last` is None before the first key.
+/// The last key of a `u` extension once a subtag follows it. That is the subtag if it is a key after the last one in the
+/// order of keys (RFC 6067, 2.1.1), or the last key if the subtag is a type of it other than `true`. None if the subtag is
+/// neither: then the extension may not be in its normal form. `last` is None before the first key.
 pub fn next_key(last: Option<Subtag>, subtag: Subtag) -> Option<Subtag>
     ensures { result ≡ rising.next_key last subtag }
 {

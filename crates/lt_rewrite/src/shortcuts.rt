@@ -1,6 +1,6 @@
-//! Shortcuts along the chains of values of a table's records (RFC 5646, 3.1.7): where each ends, by the place of a record.
-//! They are doubled in as many rounds as the number of records has binary digits, so that a cycle is found as fast as
-//! an end, however long the chains are.
+//! Shortcuts along the chains of values of a table's records (RFC 5646, 3.1.7): for each record the place of one further on,
+//! whose value is the end of the chain. They are doubled in as many rounds as the number of records has binary digits, so
+//! that a cycle is found as fast as an end, however long the chains are.
 ghost use Rattle.std.specs.Prelude.{◌≡◌, ◌+◌, ◌≤◌, ◌<◌, ◌||◌, true, false, Some, ℕ, List, All, IfOk, OnErr, Contains, length, map, IsTrue, ◌↔◌};
 ghost use Rattle.std.specs.List.{slice_get, AllByRecursion, AllWithin};
 ghost use Rattle.std.specs.List.Sorted.{IsNonDecreasingBy};
@@ -44,9 +44,9 @@ impl Model for Shortcuts {
 }
 
 impl Shortcuts {
-    /// The shortcuts of a table: for each record a place as many values on as there are records, so
-    /// at the end of each chain that has one. They take a place for each record, and look up each value
-    /// once. Refused only where memory runs out.
+    /// The shortcuts of a table: for each record the place of one that is as many values on as there are
+    /// records, and so at the end of the chain, if it has one. They take a place for each record, and look
+    /// up each value once. Refused only where memory runs out.
     pub fn of_table<L: Lookup>(alloc: Global, table: &L) -> Result<Shortcuts, AllocError>
         ensures { IfOk result (AreShortcuts (L.listed table.now)) }
     {
@@ -56,7 +56,7 @@ impl Shortcuts {
     }
 
     /// The subtag that is at least as many values on from a subtag as there are records: the end of its chain of
-    /// values, if that has one.
+    /// values, if that has one. The shortcuts must be those of the table.
     #[tactic(auto, using(std::proofs::lemmas::Option::slice_get_within, crate::proofs::ChainWalks::entry_there, crate::proofs::ShortcutWalks::onward_rest, crate::proofs::ShortcutWalks::entry_next, crate::proofs::ShortcutWalks::none_follows, crate::proofs::ChainWalks::next_by, crate::proofs::ShortcutWalks::led_to, crate::proofs::ShortcutWalks::led_far, crate::proofs::ShortcutWalks::some_follows))]
     fn further<'a, L: Lookup>(&self, table: &'a L, kind: Kind, subtag: &'a Subtag) -> &'a Subtag
         requires { AreShortcuts (L.listed table.now) self.now }
@@ -77,7 +77,8 @@ impl Shortcuts {
         }
     }
 
-    /// The end of the chain of values of a kind that begins with a subtag, or `Cycle` if it has none.
+    /// The end of the chain of values of a kind that begins with a subtag. Refused with `Cycle` if the chain has no end.
+    /// The shortcuts must be those of the table.
     pub(crate) fn end_of_chain<L: Lookup>(
         &self,
         table: &L,
@@ -96,7 +97,8 @@ impl Shortcuts {
         }
     }
 
-    /// The end of the chain of values of a kind that begins with a subtag, in a registry whose chains end.
+    /// The end of the chain of values of a kind that begins with a subtag. The chains of the registry must end, and the
+    /// shortcuts be those of the table.
     pub(crate) fn certain_end<L: Lookup>(&self, table: &L, kind: Kind, subtag: &Subtag) -> Subtag
         requires chains { All (HasEndingChain (L.listed table.now)) (L.listed table.now) }
         requires shortcuts { AreShortcuts (L.listed table.now) self.now }
@@ -165,8 +167,8 @@ impl Shortcuts {
     }
 }
 
-/// The index of an entry among the entries of a table, whose numbers rise. Where the numbers follow on one another, it
-/// is found without a search.
+/// The index of an entry among the entries of a table. The entry must be one of them, and their numbers must rise. Where
+/// the numbers follow on one another, it is found without a search.
 pub(crate) fn place_of(entries: &[Entry], entry: &Entry) -> usize
     requires rising { NumbersRise entries.now }
     requires there { Contains entries.now entry.now }
@@ -180,8 +182,8 @@ pub(crate) fn place_of(entries: &[Entry], entry: &Entry) -> usize
     }
 }
 
-/// The index of the entry of the value that follows an entry, if a further value follows that one; else `place`, the
-/// index of the entry itself.
+/// The index of the entry of the value that follows an entry, if a further value follows that one; else `place`, which
+/// must be the index of the entry itself.
 #[tactic(auto, using(std::proofs::lemmas::Option::slice_get_within, crate::proofs::ChainWalks::entry_there, crate::proofs::ShortcutWalks::to_itself, crate::proofs::ShortcutWalks::to_next, crate::proofs::ChainWalks::next_by))]
 fn next_place<L: Lookup>(table: &L, entry: &Entry, place: usize) -> usize
     requires { slice_get (L.listed table.now) place ≡ Some entry.now }
@@ -227,8 +229,8 @@ fn last_places<L: Lookup>(alloc: Global, table: &L) -> Result<Vec<usize>, AllocE
     Ok(places)
 }
 
-/// Makes each shortcut twice as long, unless `grows` is false, where none would change. Tells whether one leads
-/// elsewhere than before.
+/// Makes each shortcut twice as long, unless `grows` is false, which must only be so if none would change. Each place must
+/// be one in the list. Tells whether a shortcut leads elsewhere than before.
 fn lengthen_while(grows: bool, places: &mut [usize]) -> bool
     requires within { (i j : ℕ) → slice_get places.old i ≡ Some j → j < length places.old }
     requires rest { grows ≡ false → GrowNoMore places.old }
@@ -246,7 +248,7 @@ fn either(one: bool, other: bool) -> bool
 }
 
 /// Makes each shortcut at least twice as long: it leads on by the shortcut of the entry to which it led, which may have
-/// been made longer already. Tells whether one leads elsewhere than before.
+/// been made longer already. Each place must be one in the list. Tells whether a shortcut leads elsewhere than before.
 fn lengthen(places: &mut [usize]) -> bool
     requires { (i j : ℕ) → slice_get places.old i ≡ Some j → j < length places.old }
     ensures doubled { (R : List EntryParts) (n : ℕ) → LeadOn R n places.old → LeadOn R (n + n) places.new }

@@ -37,7 +37,7 @@ pub enum StepKind {
 }
 
 impl StepKind {
-    /// The kind's name, as it is written here: `Extlang`.
+    /// The kind's name, as it is written here, for example `Extlang`.
     pub fn name(self) -> &'static str
         ensures { result.now ≡ name_of self }
     {

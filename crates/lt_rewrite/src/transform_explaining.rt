@@ -16,8 +16,8 @@ use lt_registry::Lookup;
 use lt_tag::{OutOfMemory, TParts};
 
 /// Takes the first step on the source of a `t` extension, and goes on so until there is none. It adds the steps to
-/// `steps`; without a source there are none. The extension's singleton has the place `start`. Refused only where memory
-/// runs out; some of the steps may have been taken then.
+/// `steps`; without a source there are none. The extension's singleton has the place `start`, at most 1,200,000, and the
+/// chains of the registry must end. Refused only where memory runs out; some of the steps may have been taken then.
 fn explain_source<L: Lookup>(
     table: &L,
     parts: &mut TParts,
@@ -37,8 +37,8 @@ fn explain_source<L: Lookup>(
 }
 
 /// Takes the first step on the parts of a `t` extension, and goes on so until there is none. It adds the steps to
-/// `steps`. The extension's singleton has the place `start`. The chains of the registry end. Refused only where memory
-/// runs out; some of the steps may have been taken then.
+/// `steps`. The extension's singleton has the place `start`, and its last subtag must have one of at most 1,200,000. The
+/// chains of the registry must end. Refused only where memory runs out; some of the steps may have been taken then.
 pub(crate) fn explain_t<L: Lookup>(
     table: &L,
     parts: &mut TParts,

@@ -12,8 +12,8 @@ use crate::steps::{Step, StepKind};
 use lt_tag::{Keyword, OutOfMemory, UParts};
 
 /// Takes the types from the leftmost keyword whose types are exactly `true`, until there is none. It adds the steps to
-/// `steps`. The keywords begin after `start` subtags. Refused only where memory runs out; some of the steps may have
-/// been taken then.
+/// `steps`. The keywords begin after `start` subtags, and `start` and their subtags must be at most 1,200,000 together.
+/// Refused only where memory runs out; some of the steps may have been taken then.
 fn drop_trues(
     keywords: &mut Vec<Keyword>,
     start: usize,
@@ -40,8 +40,8 @@ fn drop_trues(
 }
 
 /// Takes the first step on the parts of a `u` extension, and goes on so until there is none. It adds the steps to
-/// `steps`. The extension's singleton has the place `start`. Refused only where memory runs out; some of the steps may
-/// have been taken then.
+/// `steps`. The extension's singleton has the place `start`, and its last subtag must have one of at most 1,200,000.
+/// Refused only where memory runs out; some of the steps may have been taken then.
 pub(crate) fn explain_u(
     parts: &mut UParts,
     start: usize,

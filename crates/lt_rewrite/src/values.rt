@@ -32,7 +32,7 @@ pub fn tag_value(entry: &Entry) -> Option<&Tag>
     }
 }
 
-/// The tag and the preferred value of a record of a whole tag. None of a record without value, and of any other.
+/// The tag and the preferred value of a record of a whole tag. None if the record has no value, or is none of a whole tag.
 pub fn tag_and_value(entry: &Entry) -> Option<(&Tag, &Tag)>
     ensures { MatchOption result
         ((t u : TagForm) → entry.now.name ≡ names.Whole t → tag_of entry.now.value ≡ Some u → ⊥)

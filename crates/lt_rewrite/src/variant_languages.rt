@@ -32,7 +32,7 @@ fn variant_place<L: Lookup>(table: &L, variant: &Subtag) -> usize
 }
 
 /// The end of a variant's chain of variants, and the index of the end's entry in the table, or the index after the last
-/// entry if the end has none. The chains of the registry end.
+/// entry if the end has none. The chains of the registry must end, and the shortcuts be those of the table.
 #[tactic(auto, using(crate::proofs::ChainWalks::entry_there))]
 pub(crate) fn settled_variant<L: Lookup>(
     table: &L,
@@ -66,7 +66,8 @@ fn entry_at<'a, L: Lookup>(table: &'a L, place: usize) -> Option<&'a Entry>
 }
 
 /// The language to which a variant leads beside a language by a VariantLanguage step, or None if it has no such step.
-/// `place` is the index of the variant's entry. `_variant` is for the clauses alone: it is not looked up.
+/// `place` must be the index of the variant's entry, or one after the last entry if it has none. `_variant` is for the
+/// clauses alone: it is not looked up.
 fn variant_language_at<'a, L: Lookup>(
     table: &'a L,
     place: usize,
@@ -87,8 +88,8 @@ fn variant_language_at<'a, L: Lookup>(
 }
 
 /// The leftmost variant with a VariantLanguage step: its index, counted from 0, and the language to which it leads.
-/// None if no variant has one. `places` are the indices of the entries of the core's variants, so that none is looked
-/// up.
+/// None if no variant has one. `places` must be the indices of the entries of the core's variants, so that none is looked
+/// up; for a variant without an entry it has an index after the last entry.
 pub(crate) fn first_variant_language_at<L: Lookup>(
     table: &L,
     places: &[usize],
