@@ -8,8 +8,6 @@ use Rattle.lt_range.specs.Filtering.{ArePlaces}
 use Rattle.lt_range.specs.Preferences.{at, length_at, IsLonger, IsLongestOf, Matched, MayBeLongest, Accepts, AreAcceptedFrom, AreAccepted, Decides, NoneDecides, HasWeight, IsRefused}
 use Rattle.lt_range.specs.declared.preferences.Preference.{Preference}
 
--- ---- the longest of some
-
 module _ (P : ℕ → Type 0) (long : ℕ → ℕ) where
   -- there is one longest place
   pub one_longest : (n p q : ℕ) → IsLongestOf P long n p → IsLongestOf P long n q → p ≡ q
@@ -45,8 +43,6 @@ module _ (P : ℕ → Type 0) (long : ℕ → ℕ) where
     first = found.first;
   }
 
--- ---- the range that decides
-
 module _ (all : List Preference) (tag : List (List ℕ)) where
   -- one range decides the weight of a tag
   pub one_decides : (p q : ℕ) → Decides all tag p → Decides all tag q → p ≡ q
@@ -64,11 +60,10 @@ module _ (all : List Preference) (tag : List (List ℕ)) where
   pub none_accepts : (place : ℕ) → NoneDecides all tag → Accepts all place tag → ⊥
   none_accepts place none h = none place h.decides.within h.decides.holds
 
--- ---- the tags that are accepted
-
--- the loop over the ranges
+-- the loop over the ranges, each of which accepts the tags whose weight it decides
 module _ (all : List Preference) (tags : List (List (List ℕ))) where
-  -- `found` are the places that the first `i` ranges accept: with those that the others accept, they are what all accept
+  -- `found` are the places that the first `i` ranges accept: with those that the others accept, they are what all
+  -- accept
   abbrev pub AcceptsOn : ℕ → List ℕ → Type 0
   AcceptsOn i found = (more : List ℕ) → AreAcceptedFrom all i (drop i all) tags more → AreAccepted all tags (found ++ more)
 

@@ -78,8 +78,6 @@ module _ (wild : Bool) (all : List Preference) (tags : List (List (List ℕ))) w
     before = none_before first found;
   }
 
--- ---- the ranges that decide
-
 module _ (all : List Preference) (tags : List (List (List ℕ))) where
   -- `o` is the range that decides the weight of the next tag, if one does
   pub deciding_next : (n : ℕ) (found : List (Option ℕ)) (o : Option ℕ) → AreDeciding all tags n found → MayDecide all (tag_at tags n) o → AreDeciding all tags (n + 1) (found ++ o ∷ [])

@@ -14,7 +14,7 @@ use Rattle.lt_range.specs.declared.elements.WeightedRange.{WeightedRange}
 use Rattle.lt_range.specs.declared.preferences.Preference.{Preference}
 use Rattle.lt_range.specs.declared.refusals.RangeRefusal.{RangeRefusal}
 
--- the element at a place; after the last, one of no text
+-- the element at a place; after the last one, an element without a text
 abbrev pub element_at_place : List ElementParts → ℕ → ElementParts
 element_at_place elements place = slice_index_or elements place (record { range = []; weight = 0 })
 
@@ -29,7 +29,7 @@ pub record ArePreferencesOf (R : List EntryParts) (elements : List ElementParts)
   pub counted : length preferences ≡ count
   pub each : (place : ℕ) → place < count → IsPreferenceOf R (element_at_place elements place) (at preferences place)
 
--- what is wrong with the range of one of the elements
+-- the refusal is that of the range of one of the elements
 pub record IsElementRefusal (R : List EntryParts) (elements : List ElementParts) (refusal : RangeRefusal)
     : Type 0 where
   pub place : ℕ
@@ -52,8 +52,8 @@ pub record HasRefusedRange (R : List EntryParts) (header : List ℕ) (refusal : 
   pub reading : IsReading header acceptable not_acceptable
   pub refused : IsElementRefusal R (map parts_of (acceptable ++ not_acceptable)) refusal
 
--- why a header gives no preferences: it is none, or one of its ranges is refused; OutOfMemory may be answered of any
--- header
+-- why a text gives no preferences: it is no header, or one of its ranges is refused; OutOfMemory may be answered for
+-- any text
 abbrev pub IsHeaderRefusal : List EntryParts → List ℕ → HeaderRefusal → Type 0
 IsHeaderRefusal R header (refusals.NotAHeader fault) = elements_of header ≡ Err fault
 IsHeaderRefusal R header (refusals.BadRange refusal) = HasRefusedRange R header refusal

@@ -7,7 +7,7 @@ use Rattle.lt_range.specs.Lookup.{tag_at}
 use Rattle.lt_range.specs.Matched.{HasSubtags}
 use Rattle.lt_range.specs.declared.available.AvailableRefusal.{AvailableRefusal}
 
--- the text at a place; after the last, none of any byte
+-- the text at a place; after the last one, the empty text
 abbrev pub text_at : List (List ℕ) → ℕ → List ℕ
 text_at texts place = slice_index_or texts place []
 
@@ -27,7 +27,7 @@ pub record IsFirstRefused (R : List EntryParts) (texts : List (List ℕ)) (refus
   pub numbered : refused.place ≡ place + 1
   pub refusal : IsTextRefusal R (text_at texts place) refused.refusal
 
--- why a list of texts can't be served: the first that has no list; OutOfMemory may be answered of any
+-- why texts can't be served: what is wrong with the first that has no list; OutOfMemory may be answered for any texts
 abbrev pub IsAvailableRefusal : List EntryParts → List (List ℕ) → AvailableRefusal → Type 0
 IsAvailableRefusal R texts refused = IsFirstRefused R texts refused ⊎ (refused.refusal ≡ refusals.OutOfMemory)
 

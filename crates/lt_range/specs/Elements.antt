@@ -28,7 +28,7 @@ has_no_star text = list_all (λ b. not (b == 42)) text
 abbrev pub is_basic : List ℕ → Bool
 is_basic text = is_star text || has_no_star text
 
--- why a text is no basic range: what it is read as, and whether it has the form of a basic one; None if it is one
+-- why a text is no basic range, by what it is read as and by whether it has the form of a basic one; None if it is one
 abbrev pub fault_by : Result RangeParts RangeFault → Bool → Option AcceptFaultKind
 fault_by (Err fault) basic = Some (kinds.BadRange fault)
 fault_by (Ok range) false = Some kinds.ExtendedRange
@@ -38,8 +38,8 @@ fault_by (Ok range) true = None
 abbrev pub range_fault : List ℕ → Option AcceptFaultKind
 range_fault text = fault_by (range_of text) (is_basic text)
 
--- the element of a range, its fault, if it has one, and its weight, if what follows it is one; or why there is no
--- element
+-- the element of a range, by the fault of the range, if it has one, and by the weight, if what follows the range is
+-- one; or why there is no element
 abbrev pub element_with : List ℕ → Option AcceptFaultKind → Option ℕ → Result (Option ElementParts) AcceptFaultKind
 element_with range (Some kind) weight = Err kind
 element_with range None None = Err kinds.BadWeight
@@ -57,12 +57,12 @@ element_at (b ∷ bs) =
 unfoldable pub element_of : List ℕ → Result (Option ElementParts) AcceptFaultKind
 element_of piece = element_at (rest is_blank piece)
 
--- the reading gave this fault; OutOfMemory may be answered of any text
+-- the reading gave this fault; OutOfMemory may be answered for any text
 abbrev pub IsRefused : {X : Type 0} → Result X AcceptFaultKind → AcceptFaultKind → Type 0
 IsRefused read kinds.OutOfMemory = Unit {0}
 IsRefused read kind = read ≡ Err kind
 
--- the fault is this one; OutOfMemory may be answered of any text
+-- the fault is the one that was found; OutOfMemory may be answered for any text
 abbrev pub IsFoundFault : Option AcceptFaultKind → AcceptFaultKind → Type 0
 IsFoundFault fault kinds.OutOfMemory = Unit {0}
 IsFoundFault fault kind = fault ≡ Some kind

@@ -27,21 +27,21 @@ elements_from place (p ∷ ps) = with_element place (element_of p) (elements_fro
 abbrev pub elements_of : List ℕ → Result (List ElementParts) AcceptFault
 elements_of text = elements_from 1 (comma_pieces text)
 
--- the elements `front` before what else was read, or the fault of that
+-- the elements `front` before those that were read after them, or the fault of the reading
 abbrev pub with_front : List ElementParts → Result (List ElementParts) AcceptFault
     → Result (List ElementParts) AcceptFault
 with_front front (Ok elements) = Ok (front ++ elements)
 with_front front (Err fault) = Err fault
 
--- the reading of a header gave this fault, which has this kind; OutOfMemory may be answered of any header
+-- the reading of a header gave this fault, which has this kind; OutOfMemory may be answered for any header
 abbrev pub IsFaultOfKind : Result (List ElementParts) AcceptFault → AcceptFault → AcceptFaultKind → Type 0
 IsFaultOfKind read fault kinds.OutOfMemory = Unit {0}
 IsFaultOfKind read fault kind = read ≡ Err fault
 
--- the reading of a header gave this fault; OutOfMemory may be answered of any header
+-- the reading of a header gave this fault; OutOfMemory may be answered for any header
 abbrev pub IsFault : Result (List ElementParts) AcceptFault → AcceptFault → Type 0
 IsFault read fault = IsFaultOfKind read fault fault.kind
 
--- the reading of the piece with this number gave this fault; OutOfMemory may be answered of any piece
+-- the reading of the piece with this number gave this fault; OutOfMemory may be answered for any piece
 abbrev pub IsFaultAt : Result (Option ElementParts) AcceptFaultKind → ℕ → AcceptFault → Type 0
 IsFaultAt read place fault = IsRefused read fault.kind × (fault.place ≡ place)

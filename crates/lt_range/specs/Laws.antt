@@ -31,7 +31,8 @@ pub record MatchesAsSpelled (R : List EntryParts) (scheme : MatchingScheme) (t u
   pub tag_equivalent : AreEquivalent R u tag
   pub matches : MatchesBy scheme (range_of_tag (spell range)) (spell tag)
 
--- what a range that is a valid tag matches, it matches as some tags are written that are equivalent to the two
+-- if a range that is a valid tag matches a tag, some valid tags that are equivalent to the two match as they are
+-- written
 abbrev pub MatchesOnlyAsSpelled : List EntryParts → Type 0
 MatchesOnlyAsSpelled R = (scheme : MatchingScheme) (text : List ℕ) (t u : TagForm) → HasTag text t → IsValid R t
     → MatchesTag R scheme text u → MatchesAsSpelled R scheme t u
@@ -50,7 +51,7 @@ pub record AreEquivalentTexts (R : List EntryParts) (a b : List ℕ) : Type 0 wh
   pub valid : IsValid R other
   pub equivalent : AreEquivalent R tag other
 
--- each text is equivalent to the one that stands at its place among the others, of which there are as many
+-- the lists have as many texts, and each text is equivalent to the one at the same place in the other list
 pub record AreSpelledAlike (R : List EntryParts) (texts others : List (List ℕ)) : Type 0 where
   pub as_many : length texts ≡ length others
   pub each : (place : ℕ) → place < length others → AreEquivalentTexts R (text_at texts place) (text_at others place)

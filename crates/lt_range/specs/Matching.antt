@@ -58,8 +58,8 @@ MatchesExtended range tag =
 abbrev pub ends_long : List (List ℕ) → Bool
 ends_long list = option_map_or is_no_singleton (slice_get list (length list - 1)) false
 
--- What is left of a range that is cut from its end, if at all: one subtag or more, of which after a cut the last is no
--- singleton, since that is cut with the subtag after it (RFC 4647, 3.4).
+-- What may be left of a range after it is cut from its end: the whole range, or one subtag or more at its front, the
+-- last of which is no singleton, since a singleton is cut with the subtag after it (RFC 4647, 3.4).
 pub record IsLeft (range left : List (List ℕ)) : Type 0 where
   pub begins : BeginsWith left range
   pub some : 0 < length left

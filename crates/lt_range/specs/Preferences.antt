@@ -8,11 +8,11 @@ use Rattle.lt_range.specs.Filtering.{ArePlaces}
 use Rattle.lt_range.specs.Lookup.{tag_at}
 use Rattle.lt_range.specs.declared.preferences.Preference.{Preference}
 
--- the preference at a place; after the last, one for nothing
+-- the preference at a place; after the last one, a preference without subtags and of weight 0
 abbrev pub at : List Preference → ℕ → Preference
 at all place = slice_index_or all place (record { range = record { wild = false; named = [] }; weight = 0 })
 
--- how many subtags the range at a place has other than `*`, which is the shortest
+-- how many subtags other than `*` the range at a place has; so the range `*` is the shortest
 abbrev pub length_at : List Preference → ℕ → ℕ
 length_at all place = length (at all place).range.named
 
@@ -110,8 +110,8 @@ MaySelect all range tags None = NoneOf (SelectsAt all range tags) (length tags)
 MaySelect all range tags (Some place) = SelectsFirst all range tags place
 
 -- A range serves the tag that lookup by it finds, of those that are not refused; where it finds none, the first of them
--- that the range matches by basic filtering: `de-CH` serves `de`, and `de` serves `de-CH` (RFC 4647, 3.4 and 3.3.1; that
--- the second follows the first is this project's own).
+-- that the range matches by basic filtering: `de-CH` serves `de`, and `de` serves `de-CH` (RFC 4647, 3.4 and 3.3.1;
+-- that the second follows the first is this project's own).
 abbrev pub Serves : List Preference → RangeParts → List (List (List ℕ)) → Option ℕ → Type 0
 Serves all range tags served =
     ((place : ℕ) × FallsTo all range tags place × (served ≡ Some place))
@@ -144,8 +144,8 @@ abbrev pub ServesInTurn : Bool → List Preference → List (List (List ℕ)) �
 ServesInTurn wild all tags None = NoneServesOf (length all) wild all tags
 ServesInTurn wild all tags (Some place) = FirstServes wild all tags place
 
--- The tag to serve: that of the first range in order that serves one; `*` comes after all others (RFC 4647, 3.4: "If the
--- language range '*' is followed by other language ranges, it is skipped").
+-- The tag to serve: that of the first range in order that serves one; `*` comes after all others (RFC 4647, 3.4: "If
+-- the language range '*' is followed by other language ranges, it is skipped").
 abbrev pub IsBest : List Preference → List (List (List ℕ)) → Option ℕ → Type 0
 IsBest all tags best =
     ((place : ℕ) × FirstServes false all tags place × (best ≡ Some place))
@@ -168,22 +168,22 @@ pub record ServesAt (wild : Bool) (all : List Preference) (tags : List (List (Li
   pub reached : ReachesAt wild all (tag_at tags place) index
   pub allowed : IsRefused all (tag_at tags place) → ⊥
 
--- in the turn the range at `first` is the first that serves one of the first `count` tags; it is past the last where
--- none does
+-- in the turn the range at `first` is the first that serves one of the first `count` tags; `first` is past the last
+-- range where none does
 pub record IsFirstServing (wild : Bool) (all : List Preference) (tags : List (List (List ℕ))) (count first : ℕ)
     : Type 0 where
   pub within : first ≤ length all
   pub before : (place : ℕ) → place < count → NoneOf (ServesAt wild all tags place) first
   pub serves : first < length all → (place : ℕ) × (place < count) × ServesAt wild all tags place first
 
--- preferences serve one of given tags at most
+-- preferences and tags determine which of the tags is served, or that none is
 abbrev pub BestIsDetermined : Type 0
 BestIsDetermined =
     (all : List Preference) (tags : List (List (List ℕ))) (p q : Option ℕ) → IsBest all tags p → IsBest all tags q → p ≡ q
 
 -- ---- the tags that are accepted
 
--- the range at `place` decides the weight of the tag, which is not 0
+-- the range at `place` decides the weight of the tag, and that weight is not 0
 pub record Accepts (all : List Preference) (place : ℕ) (tag : List (List ℕ)) : Type 0 where
   pub decides : Decides all tag place
   pub weighty : 0 < (at all place).weight
@@ -193,13 +193,13 @@ abbrev pub MayDecide : List Preference → List (List ℕ) → Option ℕ → Ty
 MayDecide all tag None = NoneDecides all tag
 MayDecide all tag (Some place) = Decides all tag place
 
--- of each of the first `count` tags the range that decides its weight, if one does
+-- for each of the first `count` tags `found` has the place of the range that decides its weight, if one does
 pub record AreDeciding (all : List Preference) (tags : List (List (List ℕ))) (count : ℕ) (found : List (Option ℕ))
     : Type 0 where
   pub counted : length found ≡ count
   pub each : (place : ℕ) → place < count → MayDecide all (tag_at tags place) (slice_index_or found place None)
 
--- the places of the tags that are accepted, by the ranges from `place` on, of which there are `count`
+-- the places of the tags that are accepted by the ranges from `place` on, which are also given as a list by themselves
 abbrev pub AreAcceptedFrom : List Preference → ℕ → List Preference → List (List (List ℕ)) → List ℕ → Type 0
 AreAcceptedFrom all place [] tags found = found ≡ []
 AreAcceptedFrom all place (p ∷ ps) tags found = (here rest : List ℕ) × (found ≡ here ++ rest)

@@ -45,12 +45,12 @@ unfoldable pub later_pieces : List (List ℕ) → Result (List (List ℕ)) Range
 later_pieces [] = Ok []
 later_pieces (p ∷ ps) = with_piece (later_piece p) (later_pieces ps)
 
--- subtags in front of what else was read, or its fault
+-- subtags in front of those that were read after them, or the fault of the reading
 abbrev pub with_front : List (List ℕ) → Result (List (List ℕ)) RangeFault → Result (List (List ℕ)) RangeFault
 with_front front (Ok named) = Ok (front ++ named)
 with_front front (Err fault) = Err fault
 
--- the subtags that were read were appended
+-- `new` is `old` with the subtags that were read added
 pub record AppendsRead (old new : List (List ℕ)) (read : Result (List (List ℕ)) RangeFault) : Type 0 where
   pub added : List (List ℕ)
   pub grown : new ≡ old ++ added
@@ -73,11 +73,11 @@ range_of_pieces (p ∷ ps) = begun (first_piece p) (later_pieces ps)
 abbrev pub range_of : List ℕ → Result RangeParts RangeFault
 range_of text = range_of_pieces (pieces text)
 
--- the reading gave this fault; OutOfMemory may be answered of any
+-- the reading gave this fault; OutOfMemory may be answered for any text
 abbrev pub IsRefused : {X : Type 0} → Result X RangeFault → RangeFault → Type 0
 IsRefused read faults.OutOfMemory = Unit {0}
 IsRefused read fault = read ≡ Err fault
 
--- why a text is no range; OutOfMemory may be answered of any
+-- why a text is no range; OutOfMemory may be answered for any text
 abbrev pub IsRangeFault : List ℕ → RangeFault → Type 0
 IsRangeFault text fault = IsRefused (range_of text) fault

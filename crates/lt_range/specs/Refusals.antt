@@ -12,13 +12,13 @@ use Rattle.lt_range.specs.declared.refusals.RangeRefusal.{RangeRefusal}
 use Rattle.lt_range.specs.declared.refusals.RangeRefusal.TheVariants as refusals
 
 -- why a text matches as no range: it is neither a valid tag nor a range, or steps can repeat a variant of the tag;
--- OutOfMemory may be answered of any text
+-- OutOfMemory may be answered for any text
 abbrev pub IsRangeRefusal : List EntryParts → List ℕ → RangeRefusal → Type 0
 IsRangeRefusal R text (refusals.NotARange fault) = IsNoValidTag R text × (range_of text ≡ Err fault)
 IsRangeRefusal R text (refusals.ReplacementRepeats v) = ReadsAs text (λ tag. IsRepeatOf R tag v)
 IsRangeRefusal R text refusals.OutOfMemory = Unit {0}
 
--- why a text, as it is written, is no range; OutOfMemory may be answered of any text
+-- why a text, as it is written, is no range; OutOfMemory may be answered for any text
 abbrev pub IsPlainRefusal : List ℕ → RangeRefusal → Type 0
 IsPlainRefusal text (refusals.NotARange fault) = range_of text ≡ Err fault
 IsPlainRefusal text (refusals.ReplacementRepeats v) = ⊥

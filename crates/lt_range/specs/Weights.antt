@@ -17,7 +17,7 @@ digit decimals place = slice_index_or decimals place 48 - 48
 abbrev pub thousandths : List ℕ → ℕ
 thousandths decimals = 100 * digit decimals 0 + 10 * digit decimals 1 + digit decimals 2
 
--- the weight of a digit before the point and these thousandths after it: 0 (48) with any, 1 (49) with none
+-- the weight with a digit before the point and these thousandths after it: a 0 (48) with any, or a 1 (49) with none
 abbrev pub of_digits : ℕ → ℕ → Option ℕ
 of_digits whole parts = if whole == 48 then Some parts else (if (whole == 49) && (parts == 0) then Some 1000 else None)
 
@@ -43,8 +43,8 @@ parameter_of (q ∷ equals ∷ value) =
     if (is_q q && (equals == 61)) && (length (rest is_blank (rest is_word_byte value)) == 0)
     then qvalue_of (front is_word_byte value) else None
 
--- the weight by what follows a range without white space before it, in thousandths: 1000 if nothing does, else that of
--- the parameter after a semicolon (59)
+-- the weight by what follows a range and white space, in thousandths: 1000 if nothing does, else that of the parameter
+-- after a semicolon (59)
 abbrev pub weight_at : List ℕ → Option ℕ
 weight_at [] = Some 1000
 weight_at (b ∷ bs) = if b == 59 then parameter_of (rest is_blank bs) else None

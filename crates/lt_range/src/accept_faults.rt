@@ -25,7 +25,7 @@ pub enum AcceptFaultKind {
 }
 
 impl AcceptFaultKind {
-    /// The kind's name: `ExtendedRange`, `BadWeight`, `OutOfMemory`, or that of the range's fault, as `BadByte`.
+    /// The kind's name: `ExtendedRange`, `BadWeight`, `OutOfMemory`, or that of the range's fault, for example `BadByte`.
     pub fn name(self) -> &'static str
         ensures { result.now ≡ name_of self }
     {

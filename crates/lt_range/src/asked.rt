@@ -33,8 +33,8 @@ pub enum HeaderRefusal {
 }
 
 impl HeaderRefusal {
-    /// The refusal's name: that of the header's fault, as `BadWeight`, that of the range's, as `ReplacementRepeats`, or
-    /// `OutOfMemory`.
+    /// The refusal's name: that of the header's fault, for example `BadWeight`, that of the range's refusal, for example
+    /// `ReplacementRepeats`, or `OutOfMemory`.
     pub fn name(&self) -> &'static str
         ensures { result.now ≡ name_of self.now }
     {
@@ -88,7 +88,7 @@ fn all_elements(accept: AcceptLanguage<'_>) -> Result<Vec<WeightedRange<'_>>, Ou
     Ok(acceptable)
 }
 
-/// The preferences of elements, in their order. Refused as the first range is that is refused.
+/// The preferences of elements, in their order. Refused at the first range that `extlang_range` refuses, with its refusal.
 fn preferences_of<L: Lookup>(
     alloc: Global,
     checked: &Checked<L>,

@@ -52,8 +52,8 @@ impl From<AllocFailed<TagSubtags>> for AvailableRefusal {
     }
 }
 
-/// The subtags by which the tag is matched that a text is read as. `place` is the number of the text, which a refusal
-/// names.
+/// Reads a text as a tag, and gives the subtags by which this tag is matched. Refused if `subtags_of_text` refuses the text,
+/// with its refusal and `place`, the number of the text.
 fn numbered_subtags<L: Lookup>(
     alloc: Global,
     checked: &Checked<L>,

@@ -13,7 +13,8 @@ fn has_no_star(text: &[u8]) -> bool
     text.iter().all(|byte| *byte != b'*')
 }
 
-/// Checks that a text is a basic language range (RFC 4647, 2.1). It is refused with `BadRange` or `ExtendedRange`.
+/// Checks that a text is a basic language range (RFC 4647, 2.1). Refused with `BadRange` if it is no language range, and
+/// with `ExtendedRange` if it has a `*` beside other subtags.
 pub(crate) fn check_range(alloc: Global, text: &[u8]) -> Result<(), AcceptFaultKind>
     ensures range { OnOk result (spec.range_fault text.now ≡ None) }
     ensures fault { IfErr result (spec.IsFoundFault (spec.range_fault text.now)) }

@@ -26,8 +26,8 @@ pub(crate) fn cut_at_commas(alloc: Global, text: &[u8]) -> Result<Vec<&[u8]>, Al
     text.split(|byte| *byte == b',').collect(alloc)
 }
 
-/// The element that a piece between commas is, or None if the piece is empty or white space. It is refused with the
-/// first fault: of the range, and then of the weight.
+/// The element that a piece between commas is, or None if the piece is empty or white space. Refused if `check_range`
+/// refuses its range, and else with `BadWeight` if what follows the range is no weight.
 #[tactic(auto, unfolding(crate::specs::Elements::element_of))]
 fn read_element(alloc: Global, piece: &[u8]) -> Result<Option<WeightedRange<'_>>, AcceptFaultKind>
     ensures element { IfOk result (λ element. element_of piece.now ≡ Ok (option_map parts_of element)) }
@@ -45,7 +45,8 @@ fn read_element(alloc: Global, piece: &[u8]) -> Result<Option<WeightedRange<'_>>
     }
 }
 
-/// The element that a piece between commas is, or None if the piece is empty. `place` is its number, which a fault names.
+/// The element that a piece between commas is, or None if the piece is empty or white space. Refused if `read_element`
+/// refuses the piece, with its fault and `place`, the number of the piece.
 fn read_numbered<'a>(
     alloc: Global,
     piece: &'a [u8],
@@ -60,8 +61,8 @@ fn read_numbered<'a>(
     }
 }
 
-/// The elements that the pieces between commas are, in their order, without the empty ones. It is refused for the first
-/// piece at fault; pieces are numbered from 1, the empty ones too.
+/// The elements that the pieces between commas are, in their order, without the empty ones. Refused with the fault of the
+/// first piece that has one; pieces are numbered from 1, the empty ones too.
 pub(crate) fn read_elements<'a>(
     alloc: Global,
     pieces: &[&'a [u8]],

@@ -22,7 +22,7 @@ pub enum RangeFault {
 }
 
 impl RangeFault {
-    /// The fault's name: `BadFirst`, `OutOfMemory`, or that of the piece's fault, as `BadByte`.
+    /// The fault's name: `BadFirst`, `OutOfMemory`, or that of the piece's fault, for example `BadByte`.
     pub fn name(self) -> &'static str
         ensures { result.now ≡ name_of self }
     {

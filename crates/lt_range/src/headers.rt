@@ -46,7 +46,7 @@ fn weighty<'a>(
         .collect(alloc)
 }
 
-/// The elements whose weight is not 0: those of greater weight first, and of equal weight in their order.
+/// The elements whose weight is not 0: those of greater weight first, and those of equal weight in their order.
 fn by_priority<'a>(
     alloc: Global,
     elements: &[WeightedRange<'a>],
@@ -59,13 +59,13 @@ fn by_priority<'a>(
 }
 
 impl<'a> AcceptLanguage<'a> {
-    /// What the text of a header says, as `da, en-gb;q=0.8, en;q=0.7`. List elements may be empty (RFC 9110,
+    /// What the text of a header says, for example `da, en-gb;q=0.8, en;q=0.7`. List elements may be empty (RFC 9110,
     /// 5.6.1.2), and so may the text. Each range is one that `LanguageRange::read` reads.
     ///
     /// It is refused for the leftmost list element at fault, with the element's number:
     ///
     /// - `BadRange`, with the fault of `LanguageRange::read`, where it begins with no range.
-    /// - Else `ExtendedRange` where that has a `*` beside other subtags.
+    /// - Else `ExtendedRange` where its range has a `*` beside other subtags.
     /// - Else `BadWeight` where what follows the range is no weight.
     /// - `OutOfMemory` where memory runs out.
     pub fn read(alloc: Global, text: &'a [u8]) -> Result<AcceptLanguage<'a>, AcceptFault>

@@ -1,4 +1,5 @@
-//! The laws of language ranges, of the header, and of matching, for every registry that passes the check. Nothing is computed here: each contract is a law.
+//! The laws of language ranges, of the header, and of matching, for every registry that passes the check. Nothing is computed
+//! here: each contract is a law.
 ghost use Rattle.std.specs.Prelude.{◌≡◌, ◌↔◌, ℕ, List, Ok};
 ghost use Rattle.lt_registry.specs.Parts.{EntryParts};
 ghost use Rattle.lt_check.specs.Conditions.{IsChecked};
@@ -15,13 +16,13 @@ pub fn ranges_are_read_by_their_grammar()
     ensures { (text : List ℕ) (range : RangeParts) → (range_of text ≡ Ok range) ↔ IsRangeOf text range }
 {}
 
-/// A text is read exactly if it is in the grammar of the header (RFC 9110, 12.5.4), and of the value that it has there.
+/// A text is read exactly if it is in the grammar of the header (RFC 9110, 12.5.4), and as the elements that it has there.
 #[tactic(auto, using(crate::proofs::HeaderLaws::read_by_grammar))]
 pub fn headers_are_read_by_their_grammar()
     ensures { (text : List ℕ) (elements : List ElementParts) → (elements_of text ≡ Ok elements) ↔ IsAcceptLanguage text elements }
 {}
 
-/// Preferences serve one of given tags, or none.
+/// Preferences and tags determine which of the tags is served, or that none is.
 pub fn best_is_determined()
     ensures { BestIsDetermined }
 {}
@@ -34,14 +35,14 @@ pub fn equivalent_tags_match_alike()
 {}
 
 /// Equivalent ranges match the same tags, in each of the three schemes: what a range that is a valid tag matches, each
-/// range matches that is a valid tag equivalent to it.
+/// equivalent valid tag matches as a range too.
 #[tactic(auto, using(crate::proofs::MatchLaws::equivalent_ranges))]
 pub fn equivalent_ranges_match_alike()
     ensures { (R : List EntryParts) → IsChecked R → EquivalentRangesMatchAlike R }
 {}
 
-/// What a range that is a valid tag matches, it matches as the RFC says of texts (RFC 4647, 3), for some valid tag that
-/// is equivalent to the range and some that is equivalent to the tag.
+/// If a range that is a valid tag matches a tag, then a valid tag that is equivalent to the range matches one that is
+/// equivalent to the tag, as the two are spelled (RFC 4647, 3).
 #[tactic(auto, using(crate::proofs::MatchLaws::only_as_spelled))]
 pub fn ranges_match_only_as_spelled()
     ensures { (R : List EntryParts) → IsChecked R → MatchesOnlyAsSpelled R }
@@ -54,7 +55,7 @@ pub fn equivalent_lists_serve_alike()
     ensures { (R : List EntryParts) → IsChecked R → EquivalentListsServeAlike R }
 {}
 
-/// A tag is matched by one list of subtags, and a text matches by one range.
+/// A tag is matched by one list of subtags at most, and a text matches by one range at most.
 #[tactic(auto, using(crate::proofs::MatchLaws::determined))]
 pub fn matching_is_determined()
     ensures { (R : List EntryParts) → IsChecked R → MatchingIsDetermined R }

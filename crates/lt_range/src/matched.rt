@@ -14,8 +14,8 @@ use lt_registry::Lookup;
 use lt_tag::{OutOfMemory, Tag, read_tag};
 use std::alloc::Global;
 
-/// The subtags by which a tag is matched: those of its extlang form (RFC 5646, 4.5), as `zh`, `yue` and `HK` for
-/// `yue-HK`. It is refused as `extlang_form` refuses.
+/// The subtags by which a tag is matched: those of its extlang form (RFC 5646, 4.5), for example `zh`, `yue` and `HK` for
+/// `yue-HK`. Refused if `extlang_form` refuses the tag, with its refusal.
 pub fn extlang_subtags<L: Lookup>(
     alloc: Global,
     checked: &Checked<L>,
@@ -28,9 +28,9 @@ pub fn extlang_subtags<L: Lookup>(
     Ok(TagSubtags::of(alloc, &form)?)
 }
 
-/// The subtags by which the tag is matched that a text is read as.
+/// Reads a text as a tag, and gives the subtags by which this tag is matched.
 ///
-/// - `NotATag`, with the fault that `read_tag` answers, exactly where the text is read as none.
+/// - `NotATag`, with the fault that `read_tag` answers, exactly where the text is read as no tag.
 /// - `Invalid` and `ReplacementRepeats` where `extlang_form` refuses the tag so.
 /// - `OutOfMemory` where memory runs out.
 pub fn subtags_of_text<L: Lookup>(
@@ -45,8 +45,8 @@ pub fn subtags_of_text<L: Lookup>(
     Ok(extlang_subtags(alloc, checked, &tag)?)
 }
 
-/// The subtags by which the tag is matched that a text is read as. None if it is no valid tag, or steps can repeat a
-/// variant of it.
+/// Reads a text as a tag, and gives the subtags by which this tag is matched. None if the text is no valid tag, or if steps
+/// can repeat a variant of the tag. Refused only where memory runs out.
 pub fn known_subtags<L: Lookup>(
     alloc: Global,
     checked: &Checked<L>,
@@ -63,8 +63,8 @@ pub fn known_subtags<L: Lookup>(
     }
 }
 
-/// The range that matches in place of one that is no valid tag: its first subtag is in its extlang form, if it alone is a
-/// tag that has one.
+/// The range that matches in place of one that is no valid tag: its first subtag comes to its extlang form, if this subtag
+/// alone is a tag that has such a form. Refused only where memory runs out.
 fn matching_range<L: Lookup>(
     alloc: Global,
     checked: &Checked<L>,
@@ -84,7 +84,8 @@ fn matching_range<L: Lookup>(
     }
 }
 
-/// The range by which a text matches that is no valid tag. Refused with `NotARange` if it is no range.
+/// The range by which a text that is no valid tag matches. Refused with `NotARange` if the text is no range, or where memory
+/// runs out.
 fn range_of_text<L: Lookup>(
     alloc: Global,
     checked: &Checked<L>,
@@ -97,9 +98,9 @@ fn range_of_text<L: Lookup>(
     Ok(matching_range(alloc, checked, written)?)
 }
 
-/// The range by which a text matches: where the text is a valid tag, the range of the subtags of its extlang form (RFC
-/// 5646, 4.5); else the range that it is (RFC 4647, 2.2), with its first subtag in its extlang form, if it alone is a
-/// valid tag. So `yue` is `zh-yue`, `iw-*` is `he-*`, and `zh-*` stays.
+/// The range by which a text matches. If the text is a valid tag, it is the range of the subtags of its extlang form (RFC
+/// 5646, 4.5). Else it is the range that the text is (RFC 4647, 2.2), with the first subtag in its extlang form, if this
+/// subtag alone is a valid tag. So `yue` is `zh-yue`, `iw-*` is `he-*`, and `zh-*` stays.
 ///
 /// - `NotARange` exactly where the text is neither, with the fault that `LanguageRange::read` answers.
 /// - `ReplacementRepeats` where the text is a valid tag that `extlang_form` refuses so.

@@ -14,7 +14,7 @@ fn are_same(first: &Subtag, second: &Subtag) -> bool
     first == second
 }
 
-/// What follows the subtags of `front` in a list that begins with them. None if it doesn't.
+/// What follows the subtags of `front` in a list that begins with them. None if the list begins with others.
 fn after_front<'a>(list: &'a [Subtag], front: &[Subtag]) -> Option<&'a [Subtag]>
     ensures { MatchOption result (BeginsWith front.now list.now → ⊥) (λ rest. list.now ≡ front.now ++ rest.now) }
 {
@@ -35,7 +35,7 @@ fn is_no_singleton(subtag: &Subtag) -> bool
     subtag.bytes().len() != 1
 }
 
-/// What follows the first place of a subtag in a list. None if it isn't there, or if a singleton is before it.
+/// What follows the first place of a subtag in a list. None if the subtag isn't there, or if a singleton is before it.
 fn after_subtag<'a>(list: &'a [Subtag], subtag: &Subtag) -> Option<&'a [Subtag]>
     ensures { MatchOption result (IsPassedTo list.now subtag.now → ⊥) (λ rest. FollowsFirst list.now subtag.now rest.now) }
 {
@@ -77,8 +77,9 @@ fn ends_long(list: &[Subtag]) -> bool
 }
 
 impl LanguageRange {
-    /// Whether the range matches a tag by basic filtering (RFC 4647, 3.3.1): the tag equals it, or begins with it and a
-    /// hyphen. A range that begins with `*` matches each tag. `de-de` matches `de-DE-1996`, but not `de-Latn-DE`.
+    /// Whether the range matches a tag by basic filtering (RFC 4647, 3.3.1): the tag equals the range, or begins with the
+    /// range and a hyphen. A range that begins with `*` matches each tag. `de-de` matches `de-DE-1996`, but not
+    /// `de-Latn-DE`.
     pub fn matches_basic(&self, tag: &TagSubtags) -> bool
         ensures { IsTrue result ↔ MatchesBasic self.now tag.now }
     {

@@ -17,7 +17,8 @@ pub struct Preference {
     pub weight: u16,
 }
 
-/// Whether the range at a place matches a tag, and is longer than the one at `best`, if there is one.
+/// Whether the range at a place matches a tag, and is longer than the one at `best`, if there is one. Both places must be
+/// within the list.
 fn takes_over(all: &[Preference], tag: &TagSubtags, best: Option<usize>, place: usize) -> bool
     requires place { place < length all.now }
     requires best { IfSome best (λ found. found < length all.now) }
@@ -47,8 +48,8 @@ fn deciding(all: &[Preference], tag: &TagSubtags) -> Option<usize>
     best
 }
 
-/// The weight of a tag, in thousandths: that of the longest range that matches it by basic filtering (RFC 4647,
-/// 3.3.1), of which `*` is the shortest; of equal ranges the first. A tag is not acceptable where it is 0 (RFC 9110,
+/// The weight of a tag, in thousandths: that of the longest range that matches it by basic filtering (RFC 4647, 3.3.1).
+/// `*` is the shortest range, and of equally long ones the first counts. A tag of weight 0 is not acceptable (RFC 9110,
 /// 12.4.2). None if no range matches the tag.
 pub fn weight_of(all: &[Preference], tag: &TagSubtags) -> Option<u16>
     ensures { spec.HasWeight all.now tag.now result }
@@ -82,8 +83,8 @@ fn selects(all: &[Preference], range: &LanguageRange, tag: &TagSubtags) -> bool
     range.matches_basic(tag) && !is_refused(all, tag)
 }
 
-/// Whether a range falls back to the tag at a place, which is not refused and is longer than the one at `best`, if there
-/// is one.
+/// Whether a range falls back to the tag at a place, and that tag is not refused and is longer than the one at `best`, if
+/// there is one. Both places must be within the list.
 fn falls_further(
     all: &[Preference],
     range: &LanguageRange,
@@ -105,7 +106,7 @@ fn falls_further(
     }
 }
 
-/// The place of the tag that lookup by a range finds, of those that are not refused.
+/// The place of the tag that lookup by a range finds, of those that are not refused. None if it finds none of them.
 #[tactic(auto, using(crate::proofs::PreferenceLemmas::longest_next, crate::proofs::PreferenceLemmas::longest_same))]
 fn looked_up(all: &[Preference], range: &LanguageRange, tags: &[TagSubtags]) -> Option<usize>
     ensures { MatchOption result (spec.FallsToNone all.now range.now tags.now) (spec.FallsTo all.now range.now tags.now) }
@@ -119,7 +120,8 @@ fn looked_up(all: &[Preference], range: &LanguageRange, tags: &[TagSubtags]) -> 
     best
 }
 
-/// The place of the first tag that a range matches by basic filtering, of those that are not refused.
+/// The place of the first tag that a range matches by basic filtering, of those that are not refused. None if it matches
+/// none of them.
 fn selected(all: &[Preference], range: &LanguageRange, tags: &[TagSubtags]) -> Option<usize>
     ensures { spec.MaySelect all.now range.now tags.now result }
 {
@@ -131,7 +133,7 @@ fn selected(all: &[Preference], range: &LanguageRange, tags: &[TagSubtags]) -> O
     None
 }
 
-/// The place of the tag that a range serves.
+/// The place of the tag that a range serves. None if it serves none.
 fn served(all: &[Preference], range: &LanguageRange, tags: &[TagSubtags]) -> Option<usize>
     ensures { spec.Serves all.now range.now tags.now result }
 {
@@ -155,8 +157,8 @@ fn reaches(range: &LanguageRange, tag: &TagSubtags) -> bool
     range.falls_back_to(tag) || range.matches_basic(tag)
 }
 
-/// The place of the first range that takes part in the turn and reaches a tag, of the first `count` ranges; `count` if
-/// none does.
+/// The place of the first range that takes part in the turn and reaches a tag, of the first `count` ranges, which must not
+/// be more than there are; `count` if none does.
 fn first_reaching(all: &[Preference], wild: bool, count: usize, tag: &TagSubtags) -> usize
     requires { count ≤ length all.now }
     ensures within { result ≤ count }
@@ -187,7 +189,8 @@ fn first_serving(all: &[Preference], wild: bool, tags: &[TagSubtags]) -> usize
     first
 }
 
-/// The place of the tag that is served in the turn of the ranges that begin with `*`, or of those that don't.
+/// The place of the tag that is served in the turn of the ranges that begin with `*`, or of those that don't. None if none is
+/// served in this turn.
 fn served_in_turn(all: &[Preference], wild: bool, tags: &[TagSubtags]) -> Option<usize>
     ensures { spec.ServesInTurn wild all.now tags.now result }
 {
@@ -199,11 +202,11 @@ fn served_in_turn(all: &[Preference], wild: bool, tags: &[TagSubtags]) -> Option
     }
 }
 
-/// The place, counted from 0, of the tag to serve (RFC 9110, 12.5.4). No tag is served that is not acceptable. The
-/// ranges have their turn in order, `*` after all others, and the first that serves a tag decides: it serves the
-/// longest tag to which it falls back (RFC 4647, 3.4), so that `de-CH` serves `de`; where there is none, the first
-/// that it matches by basic filtering (3.3.1), so that `de` serves `de-CH`, and `*` the first of all. None where no
-/// range serves a tag: the caller takes a default then.
+/// The place, counted from 0, of the tag to serve (RFC 9110, 12.5.4). A tag that is not acceptable is not served. The
+/// ranges have their turn in order, `*` after all others, and the first that serves a tag decides. It serves the longest
+/// tag to which it falls back (RFC 4647, 3.4), so that `de-CH` serves `de`. If it falls back to none, it serves the first
+/// that it matches by basic filtering (3.3.1), so that `de` serves `de-CH`, and `*` the first of all. None where no range
+/// serves a tag: the caller takes a default then.
 pub fn best(all: &[Preference], tags: &[TagSubtags]) -> Option<usize>
     ensures { spec.IsBest all.now tags.now result }
 {
@@ -213,7 +216,8 @@ pub fn best(all: &[Preference], tags: &[TagSubtags]) -> Option<usize>
     }
 }
 
-/// Of each tag the place of the range that decides its weight. The only refusal is running out of memory.
+/// For each tag the place of the range that decides its weight, or None if no range matches it. The only refusal is running
+/// out of memory.
 fn all_deciding(
     alloc: Global,
     all: &[Preference],
@@ -228,7 +232,8 @@ fn all_deciding(
     Ok(found)
 }
 
-/// Whether the range at a place accepts a tag, of which `decided` is the range that decides its weight.
+/// Whether the range at a place, which must be within the list, accepts a tag. `decided` is the place of the range that
+/// decides the tag's weight.
 fn accepts(all: &[Preference], decided: Option<usize>, place: usize) -> bool
     requires { place < length all.now }
     ensures { (tag : List (List ℕ)) → spec.MayDecide all.now tag decided → IsTrue result ↔ spec.Accepts all.now place tag }
@@ -239,8 +244,8 @@ fn accepts(all: &[Preference], decided: Option<usize>, place: usize) -> bool
     }
 }
 
-/// Adds the places of the tags that the range at `index` accepts, of which `decided` are the ranges that decide their
-/// weights. The only refusal is running out of memory.
+/// Adds the places of the tags that the range at `index` accepts. The index must be within the list, and `decided` must have
+/// for each tag the place of the range that decides its weight. The only refusal is running out of memory.
 fn append_accepted(
     all: &[Preference],
     decided: &[Option<usize>],
@@ -261,8 +266,8 @@ fn append_accepted(
 }
 
 /// The places, counted from 0, of the tags whose weight is not 0 (RFC 9110, 12.5.4): for each range in order those
-/// whose weight it decides, in their order. So they go from the greatest weight to the least. The only refusal is
-/// running out of memory.
+/// whose weight it decides, in their order. So if the ranges go from the greatest weight to the least, the tags do. The
+/// only refusal is running out of memory.
 pub fn filter_accepted(
     alloc: Global,
     all: &[Preference],

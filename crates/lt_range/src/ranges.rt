@@ -47,7 +47,7 @@ fn is_alphabetic(subtag: &Subtag) -> bool
     subtag.bytes().iter().all(|byte| byte.is_ascii_lowercase())
 }
 
-/// The subtag that a piece after the first is, or None if it is `*`. Refused with `BadSubtag` if it is neither.
+/// The subtag that a piece after the first is, or None if the piece is `*`. Refused with `BadSubtag` if it is neither.
 fn later_piece(piece: &[u8]) -> Result<Option<Subtag>, RangeFault>
     ensures { result ≡ reading.later_piece piece.now }
 {
@@ -60,8 +60,8 @@ fn later_piece(piece: &[u8]) -> Result<Option<Subtag>, RangeFault>
     }
 }
 
-/// The subtag that the first piece is, or None if it is `*`. Refused with `BadFirst` if it has a digit, and with
-/// `BadSubtag` if it is neither a subtag nor `*`.
+/// The subtag that the first piece is, or None if the piece is `*`. Refused with `BadFirst` if the subtag has a digit, and
+/// with `BadSubtag` if the piece is neither a subtag nor `*`.
 fn first_piece(piece: &[u8]) -> Result<Option<Subtag>, RangeFault>
     ensures { result ≡ reading.first_piece piece.now }
 {
@@ -75,9 +75,8 @@ fn first_piece(piece: &[u8]) -> Result<Option<Subtag>, RangeFault>
     }
 }
 
-/// Adds the subtags between the hyphens of `pieces`, which is the text after the first piece, or None if that was the
-/// last; a `*` is left out. Refused with the fault of the first piece that is neither a subtag nor `*`, or where memory
-/// runs out.
+/// Adds the subtags between the hyphens of `pieces`, the text after the first piece, or None if that was the last; a `*` is
+/// left out. Refused with the fault of the first piece that is neither a subtag nor `*`, or where memory runs out.
 fn append_pieces(named: &mut Vec<Subtag>, pieces: Option<&[u8]>) -> Result<(), RangeFault>
     ensures appended { OnOk result (AppendsRead named.old.items named.new.items (later_pieces (pieces_left pieces.entry))) }
     ensures refused { IfErr result (IsRefused (later_pieces (pieces_left pieces.entry))) }

@@ -25,8 +25,8 @@ pub enum RangeRefusal {
 }
 
 impl RangeRefusal {
-    /// The refusal's name, as it is printed: `ReplacementRepeats`, `OutOfMemory`, or for a text that is no range that
-    /// of its fault, as `BadByte`.
+    /// The refusal's name, as it is printed: `ReplacementRepeats`, `OutOfMemory`, or for a text that is no range the name
+    /// of its fault, for example `BadByte`.
     pub fn name(&self) -> &'static str
         ensures { result.now ≡ name_of self.now }
     {

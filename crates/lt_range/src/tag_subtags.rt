@@ -26,7 +26,7 @@ impl Model for TagSubtags {
     ghost view = { λ t. t.subtags.items };
 }
 
-/// The subtags between the hyphens of a text, each piece of which is a subtag. The only refusal is running out of
+/// The subtags between the hyphens of a text, each piece of which must be a subtag. The only refusal is running out of
 /// memory.
 fn read_subtags(alloc: Global, text: &[u8]) -> Result<Vec<Subtag>, OutOfMemory>
     requires { HasList text.now }

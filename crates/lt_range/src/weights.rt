@@ -20,7 +20,8 @@ fn are_decimals(decimals: &[u8]) -> bool
     decimals.len() <= 3 && are_digits(decimals)
 }
 
-/// The value of the digit at an index, `place`, or 0 after the last. Of any byte it is at most 207, that is 255 - 48.
+/// The value of the digit at an index, `place`, or 0 after the last. Whatever the byte is, the value is at most 207, that is
+/// 255 - 48.
 fn digit(decimals: &[u8], place: usize) -> u16
     ensures value { result ≡ spec.digit decimals.now place }
     ensures small { result ≤ 207 }
@@ -38,8 +39,8 @@ fn thousandths(decimals: &[u8]) -> u16
     100 * digit(decimals, 0) + 10 * digit(decimals, 1) + digit(decimals, 2)
 }
 
-/// The number with the digit `whole` before the point and these decimals, in thousandths. None if it isn't from 0 to
-/// 1, or if the decimals are more than three or not all digits.
+/// The number with the digit `whole` before the point and these decimals, in thousandths. None if the number isn't from 0
+/// to 1, or if the decimals are more than three or not all digits.
 fn number(whole: u8, decimals: &[u8]) -> Option<u16>
     ensures { result ≡ spec.number_of whole decimals.now }
 {
@@ -53,7 +54,8 @@ fn number(whole: u8, decimals: &[u8]) -> Option<u16>
     }
 }
 
-/// The value of a `q`, in thousandths (RFC 9110, 12.4.2). None if it isn't one.
+/// The value of a `q`, in thousandths (RFC 9110, 12.4.2). None if the text is no number from 0 to 1 with at most three
+/// decimals.
 fn qvalue(text: &[u8]) -> Option<u16>
     ensures { result ≡ spec.qvalue_of text.now }
 {
@@ -78,8 +80,8 @@ fn parameter(text: &[u8]) -> Option<u16>
     qvalue(word)
 }
 
-/// The weight of a range by `text`, what follows it, in thousandths (RFC 9110, 12.4.2): 1000 if only white space does.
-/// None if it is no weight.
+/// The weight of a range that `text` follows, in thousandths (RFC 9110, 12.4.2): 1000 if the text is only white space. None
+/// if it is neither that nor a weight.
 pub(crate) fn weight(text: &[u8]) -> Option<u16>
     ensures { result ≡ spec.weight_of text.now }
 {

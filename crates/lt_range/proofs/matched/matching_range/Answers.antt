@@ -3,6 +3,7 @@ use Rattle.lt_range.specs.Matched.{HasNoSubtags, HasSubtags}
 use Rattle.lt_range.proofs.PlainRanges.{none_as, some_as}
 use Rattle.lt_range.proofs.matched.matching_range.Goals as goal
 
+-- the first subtag alone is a tag that has an extlang form, and this stands in its place
 pub returns-in-Some-2 : goal.returns-in-Some-2
 returns-in-Some-2 g c =
     let R = g.L.Lookup.listed c.args.checked.now in
@@ -13,6 +14,7 @@ returns-in-Some-2 g c =
     some_as R c.args.written c.in-Some.first.now c.in-Some.others.now c.in-Some-2.front c.of_front.result w n
     (subst (λ (s : List ℕ). HasSubtags R s c.in-Some-2.front) same has) c.of_front.ensures
 
+-- the first subtag alone is no tag that has an extlang form, so the range matches as it is written
 pub returns-in-None : goal.returns-in-None
 returns-in-None g c =
     let R = g.L.Lookup.listed c.args.checked.now in

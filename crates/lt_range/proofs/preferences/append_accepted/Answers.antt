@@ -6,6 +6,7 @@ use Rattle.lt_range.proofs.FilterLemmas.{places_yes, places_no, places_end}
 use Rattle.lt_range.proofs.preferences.append_accepted.Goals as goal
 use Rattle.lt_range.proofs.preferences.append_accepted.Goals.{then-accepts+in_ok-push, else-accepts}
 
+-- a turn adds the place of the tag if the range accepts it, and else nothing
 pub loop-place-preserved : goal.loop-place-preserved
 loop-place-preserved c =
     let P = Accepts c.args.all.now c.args.index in
@@ -27,6 +28,7 @@ loop-place-preserved c =
       )
     ]
 
+-- no tag is left, so the places added are those of all
 pub returns : goal.returns
 returns c =
     let inv = c.loop-place.invariant in

@@ -6,6 +6,7 @@ use Rattle.lt_range.proofs.ServingLemmas.{next_serves, next_same}
 use Rattle.lt_range.proofs.preferences.first_serving.Goals as goal
 use Rattle.lt_range.proofs.preferences.first_serving.Goals.{then-index-first+then-not-is_refused, else-index-first, else-index-first-via-then-index-first+else-not-is_refused, else-index-first-via-else-index-first}
 
+-- the range that reaches this tag becomes the first if it is before that and the tag is not refused
 pub loop-place-preserved : goal.loop-place-preserved
 loop-place-preserved c =
     let all = c.args.all.now in

@@ -7,6 +7,7 @@ use Rattle.lt_range.specs.Reading.{later_pieces, with_front}
 use Rattle.lt_range.proofs.PieceLemmas.{refused_is, pieces_next, pieces_stop, pieces_end}
 use Rattle.lt_range.proofs.ranges.append_pieces.Goals as goal
 
+-- no piece before this one has a fault, so its fault is the first
 pub returns-in_err-subtag-clause-refused : goal.returns-in_err-subtag-clause-refused
 returns-in_err-subtag-clause-refused c =
     let p = err_from_is_err_and c.from_residual.result c.from_residual.ensures.1 in
@@ -16,6 +17,7 @@ returns-in_err-subtag-clause-refused c =
     let stop = pieces_stop front c.cut_piece.result.0.now (pieces_left c.cut_piece.result.1) c.in_err-subtag.field-0.0 (sym c.later_piece.ensures ∙ c.in_err-subtag.was) in
     rw (p.1, p.2) (refused_is _ _ (sym whole ∙ ap (λ (z : List (List ℕ)). with_front front (later_pieces z)) split ∙ stop))
 
+-- a turn reads one piece more as a subtag, which is added
 pub loop-rest-preserved-in_ok-push : goal.loop-rest-preserved-in_ok-push
 loop-rest-preserved-in_ok-push c =
     let front = c.loop-rest.invariant.0 in
@@ -28,6 +30,7 @@ loop-rest-preserved-in_ok-push c =
       sym next ∙ sym (ap (λ (z : List (List ℕ)). with_front front (later_pieces z)) split) ∙ whole,
     )
 
+-- a turn reads one piece more as `*`, which is left out
 pub loop-rest-preserved : goal.loop-rest-preserved
 loop-rest-preserved c =
     let front = c.loop-rest.invariant.0 in
@@ -39,6 +42,7 @@ loop-rest-preserved c =
       sym next ∙ sym (ap (λ (z : List (List ℕ)). with_front front (later_pieces z)) split) ∙ whole,
     )
 
+-- no piece is left, so the subtags added are all
 pub returns-clause-appended : goal.returns-clause-appended
 returns-clause-appended c = record {
   added = c.loop-rest.invariant.0;

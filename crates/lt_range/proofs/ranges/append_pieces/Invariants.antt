@@ -9,5 +9,6 @@ invariant-loop-rest l =
     (front : List (List ℕ)) × (l.named.items ≡ l.initial.named.items ++ front)
     × (with_front front (later_pieces (pieces_left l.rest)) ≡ later_pieces (pieces_left l.pieces))
 
+-- each turn leaves a piece less
 abbrev pub decreases-loop-rest : goal.decreases-loop-rest
 decreases-loop-rest l = length (pieces_left l.rest)

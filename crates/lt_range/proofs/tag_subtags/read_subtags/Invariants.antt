@@ -12,5 +12,6 @@ invariant-loop-rest l = record {
   good : AreSubtags (pieces_left l.rest);
 }
 
+-- each turn leaves a piece less
 abbrev pub decreases-loop-rest : goal.decreases-loop-rest
 decreases-loop-rest l = length (pieces_left l.rest)

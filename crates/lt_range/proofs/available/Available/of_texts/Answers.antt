@@ -5,12 +5,14 @@ use Rattle.lt_range.specs.Matched.{HasSubtags}
 use Rattle.lt_range.proofs.AvailableLemmas.{available_next, refused_at, text_read}
 use Rattle.lt_range.proofs.available.Available.of_texts.Goals as goal
 
+-- each text before this one has its list, so this is the first that is refused, and it is named by its number
 pub returns-in_err-subtags-clause-refusal : goal.returns-in_err-subtags-clause-refusal
 returns-in_err-subtags-clause-refusal g c =
     let p = err_from_is_err_and c.from_residual.result c.from_residual.ensures.1 in
     rw (p.1, p.2) (refused_at (g.L.Lookup.listed c.args.checked.now) c.args.texts.now c.loop-place.place _ c.loop-place.tags.items c.in_err-subtags.field-0.0 c.loop-place-test.true c.loop-place.invariant
     c.in_err-subtags.ensures.numbered c.in_err-subtags.ensures.refusal)
 
+-- a turn adds the list of one text more
 pub loop-place-preserved : goal.loop-place-preserved
 loop-place-preserved g c =
     let R = g.L.Lookup.listed c.args.checked.now in

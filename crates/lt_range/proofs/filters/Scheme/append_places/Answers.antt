@@ -5,6 +5,7 @@ use Rattle.lt_range.proofs.FilterLemmas.{places_yes, places_no, places_end}
 use Rattle.lt_range.proofs.filters.Scheme.append_places.Goals as goal
 use Rattle.lt_range.proofs.filters.Scheme.append_places.Goals.{then-matches+then-none_matches+in_ok-push, else-matches, else-matches-via-then-matches+else-none_matches, else-matches-via-else-matches}
 
+-- a turn adds the place of a tag that the range matches and no range of `before` does, and no other place
 pub loop-place-preserved : goal.loop-place-preserved
 loop-place-preserved c =
     let P = λ (tag : List (List ℕ)). Matches c.args.self c.args.range.now tag × NoneMatches (Matches c.args.self) c.args.before.now tag in
@@ -30,6 +31,7 @@ loop-place-preserved c =
       )
     ]
 
+-- no tag is left, so the places added are those of all
 pub returns : goal.returns
 returns c =
     let P = λ (tag : List (List ℕ)). Matches c.args.self c.args.range.now tag × NoneMatches (Matches c.args.self) c.args.before.now tag in

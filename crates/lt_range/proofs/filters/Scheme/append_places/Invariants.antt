@@ -2,7 +2,7 @@ use Rattle.std.proofs.Common.{◌≡◌, ◌++◌, List, ℕ, drop}
 use Rattle.lt_range.specs.Filtering.{Matches, NoneMatches, ArePlaces}
 use Rattle.lt_range.proofs.filters.Scheme.append_places.Given as goal
 
--- the places so far, and any that are those of the other tags, are those of the tags
+-- the places so far, with any after them that are those of the tags left, are those of all tags
 abbrev pub invariant-loop-place : goal.invariant-loop-place
 invariant-loop-place l =
     (found : List ℕ) × (l.places.items ≡ l.initial.places.items ++ found)

@@ -3,6 +3,7 @@ use Rattle.lt_range.specs.Filtering.{Matches, Selects}
 use Rattle.lt_range.proofs.FilterLemmas.{selects_next, selects_end}
 use Rattle.lt_range.proofs.filters.Scheme.filter.Goals as goal
 
+-- a turn adds the places of the tags that one range more matches and none before it does
 pub loop-index-preserved : goal.loop-index-preserved
 loop-index-preserved c = λ more h.
     let M = Matches c.args.self in
@@ -14,5 +15,6 @@ loop-index-preserved c = λ more h.
     subst (λ (l : List ℕ). Selects M [] ranges tags (l ++ more)) (sym added.1)
     (selects_next M ranges tags i c.index-ranges-index.result found added.0 c.loop-index-test.true c.index-ranges-index.is added.2 c.loop-index.invariant more h)
 
+-- no range is left, so the places are what all select
 pub returns : goal.returns
 returns c = selects_end (Matches c.args.self) c.args.ranges.now c.args.tags.now c.loop-index.index c.loop-index.places.items c.loop-index-test.false c.loop-index.invariant

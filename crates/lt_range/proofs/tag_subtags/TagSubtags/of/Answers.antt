@@ -2,11 +2,13 @@ use Rattle.std.proofs.Common.{ap, ◌∙◌}
 use Rattle.lt_tag.specs.Lists.{list_of}
 use Rattle.lt_range.proofs.tag_subtags.TagSubtags.of.Goals as goal
 
+-- each piece of the text of a tag is a subtag
 pub read_subtags-requires : goal.read_subtags-requires
 read_subtags-requires c =
     let law = c.text_of_tag_has_its_list.ensures c.args.tag.now c.private.ensures.tag.tag in
     rw (c.deref.ensures.value, c.in_ok-text.ensures) law.0
 
+-- the pieces of the text of a tag are the subtags that it spells
 pub returns : goal.returns
 returns c =
     let law = c.text_of_tag_has_its_list.ensures c.args.tag.now c.private.ensures.tag.tag in
