@@ -40,7 +40,7 @@ abbrev AreRising : List KeywordParts → Type 0
 AreRising [] = Unit {0}
 AreRising (k ∷ ks) = AllByRecursion (Above (Some k.key)) ks × AreRising ks
 
--- what the subtags `ss` are that follow the key `last`: its types, and then keywords in the order of their keys, which
+-- the subtags `ss`, which follow the key `last`, are its types, and then keywords in the order of their keys, which
 -- come after `last`; no type is `true`
 pub record Rise (last : Option (List ℕ)) (ss : List (List ℕ)) : Type 0 where
   pub subtags : list_all is_extension_subtag ss ≡ true

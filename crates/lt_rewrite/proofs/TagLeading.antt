@@ -235,7 +235,7 @@ module _ (R : List EntryParts) (t : TagForm) (step : Step) where
     made v None l h = λ u V m. valueless v l h u V m
     made v (Some u) l h = subst (TagLeads R t step) (sym h) l
 
--- an answer about all results is one about those of which `V` holds
+-- an answer about all results is also one about the results of which `V` holds
 pub values_alone : {A E : Type 0} (L V : A → Type 0) (r : Result (Option A) E) → IfOk r (λ o. Changes L o) → IfOk r (λ o. MatchOption o ((u : A) → V u → L u → ⊥) L)
 values_alone L V (Ok None) h = λ u v l. h u l
 values_alone s t u h = h

@@ -35,8 +35,8 @@ fn whole_value_by<'a, L: Lookup>(table: &'a L, tag: &Tag, number: u32) -> Option
     tag_value(entry)
 }
 
-/// The preferred value of a whole tag, to which a step leads, which must be a Whole step. None if it leads nowhere.
-/// Refused only where memory runs out.
+/// The tag to which `step`, which must be a Whole step, leads: the preferred value of the whole tag. None if it leads
+/// nowhere. Refused only where memory runs out.
 fn change_whole<L: Lookup>(
     alloc: Global,
     table: &L,
