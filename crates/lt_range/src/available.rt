@@ -97,9 +97,8 @@ impl Available {
         preferences::best(preferences, &self.tags)
     }
 
-    /// The places, counted from 0, of the tags that a reader with these preferences accepts, as
-    /// [`filter_accepted`](crate::filter_accepted) says: from the greatest weight to the least. The only refusal is running
-    /// out of memory.
+    /// The places, counted from 0, of the tags that a reader with these preferences accepts, in the order that
+    /// [`filter_accepted`](crate::filter_accepted) says. The only refusal is running out of memory.
     pub fn filter(
         &self,
         alloc: Global,
