@@ -175,7 +175,7 @@ static text *text_of(answer *from) {
 
 /* Answers a question of so many texts, after which there may be the name of a registry, where it asks one. */
 static Datum told(FunctionCallInfo fcinfo, question *asks, int texts, bool asks_registry) {
-    given of[4];
+    given of[4] = {{NULL, 0}};
     answer to;
     bcp47_registry *by = NULL;
     text *it;

@@ -164,7 +164,7 @@ static void registry(sqlite3_context *context, int count, sqlite3_value **values
 /* Answers a question of so many texts, after which there may be the name of a registry, where it asks one. */
 static void tell(sqlite3_context *context, int count, sqlite3_value **values, question *asks, int texts, int asks_registry) {
     connection *c = sqlite3_user_data(context);
-    given of[4];
+    given of[4] = {{NULL, 0}};
     answer to;
     to.text = to.taken = NULL;
     for (int i = 0; i < count; i++) {
@@ -199,31 +199,26 @@ static void tell(sqlite3_context *context, int count, sqlite3_value **values, qu
     }
 }
 
-#define FUNCTION(asks, name, texts, asks_registry)                                                \
-    static void asks##_of(sqlite3_context *context, int count, sqlite3_value **values) {          \
-        tell(context, count, values, asks, texts, asks_registry);                                 \
+#define FUNCTION(asks, name, texts, asks_registry)                                       \
+    static void asks##_of(sqlite3_context *context, int count, sqlite3_value **values) { \
+        tell(context, count, values, asks, texts, asks_registry);                        \
     }
 FUNCTIONS(FUNCTION)
 
-/* The canonical text of a text to compare. A collation can't answer an error, and a statement may write by a wrong order before
-   it is interrupted: where memory runs out, it asks until there is an answer. */
-static bcp47_outcome canonical_to_compare(connection *c, const void *text, size_t length, char *buffer) {
-    bcp47_outcome outcome = bcp47_canonical(c->held->named.registry, text, length, buffer, BUFFER);
-    while (outcome.status == BCP47_OUT_OF_MEMORY || outcome.status == BCP47_BUSY) {
-        sqlite3_sleep(5);
-        outcome = bcp47_canonical(c->held->named.registry, text, length, buffer, BUFFER);
-    }
-    return outcome;
-}
-
-/* Texts compare by their canonical texts, where they have one; those that have none come last, by their bytes. */
+/* Texts compare by their canonical texts, where they have one; those that have none come last, by their bytes. A collation can't answer
+   an error, and a statement may write by a wrong order before it is interrupted: where memory runs out, it asks until there is an
+   answer. */
 static int collate(void *data, int first_length, const void *first, int second_length, const void *second) {
+    const connection *c = data;
     char buffers[2][BUFFER];
     const void *texts[2] = {first, second};
     size_t lengths[2] = {(size_t)first_length, (size_t)second_length};
     int refused[2];
     for (int i = 0; i < 2; i++) {
-        bcp47_outcome outcome = canonical_to_compare(data, texts[i], lengths[i], buffers[i]);
+        bcp47_outcome outcome;
+        while (outcome = bcp47_canonical(c->held->named.registry, texts[i], lengths[i], buffers[i], BUFFER),
+               outcome.status == BCP47_OUT_OF_MEMORY || outcome.status == BCP47_BUSY)
+            sqlite3_sleep(5);
         refused[i] = outcome.status != BCP47_DONE;
         if (refused[i]) continue;
         texts[i] = buffers[i];
@@ -242,10 +237,11 @@ __declspec(dllexport)
 __attribute__((visibility("default")))
 #endif
 int sqlite3_extension_init(sqlite3 *database, char **error, const sqlite3_api_routines *api) {
-    /* What asks the connection's registry without its name answers otherwise by another one: it serves in no index. */
+    /* What asks the connection's registry without its name answers otherwise by another one: it serves in no index. A function that
+       asks none is made twice, which changes nothing. */
     enum { PURE = SQLITE_UTF8 | SQLITE_INNOCUOUS | SQLITE_DETERMINISTIC, LOADED = SQLITE_UTF8 | SQLITE_INNOCUOUS };
-#define ROWS(asks, name, texts, asks_registry)                              \
-    {"bcp47_" name, texts, asks_registry ? LOADED : PURE, asks##_of},       \
+#define ROWS(asks, name, texts, asks_registry)                        \
+    {"bcp47_" name, texts, asks_registry ? LOADED : PURE, asks##_of}, \
     {"bcp47_" name, texts + asks_registry, PURE, asks##_of},
     static const struct {
         const char *name;

@@ -157,7 +157,7 @@ int main(int count, char **words) {
     ask(database, "SELECT bcp47_load(?)", "1");
     ask(database, "SELECT bcp47_load('/dev/zero')", NULL);
     ask(database, "WITH RECURSIVE n (i) AS (VALUES (0) UNION ALL SELECT i + 1 FROM n WHERE i < 249) "
-                  "SELECT bcp47_explain('en-u-' || group_concat(printf('%c%02d', 122 - i / 66, 65 - i % 66), '-')) FROM n", NULL);
+                  "SELECT bcp47_explain('en-u-' || group_concat(char(122 - i / 66) || printf('%02d', 65 - i % 66), '-')) FROM n", NULL);
     busy_calls = 2;
     ask(database, "SELECT bcp47_canonical('en')", NULL);
     ask(database, "SELECT bcp47_fault('en')", NULL);
