@@ -59,6 +59,14 @@ Modern' ask -c "SELECT json_array_length(bcp47_show('zh-yue')), bcp47_show('EL')
 is 'an index by a range without a name' 'ERROR:  functions in index predicate must be marked IMMUTABLE' \
     ask -c 'CREATE TEMP TABLE tagged (tag text)' -c "CREATE INDEX by_range ON tagged (tag) WHERE bcp47_match('zh-yue', tag)"
 
+is 'prepared statements' 'he|he|BadByte 1
+NULL' ask -c 'PREPARE asked AS SELECT bcp47_canonical($1), bcp47_canonical($1, $2), bcp47_fault($3)' -c "EXECUTE asked('iw', '$(sed -n '1s/File-Date: //p' registry)', 'en_US')" \
+    -c 'SELECT bcp47_canonical(NULL, NULL)'
+is 'order and groups' 'he|3
+yue|2
+NULL|1
+2' ask -c "SELECT bcp47_canonical(tag), count(*) FROM (VALUES ('iw'), ('HE'), ('he'::char(9)), ('zh-yue'), ('yue'::varchar), ('日本語')) AS books (tag) GROUP BY 1 ORDER BY 1" \
+    -c "SELECT count(DISTINCT bcp47_show(tag)::jsonb) FROM (VALUES ('en'), ('EN'), ('de')) AS books (tag)"
 # What pg_dump, psql and an ORM see of the functions.
 is catalogue "bcp47_best(accept text, tags text) text s 100
 bcp47_best(accept text, tags text, registry text) text i 100
