@@ -9,6 +9,8 @@
 #include <cstdio>
 #include <cstdlib>
 #include <cstring>
+#include <initializer_list>
+#include <iterator>
 #include <memory>
 #include <optional>
 #include <stdexcept>
@@ -57,6 +59,8 @@ struct refusal {
 
     /* What it means, and what to do. */
     std::string_view help() const noexcept {
+        if (status() == BCP47_BAD_FILE && !fault())
+            return "The file can't be opened, or not read to its end: see its path, who may read it, and whether it is a folder.";
         return outcome.detail ? bcp47_fault_help(outcome.detail) : bcp47_status_help(outcome.status);
     }
 
@@ -106,35 +110,33 @@ using refused = refusal;
 }
 
 /* A value, or why there is none, used as std::expected<T, refusal> of C++23, which it is there. */
-template <class T> class [[nodiscard]] result {
+template <class T> class result : std::optional<T> {
+    using held = std::optional<T>;
+
   public:
-    result(T value) : held_(std::in_place_index<0>, std::move(value)) {}
-    result(refusal why) : held_(std::in_place_index<1>, std::move(why)) {}
+    result(T value) : held(std::in_place, std::move(value)) {}
+    result(refusal why) : why_(std::move(why)) {}
 
-    bool has_value() const noexcept { return held_.index() == 0; }
-    explicit operator bool() const noexcept { return has_value(); }
+    using held::has_value, held::operator bool, held::operator*, held::operator->, held::value_or;
 
-    T &value() & { return has_value() ? **this : (detail::fail(error()), **this); }
-    const T &value() const & { return has_value() ? **this : (detail::fail(error()), **this); }
-    T &&value() && { return std::move(value()); }
-    T &operator*() & noexcept { return *std::get_if<0>(&held_); }
-    const T &operator*() const & noexcept { return *std::get_if<0>(&held_); }
-    T &&operator*() && noexcept { return std::move(**this); }
-    T *operator->() noexcept { return std::get_if<0>(&held_); }
-    const T *operator->() const noexcept { return std::get_if<0>(&held_); }
-    template <class U> T value_or(U &&other) const & { return has_value() ? **this : static_cast<T>(std::forward<U>(other)); }
-    template <class U> T value_or(U &&other) && { return has_value() ? *std::move(*this) : static_cast<T>(std::forward<U>(other)); }
+    T &value() & { return check(), **this; }
+    const T &value() const & { return check(), **this; }
+    T &&value() && { return check(), *std::move(*this); }
 
     /* There is one where there is no value. */
-    refusal &error() noexcept { return *std::get_if<1>(&held_); }
-    const refusal &error() const noexcept { return *std::get_if<1>(&held_); }
+    refusal &error() noexcept { return why_; }
+    const refusal &error() const noexcept { return why_; }
 
   private:
-    std::variant<T, refusal> held_;
+    void check() const {
+        if (!has_value()) detail::fail(why_);
+    }
+
+    refusal why_;
 };
 
 /* Nothing, or why a call was refused. */
-template <> class [[nodiscard]] result<void> : public result<std::monostate> {
+template <> class result<void> : public result<std::monostate> {
   public:
     result() : result<std::monostate>(std::monostate()) {}
     using result<std::monostate>::result;
@@ -142,23 +144,20 @@ template <> class [[nodiscard]] result<void> : public result<std::monostate> {
 };
 #endif
 
-/* Whether something is so, or why that can't be told. It is no condition: `if (registry.equivalent(a, b))` would be true of each two
-   tags that are told of. Ask for the value(). */
-class [[nodiscard]] answer {
+/* A result that may say no or none. It is no condition: `if (registry.equivalent(a, b))` would be true of each two tags that are told
+   of. Ask for the value(). */
+template <class T> class [[nodiscard]] answer_of : result<T> {
+    using base = result<T>;
+
   public:
-    answer(bool is_so) : held_(is_so) {}
-    answer(refusal why) : held_(detail::refused(std::move(why))) {}
-
-    bool has_value() const noexcept { return held_.has_value(); }
+    using base::base;
+    answer_of(base known) : base(std::move(known)) {}
+    using base::has_value, base::operator*, base::operator->, base::value, base::value_or, base::error;
     explicit operator bool() const = delete;
-    bool value() const { return has_value() ? *held_ : (detail::fail(error()), false); }
-    bool operator*() const noexcept { return *held_; }
-    bool value_or(bool other) const noexcept { return has_value() ? *held_ : other; }
-    const refusal &error() const noexcept { return held_.error(); }
-
-  private:
-    result<bool> held_;
 };
+
+/* Whether something is so, or why that can't be told. */
+using answer = answer_of<bool>;
 
 /* A part of a tag: its kind, BCP47_PART_LANGUAGE and so on, and its text. */
 struct part {
@@ -209,24 +208,17 @@ struct explanation {
 
 namespace detail {
 
-/* A call that writes a text, which is made again where the text did not fit. */
-template <class Call> bcp47_outcome write(Call call, std::string &text) {
-    char buffer[256];
-    bcp47_outcome outcome = call(buffer, sizeof buffer);
-    if (outcome.status != BCP47_BUFFER_TOO_SMALL) {
-        text.assign(buffer, outcome.length);
-        return outcome;
-    }
-    text.resize(outcome.length);
-    outcome = call(&text[0], text.size());
-    text.resize(outcome.length);
-    return outcome;
-}
+/* What lets go of what a call gave. */
+template <auto call> struct deleter {
+    template <class T> void operator()(T *given) const noexcept { call(given); }
+};
 
-/* The text that a call writes, or why it is refused. */
+/* The text that a call writes, or why it is refused. There is room for any: a tag of 1,024 bytes can have 204 variants of 4, each of
+   which becomes one of 8. */
 template <class Call> result<std::string> text_of(Call call) {
-    std::string text;
-    bcp47_outcome outcome = write(call, text);
+    char buffer[2048];
+    bcp47_outcome outcome = call(buffer, sizeof buffer);
+    std::string text(buffer, outcome.length);
     if (outcome.status == BCP47_DONE) return text;
     return refused(refusal{outcome, std::move(text)});
 }
@@ -236,7 +228,7 @@ template <class Call> answer told_of_two(Call call) {
     char variant[9];
     bcp47_outcome outcome = call(variant, sizeof variant);
     if (outcome.status == BCP47_DONE || outcome.status == BCP47_DIFFERENT) return outcome.status == BCP47_DONE;
-    return refusal{outcome, std::string(variant, outcome.length)};
+    return refused(refusal{outcome, std::string(variant, outcome.length)});
 }
 
 inline result<void> nothing_of(bcp47_outcome outcome) {
@@ -247,7 +239,7 @@ inline result<void> nothing_of(bcp47_outcome outcome) {
 } // namespace detail
 
 /* The tag of a text, which needs no registry. */
-inline result<tag> classify(std::string_view text) {
+[[nodiscard]] inline result<tag> classify(std::string_view text) {
     char shown[BCP47_TEXT];
     bcp47_part found[BCP47_PARTS];
     bcp47_outcome outcome = bcp47_parts(text.data(), text.size(), shown, sizeof shown, found, BCP47_PARTS);
@@ -259,36 +251,39 @@ inline result<tag> classify(std::string_view text) {
 }
 
 /* A tag without its last subtag, and without the singletons that then end it; empty where nothing is left. */
-inline result<std::string> parent(std::string_view tag) {
+inline answer_of<std::string> parent(std::string_view tag) {
     return detail::text_of([&](char *buffer, std::size_t room) { return bcp47_parent(tag.data(), tag.size(), buffer, room); });
 }
 
 /* A tag with another part, which needs no registry: the part is BCP47_PART_LANGUAGE (with extlangs), _SCRIPT, _REGION, _VARIANT (all of
    them), _SINGLETON (all extensions) or _PRIVATE_USE_SINGLETON ("x-a"). An empty value takes it away. `outcome.text` of a refusal is 1
    where the tag is refused, and 2 where the value is. */
-inline result<std::string> with(std::string_view tag, int part, std::string_view value) {
+[[nodiscard]] inline result<std::string> with(std::string_view tag, int part, std::string_view value) {
     return detail::text_of([&](char *buffer, std::size_t room) {
         return bcp47_with(tag.data(), tag.size(), part, value.data(), value.size(), buffer, room);
     });
 }
 
 /* The tag that the name of a POSIX locale stands for: "sr-Latn-RS" for "sr_RS.UTF-8@latin". It needs no registry. */
-inline result<std::string> posix(std::string_view name) {
+[[nodiscard]] inline result<std::string> posix(std::string_view name) {
     return detail::text_of([&](char *buffer, std::size_t room) { return bcp47_posix(name.data(), name.size(), buffer, room); });
 }
 
 /* Tags of which a service serves one, until their object ends, also where the registry ended before. Any number of threads may ask. */
 class available {
   public:
-    /* The place of the tag to serve to the reader of an Accept-Language header, from 0; none where no range of it serves a tag. */
-    result<std::optional<std::size_t>> best(std::string_view accept) const {
+    /* The place of the tag to serve to the reader of an Accept-Language header, from 0; none where no range of it serves a tag. A header
+       that is missing, which is a null pointer here and below, accepts each tag. */
+    answer_of<std::optional<std::size_t>> best(const char *accept) const { return best(std::string_view(accept ? accept : "*")); }
+    answer_of<std::optional<std::size_t>> best(std::string_view accept) const {
         bcp47_outcome outcome = bcp47_best(opened_.get(), accept.data(), accept.size());
         if (outcome.status != BCP47_DONE) return detail::refused(refusal{outcome, {}});
         return outcome.place ? std::optional<std::size_t>(outcome.place - 1) : std::nullopt;
     }
 
     /* The places of all tags that the header accepts, from the greatest weight to the least. */
-    result<std::vector<std::size_t>> filter(std::string_view accept) const {
+    answer_of<std::vector<std::size_t>> filter(const char *accept) const { return filter(std::string_view(accept ? accept : "*")); }
+    answer_of<std::vector<std::size_t>> filter(std::string_view accept) const {
         std::vector<std::size_t> places(count_);
         bcp47_outcome outcome = bcp47_filter(opened_.get(), accept.data(), accept.size(), places.data(), places.size());
         if (outcome.status != BCP47_DONE) return detail::refused(refusal{outcome, {}});
@@ -299,8 +294,8 @@ class available {
 
   private:
     friend class registry;
-    available(bcp47_available *opened, std::size_t count) noexcept : opened_(opened, &bcp47_available_close), count_(count) {}
-    std::unique_ptr<bcp47_available, void (*)(bcp47_available *)> opened_;
+    available(bcp47_available *opened, std::size_t count) noexcept : opened_(opened), count_(count) {}
+    std::unique_ptr<bcp47_available, detail::deleter<bcp47_available_close>> opened_;
     std::size_t count_;
 };
 
@@ -308,7 +303,7 @@ class available {
 class registry {
   public:
     /* The registry whose text the bytes are. */
-    static result<registry> from_bytes(std::string_view bytes) {
+    [[nodiscard]] static result<registry> from_bytes(std::string_view bytes) {
         bcp47_registry *opened;
         char line[BCP47_LINE];
         bcp47_outcome outcome = bcp47_open(&opened, bytes.data(), bytes.size(), line, sizeof line);
@@ -317,29 +312,29 @@ class registry {
     }
 
     /* The registry of a file: BCP47_BAD_FILE where it can't be read. */
-    static result<registry> from_file(const std::string &path) {
-        std::unique_ptr<std::FILE, int (*)(std::FILE *)> file(std::fopen(path.c_str(), "rb"), &std::fclose);
+    [[nodiscard]] static result<registry> from_file(const std::string &path) {
+        std::unique_ptr<std::FILE, detail::deleter<std::fclose>> file(std::fopen(path.c_str(), "rb"));
         std::string bytes;
         char piece[1 << 16];
         for (std::size_t got = 1; file && got; bytes.append(piece, got)) got = std::fread(piece, 1, sizeof piece, file.get());
         if (!file || std::ferror(file.get()))
-            return detail::refused(refusal{{BCP47_BAD_FILE, 0, 0, 0, 0, 0}, "the file can't be read: " + std::string(std::strerror(errno))});
+            return detail::refused(refusal{{BCP47_BAD_FILE, 0, 0, 0, 0, 0}, "can't read \"" + path + "\": " + std::strerror(errno)});
         return from_bytes(bytes);
     }
 
     /* The canonical text of a tag. */
-    result<std::string> canonical(std::string_view tag) const { return written(bcp47_canonical, tag); }
+    [[nodiscard]] result<std::string> canonical(std::string_view tag) const { return written(bcp47_canonical, tag); }
 
     /* The same, with the extlang prefix. */
-    result<std::string> extlang(std::string_view tag) const { return written(bcp47_extlang, tag); }
+    [[nodiscard]] result<std::string> extlang(std::string_view tag) const { return written(bcp47_extlang, tag); }
 
     /* Nothing, if the tag is valid. */
-    result<void> validate(std::string_view tag) const {
+    [[nodiscard]] result<void> validate(std::string_view tag) const {
         return detail::nothing_of(bcp47_validate(opened_.get(), tag.data(), tag.size()));
     }
 
     /* Whether a tag is valid; throws an error where that can't be told, as where memory runs out. */
-    bool is_valid(std::string_view tag) const {
+    [[nodiscard]] bool is_valid(std::string_view tag) const {
         auto judged = validate(tag);
         if (!judged && judged.error().status() != BCP47_NOT_A_TAG && judged.error().status() != BCP47_INVALID) detail::fail(judged.error());
         return judged.has_value();
@@ -360,23 +355,28 @@ class registry {
         });
     }
 
-    /* Tags of which a service serves one, prepared; `outcome.text` of a refusal says which of them is refused, from 1. */
-    result<bcp47::available> available(const std::vector<std::string_view> &tags) const {
-        std::vector<const char *> texts;
+    /* Tags of which a service serves one, prepared: a list in braces, or any range of texts, as a vector of strings. `outcome.text` of a
+       refusal says which of them is refused, from 1. */
+    template <class Tags = std::initializer_list<std::string_view>,
+              class = decltype(std::string_view(*std::begin(std::declval<Tags &>())))>
+    [[nodiscard]] result<bcp47::available> available(Tags &&tags) const {
+        std::vector<std::string> texts;
+        for (auto &&tag : tags) texts.emplace_back(std::string_view(tag));
+        std::vector<const char *> starts;
         std::vector<std::size_t> lengths;
-        for (std::string_view tag : tags) texts.push_back(tag.data()), lengths.push_back(tag.size());
+        for (const std::string &text : texts) starts.push_back(text.data()), lengths.push_back(text.size());
         bcp47_available *made;
-        bcp47_outcome outcome = bcp47_available_open(&made, opened_.get(), texts.data(), lengths.data(), tags.size());
+        bcp47_outcome outcome = bcp47_available_open(&made, opened_.get(), starts.data(), lengths.data(), texts.size());
         if (outcome.status != BCP47_DONE) return detail::refused(refusal{outcome, {}});
-        return bcp47::available(made, tags.size());
+        return bcp47::available(made, texts.size());
     }
 
     /* The steps to the canonical tag: BCP47_TOO_MANY_STEPS where there are more than `most`. */
-    result<explanation> explain(std::string_view tag, std::size_t most = 20000) const {
+    [[nodiscard]] result<explanation> explain(std::string_view tag, std::size_t most = 20000) const {
         bcp47_step *steps;
         const char *at;
         bcp47_outcome outcome = bcp47_steps(opened_.get(), tag.data(), tag.size(), most, &steps, &at);
-        std::unique_ptr<bcp47_step, void (*)(void *)> freed(steps, &bcp47_free);
+        std::unique_ptr<bcp47_step, detail::deleter<bcp47_free>> freed(steps);
         if (outcome.status != BCP47_DONE) return detail::refused(refusal{outcome, at ? at : ""});
         explanation read{{steps, steps + outcome.place}, {}, {}};
         for (; read.tags.size() < outcome.place; at += read.tags.back().size() + 1) read.tags.emplace_back(at);
@@ -385,20 +385,20 @@ class registry {
     }
 
     /* What the registry says of a tag: the array of JSON that bcp47_show gives. */
-    result<std::string> show(std::string_view tag) const {
+    [[nodiscard]] result<std::string> show(std::string_view tag) const {
         char *rows;
         bcp47_outcome outcome = bcp47_show(opened_.get(), tag.data(), tag.size(), &rows);
-        std::unique_ptr<char, void (*)(void *)> freed(rows, &bcp47_free);
+        std::unique_ptr<char, detail::deleter<bcp47_free>> freed(rows);
         if (outcome.status == BCP47_DONE) return std::string(rows, outcome.length);
         return detail::refused(refusal{outcome, {}});
     }
 
     /* The names and bodies of the fields of a record, by its number from 1 on, with the header counted; none where it is not there. */
-    result<std::vector<std::pair<std::string, std::string>>> record(std::uint32_t number) const {
+    answer_of<std::vector<std::pair<std::string, std::string>>> record(std::uint32_t number) const {
         bcp47_field *fields;
         const char *at;
         bcp47_outcome outcome = bcp47_record(opened_.get(), number, &fields, &at);
-        std::unique_ptr<bcp47_field, void (*)(void *)> freed(fields, &bcp47_free);
+        std::unique_ptr<bcp47_field, detail::deleter<bcp47_free>> freed(fields);
         if (outcome.status != BCP47_DONE) return detail::refused(refusal{outcome, {}});
         std::vector<std::pair<std::string, std::string>> read;
         for (std::size_t i = 0; i < outcome.place; at += fields[i].name + fields[i].body + 2, i++)
@@ -407,13 +407,13 @@ class registry {
     }
 
     /* Nothing, if the steps lead from a valid tag, one after another, to the last. */
-    result<void> verify(std::string_view tag, const std::vector<bcp47_step> &steps, std::string_view last) const {
+    [[nodiscard]] result<void> verify(std::string_view tag, const std::vector<bcp47_step> &steps, std::string_view last) const {
         return detail::nothing_of(
             bcp47_verify(opened_.get(), tag.data(), tag.size(), steps.data(), steps.size(), last.data(), last.size()));
     }
 
     /* Nothing, if a newer registry keeps what this one promised. */
-    result<void> upgrade_check(const registry &newer) const {
+    [[nodiscard]] result<void> upgrade_check(const registry &newer) const {
         return detail::nothing_of(bcp47_upgrade_check(opened_.get(), newer.opened_.get()));
     }
 
@@ -428,10 +428,6 @@ class registry {
     const bcp47_registry *get() const noexcept { return opened_.get(); }
 
   private:
-    struct closer {
-        void operator()(bcp47_registry *opened) const noexcept { bcp47_close(opened); }
-    };
-
     explicit registry(bcp47_registry *opened) : opened_(opened) {}
 
     template <class Call> result<std::string> written(Call *call, std::string_view tag) const {
@@ -439,7 +435,7 @@ class registry {
             [&](char *buffer, std::size_t room) { return call(opened_.get(), tag.data(), tag.size(), buffer, room); });
     }
 
-    std::unique_ptr<bcp47_registry, closer> opened_;
+    std::unique_ptr<bcp47_registry, detail::deleter<bcp47_close>> opened_;
 };
 
 } // namespace BCP47_TYPES

@@ -39,6 +39,9 @@ is parts 'HK|1994-nedis|NULL|NULL
 ERROR:  there is no kind of part "regions"' ask -c "SELECT bcp47_part('zh-hant-hk-1994-nedis', 'region'), bcp47_part('zh-hant-hk-1994-nedis', 'Variant'), bcp47_part('en', 'region'), bcp47_part('e_n', 'region')" \
     -c "SELECT bcp47_part('en', 'regions')"
 
+is 'a part that is not replaced' "ERROR:  \"key\" can't be replaced: language, script, region, variant, singleton and privateusesingleton can" \
+    ask -c "SELECT bcp47_with('en', 'key', 'co')"
+is 'no part' 'ERROR:  there is no kind of part "script "' ask -c "SELECT bcp47_part('e_n', 'script ')"
 is 'a part is replaced' 'de-AT|zh-Hant-TW|de|NULL|NULL
 ERROR:  there is no kind of part "regions"' ask -c "SELECT bcp47_with('de-CH', 'region', 'AT'), bcp47_with('ZH-tw', 'Script', 'hant'), bcp47_with(tag => 'de-CH', kind => 'region', value => ''), bcp47_with('de', 'region', 'A_'), bcp47_with('de', 'region', NULL)" \
     -c "SELECT bcp47_with('en', 'regions', 'AT')"
@@ -56,6 +59,42 @@ Modern' ask -c "SELECT json_array_length(bcp47_show('zh-yue')), bcp47_show('EL')
 is 'an index by a range without a name' 'ERROR:  functions in index predicate must be marked IMMUTABLE' \
     ask -c 'CREATE TEMP TABLE tagged (tag text)' -c "CREATE INDEX by_range ON tagged (tag) WHERE bcp47_match('zh-yue', tag)"
 
+is 'prepared statements' 'he|he|BadByte 1
+NULL' ask -c 'PREPARE asked AS SELECT bcp47_canonical($1), bcp47_canonical($1, $2), bcp47_fault($3)' -c "EXECUTE asked('iw', '$(sed -n '1s/File-Date: //p' registry)', 'en_US')" \
+    -c 'SELECT bcp47_canonical(NULL, NULL)'
+is 'order and groups' 'he|3
+yue|2
+NULL|1
+2' ask -c "SELECT bcp47_canonical(tag), count(*) FROM (VALUES ('iw'), ('HE'), ('he'::char(9)), ('zh-yue'), ('yue'::varchar), ('日本語')) AS books (tag) GROUP BY 1 ORDER BY 1" \
+    -c "SELECT count(DISTINCT bcp47_show(tag)::jsonb) FROM (VALUES ('en'), ('EN'), ('de')) AS books (tag)"
+# What pg_dump, psql and an ORM see of the functions.
+is catalogue "bcp47_best(accept text, tags text) text s 100
+bcp47_best(accept text, tags text, registry text) text i 100
+bcp47_canonical(tag text) text s 5
+bcp47_canonical(tag text, registry text) text i 5
+bcp47_equivalent(first text, second text) boolean s 10
+bcp47_equivalent(first text, second text, registry text) boolean i 10
+bcp47_explain(tag text) text s 1000
+bcp47_explain(tag text, registry text) text i 1000
+bcp47_fault(tag text) text s 5
+bcp47_fault(tag text, registry text) text i 5
+bcp47_match(range text, tag text) boolean s 10
+bcp47_match(range text, tag text, registry text) boolean i 10
+bcp47_part(tag text, kind text) text i 5
+bcp47_registry() text s 1
+bcp47_show(tag text) json s 100
+bcp47_show(tag text, registry text) json i 100
+bcp47_with(tag text, kind text, value text) text i 5
+t" ask -F ' ' -c "SELECT format('%s(%s)', proname, pg_get_function_arguments(oid)), pg_get_function_result(oid), provolatile, procost FROM pg_proc
+    WHERE proname LIKE 'bcp47%' ORDER BY proname, pronargs" -c "SELECT bool_and(proisstrict AND proparallel = 's') FROM pg_proc WHERE proname LIKE 'bcp47%'"
+# states QUERY..: the SQLSTATE of the error of each.
+states() { local query; for query; do ask -v VERBOSITY=sqlstate -c "$query"; done; }
+is 'SQLSTATEs of a name, of kinds and of types' 'ERROR:  42704
+ERROR:  22023
+ERROR:  22023
+ERROR:  42883
+ERROR:  42883' states "SELECT bcp47_canonical('en', '')" "SELECT bcp47_part('en', '')" "SELECT bcp47_with('en', 'key', 'co')" 'SELECT bcp47_canonical(7)' \
+    "SELECT bcp47_canonical('en'::bytea)"
 is 'what is shown to others' '' sh -c 'nm -D --defined-only "$1" | grep -vE " (Pg_magic_func|_PG_init|pg_finfo_[a-z]+_of|[a-z]+_of)$"' - "$folder/built/bcp47.so"
 # A session takes no memory for the registry, which is the server's.
 is 'memory of a session' 'en-u-ca-buddhist-nu-latn
@@ -109,22 +148,31 @@ is 'set in the file, and read again' 't' ask -c "ALTER SYSTEM SET bcp47.registry
 sleep 1
 is 'after that' "$date" ask -c "SELECT split_part(bcp47_registry(), ' ', 1)"
 is 'set no more' '' ask -c 'ALTER SYSTEM RESET bcp47.registry' -c 'ALTER SYSTEM RESET bcp47.folder'
-is 'who reads a setting' 'ERROR:  must be superuser or have privileges of pg_read_all_settings to examine "bcp47.registry"' \
-    ask -c 'CREATE ROLE reader' -c 'SET ROLE reader' -c 'SHOW bcp47.registry'
+for setting in registry folder; do
+    is "who reads a setting, $setting" "ERROR:  must be superuser or have privileges of pg_read_all_settings to examine \"bcp47.$setting\"" \
+        ask -c "CREATE ROLE of_$setting" -c "SET ROLE of_$setting" -c "SHOW bcp47.$setting"
+done
 is 'an index without a name' 'ERROR:  functions in index expression must be marked IMMUTABLE' \
     ask -c 'CREATE INDEX by_any ON books (bcp47_canonical(tag))'
-is 'a name that is not there' "ERROR:  the server has no registry \"2001-01-01\"
-HINT:  Put it into the folder that bcp47.folder names, and start the server again." \
-    ask -c "SELECT bcp47_canonical('en', '2001-01-01')"
 digest=$(sha256sum < registry | cut -c 1-64)
+is 'a name that is not there' "ERROR:  the server has no registry \"2001-01-01\"
+DETAIL:  It has $date (${digest:0:8}), by bcp47.registry $date (${digest:0:8}).
+HINT:  Put it into the folder that bcp47.folder names, as 2025-05-15.txt by its File-Date, and start the server again: its log names the files that it passed over." \
+    ask -c "SELECT bcp47_canonical('en', '2001-01-01')"
 is 'which registry' "$date $(grep -c '^%%' registry) $digest" ask -c 'SELECT bcp47_registry()'
 is 'named by the digest' 'he|he|he' ask -c "SELECT bcp47_canonical('iw', '$digest'), bcp47_canonical('iw', '${digest:0:8}'), bcp47_canonical('iw', upper('$digest'))"
 is 'too short a name' "ERROR:  the server has no registry \"${digest:0:7}\"" ask -v VERBOSITY=terse -c "SELECT bcp47_canonical('iw', '${digest:0:7}')"
 
 # What a name means in the folder is no matter of bcp47.registry, which has the same date here; a file that has no date is no registry.
 sed '/^Subtag: iw$/,/^%%$/{/^Preferred-Value: /d;s/^Description: .*/Description: 𐐷ā/;}' registry > same-date
-cp sample dates/registries.txt && chmod 644 same-date dates/registries.txt
+cp sample dates/registries.txt && cp sample dates/.2001-01-01.txt.swp && chmod 644 same-date dates/registries.txt
 again -c "bcp47.registry=$folder/same-date" || fail "$(cat start.log log)"
+passed_over="WARNING:  the file \"registries.txt\" in \"$folder/dates\" is passed over"
+how_to_name='HINT:  Name the file of a registry by its File-Date, as 2025-05-15.txt.'
+is 'a wrong name is told at the start' "$passed_over
+$how_to_name" sed -n '/passed over$/{N;s/[^\n]* \(WARNING\|HINT\):  /\1:  /g;p}' log
+is 'a wrong name is told with the setting' "$passed_over
+$how_to_name" ask -c "ALTER SYSTEM SET bcp47.folder = '$folder/dates'" -c 'ALTER SYSTEM RESET bcp47.folder'
 is 'the folder comes first' 'he|iw' ask -c "SELECT bcp47_canonical('iw', '$date'), bcp47_canonical('iw')"
 is 'escaped' '\ud801\udc37\u0101' env database=latin bash -c "$(declare -f ask as_user); $(declare -p folder user tools); ask -c \"SELECT substring(bcp47_show('iw')::text FROM '.ud801[^,}]*u0101')\""
 again || fail "$(cat start.log log)"
@@ -135,10 +183,16 @@ is 'a replaced file' "$date" ask -c "SELECT split_part(bcp47_registry(), ' ', 1)
 again || fail "$(cat start.log log)"
 is 'another registry' "2024-01-01|$(grep -cx yue wanted)" ask -c 'SET enable_seqscan = off' -c "SELECT split_part(bcp47_registry(), ' ', 1), ($of_yue)"
 is 'a replacement that repeats' 'ReplacementRepeats alalc97' ask -c "SELECT bcp47_fault('ja-Latn-hepburn-alalc97-heploc')"
+ask -c "CREATE TABLE kept (tag text CHECK (bcp47_fault(tag, '$date') IS NULL), canonical text GENERATED ALWAYS AS (bcp47_canonical(tag, '$date')) STORED)" \
+    -c "INSERT INTO kept VALUES ('iw')" || exit 1
 is 'a dump' '' as_user "$tools/pg_dump" -h "$folder" -f "$folder/dump" postgres
 ask -c 'CREATE DATABASE restored' || exit 1
 database=restored ask -f "$folder/dump" > restored 2>&1 || fail "$(cat restored)"
 is 'a restored index' "$(grep -cx yue wanted)|t" env database=restored bash -c "$(declare -f ask as_user); $(declare -p folder user tools); ask -c 'SET enable_seqscan = off' -c \"SELECT (${of_yue//\"/}), (SELECT indisvalid FROM pg_index WHERE indexrelid = 'by_canonical'::regclass)\""
+
+is 'a restored column and constraint' 'he
+ERROR:  new row for relation "kept" violates check constraint "kept_tag_check"' env database=restored bash -c "$(declare -f ask as_user); $(declare -p folder user tools)
+    ask -c 'SELECT canonical FROM kept' && ask -v VERBOSITY=terse -c \"INSERT INTO kept VALUES ('en_US')\""
 
 # make installcheck, by the sample registry
 as_user env PATH="$PATH" bash -c "cd '$folder/built' && true"
@@ -149,6 +203,7 @@ as_user env PATH="$PATH" bash -c "cd '$folder/built' && true"
 # What takes long ends, and what the server can't read keeps it from starting.
 hostile=en-u-$(for letter in z y x w v; do seq -f "$letter%02g" -s - 65 -1 10; done | paste -sd - | cut -c 1-980)
 is 'a long explanation' 'ERROR:  the explanation has more than 20000 steps' ask -c "SET statement_timeout = '20s'" -c "SELECT length(bcp47_explain('${hostile%-}'))"
+is 'its SQLSTATE' 'ERROR:  54000' states "SELECT bcp47_explain('${hostile%-}')"
 mkdir many && chmod 755 many
 truncate -s 70M long
 : > empty && mkfifo pipe && cp sample closed && chmod 0 closed
@@ -165,6 +220,7 @@ for line in 'could not read the registry "/no/such/file": No such file or direct
     grep -qF "$line" log || fail "the log has no $line"
 done
 start -c bcp47.registry= || fail "$(cat log)"
+is 'SQLSTATE where there is no registry' 'ERROR:  55000' states "SELECT bcp47_canonical('en')"
 is 'no registry' 'ERROR:  bcp47.registry names no file|he' sh -c 'echo "$1|$2"' - "$(ask -v VERBOSITY=terse -c "SELECT bcp47_canonical('en')" 2>&1)" \
     "$(ask -c "SELECT bcp47_canonical('iw', '$date')")"
 as_user "$tools/pg_ctl" -D "$folder/data" -m fast -w stop > /dev/null 2>&1

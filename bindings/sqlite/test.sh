@@ -14,10 +14,12 @@ diff "$books/wanted" "$books/got" || exit 1
 got=$(sqlite3 :memory: ".load $1/bcp47_sqlite" "SELECT bcp47_canonical('en');" 2>&1)
 case $got in *"no registry is loaded"*) ;; *) echo "not loaded: $got" && exit 1 ;; esac
 got=$(sqlite3 :memory: ".load $1/bcp47_sqlite" "SELECT bcp47_load('/no/such/file');" 2>&1)
-case $got in *"the registry can't be read: No such file"*) ;; *) echo "no file: $got" && exit 1 ;; esac
+case $got in *'the registry in "/no/such/file" can'"'"'t be read: No such file'*) ;; *) echo "no file: $got" && exit 1 ;; esac
+got=$(sqlite3 :memory: ".load $1/bcp47_sqlite" "SELECT bcp47_load(readfile('/no/such/file'));" 2>&1)
+case $got in *"bcp47_load takes a path or a blob"*) ;; *) echo "NULL: $got" && exit 1 ;; esac
 printf 'no registry\n' > "$1/other"
 got=$(sqlite3 :memory: ".load $1/bcp47_sqlite" "SELECT bcp47_load('$1/other');" 2>&1)
-case $got in *"jar BadLine line 1"*) ;; *) echo "refused: $got" && exit 1 ;; esac
+case $got in *"the registry in \"$1/other\" is refused: jar BadLine line 1"*) ;; *) echo "refused: $got" && exit 1 ;; esac
 got=$(sqlite3 :memory: ".load $1/bcp47_sqlite" "SELECT bcp47_load('$2');" \
     "SELECT bcp47_canonical('zh-yue'), bcp47_equivalent('zh-yue', 'YUE'), bcp47_fault('en_US');" \
     "SELECT bcp47_explain('sgn-dd');" \

@@ -17,6 +17,7 @@ EXTENSION = os.path.join(FOLDER, "bcp47_sqlite")
 with open(SAMPLE, "rb") as file:
     CONTENT = file.read()
 DIGEST = hashlib.sha256(CONTENT).hexdigest()
+LOADED = re.escape(f'it is 2024-01-01 ({DIGEST[:8]}) from "{SAMPLE}". Ask by this name, or load the other registry in another connection')
 
 
 def opened(path=":memory:", load=True, extension=EXTENSION, **how):
@@ -69,7 +70,7 @@ class Habits(unittest.TestCase):
             with self.assertRaisesRegex(sqlite3.OperationalError, "no such collation sequence: BCP47_"):
                 second.execute(query)
         for query in ("INSERT INTO books VALUES ('he')", "SELECT bcp47_canonical(tag, '2023-12-31') FROM books NOT INDEXED"):
-            with self.assertRaisesRegex(sqlite3.OperationalError, "has another name"):
+            with self.assertRaisesRegex(sqlite3.OperationalError, "has another name than '2023-12-31': " + LOADED):
                 second.execute(query).fetchall()
         self.assertEqual(value(second, "SELECT tag FROM books WHERE bcp47_canonical(tag, '2023-12-31') = 'iw'"), "iw")
         self.assertEqual(value(second, "SELECT count(*) FROM books WHERE bcp47_canonical(tag) = 'he'"), 1)
@@ -99,8 +100,14 @@ class Habits(unittest.TestCase):
         connection = opened()
         other = CONTENT.replace(b"File-Date: 2024-01-01", b"File-Date: 2024-01-02")
         self.assertNotEqual(other, CONTENT)
-        with self.assertRaisesRegex(sqlite3.OperationalError, "another registry is loaded"):
-            connection.execute("SELECT bcp47_load(?)", (other,))
+        path = os.path.join(self.folder, "2024-01-02.txt")
+        with open(path, "wb") as file:
+            file.write(other)
+        for source, said in ((other, "a blob"), (path, f'"{path}"')):
+            with self.assertRaisesRegex(sqlite3.OperationalError, re.escape(
+                    f'another registry is loaded, 2024-01-01 ({DIGEST[:8]}) from "{SAMPLE}": open another connection to load '
+                    f"2024-01-02 ({hashlib.sha256(other).hexdigest()[:8]}) from {said}")):
+                connection.execute("SELECT bcp47_load(?)", (source,))
         self.assertEqual(value(connection, "SELECT bcp47_load(?)", (CONTENT,)), 1)
         self.assertIn("2024-01-01", value(connection, "SELECT bcp47_registry()"))
 
@@ -122,35 +129,35 @@ class Habits(unittest.TestCase):
             self.assertEqual(value(connection, "SELECT json_extract(bcp47_show('iw', ?), '$[0].record')", (name,)), 9)
             self.assertEqual(connection.execute("SELECT bcp47_fault('e_n', ?1), bcp47_equivalent('iw', 'he', ?1), bcp47_match('zh-yue', 'yue-GB', ?1), "
                                                 "bcp47_explain('en', ?1)", (name,)).fetchone(), ("BadByte 1", 1, 1, "= en"))
-        for name in ("2024-01-02", DIGEST[:7], "", None, DIGEST + "0", "2024-01-0", "0" * 8):
+        for name in ("2024-01-02", DIGEST[:7], "", None, DIGEST + "0", "2024-01-0", "0" * 8, 20240101, b"2024", "2024-01-01\0", DIGEST[:8] + "\0"):
+            said = "NULL" if name is None else "'%s'" % (name.decode() if isinstance(name, bytes) else str(name).rstrip("\0"))
             for call in ("canonical('iw', ?)", "show('iw', ?)", "fault('iw', ?)", "explain('iw', ?)", "equivalent('iw', 'he', ?)", "match('iw', 'he', ?)"):
-                with self.assertRaisesRegex(sqlite3.OperationalError, "has another name"):
+                with self.assertRaisesRegex(sqlite3.OperationalError, f"has another name than {said}: {LOADED}", msg=call):
                     connection.execute(f"SELECT bcp47_{call}", (name,))
 
     def test_what_is_loaded(self):
         connection = opened(load=False)
-        self.assertIsNone(value(connection, "SELECT bcp47_load(NULL)"))
-        for wrong in (7, 1.5):
-            with self.assertRaisesRegex(sqlite3.OperationalError, "a path or a blob"):
+        for wrong in (7, 1.5, None):
+            with self.assertRaisesRegex(sqlite3.OperationalError, "bcp47_load takes a path or a blob"):
                 connection.execute("SELECT bcp47_load(?)", (wrong,))
         before = memory()
         long = os.path.join(self.folder, "long")
         with open(long, "wb") as file:
             file.truncate((64 << 20) + 1)
         for path, why in (("/dev/zero", "it is no file"), ("/no/such/file", "No such file or directory"), (self.folder, "it is no file"),
-                          (long, "it is too long")):
-            with self.assertRaisesRegex(sqlite3.OperationalError, "the registry can't be read: " + why):
+                          (long, "it is too long"), ("", "No such file or directory")):
+            with self.assertRaisesRegex(sqlite3.OperationalError, f"the registry in \"{path}\" can't be read: {why}"):
                 connection.execute("SELECT bcp47_load(?)", (path,))
         self.assertLess(memory() - before, 10 << 20)
-        with self.assertRaisesRegex(sqlite3.OperationalError, "bcp47: jar NotUtf8 line 1"):
+        with self.assertRaisesRegex(sqlite3.OperationalError, "bcp47: the registry in a blob is refused: jar NotUtf8 line 1"):
             connection.execute("SELECT bcp47_load(x'ff')")
         empty, pipe = os.path.join(self.folder, "empty"), os.path.join(self.folder, "pipe")
         open(empty, "w").close()
-        for nothing in (empty, b"", b"File-Date: 2024-01-01\n"):
-            with self.assertRaisesRegex(sqlite3.OperationalError, "bcp47: NoEntries"):
+        for nothing, said in ((empty, f'"{empty}"'), (b"", "a blob"), (b"File-Date: 2024-01-01\n", "a blob")):
+            with self.assertRaisesRegex(sqlite3.OperationalError, f"bcp47: the registry in {said} is refused: NoEntries"):
                 connection.execute("SELECT bcp47_load(?)", (nothing,))
         os.mkfifo(pipe)
-        with self.assertRaisesRegex(sqlite3.OperationalError, "can't be read: it is no file"):
+        with self.assertRaisesRegex(sqlite3.OperationalError, f"the registry in \"{pipe}\" can't be read: it is no file"):
             connection.execute("SELECT bcp47_load(?)", (pipe,))
         with self.assertRaisesRegex(sqlite3.OperationalError, "no registry is loaded"):
             connection.execute("SELECT bcp47_canonical('en')")
@@ -196,7 +203,7 @@ class Habits(unittest.TestCase):
         connection = opened()
         hostile = "en-u-" + "-".join(f"{a}{n:02}" for a in "zyxwv" for n in range(65, -1, -1))
         self.assertTrue(value(connection, "SELECT bcp47_explain(?)", (hostile[:300],)).split("\n")[-1].startswith("= en-u-"))
-        with self.assertRaisesRegex(sqlite3.OperationalError, "bcp47: TooManySteps"):
+        with self.assertRaisesRegex(sqlite3.OperationalError, "bcp47: the explanation has more than 20000 steps"):
             connection.execute("SELECT bcp47_explain(?)", (hostile[:1020],))
 
     def test_any_name_of_the_file(self):
@@ -223,8 +230,9 @@ class Habits(unittest.TestCase):
             "SELECT bcp47_part('en', 'region'), bcp47_part('en_US', 'region'), bcp47_part(NULL, 'region'), bcp47_part('en', NULL), "
             "bcp47_part('I-KLINGON', 'grandfathered')").fetchone(), (None, None, None, None, "i-klingon"))
         self.assertEqual(value(connection, "SELECT bcp47_part(?, 'PrivateUse')", ("x-" + "-".join(["a"] * 511),)), "-".join(["a"] * 511))
-        with self.assertRaisesRegex(sqlite3.OperationalError, "no such kind of part"):
-            connection.execute("SELECT bcp47_part('en', 'regions')")
+        for kind in ("regions", "", "region ", "region\0", "7"):
+            with self.assertRaisesRegex(sqlite3.OperationalError, 'there is no kind of part "%s"' % kind.rstrip("\0")):
+                connection.execute("SELECT bcp47_part('en', ?)", (kind,))
 
     def test_readers_are_served(self):
         connection = opened()
@@ -235,7 +243,7 @@ class Habits(unittest.TestCase):
             self.assertEqual(value(connection, "SELECT bcp47_best(?, group_concat(tag, ' , ')) FROM books", (accept,)), best, accept)
         self.assertEqual(connection.execute("SELECT bcp47_best('de', ' en, de '), bcp47_best('de', 'en,de,e_n'), bcp47_best('de', ''), bcp47_best('de', NULL), "
                                             "bcp47_best('iw', 'he', '2024-01-01')").fetchone(), ("de", None, None, None, "he"))
-        with self.assertRaisesRegex(sqlite3.OperationalError, "has another name"):
+        with self.assertRaisesRegex(sqlite3.OperationalError, "has another name than '2024-01-02': " + LOADED):
             connection.execute("SELECT bcp47_best('de', 'de', '2024-01-02')")
 
     def test_parts_are_replaced(self):
@@ -243,9 +251,46 @@ class Habits(unittest.TestCase):
         self.assertEqual(connection.execute("SELECT bcp47_with('de-CH', 'region', 'AT'), bcp47_with('ZH-tw', 'Script', 'hant'), bcp47_with('de-CH', 'region', ''), "
                                             "bcp47_with('de', 'region', 'A_'), bcp47_with('de', 'region', NULL)").fetchone(),
                          ("de-AT", "zh-Hant-TW", "de", None, None))
-        for kind in ("regions", "key"):
-            with self.assertRaisesRegex(sqlite3.OperationalError, "no such kind of part"):
+        for kind, said in (("regions", 'there is no kind of part "regions"'), ("key", '"key" can\'t be replaced: language, script, region, ')):
+            with self.assertRaisesRegex(sqlite3.OperationalError, said):
                 connection.execute("SELECT bcp47_with('en', ?, 'AT')", (kind,))
+
+    def test_a_check_names_its_registry(self):
+        """SQLite has no flag that refuses a function in a CHECK and not in a view. With the name, no other registry judges a row."""
+        path = os.path.join(self.folder, "books.db")
+        first = opened(path)
+        first.execute("CREATE TABLE books (tag TEXT CHECK (bcp47_fault(tag, '2024-01-01') IS NULL))")
+        first.execute("CREATE TABLE any (tag TEXT CHECK (bcp47_fault(tag) IS NULL))")
+        first.execute("CREATE VIEW canonical AS SELECT bcp47_canonical(tag) AS tag FROM books")
+        for table in ("books", "any"):
+            first.execute(f"INSERT INTO {table} VALUES ('iw')")
+            with self.assertRaisesRegex(sqlite3.IntegrityError, "CHECK constraint failed"):
+                first.execute(f"INSERT INTO {table} VALUES ('en_US')")
+        self.assertEqual(value(first, "SELECT tag FROM canonical"), "he")
+        first.commit()
+        first.close()
+        second = opened(path, load=False)
+        second.execute("SELECT bcp47_load(?)", (b"File-Date: 2025-01-01\n%%\nType: language\nSubtag: de\n",))
+        with self.assertRaisesRegex(sqlite3.OperationalError, "has another name than '2024-01-01': it is 2025-01-01"):
+            second.execute("INSERT INTO books VALUES ('de')")
+        second.execute("INSERT INTO any VALUES ('de')")
+        with self.assertRaisesRegex(sqlite3.IntegrityError, "CHECK constraint failed"):
+            second.execute("UPDATE any SET tag = 'iw' WHERE tag = 'iw'")
+
+    def test_a_database_in_utf16(self):
+        path = os.path.join(self.folder, "wide.db")
+        connection = sqlite3.connect(path)
+        connection.execute("PRAGMA encoding = 'UTF-16'")
+        connection.execute("CREATE TABLE books (tag TEXT)")
+        connection.executemany("INSERT INTO books VALUES (?)", [("zh-yue",), ("iw",), ("日本語",), ("HE",)])
+        connection.commit()
+        connection.close()
+        connection = opened(path)
+        connection.execute("CREATE INDEX by_tag ON books (tag COLLATE BCP47_20240101)")
+        self.assertEqual(connection.execute("SELECT bcp47_canonical(tag), bcp47_fault(tag, '2024-01-01') FROM books ORDER BY tag COLLATE BCP47, rowid").fetchall(),
+                         [("he", None), ("he", None), ("yue", None), (None, "BadByte 1")])
+        self.assertEqual(value(connection, "SELECT group_concat(tag) FROM (SELECT DISTINCT tag COLLATE BCP47 AS tag FROM books)"), "zh-yue,iw,日本語")
+        self.assertEqual(value(connection, "PRAGMA integrity_check"), "ok")
 
     def test_other_types_and_nothing(self):
         connection = opened()
@@ -253,6 +298,11 @@ class Habits(unittest.TestCase):
             "SELECT bcp47_canonical(NULL), bcp47_canonical(1), bcp47_fault(x'ff'), bcp47_fault(''), bcp47_equivalent('en', 'e_n')"
         ).fetchone(), (None, None, "BadByte 1", "EmptySubtag 1", None))
         self.assertEqual(value(connection, "SELECT bcp47_fault(?)", ("a" * 100000,)), "TooLong 0")
+        self.assertEqual(connection.execute("SELECT bcp47_fault(x''), bcp47_canonical(x'6977'), bcp47_fault('en' || char(0)), bcp47_best('', 'en'), "
+                                            "bcp47_best(coalesce(NULL, '*'), 'en'), bcp47_part(x'', 'language'), bcp47_with('de', 'script', x'4c61746e')"
+                                            ).fetchone(), ("EmptySubtag 1", "he", "BadByte 1", None, "en", None, "de-Latn"))
+        self.assertEqual(connection.execute("SELECT json_object('is', json(bcp47_show('en'))) -> '$.is[0].text', typeof(bcp47_equivalent('iw', 'he'))").fetchone(),
+                         ('"en"', "integer"))
 
 
 if __name__ == "__main__":

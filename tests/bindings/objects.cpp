@@ -1,9 +1,15 @@
 /* bcp47.hpp: each call once, and what is refused. Arguments: the sample registry, and its File-Date. Or a registry, `canonical` or
    `explain`, and a file, of which each line is answered as the program does. */
 #include <bcp47.hpp>
+#include <array>
 #include <cstring>
 #include <fstream>
 #include <iostream>
+#include <list>
+#include <set>
+#if defined(__cpp_lib_ranges) && !defined(__clang__)
+#include <ranges>
+#endif
 #include <thread>
 #include <type_traits>
 
@@ -20,6 +26,21 @@ static int failures = 0;
 static_assert(!std::is_copy_constructible_v<bcp47::registry> && std::is_nothrow_move_constructible_v<bcp47::registry>, "");
 /* `if (registry.equivalent("zh", "yue"))` would ask whether that can be told. */
 static_assert(!std::is_constructible_v<bool, bcp47::answer> && std::is_constructible_v<bool, bcp47::result<std::string>>, "");
+static_assert(!std::is_convertible_v<bcp47::answer, bcp47::result<bool>> && !std::is_convertible_v<bcp47::result<int>, std::optional<int>>, "");
+/* So would `if (available.best(header))`, and the same of other calls that may give nothing. */
+template <class Call, class... Words> constexpr bool is_condition = std::is_constructible_v<bool, std::invoke_result_t<Call, Words...>>;
+static_assert(!is_condition<decltype(&bcp47::parent), std::string_view> && is_condition<decltype(&bcp47::classify), std::string_view>, "");
+static_assert(!is_condition<decltype(&bcp47::registry::record), bcp47::registry, std::uint32_t>, "");
+template <class Header> using best_of = decltype(std::declval<const bcp47::available>().best(std::declval<Header>()));
+template <class Header> using all_of = decltype(std::declval<const bcp47::available>().filter(std::declval<Header>()));
+static_assert(!std::is_constructible_v<bool, best_of<const char *>> && !std::is_constructible_v<bool, best_of<std::string>>, "");
+static_assert(!std::is_constructible_v<bool, all_of<const char *>> && !std::is_constructible_v<bool, all_of<std::string>>, "");
+/* A text is no list of texts. */
+template <class Tags> using made_of = decltype(std::declval<const bcp47::registry>().available(std::declval<Tags>()));
+template <class Tags, class = void> constexpr bool is_list = false;
+template <class Tags> constexpr bool is_list<Tags, std::void_t<made_of<Tags>>> = true;
+static_assert(!is_list<const char *> && !is_list<std::string> && !is_list<const char (&)[3]>, "");
+static_assert(!is_list<std::vector<int>> && is_list<std::vector<std::string>>, "");
 #if defined(__cpp_lib_expected)
 static_assert(std::is_same_v<bcp47::result<int>, std::expected<int, bcp47::refusal>>, "");
 #endif
@@ -90,6 +111,68 @@ static void available(const bcp47::registry &registry) {
     CHECK(!*registry.available({})->best("de") && registry.available({})->filter("*")->empty());
     auto refused = registry.available({"en", "e_n"});
     CHECK(refused.error().line() == "BadByte 1" && refused.error().outcome.text == 2);
+    const bcp47::available moved = std::move(tags);
+    CHECK(**moved.best("de") == 2 && tags.best("de").error().status() == BCP47_NOT_OPEN && tags.filter("de").error().line() == "NotOpen");
+}
+
+/* What a range gives is a text, if only while it is looked at. */
+struct numbered {
+    int number;
+    int operator*() const { return number; }
+    bool operator!=(numbered other) const { return number != other.number; }
+    void operator++() { number++; }
+};
+struct made_tags {
+    struct place : numbered {
+        std::string operator*() const { return "en-x-a-tag-that-no-small-string-holds-" + std::to_string(number); }
+    };
+    place begin() const { return {{1}}; }
+    place end() const { return {{3}}; }
+};
+
+/* Tags in any container, and headers as they come. */
+static void lists(const bcp47::registry &registry) {
+    const std::vector<std::string> strings{"en", "de"};
+    const char *const pointers[] = {"en", "de"};
+    const auto place_of_german = [&registry](auto &&tags) { return **registry.available(tags)->best("de"); };
+    CHECK(place_of_german(strings) == 1 && place_of_german(std::vector<std::string>{"en", "de"}) == 1 && place_of_german(pointers) == 1);
+    CHECK(place_of_german(std::vector<std::string_view>{"en", "de"}) == 1 && place_of_german(std::vector<const char *>{"en", "de"}) == 1);
+    CHECK(place_of_german(std::list<std::string>{"en", "de"}) == 1 && place_of_german(std::set<std::string>{"en", "de"}) == 0);
+    CHECK(place_of_german(std::array<std::string_view, 1>{"de"}) == 0 && **registry.available({strings[1], "en"})->best("de") == 0);
+    CHECK(**registry.available(made_tags())->best("en-x-a-tag-that-no-small-string-holds-2") == 1);
+#if defined(__cpp_lib_ranges) && !defined(__clang__)
+    CHECK(**registry.available(strings | std::views::filter([](const std::string &tag) { return tag != "en"; }))->best("de") == 0);
+#endif
+    auto tags = registry.available(strings);
+    const char *missing = nullptr;
+    CHECK(**tags->best(missing) == 0 && **tags->best(nullptr) == 0 && *tags->filter(missing) == (std::vector<std::size_t>{0, 1}));
+    CHECK(!*tags->best("") && !*tags->best(std::string_view()) && tags->filter(std::string())->empty() && **tags->best(std::string("de")) == 1);
+    if (auto place = tags->best("de;q=2").value_or(std::nullopt)) CHECK(*place > 9);
+    if (auto place = tags->best("en").value_or(std::nullopt)) CHECK(*place == 0);
+    else CHECK(place);
+    CHECK(tags->best("fr").has_value() && !tags->best("fr").value() && !tags->best("de;q=2").has_value());
+    std::uint32_t records = 0;
+    while (!registry.record(records + 1)->empty()) records++;
+    CHECK(records == registry.info().entries + 1);
+}
+
+/* Values that are bound, moved and copied. */
+static void values(const bcp47::registry &registry) {
+    auto [text, parts] = *bcp47::classify("EN-gb");
+    auto [steps, tags, canonical] = registry.explain("sgn-DD").value();
+    CHECK(text == "en-GB" && parts.size() == 2 && steps.size() == tags.size() && canonical == "gsg");
+    const auto kept = registry.canonical("iw");
+    auto copied = kept;
+    copied = registry.canonical("e_n");
+    CHECK(*kept == "he" && !copied && copied.error().name() == "BadByte" && kept->size() == 2);
+    std::string moved = std::move(copied).value_or(*kept), taken = registry.canonical("yue").value();
+    CHECK(moved == "he" && taken == "yue" && *registry.canonical("iw") == "he");
+    const auto parent = bcp47::parent("en-GB");
+    CHECK(parent.value() == "en" && parent.has_value() && bcp47::parent("e_n").value_or("none") == "none");
+#if defined(__cpp_exceptions)
+    CHECK(thrown([&] { static_cast<void>(registry.available({"en"})->best("de;q=2").value()); }) == "BadWeight 1");
+    CHECK(thrown([&] { static_cast<void>(bcp47::parent("e_n").value()); }) == "BadByte 1");
+#endif
 }
 
 static int answer(const bcp47::registry &registry, bool is_explained, const char *path) {
@@ -155,6 +238,8 @@ int main(int count, char **words) {
     CHECK(*bcp47::posix("sr_RS.UTF-8@latin") == "sr-Latn-RS" && *bcp47::posix("C") == "en-US-u-va-posix");
     CHECK(bcp47::posix("en_US@klingon").error().line() == "BadByte 0");
     available(registry);
+    lists(registry);
+    values(registry);
     CHECK(registry.verify("sgn-DD", {{BCP47_REGION, 2, 27}, {BCP47_WHOLE, 1, 44}}, "gsg") && registry.verify("en", {}, "EN"));
     CHECK(registry.upgrade_check(registry).has_value());
     auto tag = bcp47::classify("EN-gb-OED");
@@ -164,8 +249,11 @@ int main(int count, char **words) {
     CHECK(registry.canonical(longest).value() == longest && bcp47::classify(longest)->text == longest);
     CHECK(!std::strcmp(registry.info().file_date, words[2]) && registry.info().entries > 0);
     refusals(registry);
-    CHECK(bcp47::registry::from_file("/no/such/file").error().line() == "the file can't be read: No such file or directory");
-    CHECK(bcp47::registry::from_file("/").error().status() == BCP47_BAD_FILE);
+    auto absent = bcp47::registry::from_file("/no/such/file"), folder = bcp47::registry::from_file("/");
+    CHECK(absent.error().line() == "can't read \"/no/such/file\": No such file or directory" && absent.error().name() == "BadFile");
+    CHECK(absent.error().help().substr(0, 27) == "The file can't be opened, o" && absent.error().status() == BCP47_BAD_FILE);
+    CHECK(folder.error().line() == "can't read \"/\": Is a directory" && folder.error().help() == absent.error().help());
+    CHECK(bcp47::registry::from_bytes("no registry\n").error().help() == bcp47_fault_help(BCP47_FAULT_BAD_LINE));
     std::vector<std::thread> threads;
     for (int i = 0; i < 4; i++)
         threads.emplace_back([&registry] {
@@ -177,7 +265,7 @@ int main(int count, char **words) {
     CHECK(registry.info().entries == 0 && registry.canonical("en").error().line() == "NotOpen");
     CHECK(registry.canonical("en").error().help() == bcp47_status_help(BCP47_NOT_OPEN));
 #if defined(__cpp_exceptions)
-    CHECK(thrown([&] { registry.is_valid("en"); }) == "NotOpen");
+    CHECK(thrown([&] { static_cast<void>(registry.is_valid("en")); }) == "NotOpen");
 #endif
     if (!failures) std::puts("objects: passed");
     return failures != 0;

@@ -84,9 +84,11 @@ static const struct {
     {"SELECT bcp47_with('de-CH', 'region', 'AT') || ' ' || bcp47_with('ZH-tw', 'Script', 'hant')", "de-AT zh-Hant-TW"},
     {"SELECT bcp47_with('de', 'region', 'A_') IS NULL AND bcp47_with('x-a', 'region', 'AT') IS NULL AND bcp47_with(NULL, 'region', 'AT') IS NULL", "1"},
     {"SELECT bcp47_with('de', 'regions', 'AT')", NULL},
+    {"SELECT bcp47_with('de', 'key', 'co')", NULL},
     {"SELECT bcp47_part('en', 'regions')", NULL},
+    {"SELECT bcp47_part('e_n', 'regions')", NULL},
     {"SELECT bcp47_canonical('en', '0123456789' || hex(zeroblob(32)))", NULL},
-    {"SELECT bcp47_load(NULL)", "NULL"},
+    {"SELECT bcp47_load(NULL)", NULL},
     {"SELECT bcp47_load(7)", NULL},
     {"SELECT bcp47_load('/no/such/file')", NULL},
     {"SELECT bcp47_load('/')", NULL},
@@ -154,6 +156,8 @@ int main(int count, char **words) {
     CHECK(!sqlite3_open(":memory:", &database) && !sqlite3_extension_init(database, NULL, NULL));
     ask(database, "SELECT bcp47_load(?)", "1");
     ask(database, "SELECT bcp47_load('/dev/zero')", NULL);
+    ask(database, "WITH RECURSIVE n (i) AS (VALUES (0) UNION ALL SELECT i + 1 FROM n WHERE i < 249) "
+                  "SELECT bcp47_explain('en-u-' || group_concat(char(122 - i / 66) || printf('%02d', 65 - i % 66), '-')) FROM n", NULL);
     busy_calls = 2;
     ask(database, "SELECT bcp47_canonical('en')", NULL);
     ask(database, "SELECT bcp47_fault('en')", NULL);
