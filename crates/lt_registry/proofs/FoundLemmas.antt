@@ -10,8 +10,6 @@ use Rattle.lt_registry.specs.declared.fields.FieldName.TheVariants as told
 use Rattle.lt_registry.specs.declared.fields.Found.{Found}
 use Rattle.lt_registry.proofs.FieldLemmas.{apart, by_date, by_none, by_subtag, by_tag, by_type, by_value, place_more, place_same, repeated_more, repeated_same, some_more, some_same}
 
--- What is found with a field more, by the name of that field.
-
 or_true : (a : Bool) → (a || true) ≡ true
 or_true true = refl
 or_true false = refl

@@ -17,8 +17,6 @@ use Rattle.lt_registry.specs.Sorted.{place_of, RowsRise, beginning, IsInSpan, Ar
 use Rattle.lt_registry.specs.declared.rows.Row.{Row}
 use Rattle.lt_registry.proofs.SortedLemmas.{find_first, find_none, nats_equal}
 
--- Where rows of one beginning start, and what a search among them finds.
-
 -- a later row has a greater number
 rise : (rows : List Row) (i m : ℕ) (v w : Row) → RowsRise rows → i < m → slice_get rows i ≡ Some v → slice_get rows m ≡ Some w → v.number < w.number
 rise rows i m v w up l at to =
