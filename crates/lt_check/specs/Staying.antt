@@ -29,7 +29,8 @@ abbrev pub names_plain_of : List ℕ → EntryName → Bool
 names_plain_of l (names.Whole t) = option_map_or (is_plain_of l) (core_of t) false
 names_plain_of l _ = false
 
--- whether a record has a tag as value for a tag of this language without extlangs and variants (RFC 5646, 3.1.7)
+-- whether a record names a tag of this language without extlangs and variants, and has a tag as its value (RFC 5646,
+-- 3.1.7)
 abbrev pub replaces_plain_of : List ℕ → EntryParts → Bool
 replaces_plain_of l e = is_some (tag_of e.value) && names_plain_of l e.name
 
