@@ -1,4 +1,4 @@
--- Two subtags of one kind have one place exactly if they are the same, letter case aside; and how writing one flag changes
+-- Two subtags of one kind have one place exactly if they are the same, letter case aside. How writing one flag changes
 -- what the flags tell.
 use Rattle.std.proofs.Common.{◌≡◌, ◌≤◌, ◌<◌, ℕ, ◌+◌, ◌-◌, ◌*◌, ◌/◌, ◌%◌, ◌==◌, ◌&&◌, eqb, Bool, true, false, cond, List, [], ◌∷◌, length, map, get_or, Option, Some, None, IfSome, inl, inr, refl, sym, subst, ap, ◌∙◌, arith, bytes_eq, ◌^◌, not, set, replicate, bit_and, bit_or, w64, is_some}
 use Rattle.std.specs.Prelude.{nat_lt}

@@ -168,6 +168,7 @@ behind rows n j w there =
     let within : j < length (drop n rows) = slice_get_within (drop n rows) j w there in
     slice_get-get_or rows (n + j) w (omega (arith, within, length-drop n rows)) ∙ ap Some (sym (get_or-drop n rows j w) ∙ get_or_from_slice_get (drop n rows) j w w there)
 
+-- the first of an option and None that has a value is the option
 or_none : {X : Type 0} (o : Option X) → option_or o None ≡ o
 or_none None = refl
 or_none (Some x) = refl

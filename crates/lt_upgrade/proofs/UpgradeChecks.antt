@@ -1,4 +1,5 @@
--- What decides the conditions on an upgrade that speak of one record after another, and that the first record that does not meet one is the lowest at fault.
+-- What decides the conditions on an upgrade that speak of one record after another. The first record that does not
+-- meet one is the lowest at fault.
 use Rattle.std.proofs.Common.{◌≡◌, ◌↔◌, ℕ, Bool, true, false, ◌&&◌, cond, List, [], ◌∷◌, length, Option, Some, None, refl, sym, ap, ◌∙◌, subst, ◌<◌, IsTrue, is_some, bytes_eq, inl, inr, ◌+◌, ◌-◌, All, arith, Contains, slice_index_or}
 use Rattle.std.specs.Cmp.{both_ways}
 use Rattle.std.specs.List.{list_all}

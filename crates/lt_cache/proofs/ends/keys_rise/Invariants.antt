@@ -9,5 +9,6 @@ use Rattle.lt_cache.proofs.ends.keys_rise.Given as goal
 abbrev pub invariant-loop-rest : goal.invariant-loop-rest
 invariant-loop-rest l = keys_rise l.last (map folded (pieces_left l.rest)) ≡ keys_rise None (list_of l.fn.text)
 
+-- a turn takes one of the pieces that are left
 abbrev pub decreases-loop-rest : goal.decreases-loop-rest
 decreases-loop-rest l = length (pieces_left l.rest)
