@@ -88,7 +88,7 @@ region_as s h = elim (region_is (folded s) h) [ inl p ↦ grind (arith, upper_is
 
 -- ---- cores without extlangs and variants
 
--- the core of a language, and a script and a region where there is one
+-- the core of a language, alone or with a script, a region or both
 abbrev pub plain : List ℕ → Option (List ℕ) → Option (List ℕ) → CoreParts
 plain l s r = record { language = l; extlangs = []; script = s; region = r; variants = [] }
 

@@ -39,7 +39,7 @@ replaces_plain_of l e = is_some (tag_of e.value) && names_plain_of l e.name
 abbrev pub stays : List EntryParts → Kind → List ℕ → Bool
 stays R k s = has_no_value R k s && not (same_kind k kinds.Language && list_any (replaces_plain_of s) R)
 
--- The text is read as a langtag of a language of 2 or 3 letters, and a script and a region where there is one, each of
+-- The text is read as a langtag of a language of 2 or 3 letters, alone or with a script, a region or both, each of
 -- which stays (RFC 5646, 2.1 and 4.5).
 pub record StaysAs (R : List EntryParts) (text : List ℕ) (c : CoreParts) : Type 0 where
   pub read : HasTag text (core_alone c)

@@ -98,8 +98,8 @@ fn has_fitting_tag(entry: &Entry) -> bool
     }
 }
 
-/// Whether a record meets the condition on grandfathered tags. A record of that type has one of the 26 tags, and a
-/// record of any type is none of those whose subtag makes a regular one of the 26, such as zh-min, valid as a langtag.
+/// Whether a record meets the condition on grandfathered tags. A record of that type meets it only if its tag is one of the
+/// 26. No record of any type meets it if its subtag makes a regular one of the 26, such as zh-min, valid as a langtag.
 /// `validating` must have the numbers of these, as [`validating_records`] gives them, and the record must be one of the
 /// table's.
 pub(crate) fn fits_grandfathered<L: Lookup>(

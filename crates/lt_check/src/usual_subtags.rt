@@ -60,9 +60,9 @@ impl UsualSubtags {
         has(&self.words, place)
     }
 
-    /// Appends `text` to `texts`, in conventional case, if it is read as a langtag of a language of 2 or 3 letters, alone
-    /// or with a script, a region or both, and each of these stays as it is by the registry of these flags. Gives true
-    /// exactly then; else it appends nothing. Refused only where memory runs out.
+    /// Appends `text` to `texts`, in conventional case, if it is read as a langtag of the usual form, each subtag of which
+    /// stays as it is by the registry of these flags. The usual form is a language of 2 or 3 letters, alone or with a
+    /// script, a region or both. Gives true exactly then; else it appends nothing. Refused only where memory runs out.
     #[inline(always)]
     pub fn append_text(&self, text: &[u8], texts: &mut Vec<u8>) -> Result<bool, AllocError>
         ensures exact { IfOk result (λ told. (R : List EntryParts) → AreFlags R self.now → IsTrue told ↔ IsStaying R text.now) }
