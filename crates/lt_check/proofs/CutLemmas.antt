@@ -37,7 +37,7 @@ use Rattle.lt_check.specs.Staying.{stays, StaysAs}
 use Rattle.lt_check.specs.Shown as taken
 use Rattle.lt_check.proofs.TextLemmas.{IsShown, cut_shown, flagged, hyphened, lowered, part_flagged, raised, shown_parts, titled}
 
--- ---- what stays has a record of its own, and so the form of its kind
+-- ---- subtags that stay
 
 -- the subtag `s` of kind `k` has a record of its own, without a value
 pub record HasOwn (R : List EntryParts) (k : Kind) (s : List ℕ) : Type 0 where

@@ -179,8 +179,6 @@ module _ (R : List EntryParts) (rows : List Row) (t : TagForm) (ix : IsWholes R 
       absent key_total (whole_key R) (λ (v : Row). v.place) whole_row whole_placed R rows ix sought is_that (λ p e there. tag_agrees p e e.name refl there) i
       (point (rises key_total (whole_key R) (λ (v : Row). v.place) whole_row whole_placed R rows ix sought))
 
--- no subtag has an entry as a whole record
-
 -- if a subtag has the form of the kind `k`, that is no kind of whole tags
 pub apart : (s : List ℕ) (k kind : Kind) → is_whole_kind kind ≡ true → has_form k s ≡ true → same_kind k kind ≡ false
 apart s kinds.Grandfathered kind w f = cc

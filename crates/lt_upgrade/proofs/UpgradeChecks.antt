@@ -202,7 +202,7 @@ module _ (R : List EntryParts) (C : IsChecked R) where
         right = subst (λ x. IsReached R x (core_alone (core_end R C p.core))) (sym p.is) (cores_reached R C n.reached [] [] (subst (IsProper R) p.is p.valid.proper));
       }
 
--- ---- the first record that does not meet a condition is the lowest at fault
+-- ---- the lowest record at fault
 
 -- each of the records that a condition is on, before index `i`, meets it
 abbrev pub EachBefore : List EntryParts → List EntryParts → UpgradeCondition → ℕ → Type 0
