@@ -171,8 +171,8 @@ module _ (R : List EntryParts) (C : IsChecked R) where
   one_text text x y a b =
       a.written ∙ ap (λ (t : TagForm). conventional (spell t)) (sym (form_is_end R C a.tag a.form a.is_form) ∙ ap (tag_end R C) (one_tag_of_text text a.tag b.tag a.read b.read) ∙ form_is_end R C b.tag b.form b.is_form) ∙ sym b.written
 
-  -- these extensions and this private use, one or more in all, can follow each canonical core in a valid tag, and no
-  -- source within the extensions repeats a variant, nor does at the end of their steps
+  -- These extensions and this private use, one or more in all, can follow each canonical core in a valid tag. No source
+  -- within the extensions repeats a variant, neither as it is nor at the end of their steps.
   pub record CanFollow (es : List ExtensionParts) (ps : List (List ℕ)) : Type 0 where
     pub parts : (c : CoreParts) → IsProperValue R c → ProperParts R c es ps
     pub distinct : AllByRecursion HasDistinctSource es

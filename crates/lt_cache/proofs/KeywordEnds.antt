@@ -12,7 +12,7 @@ use Rattle.lt_tag.proofs.ListLemmas.{list_all-append}
 use Rattle.lt_rewrite.proofs.PartLists.{all_middle, all_replaced}
 use Rattle.lt_cache.specs.KeywordEnds.{AddsSubtag, hyphened, of_keywords}
 
--- keywords and one further keyword at their end have all the form of one
+-- if some keywords and one further keyword have the form of one, all of the two together have
 all_then : (ks : List KeywordParts) (k : KeywordParts) → AllByRecursion IsKeyword ks → IsKeyword k → AllByRecursion IsKeyword (ks ++ k ∷ [])
 all_then [] k h i = (i, tt)
 all_then (j ∷ ks) k h i = (h.0, all_then ks k h.1 i)

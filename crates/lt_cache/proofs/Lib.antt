@@ -1,6 +1,6 @@
+-- What the crates above may use is `pub`; this crate alone uses the rest.
 pub mod LaneLemmas
 pub mod PlaceLemmas
--- What the crates above may use.
 mod EndLemmas
 mod SourceLemmas
 pub mod KeptEnds

@@ -16,7 +16,7 @@ use Rattle.lt_rewrite.specs.RisingKeys.{next_key}
 pub piece_read : (p s : List ℕ) → subtag_of p ≡ Ok s → s ≡ folded p
 piece_read p s h = grind (arith, nat_tests)
 
--- a piece that has only letters and digits in lower case has only these itself
+-- a piece whose lower case is of letters and digits alone is of letters and digits itself
 bytes_from_lower : (p : List ℕ) → list_all is_subtag_byte (folded p) ≡ true → list_all is_ascii_alphanumeric p ≡ true
 bytes_from_lower [] h = refl
 bytes_from_lower (b ∷ p) h = grind (arith, nat_tests, bytes_from_lower p)

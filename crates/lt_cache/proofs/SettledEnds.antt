@@ -1,4 +1,4 @@
--- An end that is canonical but for the case of its letters is that end of each canonical text.
+-- An end that is canonical but for the case of its letters follows each canonical core as it is, in lower case.
 use Rattle.std.proofs.Common.{◌≡◌, ℕ, ◌<◌, ◌≤◌, ◌+◌, true, false, List, [], ◌∷◌, ◌++◌, refl, sym, ap, ◌∙◌, subst, subst₂, length, arith, inl, inr, ◌⊎◌, ◌==◌, ◌&&◌, ◌||◌, None}
 use Rattle.std.specs.Prelude.{Result, Ok, Err, OnOk, is_err}
 use Rattle.std.specs.List.{list_all, AllByRecursion, join_with_byte}

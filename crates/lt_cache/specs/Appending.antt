@@ -12,26 +12,26 @@ use Rattle.lt_cache.specs.declared.recent.Kept.{Kept}
 use Rattle.lt_canon.specs.Texts.{IsCanonicalTextOf}
 use Rattle.lt_cache.specs.Ends.{AreEnds, IsCanonicalCore, IsEnd, IsEndText}
 
--- a canonical core was appended in conventional case; or, if false, nothing was
+-- true: a canonical core was appended in conventional case; false: nothing was
 abbrev pub AppendsFront : List EntryParts → (front old new : List ℕ) → Bool → Type 0
 AppendsFront R front old new true = IsCanonicalCore R front × (new ≡ old ++ conventional (list_of front))
 AppendsFront R front old new false = new ≡ old
 
--- the answer that the cache has for an end was appended; or, if false, nothing was
+-- true: the answer that the cache has for an end was appended; false: nothing was
 abbrev pub AppendsKept : List (Option Kept) → (end old new : List ℕ) → Bool → Type 0
 AppendsKept table end old new true =
     (answer : List ℕ) × (refused : Bool) × Holds table end answer refused × (new ≡ old ++ answer)
 AppendsKept table end old new false = new ≡ old
 
--- a hyphen (45), `t`, a hyphen, the source in lower case and what the cache has for the fields were appended; or
--- nothing, if false
+-- true: a hyphen (45), `t`, a hyphen, the source in lower case and what the cache has for the fields were appended;
+-- false: nothing was
 abbrev pub AppendsTransformed : List (Option Kept) → (source fields old new : List ℕ) → Bool → Type 0
 AppendsTransformed table source fields old new true =
     (answer : List ℕ) × (refused : Bool) × Holds table fields answer refused
     × (new ≡ old ++ (45 ∷ transform ∷ 45 ∷ folded source ++ answer))
 AppendsTransformed table source fields old new false = new ≡ old
 
--- what follows the core in the canonical text of each canonical core with this end was appended; or, if false, nothing
+-- true: what follows the core in the canonical text of each canonical core with this end was appended; false: nothing
 -- was
 abbrev pub AppendsEnd : List EntryParts → List (Option Kept) → (end old new : List ℕ) → Bool → Type 0
 AppendsEnd R table end old new true = (rest : List ℕ) × (AreEnds R table → IsEndText R end rest) × (new ≡ old ++ rest)

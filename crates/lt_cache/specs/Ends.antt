@@ -32,7 +32,7 @@ pub record IsFields (fields : List ℕ) : Type 0 where
   pub separator : before is_separator (list_of rest) ≡ []
   pub no_singleton : list_all (λ (s : List ℕ). not (length s == 1)) (list_of rest) ≡ true
 
--- the end is a hyphen (45), the singleton t, a hyphen, this source, of which nothing is asked, and these fields (RFC
+-- the end is a hyphen (45), the singleton `t`, a hyphen, this source, of which nothing is asked, and these fields (RFC
 -- 6497, 2.2)
 pub record IsTransformed (source fields end : List ℕ) : Type 0 where
   pub singleton : ℕ

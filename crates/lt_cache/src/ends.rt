@@ -53,8 +53,8 @@ fn are_subtags(text: &[u8]) -> bool
         .all(|piece| read_piece(piece).is_some())
 }
 
-/// Whether an end is of one of two kinds that are canonical but for the case of their letters: keywords of a `u` extension
-/// whose keys rise, none with the type `true`, as `-U-CO-phonebk`, or private use, as `-x-own`.
+/// Whether an end is of one of two kinds that are canonical but for the case of their letters. One kind is keywords of a `u`
+/// extension whose keys rise, none with the type `true`, such as `-U-CO-phonebk`; the other is private use, such as `-x-own`.
 pub(crate) fn is_settled_end(end: &[u8]) -> bool
     ensures { result ≡ settled.is_settled_end end.now }
 {

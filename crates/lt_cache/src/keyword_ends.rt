@@ -19,8 +19,9 @@ fn is_long(subtag: &Subtag) -> bool
     3 <= subtag.bytes().len()
 }
 
-/// Adds a subtag to keywords: a key begins a further one, and a type goes to the last one. Tells whether it did; else, or
-/// where memory runs out, the keywords are of no further use.
+/// Adds a subtag to keywords: a key begins a further one, and a type goes to the last one. False if the subtag is neither a
+/// key nor a type, or if it is a type without a key before it. Then, and where memory runs out, the keywords are of no
+/// further use.
 fn add_subtag(
     alloc: Global,
     keywords: &mut Vec<Keyword>,
@@ -96,7 +97,7 @@ fn append_keywords(keywords: &[Keyword], texts: &mut Vec<u8>) -> Result<(), OutO
     Ok(())
 }
 
-/// The canonical form of an end that is a `u` extension of keywords: `-u-kn` of `-u-kn-true`. None of any other end.
+/// The canonical form of an end that is a `u` extension of keywords, such as `-u-kn` of `-u-kn-true`. None of any other end.
 pub(crate) fn keyword_end(alloc: Global, end: &[u8]) -> Result<Option<Vec<u8>>, OutOfMemory>
     ensures { IfOk result (λ found. IfSome found (λ text. IsKeywordEnd end.now text.items)) }
 {

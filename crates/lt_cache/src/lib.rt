@@ -1,7 +1,7 @@
-//! What was made canonical lately, and texts that are canonical already, so that neither is made canonical again: a table of
-//! fixed size with answers; the ends of tags, from the first one-character subtag on, of which a law says that they are right
-//! after any canonical core; and texts whose end is told to be canonical without reading them as tags. It is a part of the
-//! program `langtag` and of the library; a program of your own begins with the crate `bcp47`.
+//! What was made canonical lately, and texts that are canonical already, so that neither is made canonical again. Answers are
+//! kept in a table of fixed size. So are the ends of tags, from the first one-character subtag on: by a law they are right
+//! after any canonical core. And of some texts the end is seen to be canonical without reading them as tags. The crate is a
+//! part of the program `langtag` and of the library; a program of your own begins with the crate `bcp47`.
 #![tactic(auto)]
 
 mod ends;

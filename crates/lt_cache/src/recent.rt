@@ -102,8 +102,8 @@ impl Recent {
         }
     }
 
-    /// The answer that was put for the first `count` bytes of `text`, or None if the table doesn't hold it. What
-    /// follows these bytes is for speed alone, as 32 bytes are taken at once.
+    /// The answer that was put for the first `count` bytes of `text`, or None if the table doesn't hold it. `count` must
+    /// be at most the length of `text`. What follows these bytes is for speed alone, as 32 bytes are taken at once.
     pub fn find(&self, text: &[u8], count: usize) -> Option<Found<'_>>
         requires { count ≤ length text.now }
         ensures { IfSome result (λ found. Holds self.now (take count text.now) found.answer.now found.refused) }
@@ -124,9 +124,9 @@ impl Recent {
         self.unfound = 0;
     }
 
-    /// Puts an answer for a line, if both have at most 32 bytes and there is memory for the table. Where answers are
-    /// not found again, only one of eight is put. A line has two places, which it shares with others: of what was put
-    /// there, only the last two answers are held. `refused` is whether the answer is a refusal.
+    /// Puts an answer for a line, if both have at most 32 bytes and there is memory for the table. While answers are
+    /// not found again, only one of eight is put. A line shares its two places with other lines, and these hold only
+    /// the last two answers that were put there. `refused` is whether the answer is a refusal.
     #[inline(always)]
     pub fn put(&mut self, line: &[u8], answer: &[u8], refused: bool)
         ensures { PutsIn self.old self.new line.now answer.now refused }

@@ -96,7 +96,7 @@ impl RecentEnds {
         }
     }
 
-    /// Appends what follows a core in a canonical text, if it is kept for `end`. Tells whether it did, and else appends
+    /// Appends what follows a core in a canonical text, if that is kept for `end`. Tells whether it did; else it appends
     /// nothing.
     #[inline(always)]
     fn append_kept(&self, end: &[u8], texts: &mut Vec<u8>) -> Result<bool, OutOfMemory>
@@ -133,8 +133,8 @@ impl RecentEnds {
         }
     }
 
-    /// Appends the canonical form of an end that is a `t` extension, if its source stays as it is and what follows one
-    /// is kept for its fields. Tells whether it did, and else appends nothing.
+    /// Appends the canonical form of an end that is a `t` extension, if its source stays as it is, and what follows a source
+    /// is kept for its fields. Tells whether it did; else it appends nothing.
     #[inline(always)]
     #[tactic(auto, using(crate::proofs::KeptEnds::transformed_appended))]
     fn append_by_fields<L: Lookup>(
@@ -152,7 +152,7 @@ impl RecentEnds {
     }
 
     /// Appends the canonical form of an end, if it is kept for the end, or for its fields after a source that stays as
-    /// it is. Tells whether it did, and else appends nothing.
+    /// it is. Tells whether it did; else it appends nothing. The end must begin with a hyphen, one other byte and a hyphen.
     #[inline(always)]
     #[tactic(auto, using(crate::proofs::KeptEnds::kept_appended_after))]
     fn append_end<L: Lookup>(
@@ -170,8 +170,9 @@ impl RecentEnds {
         Ok(self.append_kept(end, texts)?)
     }
 
-    /// Keeps what `texts` have from the place `from` on, which is canonical for `end`. Of a `t` extension it keeps what
-    /// follows the source, for the fields. `texts` is left as it was.
+    /// Keeps what `texts` have from the place `from` on, for `end`. Of a `t` extension it keeps what follows the source, for
+    /// the fields. What `texts` have there must be what follows a canonical core with this end in its canonical text.
+    /// `texts` is left as it was.
     fn keep<L: Lookup>(
         &mut self,
         checked: &Checked<L>,
@@ -194,8 +195,9 @@ impl RecentEnds {
         }
     }
 
-    /// Appends the canonical text of `text`, and keeps what follows its first `count` bytes, as canonical for `end`.
-    /// `end` is the end of `text`, and `count` is how many bytes the core before it has in the canonical text.
+    /// Appends the canonical text of `text`, and keeps, for `end`, what follows the first `count` bytes of it. `text` must be
+    /// a canonical core and then `end`, which begins with a hyphen, one other byte and a hyphen. `count` must be how many
+    /// bytes that core has in conventional case. It is refused as `append_canonical_text` refuses.
     #[tactic(auto, using(crate::proofs::KeptEnds::end_stands))]
     fn append_new<L: Lookup>(
         &mut self,
@@ -221,8 +223,8 @@ impl RecentEnds {
     }
 
     /// Appends the canonical text of the tag that a text is read as, with the refusals of `append_canonical_text`. An
-    /// end that was made canonical lately is not made so again, if before it are a language, and a script and a region
-    /// where there is one, that stay as they are.
+    /// end that was made canonical lately is not made so again, if a language is before it, alone or with a script, a
+    /// region or both, and each of these stays as it is.
     pub fn append_canonical_text<L: Lookup>(
         &mut self,
         alloc: Global,

@@ -33,7 +33,8 @@ impl Model for ShortText {
     ghost invariant = { λ text. (text.count ≤ 32) × (length text.bytes ≡ 32) × (text.bytes ≡ padded (take text.count text.bytes)) };
 }
 
-/// The first `count` bytes of a text that has at least 32, and zeros after them up to 32.
+/// The first `count` bytes of a text, and zeros after them up to 32. The text must have at least 32 bytes, and `count` must
+/// be at most 32.
 #[inline(always)]
 fn front_of_32(text: &[u8], count: usize) -> [u8; MOST]
     requires room { 32 ≤ length text.now }
@@ -46,7 +47,7 @@ fn front_of_32(text: &[u8], count: usize) -> [u8; MOST]
         .to_array()
 }
 
-/// The bytes, and zeros after them up to 32.
+/// The bytes, and zeros after them up to 32. There must be at most 32 bytes.
 fn pad(bytes: &[u8]) -> [u8; MOST]
     requires { length bytes.now ≤ 32 }
     ensures { result ≡ padded bytes.now }
@@ -57,8 +58,8 @@ fn pad(bytes: &[u8]) -> [u8; MOST]
 }
 
 impl ShortText {
-    /// The first `count` bytes of a text, or None if they are more than 32. Of a text with at least 32 bytes they are
-    /// taken at once.
+    /// The first `count` bytes of a text, or None if they are more than 32. `count` must be at most the length of the
+    /// text. Of a text with at least 32 bytes they are taken at once.
     #[inline(always)]
     pub fn front(text: &[u8], count: usize) -> Option<ShortText>
         requires { count ≤ length text.now }
@@ -88,7 +89,7 @@ impl ShortText {
         self.count == other.count && differ.to_bitmask() == 0
     }
 
-    /// A number of 24 bits by which texts are spread over the places of a table. A text has always the same.
+    /// A number of 24 bits by which texts are spread over the places of a table. A text always has the same number.
     #[inline(always)]
     pub(crate) fn hash(&self) -> usize {
         let words = u64x4::from_le_bytes(u8x32::from_array(self.bytes)).to_array();

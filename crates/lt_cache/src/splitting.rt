@@ -11,8 +11,9 @@ ghost use Rattle.lt_cache.specs.Appending.{FollowsSingleton, BeginsWithSeparator
 pub(crate) const LONGEST_FRONT: usize = 12;
 
 /// What is before the first one-character subtag, and the end that begins with the hyphen before it: `ar` and
-/// `-u-nu-latn` of `ar-u-nu-latn`. None where more than `LONGEST_FRONT` bytes are before any such subtag, it is the
-/// last one, or the text has more than `longest` bytes.
+/// `-u-nu-latn` of `ar-u-nu-latn`. None if more than `LONGEST_FRONT` bytes are before any such subtag, if it is the last
+/// subtag, or if the text has more than `longest` bytes. `longest` must be at most the length of the longest text that is
+/// read, 1,024 bytes.
 #[inline(always)]
 pub(crate) fn split_end(text: &[u8], longest: usize) -> Option<(&[u8], &[u8])>
     requires { longest ≤ longest_text }
@@ -42,8 +43,8 @@ fn is_separator(letter: u8, digit: u8) -> bool
 }
 
 /// What is before the first separator of a field that has a hyphen after it, and the rest from the hyphen before the
-/// separator on: `it` and `-m0-names` of `it-m0-names`. None where there is no such separator with 2 to `LONGEST_FRONT`
-/// bytes before its hyphen.
+/// separator on: `it` and `-m0-names` of `it-m0-names`. None if there is no such separator with 2 to `LONGEST_FRONT` bytes
+/// before its hyphen.
 #[inline(always)]
 fn split_fields(text: &[u8]) -> Option<(&[u8], &[u8])>
     ensures whole { IfSome result (λ parts. parts.0.now ++ parts.1.now ≡ text.now) }
@@ -78,9 +79,9 @@ fn after_singleton(end: &[u8]) -> Option<&[u8]>
     None
 }
 
-/// The source and the fields of a `t` extension that ends a text: `it` and `-m0-names` of `-t-it-m0-names`. Whether the
-/// source is one is not asked. None if the text is no such extension, if [`split_fields`] finds no fields after 2 to
-/// `LONGEST_FRONT` bytes, or if a one-character subtag follows. None is always safe: the end is then worked out as any
+/// The source and the fields of a `t` extension that ends a text: `it` and `-m0-names` of `-t-it-m0-names`. It is not asked
+/// whether the source is one. None if the text is no such extension, if [`split_fields`] finds no fields after 2 to
+/// `LONGEST_FRONT` bytes, or if a one-character subtag follows. None is always safe: the end is then worked out like any
 /// other.
 #[inline(always)]
 #[tactic(auto, using(crate::proofs::SourceLemmas::transformed))]

@@ -67,9 +67,9 @@ fn append_end(alloc: Global, end: &[u8], texts: &mut Vec<u8>) -> bool
     }
 }
 
-/// Appends the canonical text of a text without reading it as a tag, if its front is a language, and a script and a
-/// region where there is one, that stay as they are, and its end is keywords or private use. Tells whether it did; of
-/// any other text, or where memory runs out, it appends nothing.
+/// Appends the canonical text of a text without reading it as a tag, if its front stays as it is and its end is keywords or
+/// private use. Such a front is a language, alone or with a script, a region or both, each of which stays as it is. Tells
+/// whether it did; of any other text, or where memory runs out, it appends nothing.
 fn append_settled_text<L: Lookup>(
     alloc: Global,
     checked: &Checked<L>,
@@ -94,8 +94,8 @@ fn append_settled_text<L: Lookup>(
     true
 }
 
-/// Appends the canonical text of a text whose subtags don't all stay as they are. It is no part of its caller, so that the
-/// other texts pay nothing for it.
+/// Appends the canonical text of a text whose subtags don't all stay as they are. It is refused as
+/// [`append_canonical_text`] refuses. It is not inlined, so that the other texts pay nothing for it.
 #[inline(never)]
 pub(crate) fn append_other_text<L: Lookup>(
     alloc: Global,
@@ -114,9 +114,9 @@ pub(crate) fn append_other_text<L: Lookup>(
 }
 
 /// Appends the text, in conventional case, of the canonical form of the tag that a text is read as (RFC 5646, 2.1.1 and
-/// 4.5), with the refusals of [`lt_canon::append_canonical_text`]. A text is not read as a tag if its front is a language,
-/// and a script and a region where there is one, that stay as they are, and its end is keywords or private use, as in
-/// `ar-u-nu-latn` and `en-GB-x-own`.
+/// 4.5), with the refusals of [`lt_canon::append_canonical_text`]. A text such as `ar-u-nu-latn` or `en-GB-x-own` is not read
+/// as a tag: its end is keywords or private use, and its front is a language, alone or with a script, a region or both, each
+/// of which stays as it is.
 pub fn append_canonical_text<L: Lookup>(
     alloc: Global,
     checked: &Checked<L>,

@@ -1,4 +1,4 @@
--- The variant that occurs a second time, leftmost: where variants are not distinct there is one, and but one.
+-- The leftmost variant that occurs a second time: if variants are not distinct, there is one, and only one.
 use Rattle.std.proofs.Common.{◌≡◌, ℕ, zero, suc, ◌+◌, ◌<◌, ◌⊎◌, inl, inr, true, List, [], ◌∷◌, ◌++◌, length, take, drop, get_or, sym, ap, ◌∙◌, subst, append_assoc, arith}
 use Rattle.std.proofs.lemmas.Bool.{cases_Bool}
 use Rattle.std.proofs.lemmas.List.{get_or_default}

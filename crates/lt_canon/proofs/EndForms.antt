@@ -3,8 +3,8 @@ use Rattle.std.proofs.Common.{◌≡◌, refl, sym, ◌∙◌, subst}
 use Rattle.lt_rewrite.specs.Rewriting.{Star, done, then, Equivalent, same, forth, back, IsConfluent, Rests}
 use Rattle.lt_rewrite.proofs.NormalForms.{star_keeps, star_rests}
 
--- each step keeps `end_form`, and steps reach it from each `a` of which `P` is true; `P` is true of what a step leads
--- to
+-- each step keeps `end_form` and leads to something of which `P` is true, and from each `a` of which `P` is true steps
+-- reach its `end_form`
 pub record IsEndForm {A : Type 0} (P : A → Type 0) (Step : A → A → Type 0) (end_form : A → A) : Type 0 where
   pub to : (a b : A) → Step a b → P b
   pub kept : (a b : A) → Step a b → end_form a ≡ end_form b

@@ -196,7 +196,7 @@ module _ (R : List EntryParts) (C : IsChecked R) where
       star_trans (cores_reached r es ps P) (star_map_while (λ x. IsProper R (LangTag d x ps)) (λ x. LangTag d x ps) (λ x y k p. steps_keep.extensions d x y ps k p)
       (λ x y k p q. step_of_change (LangTag d x ps) (LangTag d y ps) (on_extensions d x y ps refl refl k) p) s (cores_proper r es ps P))
 
-  -- what follows where `r` is `s` with its value taken, the core in core normal form, or `s` itself where it has none
+  -- what follows if `r` is `s` with its value taken, the core in core normal form, or `s` itself if it has no value
   pub record Replaced (s r : TagForm) : Type 0 where
     pub reached : IsProper R s → IsReached R s r
     pub at_rest : ((CanBeReplacedWhole s → whole_value R s ≡ None) → NoChange R s) → NoChange R r

@@ -110,7 +110,7 @@ pub stays_appended : (R : List EntryParts) → IsChecked R → (text old new : L
 stays_appended R C text old new stay grown =
     appended R text (core_alone stay.0) (core_alone stay.0) old new stay.1.read (stays_canonical R text stay.0 stay.1 C) (grown ∙ ap (λ l. old ++ conventional l) (sym stay.1.read.spelled))
 
--- ---- traces: a list of steps leads from a tag to one end at most, which is reached from it
+-- ---- traces
 
 -- a list of steps leads from a tag to one end at most
 pub trace_determined : (R : List EntryParts) → TracesHaveOneEnd R

@@ -10,7 +10,7 @@ pub mod ExtlangForm
 pub mod Laws
 pub mod Corollaries
 pub mod TraceLaws
--- that a refusal for a variant that steps repeat names one variant, and one alone
+-- the law that a refusal for a repeated variant names one variant, and only one
 pub mod RepeatLaws
 pub mod ExtlangLaws
 pub mod Traces

@@ -40,7 +40,7 @@ IsTextRefusal R text (refusals.Invalid fault) = ReadsAs text (λ tag. IsFirstFau
 IsTextRefusal R text (refusals.ReplacementRepeats variant) = ReadsAs text (λ tag. IsRepeatOf R tag variant)
 IsTextRefusal R text refusals.OutOfMemory = Unit {0}
 
--- A text is refused only if it is read as no tag, or as one that is not valid, or as a valid one of which steps can
+-- A text is refused only if it is read as no tag, as a tag that is not valid, or as a valid tag of which steps can
 -- repeat a variant (RFC 5646, 4.5 and 2.2.5). OutOfMemory may be answered of any text.
 abbrev pub RefusesTextOnlyRepeats : List EntryParts → List ℕ → TextRefusal → Type 0
 RefusesTextOnlyRepeats R text (refusals.NotATag fault) = (tag : TagForm) → HasTag text tag → ⊥

@@ -23,17 +23,17 @@ use std::alloc::Global;
 /// The canonical form of a tag (RFC 5646, 4.5): the one canonical tag that steps reach from it. `zh-yue` gives
 /// `yue`.
 ///
-/// - `Invalid`, with the fault that `validate` answers, exactly where the tag is not valid.
-/// - `ReplacementRepeats` exactly where steps can repeat a variant of the tag, which is valid. It names, where
-///   no core step leads on, the first variant from the left that has occurred before: in the core or, if none
-///   has there, in the source of the `t` extension.
+/// - `Invalid`, with the fault that `validate` answers, exactly if the tag is not valid.
+/// - `ReplacementRepeats` exactly if the tag is valid and steps can repeat a variant of it. When no core step
+///   leads on, it names the first variant from the left that has occurred before: in the core or, if none has
+///   there, in the source of the `t` extension.
 /// - `OutOfMemory` where memory runs out.
 ///
-/// A tag without extensions and private use is looked up as a whole once. Of a langtag of a language, and a
-/// script and a region where there is one, each subtag is looked up once besides; where one of them has a
-/// value, the chain of values of each is followed. Of any other langtag the chains are followed besides what
-/// `validate` looks up. Where neither a tag without extensions and private use nor its value has variants it
-/// takes no memory.
+/// A tag without extensions and private use is looked up once as a whole. Each subtag of a langtag of a
+/// language, alone or with a script, a region or both, is looked up once besides; if one of them has a value,
+/// the chain of values of each is followed. Of any other langtag the chains are followed besides what
+/// `validate` looks up. No memory is taken for a tag without extensions and private use, if neither the tag
+/// nor its value has variants.
 #[tactic(auto, using(crate::proofs::CanonicalForms::repeats_answered))]
 pub fn canonical<L: Lookup>(alloc: Global, checked: &Checked<L>, tag: &Tag) -> Result<Tag, Refusal>
     ensures ok { IfOk result (λ form. IsCanonicalFormOf (L.listed checked.now) tag.now form) }
@@ -44,7 +44,7 @@ pub fn canonical<L: Lookup>(alloc: Global, checked: &Checked<L>, tag: &Tag) -> R
     canonical_of(alloc, checked, tag.copy(alloc)?)
 }
 
-/// The canonical form of a tag, made of the parts of that tag, so that it needs no copy of them. It is refused as
+/// The canonical form of a tag, made of the parts of that tag, so that they are not copied. It is refused as
 /// `canonical` refuses.
 pub(crate) fn canonical_of<L: Lookup>(
     alloc: Global,
@@ -67,8 +67,8 @@ pub(crate) fn canonical_of<L: Lookup>(
     Ok(replaced_whole(alloc, table, shortcuts, settled)?)
 }
 
-/// Whether a core or an extension of a tag may not be in its normal form. Refused exactly where the tag is not valid, or
-/// memory runs out.
+/// Whether a core or an extension of a tag may not be in its normal form. Refused with `Invalid` exactly if the tag is not
+/// valid, or where memory runs out.
 #[tactic(auto, using(crate::proofs::UsualForms::usual_refused, crate::proofs::UsualForms::usual_valid, crate::proofs::UsualForms::usual_settled))]
 fn needs_settling<L: Lookup>(alloc: Global, table: &L, tag: &Tag) -> Result<bool, Refusal>
     ensures valid { IfOk result (λ needs. IsValid (L.listed table.now) tag.now) }
@@ -84,8 +84,9 @@ fn needs_settling<L: Lookup>(alloc: Global, table: &L, tag: &Tag) -> Result<bool
     }
 }
 
-/// The langtag of the parts of a valid one, with its core and its extensions in their normal forms. Refused with
-/// `ReplacementRepeats` where a variant occurs twice there.
+/// The langtag of these parts, with its core and its extensions in their normal forms. Refused with `ReplacementRepeats` if a
+/// variant occurs twice in one of these forms, or where memory runs out. The parts must be those of a valid langtag, the table
+/// must pass the check, and the shortcuts must be those of the table.
 #[tactic(auto, using(crate::proofs::CanonicalForms::transforms_have_parts, crate::proofs::CanonicalForms::core_refused, crate::proofs::CanonicalForms::form_count, crate::proofs::CanonicalForms::form_spells_none))]
 fn settled_langtag<L: Lookup>(
     alloc: Global,
@@ -109,7 +110,8 @@ fn settled_langtag<L: Lookup>(
     Ok(Tag::from_parts(core, extensions, private))
 }
 
-/// Puts a core into its core normal form. Refused with `ReplacementRepeats` where a variant occurs twice there.
+/// Puts a core into its core normal form. Refused with `ReplacementRepeats` if a variant occurs twice in that form. Each chain
+/// of values of the table must end, and the shortcuts must be those of the table.
 fn settle_core<L: Lookup>(table: &L, shortcuts: &Shortcuts, core: &mut Core) -> Result<(), Refusal>
     requires shortcuts { AreShortcuts (L.listed table.now) shortcuts.now }
     requires chains { All (HasEndingChain (L.listed table.now)) (L.listed table.now) }
@@ -123,8 +125,8 @@ fn settle_core<L: Lookup>(table: &L, shortcuts: &Shortcuts, core: &mut Core) -> 
     }
 }
 
-/// The preferred value of a tag that can be replaced whole, with its core in core normal form. A tag without one is given
-/// back.
+/// The preferred value of a tag that can be replaced whole, with its core in core normal form. A tag without a value, or that
+/// can't be replaced whole, is given back. The table must pass the check, and the shortcuts must be those of the table.
 #[tactic(auto, using(lt_check::proofs::CheckedRegistry::value_plain))]
 fn replaced_whole<L: Lookup>(
     alloc: Global,
@@ -145,7 +147,8 @@ fn replaced_whole<L: Lookup>(
     }
 }
 
-/// The preferred value of a record of a whole tag, with its core in core normal form.
+/// The preferred value of a record of a whole tag, with its core in core normal form. The value must be a valid langtag that
+/// is a core alone, the table must pass the check, and the shortcuts must be those of the table.
 #[tactic(auto, using(crate::proofs::TagForm::ending_chains, crate::proofs::CanonicalForms::value_spells_none))]
 fn settled_value<L: Lookup>(
     alloc: Global,

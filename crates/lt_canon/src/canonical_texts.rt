@@ -29,7 +29,7 @@ pub fn append_canonical_text<L: Lookup>(
 }
 
 /// Appends to `texts` what [`append_canonical_text`] does, with the same refusals, without asking [`append_usual_text`]
-/// first: for a text that this did not append.
+/// first. It is for a text that `append_usual_text` did not append.
 #[tactic(auto, using(crate::proofs::UsualForms::appended))]
 pub fn append_looked_up_text<L: Lookup>(
     alloc: Global,

@@ -10,9 +10,9 @@ use lt_registry::Lookup;
 use lt_tag::Tag;
 use std::alloc::Global;
 
-/// Whether steps, forth and back, lead from one tag to another (RFC 5646, 4.5): exactly where their canonical
-/// forms are equal, as those of `zh-cmn-Hans` and `cmn-Hans` are. A refusal is the one of `canonical` for the
-/// first tag, else for the second.
+/// Whether steps, forth and back, lead from one tag to another (RFC 5646, 4.5): exactly if their canonical
+/// forms are equal, such as those of `zh-cmn-Hans` and `cmn-Hans`. It is refused as `canonical` refuses the
+/// first tag or, if that has a canonical form, the second.
 #[tactic(auto, using(crate::proofs::CanonicalForms::refused, crate::proofs::CanonicalForms::second_refused, crate::proofs::CanonicalForms::equivalence_answer))]
 pub fn equivalent<L: Lookup>(
     alloc: Global,

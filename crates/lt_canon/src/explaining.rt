@@ -31,7 +31,8 @@ pub fn explain<L: Lookup>(alloc: Global, checked: &Checked<L>, tag: &Tag) -> Res
     Ok(Trace { steps, last })
 }
 
-/// Takes the first step on a tag, and goes on so until there is none. It gives back `steps` with these at the end.
+/// Takes the first step on a tag, and goes on so until there is none. It gives back `steps` with these at the end. The tag
+/// must be proper, and the table must pass the check.
 #[tactic(auto, using(crate::proofs::TagForm::ending_chains, crate::proofs::TraceLemmas::coreless_explained, crate::proofs::TraceLemmas::transforms_of))]
 fn explain_tag<L: Lookup>(
     alloc: Global,
@@ -59,8 +60,9 @@ fn explain_tag<L: Lookup>(
     Ok(steps)
 }
 
-/// Takes the Whole step of a tag whose core is at rest, if its record has a value, and then the steps on the core of the
-/// value. It gives back `steps` with these at the end.
+/// Takes the Whole step of a tag, if its record has a value, and then the steps on the core of the value. It gives back
+/// `steps` with these at the end. The tag must be proper, grandfathered or a core alone, and no step may lead on from its
+/// core; and the table must pass the check.
 #[tactic(auto, using(crate::proofs::TagForm::ending_chains, crate::proofs::TraceLemmas::valueless_explained))]
 fn explain_whole<L: Lookup>(
     alloc: Global,

@@ -49,8 +49,8 @@ pub struct ExplanationLines<'t, L: Lookup> {
     taken: usize,
 }
 
-// By hand: the proof of a function that lets one go then has this one call to go through, and not the drop of each of its
-// vectors.
+// Written by hand: the proof of a function that drops these lines then has this one call to go through, and not the drop
+// of each vector.
 impl<L: Lookup> Drop for ExplanationLines<'_, L> {
     fn drop(self) {
         let ExplanationLines {
@@ -95,9 +95,9 @@ impl<'t, L: Lookup> ExplanationLines<'t, L> {
         })
     }
 
-    /// Appends the next line, and tells whether more follow it. The last has the canonical form; asked for again, it
-    /// is the next once more. The only refusal is running out of memory: the line is still the next then, and a front of
-    /// it may have been appended.
+    /// Appends the next line, and tells whether more follow it. The last line has the canonical form; each further call
+    /// appends it again. The only refusal is running out of memory: the line is still the next then, and a front of it
+    /// may have been appended.
     #[tactic(auto, using(crate::proofs::LinesLeft::step_leads))]
     pub fn append_line(&mut self, alloc: Global, lines: &mut Vec<u8>) -> Result<bool, OutOfMemory>
         ensures line { IfOk result (λ more. AppendsLine self.old self.new lines.old.items lines.new.items more) }

@@ -16,8 +16,8 @@ use std::alloc::Global;
 
 /// The extlang form of a tag (RFC 5646, 4.5): the canonical form and, if its language is registered as an extlang too, the
 /// Prefix of that extlang in front of it. `cmn-Hans` gives `zh-cmn-Hans`. A Prefix of 4 to 8 letters can't be before an
-/// extlang, so a tag with such a one is left in its canonical form; and so are the sources of `t` extensions. The extlang
-/// form is valid, and its canonical form is that of the tag. It is refused as `canonical` refuses.
+/// extlang, so a tag whose language has such a Prefix is left in its canonical form. The sources of `t` extensions are left
+/// so too. The extlang form is valid, and its canonical form is that of the tag. It is refused as `canonical` refuses.
 #[tactic(auto, using(crate::proofs::CanonicalForms::refused, crate::proofs::CanonicalForms::extlang_answer, crate::proofs::CanonicalForms::coreless_extlang, crate::proofs::CanonicalForms::prefixless_extlang))]
 pub fn extlang_form<L: Lookup>(
     alloc: Global,
@@ -43,8 +43,8 @@ pub fn extlang_form<L: Lookup>(
     Ok(Tag::from_parts(core, extensions, private))
 }
 
-/// The Prefix of a language as an extlang. None if the language is no extlang too, or if its Prefix can't be before an
-/// extlang.
+/// The Prefix of a language as an extlang. None if the language is not registered as an extlang too, or if its Prefix can't
+/// be before an extlang.
 fn extlang_prefix<'a, L: Lookup>(table: &'a L, language: &Subtag) -> Option<&'a Subtag>
     ensures { option_copied result ≡ prefix_of (prefixes (L.listed table.now) kinds.Extlang language.now) }
 {

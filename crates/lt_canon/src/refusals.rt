@@ -24,8 +24,8 @@ pub enum Refusal {
 }
 
 impl Refusal {
-    /// The refusal's name, as it is printed: `ReplacementRepeats`, `OutOfMemory`, or for a tag that is not
-    /// valid that of its fault, as `UnknownLanguage`.
+    /// The refusal's name, as it is printed: `ReplacementRepeats`, `OutOfMemory`, or, for a tag that is not
+    /// valid, the name of its fault, such as `UnknownLanguage`.
     pub fn name(&self) -> &'static str
         ensures { result.now ≡ refusal_name_of self.now }
     {
@@ -84,8 +84,8 @@ pub enum TextRefusal {
 }
 
 impl TextRefusal {
-    /// The refusal's name, as it is printed: `ReplacementRepeats`, `OutOfMemory`, or for a text that is no tag, or a tag
-    /// that is not valid, that of its fault.
+    /// The refusal's name, as it is printed: `ReplacementRepeats`, `OutOfMemory`, or, for a text that is no tag or a tag
+    /// that is not valid, the name of its fault.
     pub fn name(&self) -> &'static str
         ensures { result.now ≡ text_refusal_name_of self.now }
     {

@@ -40,8 +40,8 @@ pub enum TraceFault {
 }
 
 impl TraceFault {
-    /// The fault's name, as it is printed: `NoSuchStep`, `WrongEnd`, `OutOfMemory`, or for a tag that is not valid that of
-    /// its fault, as `UnknownLanguage`.
+    /// The fault's name, as it is printed: `NoSuchStep`, `WrongEnd`, `OutOfMemory`, or, for a tag that is not valid, the
+    /// name of its fault, such as `UnknownLanguage`.
     pub fn name(self) -> &'static str
         ensures { result.now ≡ trace_fault_name_of self }
     {
@@ -73,7 +73,8 @@ impl From<OutOfMemory> for TraceFault {
     }
 }
 
-/// The tag to which steps lead one after another, or `NoSuchStep` with the first of them that leads nowhere.
+/// The tag to which steps lead one after another. Refused with `NoSuchStep` and the number of the first step that leads
+/// nowhere, or where memory runs out. The tag must be proper.
 #[tactic(auto, using(crate::proofs::TraceLemmas::misstep_here))]
 fn follow<L: Lookup>(alloc: Global, table: &L, tag: &Tag, steps: &[Step]) -> Result<Tag, TraceFault>
     requires { IsProper (L.listed table.now) tag.now }
@@ -94,9 +95,9 @@ fn follow<L: Lookup>(alloc: Global, table: &L, tag: &Tag, steps: &[Step]) -> Res
 /// Whether steps lead from a valid tag, one after another, to the last tag of the trace, which is then
 /// equivalent to the tag. Each step is judged by its kind, its place and the number of its record.
 ///
-/// - `Invalid`, with the fault that `validate` answers, where the tag is not valid.
-/// - Else `NoSuchStep` with the first step, counted from 1, that does not lead on.
-/// - Else `WrongEnd` where the steps lead to another tag.
+/// - `Invalid`, with the fault that `validate` answers, if the tag is not valid.
+/// - Else `NoSuchStep` with the number, counted from 1, of the first step that does not lead on.
+/// - Else `WrongEnd` if the steps lead to another tag.
 /// - `OutOfMemory` where memory runs out.
 pub fn verify<L: Lookup>(
     alloc: Global,

@@ -1,4 +1,4 @@
-//! Langtags of the usual kind: a language, and a script and a region where there is one.
+//! Langtags of the usual kind: a language, alone or with a script, a region or both.
 ghost use Rattle.std.specs.Prelude.{◌≡◌, IfSome};
 ghost use Rattle.std.specs.Option.{option_copied};
 ghost use Rattle.lt_tag.specs.Values.{IsTagValue, core_alone};
@@ -34,8 +34,8 @@ fn is_valued(entry: Option<&Entry>, kind: ValidFaultKind, place: u32) -> Result<
     }
 }
 
-/// Whether a script or a region has a preferred value. False if there is none; refused with `fault`, at this place, if it is
-/// not registered.
+/// Whether a script or a region has a preferred value. False if there is no such subtag. Refused with `fault`, at this place,
+/// if it is not registered.
 fn is_part_valued<L: Lookup>(
     table: &L,
     kind: Kind,
@@ -51,8 +51,8 @@ fn is_part_valued<L: Lookup>(
     }
 }
 
-/// Whether the language, the script or the region of a core has a preferred value. Refused with the first fault where one of
-/// them is not registered, at its place among the subtags, counted from 1. Each is looked up once.
+/// Whether the language, the script or the region of a core has a preferred value. Refused if one of them is not registered,
+/// with the fault of the first such subtag and its place, counted from 1. Each is looked up once.
 #[tactic(auto, unfolding(crate::specs::UsualTags::core_valued))]
 pub(crate) fn is_core_valued<L: Lookup>(table: &L, core: &Core) -> Result<bool, ValidFault>
     ensures { result ≡ core_valued (L.listed table.now) core.now }

@@ -8,10 +8,10 @@ use lt_registry::Lookup;
 use lt_tag::OutOfMemory;
 
 /// Appends to `texts` the canonical text of `text`, as [`append_canonical_text`](crate::append_canonical_text) does,
-/// but only where one flag for each subtag tells it, without a look-up in the registry: the text is read as a langtag
-/// of a language of 2 or 3 letters, and a script and a region where there is one, and each of these stays as it is
-/// (RFC 5646, 4.5). `zh-hant-tw` is such a text, and `iw` is none. True if it did so; of any other text it appends
-/// nothing and gives false. Refused only where memory runs out.
+/// if one flag for each subtag tells it, without a look-up in the registry. The flags tell it of a langtag of the usual
+/// form, each subtag of which stays as it is (RFC 5646, 4.5). The usual form is a language of 2 or 3 letters, alone or
+/// with a script, a region or both. `zh-hant-tw` is such a text, and `iw` is none. True if the text was appended; of any
+/// other text it appends nothing and gives false. Refused only where memory runs out.
 #[inline(always)]
 pub fn append_usual_text<L: Lookup>(
     checked: &Checked<L>,

@@ -37,7 +37,7 @@ use Rattle.lt_check.specs.Staying.{stays, StaysAs}
 use Rattle.lt_check.specs.Shown as taken
 use Rattle.lt_check.proofs.TextLemmas.{IsShown, cut_shown, flagged, hyphened, lowered, part_flagged, raised, shown_parts, titled}
 
--- ---- what stays has a record of its own, and so the form of its kind
+-- ---- subtags that stay
 
 -- the subtag `s` of kind `k` has a record of its own, without a value
 pub record HasOwn (R : List EntryParts) (k : Kind) (s : List ℕ) : Type 0 where
@@ -88,7 +88,7 @@ region_as s h = elim (region_is (folded s) h) [ inl p ↦ grind (arith, upper_is
 
 -- ---- cores without extlangs and variants
 
--- the core of a language, and a script and a region where there is one
+-- the core of a language, alone or with a script, a region or both
 abbrev pub plain : List ℕ → Option (List ℕ) → Option (List ℕ) → CoreParts
 plain l s r = record { language = l; extlangs = []; script = s; region = r; variants = [] }
 

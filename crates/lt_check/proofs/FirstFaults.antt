@@ -20,7 +20,7 @@ rising_at (e ∷ es) h i zero d c n m = absurd (omega (arith, n))
 rising_at (e ∷ es) h zero (suc k) d c n m = All-from_recursion (λ (f : EntryParts). e.number < f.number) es h.0 k c (omega (arith, m))
 rising_at (e ∷ es) h (suc i) (suc k) d c n m = rising_at es h.1 i k d c (omega (arith, n)) (omega (arith, m))
 
--- of two numbers one is below the other, or it is not
+-- a number is below another, or it is not
 pub below_or_not : (k i : ℕ) → (k < i) ⊎ (i ≤ k)
 below_or_not = cases_lt
 

@@ -1,4 +1,4 @@
--- Two subtags of one kind have one place exactly if they are the same, letter case aside; and how writing one flag changes
+-- Two subtags of one kind have one place exactly if they are the same, letter case aside. How writing one flag changes
 -- what the flags tell.
 use Rattle.std.proofs.Common.{◌≡◌, ◌≤◌, ◌<◌, ℕ, ◌+◌, ◌-◌, ◌*◌, ◌/◌, ◌%◌, ◌==◌, ◌&&◌, eqb, Bool, true, false, cond, List, [], ◌∷◌, length, map, get_or, Option, Some, None, IfSome, inl, inr, refl, sym, subst, ap, ◌∙◌, arith, bytes_eq, ◌^◌, not, set, replicate, bit_and, bit_or, w64, is_some}
 use Rattle.std.specs.Prelude.{nat_lt}
@@ -158,10 +158,10 @@ tell_none words count none z e k s n h =
     let zero : get_or words (n / 64) 0 ≡ 0 = grind (arith, get_or-replicate {A = ℕ}, get_or_past {X = ℕ}, length-replicate {A = ℕ}) in
     rw (zero, bit_at-zero (n % 64)) refl
 
--- ---- one record more in front, of those whose subtags are told
+-- ---- a record is put in front of those whose subtags the flags tell
 
--- the record `e` of the subtag `t` of kind `j` is put in front: of this subtag the answer is `b`, whether `e` has no
--- value; of others it is what it was
+-- the record `e` of the subtag `t` of kind `j` is put in front: the answer to this subtag is then `b`, whether `e` has
+-- no value, and the answers to others are what they were
 pub first_named : (e : EntryParts) (es : List EntryParts) (j : Kind) (t : List ℕ) (b : Bool) → e.kind ≡ j → e.name ≡ names.Single t → is_some e.value ≡ not b → (k : Kind) (s : List ℕ)
     → has_no_value (e ∷ es) k s ≡ with_subtag j t b (has_no_value es) k s
 first_named e es j t b i h v k s = grind arith
@@ -170,7 +170,7 @@ first_named e es j t b i h v k s = grind arith
 pub first_unnamed : (e : EntryParts) (es : List EntryParts) → ((t : List ℕ) → e.name ≡ names.Single t → ⊥) → (k : Kind) (s : List ℕ) → has_no_value (e ∷ es) k s ≡ has_no_value es k s
 first_unnamed e es h k s = grind arith
 
--- ---- one record more at the end, of those that replace tags
+-- ---- a record is put after those that replace tags
 
 -- whether two kinds are one does not depend on their order, where one is the language
 pub language_first : (k : Kind) → same_kind kinds.Language k ≡ same_kind k kinds.Language

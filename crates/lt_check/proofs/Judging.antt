@@ -53,16 +53,16 @@ all_below R i m l h =
 pub below_more : (R : List EntryParts) (k : Condition) (n : ℕ) → n ≡ rank_of k + 1 → MeetsBelow (rank_of k) R → All (Meets k R) R → MeetsBelow n R
 below_more R _ n e M a _ l = search (rules, arith)
 
--- `r` is the lowest record that fails the condition `k`, if there is one, and the conditions before it are met: this is
--- the verdict on all up to `k`; C10 is judged along with C11
+-- if the conditions before `k` are met, and `r` is the lowest record that fails `k`, if there is one, then `r` is the
+-- verdict on all conditions up to `k`; C10 is judged along with C11
 pub judged : {E : Type 0} (R : List EntryParts) (k : Condition) → MeetsBelow (rank_of k) R → (k ≡ conditions.RestingWhole → ⊥) → (r : Result (Option Finding) E) → IfOk r (IsLowestFault R k) → IfOk r (IsVerdictBelow (next_of k) R)
 judged R k M n (Err x) a = tt
 judged R k M n (Ok None) a = below_more R k (next_of k) (grind arith) M a
 judged R k M n (Ok (Some f)) (e, a) =
     subst (λ (x : Condition). IsFinding R x f.number) (sym e) (record { fault = a.fault; lower = M; first = a.first })
 
--- `o` is the lowest record that fails C11, if there is one, where all records meet C10 and the conditions before: this
--- is the verdict on all up to C11
+-- if all records meet C10 and the conditions before it, and `o` is the lowest record that fails C11, if there is one,
+-- then `o` is the verdict on all conditions up to C11
 pub judged_whole : (R : List EntryParts) → MeetsBelow 10 R → All (Meets conditions.RestingWhole R) R → (o : Option Finding) → IsLowestFault R conditions.AgreeingWhole o → IsVerdictBelow 12 R o
 judged_whole R M a o = judged {E = Unit {0}} R conditions.AgreeingWhole (below_more R conditions.RestingWhole 11 refl M a) (λ e. cc) (Ok o)
 

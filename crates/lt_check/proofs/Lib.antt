@@ -9,7 +9,6 @@ mod WholeRecords
 mod RegularLists
 mod SeenRanges
 mod Judging
--- What this crate alone uses.
 mod TextLemmas
 mod CutLemmas
 mod FlagLemmas

@@ -70,7 +70,7 @@ whole_own R rising e c t n =
       (λ c. elim c [ inl a ↦ ap (is_whole t) (a.1 ∙ n) ∙ same_tag_itself t | inr a ↦ ap (is_whole t) (a.1 ∙ sym a.2 ∙ n) ∙ same_tag_itself t ]),
     )) (whole R t) (λ f o. o)
 
--- a range
+-- ---- names that are ranges
 
 -- the kind of a number
 abbrev kind_of : ℕ → Kind

@@ -1,5 +1,5 @@
--- A text that is a language, and a script and a region where there is one, each with a flag in the table F: so it stays
--- as it is. What is shown of it is its text in conventional case: a count of bytes, and these with zeros after them.
+-- A text that is a language, alone or with a script, a region or both, each with a flag in the table F: so it stays as
+-- it is. What is shown of it is its text in conventional case: a count of bytes, and these with zeros after them.
 use Rattle.std.proofs.Common.{◌≡◌, ◌≤◌, ℕ, ◌+◌, ◌==◌, ◌++◌, ◌&&◌, Bool, true, false, cond, List, [], ◌∷◌, length, map, take, Option, Some, None, option_map, is_some, inl, inr, refl, sym, ap, ◌∙◌, arith}
 use Rattle.std.specs.Option.{option_map_or}
 use Rattle.std.proofs.Math.Seq.{take-append-add}
@@ -72,8 +72,8 @@ after_cut F rest p s r more hyphens true few t h cut is =
     let j = and_parts (part_flagged F kinds.Script s) (part_flagged F kinds.Region r) k.1 in
     record { script = s; region = r; rest_is = cut k.0; few = few; script_set = j.0; region_set = j.1; shown_is = rw (← same) is }
 
--- if `p` is shown of what follows a language, then `rest` is a hyphen and a script, a hyphen and a region, both or
--- neither, with flags in F, and `p` is that in conventional case; a clause for each length of `rest`
+-- If `p` is shown of what follows a language, then `rest` is a hyphen and a script, a hyphen and a region, both or
+-- neither. They have flags in `F`, and `p` is `rest` in conventional case. There is a clause for each length of `rest`.
 shown_after : (F rest : List ℕ) (p : AfterLanguage) → after_language F rest ≡ Some p → IsShownAfter F rest p
 shown_after F [] p h =
     after_cut F [] p None None (0 ∷ 0 ∷ 0 ∷ 0 ∷ 0 ∷ 0 ∷ 0 ∷ 0 ∷ 0 ∷ []) true _ (omega arith) refl h (λ t. refl) (λ xs. refl)
@@ -127,8 +127,8 @@ language_shown F l rest more p true (Some after) e q h =
     }
 language_shown F l rest more p _ _ e q h = cc
 
--- if `p` is shown of a text, the text is a language, and a script and a region where there is one, with flags in F, and
--- `p` is it in conventional case; a hyphen (45) as the third byte tells a language of 2 letters from one of 3
+-- If `p` is shown of a text, the text is a language, alone or with a script, a region or both, with flags in `F`, and
+-- `p` is the text in conventional case. A hyphen (45) as the third byte tells a language of 2 letters from one of 3.
 pub shown_cut : (F text : List ℕ) (p : Shown) → taken.shown_text F text ≡ Some p → IsShown F text p
 shown_cut F (a ∷ b ∷ []) p h = language_shown F (a ∷ b ∷ []) [] (0 ∷ []) p _ _ refl refl h
 shown_cut F (a ∷ b ∷ c ∷ rest) p h = elim (cases_Bool (c == 45)) [
@@ -139,7 +139,7 @@ shown_cut F _ p h = cc
 
 -- ---- what is cut so is shown
 
--- of a script and a region with flags, where there is one, something is shown
+-- of a script, a region, both or neither, with flags, something is shown
 after_some : (F : List ℕ) (s r : Option (List ℕ)) → part_flagged F kinds.Script s ≡ true → part_flagged F kinds.Region r ≡ true → is_some (after_language F (hyphened s ++ hyphened r)) ≡ true
 after_some F s r f g = grind arith
 
@@ -147,7 +147,7 @@ after_some F s r f g = grind arith
 no_hyphen : (a b c : ℕ) → is_alphabetic (folded (a ∷ b ∷ c ∷ [])) ≡ true → (c == 45) ≡ false
 no_hyphen a b c h = grind (arith, nat_tests)
 
--- of a language, and a script and a region where there is one, that have flags, something is shown
+-- of a language, alone or with a script, a region or both, that have flags, something is shown
 pub cut_shown : (F l : List ℕ) (s r : Option (List ℕ)) → is_alphabetic (folded l) ≡ true → flagged F kinds.Language l ≡ true → part_flagged F kinds.Script s ≡ true → part_flagged F kinds.Region r ≡ true
     → is_some (taken.shown_text F (l ++ (hyphened s ++ hyphened r))) ≡ true
 cut_shown F l s r h e f g = grind (arith, no_hyphen, after_some F)

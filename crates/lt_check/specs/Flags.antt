@@ -20,7 +20,7 @@ flag words n = bit_at (slice_index words (n / 64)) (n % 64) == 1
 abbrev pub Tell : (Kind → List ℕ → Bool) → List ℕ → Type 0
 Tell test words = (k : Kind) (s : List ℕ) (n : ℕ) → place k s ≡ Some n → flag words n ≡ test k (folded s)
 
--- the test, but with the answer `set` to the subtag `t` of kind `j`
+-- the answers of the test, except that the answer to the subtag `t` of kind `j` is `set`
 abbrev pub with_subtag : Kind → List ℕ → Bool → (Kind → List ℕ → Bool) → Kind → List ℕ → Bool
 with_subtag j t set test k s = if same_kind j k && bytes_eq t s then set else test k s
 

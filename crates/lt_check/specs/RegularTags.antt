@@ -28,12 +28,12 @@ pub record Validates (R : List EntryParts) (c : CoreParts) (e : EntryParts) : Ty
   pub distinct : Distinct c.variants
   pub second : second_entry R c.extlangs c.variants ≡ Some e
 
--- the number of the record that makes a core valid, None if none does
+-- the number of the record that makes a core valid; None if no record does
 abbrev pub IsValidatedBy : List EntryParts → CoreParts → Option ℕ → Type 0
 IsValidatedBy R c None = (e : EntryParts) → Validates R c e → ⊥
 IsValidatedBy R c (Some number) = (e : EntryParts) × Validates R c e × (e.number ≡ number)
 
--- for each of the cores, the number of the record that makes it valid, None if none does
+-- for each of the cores, the number of the record that makes it valid; None if no record does
 abbrev pub AreValidatedBy : List EntryParts → List CoreParts → List (Option ℕ) → Type 0
 AreValidatedBy R [] [] = Unit {0}
 AreValidatedBy R (c ∷ cs) (o ∷ os) = IsValidatedBy R c o × AreValidatedBy R cs os

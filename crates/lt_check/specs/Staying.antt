@@ -29,7 +29,8 @@ abbrev pub names_plain_of : List ℕ → EntryName → Bool
 names_plain_of l (names.Whole t) = option_map_or (is_plain_of l) (core_of t) false
 names_plain_of l _ = false
 
--- whether a record has a tag as value for a tag of this language without extlangs and variants (RFC 5646, 3.1.7)
+-- whether a record names a tag of this language without extlangs and variants, and has a tag as its value (RFC 5646,
+-- 3.1.7)
 abbrev pub replaces_plain_of : List ℕ → EntryParts → Bool
 replaces_plain_of l e = is_some (tag_of e.value) && names_plain_of l e.name
 
@@ -38,7 +39,7 @@ replaces_plain_of l e = is_some (tag_of e.value) && names_plain_of l e.name
 abbrev pub stays : List EntryParts → Kind → List ℕ → Bool
 stays R k s = has_no_value R k s && not (same_kind k kinds.Language && list_any (replaces_plain_of s) R)
 
--- The text is read as a langtag of a language of 2 or 3 letters, and a script and a region where there is one, each of
+-- The text is read as a langtag of a language of 2 or 3 letters, alone or with a script, a region or both, each of
 -- which stays (RFC 5646, 2.1 and 4.5).
 pub record StaysAs (R : List EntryParts) (text : List ℕ) (c : CoreParts) : Type 0 where
   pub read : HasTag text (core_alone c)

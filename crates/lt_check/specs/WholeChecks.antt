@@ -28,6 +28,6 @@ ComesTo R s d =
     (s ≡ d) ⊎ ((q : CoreParts) × (whole_value R (core_alone s) ≡ Some (core_alone q))
     × IsCoreNormalForm R q d)
 
--- if the core normal form of a tag is another core, that comes to `d`
+-- if the core normal form of a tag is another core than its own, this form comes to `d`
 abbrev pub Agrees : List EntryParts → TagForm → CoreParts → Type 0
 Agrees R t d = (c s : CoreParts) → t ≡ core_alone c → IsCoreNormalForm R c s → s ≢ c → ComesTo R s d

@@ -24,8 +24,8 @@ pub struct Checked<L: Lookup> {
     usual: UsualSubtags,
 }
 
-// By hand: the proof of a function that lets one go then has this one call to go through, and not the drop of each of its
-// vectors.
+// Written by hand: the proof of a function that drops a checked table then has this one call to go through, and not the
+// drop of each vector.
 impl<L: Lookup + Drop> Drop for Checked<L> {
     /// Drops the three parts.
     fn drop(self) {
@@ -52,8 +52,8 @@ impl<L: Lookup> Model for Checked<L> {
 }
 
 impl<L: Lookup> Checked<L> {
-    /// Checks a table: each record is to meet each of the twelve [conditions](crate::Condition), which are this
-    /// project's own. They are judged in order, each only where all records meet those before it.
+    /// Checks that each record of a table meets each of the twelve [conditions](crate::Condition), which are this
+    /// project's own. They are judged in order, each only if all records meet those before it.
     ///
     /// A table that does not pass is handed back with the cause: `Finding`, the first condition that some
     /// record does not meet and the lowest number of those records; or `OutOfMemory`.

@@ -36,7 +36,8 @@ const IN_ORDER: [Condition; 11] = [
     Condition::NoRangeValue,
 ];
 
-/// Whether a record meets a condition that is decided by a look at one record after another.
+/// Whether a record meets a condition, which must be one that is decided by a look at one record after another. The shortcuts
+/// must be those of the table.
 fn meets<L: Lookup>(
     alloc: Global,
     table: &L,
@@ -61,8 +62,8 @@ fn meets<L: Lookup>(
     }
 }
 
-/// Whether a record is one of a language, a script or a region that is one subtag without a value, as most are: it
-/// meets each condition that is decided by a look at one record after another, so the look is spared.
+/// Whether a record is of a language, a script or a region that is one subtag, and has no value. Most records are so. They
+/// meet each condition that is decided by a look at one record after another, so the look is spared.
 #[inline(always)]
 fn is_bare(entry: &Entry) -> bool
     ensures { IsTrue result → IsBare entry.now }
@@ -72,7 +73,7 @@ fn is_bare(entry: &Entry) -> bool
         && matches!(entry.name(), EntryName::Single(_))
 }
 
-/// Whether a record meets the conditions on the values of records that name subtags.
+/// Whether a record meets the conditions on the values of records that name subtags. The shortcuts must be those of the table.
 fn has_fitting_value<L: Lookup>(table: &L, shortcuts: &Shortcuts, entry: &Entry) -> bool
     requires { AreShortcuts (L.listed table.now) shortcuts.now }
     ensures { IsTrue result → HasFittingValue (L.listed table.now) entry.now }
@@ -90,7 +91,8 @@ fn has_fitting_prefixes<L: Lookup>(table: &L, entry: &Entry) -> bool
     stands_beside_final_languages(table, entry) && has_langtag_prefixes(entry)
 }
 
-/// Whether a record meets each condition that is decided by a look at one record after another.
+/// Whether a record meets each condition that is decided by a look at one record after another. The shortcuts must be those of
+/// the table.
 #[inline(never)]
 fn meets_each<L: Lookup>(alloc: Global, table: &L, shortcuts: &Shortcuts, entry: &Entry) -> bool
     requires { AreShortcuts (L.listed table.now) shortcuts.now }
@@ -102,7 +104,8 @@ fn meets_each<L: Lookup>(alloc: Global, table: &L, shortcuts: &Shortcuts, entry:
         && has_no_range_value(entry)
 }
 
-/// Whether all records meet each condition that is decided by a look at one record after another.
+/// Whether all records meet each condition that is decided by a look at one record after another. The shortcuts must be those
+/// of the table.
 fn all_meet<L: Lookup>(alloc: Global, table: &L, shortcuts: &Shortcuts) -> bool
     requires { AreShortcuts (L.listed table.now) shortcuts.now }
     ensures { IsTrue result → MeetByRecord (L.listed table.now) }
@@ -115,8 +118,8 @@ fn all_meet<L: Lookup>(alloc: Global, table: &L, shortcuts: &Shortcuts) -> bool
     true
 }
 
-/// The first record that does not meet a condition that is decided by a look at one record after another, or None if each
-/// does.
+/// The first record that does not meet the condition, or None if each does. The condition must be one that is decided by a
+/// look at one record after another, and the shortcuts those of the table.
 #[inline(never)]
 fn first_failing<L: Lookup>(
     alloc: Global,
@@ -137,8 +140,8 @@ fn first_failing<L: Lookup>(
     None
 }
 
-/// The first record that fails the condition on grandfathered tags, or None: its tag is of grandfathered type and none of
-/// the 26, or it makes a regular one of the 26 valid as a langtag.
+/// The first record that fails the condition on grandfathered tags, or None if none does. A record fails it if it is of
+/// grandfathered type and its tag is none of the 26, or if it makes a regular one of the 26 valid as a langtag.
 fn first_misfit<L: Lookup>(table: &L) -> Option<Finding>
     ensures { IsLowestFault (L.listed table.now) Condition.FittingGrandfathered result }
 {
@@ -153,8 +156,9 @@ fn first_misfit<L: Lookup>(table: &L) -> Option<Finding>
     None
 }
 
-/// What the check finds by the tenth and the eleventh condition, where all records meet those before. None if all meet both.
-/// They are judged in one pass, as both need the same core normal forms.
+/// What the check finds by the tenth and the eleventh condition, or None if all records meet both. The two are judged in one
+/// pass, as both need the same core normal forms. All records must meet the conditions before these, and the shortcuts must be
+/// those of the table.
 #[inline(never)]
 fn first_whole_fault<L: Lookup>(
     alloc: Global,
@@ -181,9 +185,9 @@ fn first_whole_fault<L: Lookup>(
     Ok(found)
 }
 
-/// What the check finds by a condition, where all records meet the conditions before it. None if all meet this one
-/// too. `all_meet` tells whether all meet each condition that is decided by a look at one record after another: these
-/// then need no further pass over the records.
+/// What the check finds by a condition, or None if all records meet it. If all are known to meet each condition that is decided
+/// by a look at one record after another (`all_meet`), such a condition needs no further pass over the records. All records
+/// must meet the conditions before this one, and the shortcuts must be those of the table.
 fn lowest_fault<L: Lookup>(
     alloc: Global,
     table: &L,
@@ -207,8 +211,8 @@ fn lowest_fault<L: Lookup>(
     }
 }
 
-/// What the check finds: the lowest condition that fails, and there the lowest record at fault. None if each record meets
-/// each condition.
+/// What the check finds: the first condition that some record fails, and the lowest of the records that fail it. None if each
+/// record meets each condition. The shortcuts must be those of the table.
 #[inline(never)]
 pub(crate) fn find_fault<L: Lookup>(
     alloc: Global,

@@ -21,7 +21,7 @@ use lt_subtag::Subtag;
 /// extlangs as a langtag, and so is never valid.
 const REGULAR: usize = 8;
 
-/// The subtag that a text in lower case spells. By its clause it spells one, so it is never refused.
+/// The subtag that a text spells. The text must be a subtag in lower case, so it is never refused.
 fn subtag(text: &[u8]) -> Subtag
     requires { subtag_of text.now ≡ Ok text.now }
     ensures { result ≡ text.now }
@@ -32,7 +32,8 @@ fn subtag(text: &[u8]) -> Subtag
     }
 }
 
-/// The number of the record that registers the extlang, if the language with this extlang is a valid tag; else None.
+/// The number of the record that registers the extlang, if the language with this extlang is a valid tag; else None. Both
+/// texts must be subtags in lower case.
 fn by_extlang<L: Lookup>(table: &L, language: &[u8], extlang: &[u8]) -> Option<u32>
     requires language { subtag_of language.now ≡ Ok language.now }
     requires extlang { subtag_of extlang.now ≡ Ok extlang.now }
@@ -47,7 +48,8 @@ fn by_extlang<L: Lookup>(table: &L, language: &[u8], extlang: &[u8]) -> Option<u
     }
 }
 
-/// The number of the record that registers the variant, if the language with this variant is a valid tag; else None.
+/// The number of the record that registers the variant, if the language with this variant is a valid tag; else None. Both
+/// texts must be subtags in lower case.
 fn by_variant<L: Lookup>(table: &L, language: &[u8], variant: &[u8]) -> Option<u32>
     requires language { subtag_of language.now ≡ Ok language.now }
     requires variant { subtag_of variant.now ≡ Ok variant.now }
@@ -96,9 +98,10 @@ fn has_fitting_tag(entry: &Entry) -> bool
     }
 }
 
-/// Whether a record meets the condition on grandfathered tags. A record of that type has one of the 26 tags; and a
-/// record of any type is none of those whose subtag makes a regular one of the 26, as zh-min, valid as a langtag.
-/// `validating` has the numbers of these, as [`validating_records`] gives them.
+/// Whether a record meets the condition on grandfathered tags. A record of that type meets it only if its tag is one of the
+/// 26. No record of any type meets it if its subtag makes a regular one of the 26, such as zh-min, valid as a langtag.
+/// `validating` must have the numbers of these, as [`validating_records`] gives them, and the record must be one of the
+/// table's.
 pub(crate) fn fits_grandfathered<L: Lookup>(
     table: &L,
     validating: &[Option<u32>],

@@ -1,8 +1,8 @@
 //! The check of a registry by twelve conditions, which are this project's own (on RFC 5646, 2.2.8 and 3.1), and the subtags
 //! of a registry that stay as they are: langtags of such subtags alone are shown without a look into the registry (RFC
-//! 5646, 4.5). Each has a flag, at the place that its bytes tell. Fewer subtags have one than could (none of a range, none of
-//! a language with a whole record), so that nothing need be looked up. A program begins with the crate `bcp47`, whose
-//! `Registry` has passed the check.
+//! 5646, 4.5). Each of these subtags has a flag, at the place that its bytes tell. A subtag of a range has none, and neither
+//! has a language of which a record replaces a whole tag, so that nothing need be looked up. A program begins with the crate
+//! `bcp47`, whose `Registry` has passed the check.
 #![tactic(auto)]
 
 mod checked;

@@ -24,9 +24,10 @@ fn is_entry(found: Option<&Entry>, entry: &Entry) -> bool
     }
 }
 
-/// Whether a record's name is new. A subtag is if its flag was clear, which spares most records a look-up, or if a
-/// look-up finds the record itself; a tag is in that case too; a range is if it is not in `seen`. In `flags` those of
-/// the subtags of the records before it are set. The flag of its own subtag is then set, or its range added to `seen`.
+/// Whether a record's name is new. A subtag is new if its flag was clear, which spares most records a look-up, or if a
+/// look-up finds the record itself. A tag is new if a look-up finds the record itself, and a range if it is not in `seen`. The
+/// flag of the record's subtag is then set, or its range added to `seen`. The record must be one of the table's, `flags` must
+/// have 8,655 words, and in these the flags of the subtags of the records before it must be set.
 fn is_new<L: Lookup>(
     table: &L,
     flags: &mut [u64],

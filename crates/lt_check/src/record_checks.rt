@@ -37,7 +37,8 @@ fn is_final_prefix<L: Lookup>(table: &L, prefix: &Prefix) -> bool
     }
 }
 
-/// Whether the chains of values of two languages have the same end. False if one of them has none.
+/// Whether the preferred value of a language, then that of this value, and so on, ends at the same language for left and for
+/// right. False where one of the chains goes in a circle. The shortcuts must be those of the table.
 fn end_alike<L: Lookup>(table: &L, shortcuts: &Shortcuts, left: &Subtag, right: &Subtag) -> bool
     requires { AreShortcuts (L.listed table.now) shortcuts.now }
     ensures { IsTrue result ↔ EndAlike (L.listed table.now) left.now right.now }
@@ -51,7 +52,7 @@ fn end_alike<L: Lookup>(table: &L, shortcuts: &Shortcuts, left: &Subtag, right: 
     }
 }
 
-/// Whether the preferred value of a language, script or region is registered too, as the same kind. True of a record without
+/// Whether the preferred value of a language, script or region is registered too, as the same kind. True of a record without a
 /// value, and of any other kind.
 pub(crate) fn has_registered_value<L: Lookup>(table: &L, entry: &Entry) -> bool
     ensures { IsTrue result ↔ HasRegisteredValue (L.listed table.now) entry.now }
@@ -65,8 +66,9 @@ pub(crate) fn has_registered_value<L: Lookup>(table: &L, entry: &Entry) -> bool
     }
 }
 
-/// Whether an extlang is one subtag with one Prefix, which is one subtag, a registered language without a value; and whether it and its
-/// replacement are registered as languages too, whose chains of values have the same end. True of any other kind.
+/// Whether an extlang is one subtag with one Prefix, and this Prefix is one subtag, a registered language without a value; and
+/// whether the extlang and its replacement are registered as languages too, and their chains of values end alike. True of any
+/// other kind. The shortcuts must be those of the table.
 pub(crate) fn fits_as_extlang<L: Lookup>(table: &L, shortcuts: &Shortcuts, entry: &Entry) -> bool
     requires { AreShortcuts (L.listed table.now) shortcuts.now }
     ensures { IsTrue result ↔ HasFittingExtlang (L.listed table.now) entry.now }
@@ -88,7 +90,7 @@ pub(crate) fn fits_as_extlang<L: Lookup>(table: &L, shortcuts: &Shortcuts, entry
 }
 
 /// Whether the preferred value of a variant is registered: one of 2 or 3 letters as a language, a longer one as a variant,
-/// whose own value, if any, is no language. True of a record without value, and of any other kind.
+/// whose own value, if any, is no language. True of a record without a value, and of any other kind.
 pub(crate) fn has_fitting_variant_value<L: Lookup>(table: &L, entry: &Entry) -> bool
     ensures { IsTrue result ↔ HasFittingVariantValue (L.listed table.now) entry.now }
 {
@@ -104,8 +106,8 @@ pub(crate) fn has_fitting_variant_value<L: Lookup>(table: &L, entry: &Entry) -> 
     }
 }
 
-/// Whether a variant whose value is a language has Prefixes, each of them one subtag, a registered language without a value. True of
-/// any other record.
+/// Whether a variant whose value is a language has Prefixes, and each of them is one subtag, a registered language without a
+/// value. True of any other record.
 pub(crate) fn stands_beside_final_languages<L: Lookup>(table: &L, entry: &Entry) -> bool
     ensures { IsTrue result ↔ HasFinalPrefixes (L.listed table.now) entry.now }
 {

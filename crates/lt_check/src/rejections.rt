@@ -28,7 +28,7 @@ pub enum RejectedCause {
 }
 
 impl RejectedCause {
-    /// The cause's name, as it is printed: the code of the condition that is not met, as `C2`, or
+    /// The cause's name, as it is printed: the code of the condition that is not met, such as `C2`, or
     /// `OutOfMemory`.
     pub fn name(self) -> &'static str
         ensures { result.now ≡ cause_name_of self }

@@ -20,7 +20,7 @@ pub(crate) struct Shown {
     pub(crate) bytes: [u8; 12],
 }
 
-/// `bytes` as what follows the language, of which the first `count` are shown, if the test `holds`; else None.
+/// `bytes`, of which the first `count` are shown, as what follows the language, if the test `holds`; else None.
 #[inline(always)]
 fn after_if(holds: bool, count: usize, bytes: [u8; 9]) -> Option<AfterLanguage>
     ensures { result ≡ shown.after_if holds count bytes }
@@ -73,8 +73,8 @@ impl UsualSubtags {
         }
     }
 
-    /// What follows the language, `rest`, in conventional case, if that is a script, and a region where there is one,
-    /// that have flags, each after a hyphen; else None.
+    /// What follows the language, `rest`, in conventional case. None unless that is a hyphen and a script, alone or with
+    /// a hyphen and a region after it, each of which has its flag.
     #[inline(always)]
     #[tactic(auto, using(crate::proofs::TextLemmas::nine_reads))]
     fn from_script(&self, rest: &[u8]) -> Option<AfterLanguage>

@@ -51,7 +51,7 @@ impl UsualSubtags {
         Ok(UsualSubtags { words })
     }
 
-    /// Whether the flag of a place is set.
+    /// Whether the flag of a place is set. The place must be below 553,913.
     #[inline(always)]
     pub(crate) fn has(&self, place: usize) -> bool
         requires { place < 553913 }
@@ -60,9 +60,9 @@ impl UsualSubtags {
         has(&self.words, place)
     }
 
-    /// Appends `text` to `texts`, in conventional case, if, by the registry of these flags, it is read as a langtag of
-    /// a language of 2 or 3 letters, and a script and a region where there is one, and each of these stays as it is.
-    /// Gives true exactly then; else it appends nothing. Refused only where memory runs out.
+    /// Appends `text` to `texts`, in conventional case, if it is read as a langtag of the usual form, each subtag of which
+    /// stays as it is by the registry of these flags. The usual form is a language of 2 or 3 letters, alone or with a
+    /// script, a region or both. Gives true exactly then; else it appends nothing. Refused only where memory runs out.
     #[inline(always)]
     pub fn append_text(&self, text: &[u8], texts: &mut Vec<u8>) -> Result<bool, AllocError>
         ensures exact { IfOk result (λ told. (R : List EntryParts) → AreFlags R self.now → IsTrue told ↔ IsStaying R text.now) }
@@ -81,7 +81,7 @@ impl UsualSubtags {
     }
 }
 
-/// Whether the flag of a place is set.
+/// Whether the flag of a place is set. There must be 8,655 words, and the place must be below 553,913.
 #[inline(always)]
 fn has(words: &[u64], place: usize) -> bool
     requires room { length words.now ≡ 8655 }
@@ -91,7 +91,8 @@ fn has(words: &[u64], place: usize) -> bool
     words[place / 64] >> (place % 64) & 1 == 1
 }
 
-/// Sets the flag of a subtag, and tells whether it was clear before. False of a subtag without a place.
+/// Sets the flag of a subtag, and tells whether it was clear before. False of a subtag without a place. There must be 8,655
+/// words.
 #[tactic(auto, using(crate::proofs::OwnNames::flag_kept, crate::proofs::OwnNames::flag_set))]
 pub(crate) fn mark(words: &mut [u64], kind: Kind, subtag: &Subtag) -> bool
     requires { length words.old ≡ 8655 }
@@ -107,7 +108,7 @@ pub(crate) fn mark(words: &mut [u64], kind: Kind, subtag: &Subtag) -> bool
     !was_set
 }
 
-/// Sets the flag of a place if `set`, and else clears it.
+/// Sets the flag of a place if `set`, and else clears it. There must be 8,655 words, and the place must be below 553,913.
 #[tactic(auto, using(crate::proofs::FlagLemmas::set_flag, crate::proofs::FlagLemmas::clear_flag))]
 fn put(words: &mut [u64], place: usize, set: bool)
     requires room { length words.old ≡ 8655 }
@@ -122,7 +123,8 @@ fn put(words: &mut [u64], place: usize, set: bool)
     }
 }
 
-/// Sets the flag of a subtag if `set`, and else clears it. A subtag without a place is passed over.
+/// Sets the flag of a subtag if `set`, and else clears it. A subtag without a place is passed over. There must be 8,655 words,
+/// and the subtag must have the form of the kind.
 fn put_subtag(words: &mut [u64], kind: Kind, subtag: &Subtag, set: bool)
     requires room { length words.old ≡ 8655 }
     requires form { has_form kind subtag.now ≡ true }
@@ -134,7 +136,7 @@ fn put_subtag(words: &mut [u64], kind: Kind, subtag: &Subtag, set: bool)
 }
 
 /// Sets the flag of the subtag of a record that is no range and no tag, if the record has no preferred value, and else
-/// clears it.
+/// clears it. There must be 8,655 words.
 fn put_single(words: &mut [u64], entry: &Entry)
     requires { length words.old ≡ 8655 }
     ensures { (es : List EntryParts) → TellSingles es words.old → TellSingles (entry.now ∷ es) words.new }
@@ -145,7 +147,7 @@ fn put_single(words: &mut [u64], entry: &Entry)
 }
 
 /// Sets or clears the flag of the subtag of each record that is no range and no tag. Of several records of a subtag the
-/// first counts.
+/// first counts. There must be 8,655 words, and all flags must be clear.
 fn put_singles(words: &mut [u64], entries: &[Entry])
     requires room { length words.old ≡ 8655 }
     requires clear { TellSingles [] words.old }
@@ -158,8 +160,8 @@ fn put_singles(words: &mut [u64], entries: &[Entry])
     }
 }
 
-/// The language of the tag that a record replaces as a whole, or None: if the record has no tag or no preferred value, or if
-/// the tag has extlangs or variants.
+/// The language of the tag that a record replaces as a whole. None if the record has no tag or no preferred value, or if the
+/// tag has no core, or has extlangs or variants.
 fn replaced_language(entry: &Entry) -> Option<&Subtag>
     ensures language { MatchOption result ((s : List ℕ) → replaces_plain_of s entry.now ≡ false) (λ language. (s : List ℕ) → replaces_plain_of s entry.now ≡ bytes_eq language.now s) }
     ensures form { IfSome result (λ language. is_language language.now ≡ true) }
@@ -173,8 +175,8 @@ fn replaced_language(entry: &Entry) -> Option<&Subtag>
     }
 }
 
-/// Clears the flag of a language if the record replaces a tag of it as a whole, with no more than a script and a region
-/// beside it.
+/// Clears the flag of a language if the record replaces a tag of the language as a whole, with no more than a script and a
+/// region beside it. There must be 8,655 words.
 fn drop_language(words: &mut [u64], entry: &Entry)
     requires { length words.old ≡ 8655 }
     ensures { (R es : List EntryParts) → Tell (stays_beside R es) words.old → Tell (stays_beside R (es ++ entry.now ∷ [])) words.new }
@@ -185,7 +187,7 @@ fn drop_language(words: &mut [u64], entry: &Entry)
 }
 
 /// Clears the flag of each language of which a record replaces a tag as a whole, with no more than a script and a region
-/// beside it.
+/// beside it. There must be 8,655 words, and the flags must be those that [`put_singles`] leaves for these entries.
 fn drop_replaced(words: &mut [u64], entries: &[Entry])
     requires room { length words.old ≡ 8655 }
     requires singles { TellSingles entries.now words.old }

@@ -52,7 +52,8 @@ pub(crate) fn know_entries<L: Lookup>(table: &L)
     let _ = table.entries();
 }
 
-/// The core normal form of a proper core. Its text is no grandfathered tag. Refused only where memory runs out.
+/// The core normal form of a core, which must be proper. Its text is no grandfathered tag. Refused only where memory runs out.
+/// All records must meet the conditions before the tenth, and the shortcuts must be those of the table.
 #[inline(never)]
 fn settled<L: Lookup>(
     alloc: Global,
@@ -73,7 +74,8 @@ fn settled<L: Lookup>(
     Ok(form)
 }
 
-/// The preferred value of the whole record of this core as a tag. None if there is no such record, or it has no value.
+/// The preferred value of the whole record of this core as a tag. None if there is no such record, or it has no value. The
+/// text of the core must be no grandfathered tag.
 fn value_of<L: Lookup>(alloc: Global, table: &L, core: Core) -> Option<&Tag>
     requires { IsNotGrandfathered (spell_core core) }
     ensures { option_copied result ≡ whole_value (L.listed table.now) (core_alone core) }
@@ -82,8 +84,8 @@ fn value_of<L: Lookup>(alloc: Global, table: &L, core: Core) -> Option<&Tag>
     whole_value(table, &tag)
 }
 
-/// The core of the preferred value of the whole record of this core as a tag. None if there is no such value, or if it is no
-/// langtag, or one with extensions or private use.
+/// The core of the preferred value of the whole record of this core as a tag. None if there is no such value, or if it is not
+/// a langtag without extensions and private use. The text of the core must be no grandfathered tag.
 fn plain_value_of<L: Lookup>(alloc: Global, table: &L, core: Core) -> Option<&Core>
     requires { IsNotGrandfathered (spell_core core) }
     ensures { MatchOption result
@@ -96,7 +98,8 @@ fn plain_value_of<L: Lookup>(alloc: Global, table: &L, core: Core) -> Option<&Co
     }
 }
 
-/// Whether a core repeats no variant, and no whole record replaces it as a tag.
+/// Whether a core repeats no variant, and no whole record replaces it as a tag. The text of the core must be no grandfathered
+/// tag, and all records must meet the conditions before the tenth.
 #[inline(never)]
 fn rests<L: Lookup>(alloc: Global, table: &L, core: Core) -> bool
     requires lower { MeetsBelow 10 (L.listed table.now) }
@@ -109,7 +112,8 @@ fn rests<L: Lookup>(alloc: Global, table: &L, core: Core) -> bool
 }
 
 /// Whether a tag comes to the core `end`: its core normal form is its own core or `end`, or has a value as a whole whose
-/// core normal form is `end`. True of a tag that is more than a core.
+/// core normal form is `end`. True of a tag that is not a core alone. If the tag is a core alone, the core must be proper. All
+/// records must meet the conditions before the tenth, and the shortcuts must be those of the table.
 #[inline(never)]
 fn comes_to<L: Lookup>(
     alloc: Global,
@@ -147,7 +151,9 @@ pub(crate) struct Judged {
     pub(crate) agrees: bool,
 }
 
-/// Whether a record meets the tenth and the eleventh condition, by the core normal forms of its tag and its value.
+/// Whether a record meets the tenth and the eleventh condition, by the core normal forms of its tag and its value. The record
+/// must be one of the table's, all records must meet the conditions before the tenth, and the shortcuts must be those of the
+/// table.
 pub(crate) fn judge_whole<L: Lookup>(
     alloc: Global,
     table: &L,

@@ -29,10 +29,6 @@ use Rattle.lt_registry.proofs.ReadingLaws.{HasReadSoFar, read_ended, read_more, 
 use Rattle.lt_registry.proofs.RecordTexts.{after}
 use Rattle.lt_registry.proofs.RecordLaws.{entry_faultless, one_entry, ranked, ranked_again}
 
--- The entries of records, and a registry that is read record by record.
-
--- The entries of records, one record after another.
-
 -- the entries of records numbered from `n`, and then those of further records numbered from `m`, are the entries of all
 entries_append : (n m : ℕ) (rs qs : List (List Field)) (es fs : List EntryParts) → m ≡ n + length rs → EntriesFrom n rs es → EntriesFrom m qs fs → EntriesFrom n (rs ++ qs) (es ++ fs)
 unfolding EntriesFrom
@@ -58,7 +54,7 @@ pub record Made (records : List (List Field)) (i : ℕ) (es : List EntryParts) :
   pub forms : All IsEntry es
   pub clean : (k : RecordFaultKind) (m : ℕ) → HasFaultAt records k m → i < m
 
--- no records have no entries
+-- the first 0 records have the entries []
 pub made_none : (records : List (List Field)) (es : List EntryParts) → es ≡ [] → Made records 0 es
 unfolding EntriesFrom
 made_none records es none = subst (Made records 0) (sym none) (record { entries = refl; below = tt; rising = tt; forms = All-nil IsEntry; clean = λ k m h. omega (arith, h.numbered) })
@@ -137,7 +133,7 @@ made_stops records i r es fault l is refused made = by refused.refused
       earliest = λ k h. first.earliest k (subst (λ z. HasRecordFault z k) (same_record records i r k fault.number h refused.numbered is) h.fault);
     })
 
--- laws: records give one list of entries, or have one first fault, and not both
+-- records give one list of entries or have one first fault, and not both
 
 -- records numbered from `n` give one list of entries
 entries_same : (n : ℕ) (rs : List (List Field)) (es fs : List EntryParts) → EntriesFrom n rs es → EntriesFrom n rs fs → es ≡ fs
@@ -183,8 +179,6 @@ one_record_fault records k l m n a b =
     (sym (ranked_again k) ∙ ap ranked rank ∙ ranked_again l, same)
 
 -- The draft of a registry, one record after another.
-
--- one record more, after those so far
 
 -- a record `here` before the last one, `r`, is among the records `rs` without that
 record_back : (before : List (List Field)) (here : List Field) (after rs : List (List Field)) (r : List Field) → rs ++ r ∷ [] ≡ before ++ here ∷ after → length before < length rs → (rest : List (List Field)) × (rs ≡ before ++ here ∷ rest)
@@ -278,13 +272,13 @@ draft_more records r old new takes is = record {
 -- start, `old` and `new` are it before and after a call; `before` is the device at the start, `now` and `after` are it
 -- before and after that call.
 
--- a new draft is one of what a reader has lent that has just begun: no records
+-- a reader that has just begun has lent no records, and a new draft is the draft of these
 pub draft_none : {R : Type 0} (remaining : R → Option (List ℕ)) (s : JarSource) (device : Device R) (d : Draft) → IsFresh s → d.entries.items ≡ [] → d.number ≡ 0 → d.fault ≡ None
     → HasReadSoFar remaining s s device device (IsDraftOf d)
 draft_none remaining s device d fresh entries number fault =
     read_none remaining s device (IsDraftOf d) fresh (record { numbered = number; drafted = subst (HasDrafted [] d.entries.items) (sym fault) (made_none [] d.entries.items entries) })
 
--- a reader lends a record more, and the draft takes it (`d` to `e`): again this is a draft of the records lent
+-- if the reader lends one record more and the draft takes it (`d` to `e`), `e` is the draft of all records lent
 pub draft_next : {R : Type 0} (remaining : R → Option (List ℕ)) (first old new : JarSource) (before now after : Device R) (d e : Draft) → HasReadSoFar remaining first old before now (IsDraftOf d)
     → Advances remaining old new now after (Ok true) → Takes (record_in new) d e → HasReadSoFar remaining first new before after (IsDraftOf e)
 draft_next remaining first old new before now after d e so advances takes =

@@ -94,6 +94,7 @@ map_or : {A B : Type 0} (g : A → B) (o p : Option A) → option_map g (option_
 map_or g None p = refl
 map_or g (Some a) p = refl
 
+-- the first of an option and None that has a value is the option
 or_none : {A : Type 0} (o : Option A) → option_or o None ≡ o
 or_none None = refl
 or_none (Some a) = refl

@@ -10,12 +10,12 @@ use Rattle.lt_registry.specs.declared.fields.FieldName.TheVariants as told
 use Rattle.lt_registry.specs.declared.fields.Found.{Found}
 use Rattle.lt_registry.proofs.FieldLemmas.{apart, by_date, by_none, by_subtag, by_tag, by_type, by_value, place_more, place_same, repeated_more, repeated_same, some_more, some_same}
 
--- What is found with a field more, by the name of that field.
-
+-- with a true test the disjunction is true
 or_true : (a : Bool) → (a || true) ≡ true
 or_true true = refl
 or_true false = refl
 
+-- with a false test the disjunction is what it was
 or_false : (a : Bool) → (a || false) ≡ a
 or_false true = refl
 or_false false = refl

@@ -85,6 +85,7 @@ placed_at place make p at _ _ w h = cc
 pub entry_at : (R : List EntryParts) → All IsEntry R → (p : ℕ) (e : EntryParts) → slice_get R p ≡ Some e → IsEntry e
 entry_at R forms p e there = subst IsEntry (get_or_from_slice_get R p e e there) (forms p e (slice_get_within R p e there))
 
+-- with a false test the conjunction is false
 pub and_false : (b : Bool) → (b && false) ≡ false
 and_false true = refl
 and_false false = refl
@@ -177,8 +178,6 @@ module _ (R : List EntryParts) (rows : List Row) (t : TagForm) (ix : IsWholes R 
   whole_absent i point =
       absent key_total (whole_key R) (λ (v : Row). v.place) whole_row whole_placed R rows ix sought is_that (λ p e there. tag_agrees p e e.name refl there) i
       (point (rises key_total (whole_key R) (λ (v : Row). v.place) whole_row whole_placed R rows ix sought))
-
--- no subtag has an entry as a whole record
 
 -- if a subtag has the form of the kind `k`, that is no kind of whole tags
 pub apart : (s : List ℕ) (k kind : Kind) → is_whole_kind kind ≡ true → has_form k s ≡ true → same_kind k kind ≡ false

@@ -31,8 +31,6 @@ use Rattle.lt_registry.specs.declared.entries.Kind.{Kind}
 use Rattle.lt_registry.specs.Prefixes.{single_of, AreSingles}
 use Rattle.lt_registry.specs.declared.entries.Kind.TheVariants as kinds
 
--- The numbers of subtags.
-
 -- at most 8 small letters are `IsFew`: bytes that a subtag has, and few enough for its number
 letters_few : (s : List ℕ) → list_all is_ascii_lowercase s ≡ true → length s ≤ 8 → IsFew s
 letters_few s h l = record { bytes = all_weaker is_ascii_lowercase is_subtag_byte (λ b k. rw k refl) s h; few = l }
@@ -70,8 +68,6 @@ numbers_rise_with : (s t : List ℕ) → IsFew s → IsFew t → letters_le s t 
 numbers_rise_with s t h k =
     sym (is_letters_le s t (slice_cmp nat_cmp s t) refl) ∙ ap is_le (numbers_ordered s t h k)
     ∙ least_is (number s) (number t)
-
--- ranks: those of shorter subtags first
 
 -- a shorter subtag has a lesser rank
 pub rank_shorter : (s t : List ℕ) → IsFew s → length s < length t → rank s < rank t

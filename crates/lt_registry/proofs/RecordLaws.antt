@@ -23,8 +23,6 @@ use Rattle.lt_registry.specs.declared.entries.Kind.TheVariants as kinds
 use Rattle.lt_registry.specs.declared.entries.EntryValue.TheVariants as values
 use Rattle.lt_registry.proofs.RecordTexts.{IsSubtagsResult, name_fits, prefixes_are}
 
--- A record gives one entry or has one first fault, and not both.
-
 -- a record has one kind
 pub one_kind : (r : List Field) (k l : Kind) → HasKind r k → HasKind r l → k ≡ l
 one_kind r k l h g =

@@ -22,10 +22,6 @@ use Rattle.lt_registry.specs.declared.entries.EntryName.TheVariants as names
 use Rattle.lt_registry.specs.declared.faults.RecordFaultKind.TheVariants as faults
 use Rattle.lt_registry.proofs.ListLemmas.{drop_turn}
 
--- What is read of the texts of a record.
-
--- Texts that are read from the left.
-
 -- two full stops
 
 -- two texts, with `front` put before the first of them; None if there are none

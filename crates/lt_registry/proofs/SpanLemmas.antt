@@ -17,8 +17,6 @@ use Rattle.lt_registry.specs.Sorted.{place_of, RowsRise, beginning, IsInSpan, Ar
 use Rattle.lt_registry.specs.declared.rows.Row.{Row}
 use Rattle.lt_registry.proofs.SortedLemmas.{find_first, find_none, nats_equal}
 
--- Where rows of one beginning start, and what a search among them finds.
-
 -- a later row has a greater number
 rise : (rows : List Row) (i m : ℕ) (v w : Row) → RowsRise rows → i < m → slice_get rows i ≡ Some v → slice_get rows m ≡ Some w → v.number < w.number
 rise rows i m v w up l at to =
@@ -170,6 +168,7 @@ behind rows n j w there =
     let within : j < length (drop n rows) = slice_get_within (drop n rows) j w there in
     slice_get-get_or rows (n + j) w (omega (arith, within, length-drop n rows)) ∙ ap Some (sym (get_or-drop n rows j w) ∙ get_or_from_slice_get (drop n rows) j w w there)
 
+-- the first of an option and None that has a value is the option
 or_none : {X : Type 0} (o : Option X) → option_or o None ≡ o
 or_none None = refl
 or_none (Some x) = refl

@@ -17,7 +17,7 @@ use Rattle.lt_registry.specs.declared.faults.RecordFault.{RecordFault}
 abbrev pub IsPut : List Field → ℕ → List EntryParts → List EntryParts → Type 0
 IsPut r number old new = (e : EntryParts) × IsEntryOf r number e × IsEntry e × (new ≡ old ++ e ∷ [])
 
--- the record's entry was appended, or nothing if the record is the registry's header; `old` and `new` are the entries
+-- the record's entry was appended, or nothing, if the record is the registry's header; `old` and `new` are the entries
 -- before and after
 abbrev pub IsAdded : List Field → ℕ → List EntryParts → List EntryParts → Type 0
 IsAdded r number old new =
@@ -29,8 +29,8 @@ pub record IsRefusedAt (r : List Field) (number : ℕ) (fault : RecordFault) : T
   pub judged : is_header_at number r ≡ false
   pub refused : IsRefused r fault.kind
 
--- a draft without a fault takes the record's entry or its fault, one with a fault keeps that fault; `old` and `new` are
--- its entries, and the last two its faults, before and after
+-- A draft without a fault takes the record's entry or its fault, and a draft with a fault keeps that. `old` and `new`
+-- are its entries before and after, and the last two are its faults before and after.
 abbrev pub TakesFrom : List Field → ℕ → List EntryParts
     → List EntryParts → Option RecordFault → Option RecordFault → Type 0
 TakesFrom r number old new None None = IsAdded r number old new
@@ -43,7 +43,7 @@ pub record Takes (r : List Field) (old new : Draft) : Type 0 where
   pub takes : TakesFrom r new.number old.entries.items new.entries.items old.fault new.fault
 
 -- A call for the next record: the draft took the record that the reader lent (`draft` to `drafted`), or is as it was
--- where there was none. `remaining` is what a device has left to read.
+-- if there was none. `remaining` is what a device has left to read.
 pub record TakesNext {R : Type 0} (remaining : R → Option (List ℕ)) (old new : JarReader R JarSource)
     (draft drafted : Draft) (result : Result Bool JarFault) : Type 0 where
   pub same_reference : new.device.ghost_name ≡ old.device.ghost_name

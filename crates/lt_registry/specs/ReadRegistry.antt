@@ -41,8 +41,8 @@ pub record IsJarRefusal {R : Type 0} (remaining : R → Option (List ℕ))
       × (reads ≤ length bytes) × (0 < last_given_of after) × BreaksOff 0 bytes fault.line
   pub first : fault.kind ≢ jars.Failed
 
--- The answer is the entries of the records, or the fault of the first record with one; but a fault of the file comes
--- first. The last two arguments are the bytes that were read and the count of reads.
+-- The answer is the entries of the records, or the fault of the first record that has one. A fault of the file is
+-- answered before any of a record. The last two arguments are the bytes that were read and the count of reads.
 abbrev pub AnswersAs : {R : Type 0} → (R → Option (List ℕ)) → Reading → (before after : Device R)
     → List ℕ → ℕ → Type 0
 AnswersAs remaining (Ok registry) before after bytes reads =

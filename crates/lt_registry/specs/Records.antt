@@ -170,12 +170,12 @@ abbrev pub with_subtag : Result (List ℕ) SubtagFault → Option (List (List �
 with_subtag (Ok s) rest = option_map (λ (ss : List (List ℕ)). s ∷ ss) rest
 with_subtag (Err fault) rest = None
 
--- the subtags that these pieces are; None if one of them is none
+-- the subtags that these pieces are; None if one of them is no subtag
 unfoldable pub subtags_of : List (List ℕ) → Option (List (List ℕ))
 subtags_of [] = Some []
 subtags_of (p ∷ ps) = with_subtag (subtag_of p) (subtags_of ps)
 
--- the subtags of the text of a Prefix; None if a piece is none
+-- the subtags of the text of a Prefix; None if a piece of it is no subtag
 abbrev pub prefix_of : List ℕ → Option (List (List ℕ))
 prefix_of s = subtags_of (pieces s)
 

@@ -13,7 +13,7 @@ use std::alloc::Global;
 use std::io::Read;
 
 /// Puts the entry of a record after the others; a header has none. `number` is that of the record in the file, counted from
-/// 1, and is named in the refusal.
+/// 1. Refused with the record's number and its first fault, or where memory runs out.
 pub(crate) fn add_record(
     alloc: Global,
     entries: &mut Vec<Entry>,
@@ -70,7 +70,8 @@ impl Draft {
         }
     }
 
-    /// Takes the fields of the next record. After a record at fault no more entries are made.
+    /// Takes the fields of the next record. After a record at fault no more entries are made. The draft must have taken fewer
+    /// than 100,000 records.
     fn take(&mut self, alloc: Global, fields: &[JarField])
         requires { self.old.number < 100000 }
         ensures { Takes fields.now self.old self.new }
@@ -81,7 +82,8 @@ impl Draft {
         }
     }
 
-    /// Takes the next record of a reader: true, or false if there is none. Refused with the reader's fault.
+    /// Takes the next record of a reader: true, or false if there is none. Refused with the reader's fault. The draft must
+    /// have taken each record that the reader lent before.
     pub(crate) fn take_next<R: Read>(
         &mut self,
         alloc: Global,

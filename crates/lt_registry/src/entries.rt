@@ -83,7 +83,7 @@ impl Eq for Prefix {
 }
 
 impl Prefix {
-    /// The Prefix of these subtags.
+    /// The Prefix of these subtags. There must be at least one.
     pub(crate) fn of_subtags(subtags: Vec<Subtag>) -> Prefix
         requires { IsPrefix subtags.items }
         ensures { result ≡ subtags.items }
@@ -126,7 +126,7 @@ impl Model for Entry {
 }
 
 impl Entry {
-    /// The entry of these parts.
+    /// The entry of these parts. Name, value and Prefixes must have the forms of the kind (RFC 5646, 2.1 and 3.1).
     pub(crate) fn of_parts(
         number: u32,
         kind: Kind,

@@ -40,8 +40,8 @@ pub(crate) enum FieldName {
     Other,
 }
 
-/// Which field has this name, letter case aside. Most fields of a record are called Type or Subtag, written so: these
-/// are tried first, since comparing bytes is quicker than comparing letters of either case.
+/// Which field has this name, letter case aside. Most fields of a record are called Type or Subtag in just these letters.
+/// They are tried first, since comparing bytes is quicker than comparing letters of either case.
 fn field_name(text: &str) -> FieldName
     ensures { result ≡ steps.field_told text.now }
 {
@@ -98,8 +98,8 @@ impl Found {
         }
     }
 
-    /// Notes a further field, which has this place and name, if it is one of those that are looked for: the first of a
-    /// name gives its place, another one is a repeat.
+    /// Notes a further field, which has this place and name, if it is one of those that are looked for. The first of a
+    /// name gives its place, and another one is a repeat.
     fn put(&mut self, place: usize, name: &str)
         ensures { (r : List Field) (f : Field) → length r ≡ place → f.0 ≡ name.now
             → steps.HasFound r self.old → steps.HasFound (r ++ f ∷ []) self.new }
@@ -207,8 +207,8 @@ impl<'a> RecordFields<'a> {
         self.body(self.found.kind)
     }
 
-    /// The body of the field that names the subject of a record of a kind: of its Tag, if that is a kind of whole tags, else
-    /// of its Subtag. None if the record has no such field.
+    /// The body of the field that says what a record of the kind names: Tag for a kind of whole tags, and Subtag for any
+    /// other. None if the record has no such field.
     pub(crate) fn name(&self, kind: Kind) -> Option<&'a str>
         ensures { option_copied result ≡ record_words.body (record_words.name_field kind) self.now.all.now }
     {
@@ -227,7 +227,7 @@ impl<'a> RecordFields<'a> {
     }
 }
 
-/// Whether records of a kind are of whole tags, grandfathered or redundant ones, which a Tag names.
+/// Whether records of the kind name whole tags, in a field Tag: those of grandfathered and of redundant tags do.
 pub(crate) fn is_whole_kind(kind: Kind) -> bool
     ensures { result ≡ entry_words.is_whole_kind kind }
 {
@@ -237,8 +237,8 @@ pub(crate) fn is_whole_kind(kind: Kind) -> bool
     }
 }
 
-/// The kind that the body of Type names, letter case aside; None if it names none. Most records are of a `language`,
-/// written so: this is tried first, since comparing bytes is quicker than comparing letters of either case.
+/// The kind that the body of Type names, letter case aside; None if it names none. Most records are of a `language` in
+/// just these letters. It is tried first, since comparing bytes is quicker than comparing letters of either case.
 pub(crate) fn kind_of(text: &str) -> Option<Kind>
     ensures { result ≡ record_words.kind_of text.now }
 {
@@ -271,7 +271,8 @@ fn kind_in_any_case(text: &str) -> Option<Kind>
     }
 }
 
-/// The bytes before the first two full stops, which stand in a range, and those after them. None if there are no such.
+/// The bytes before and after the first two full stops, which are between the ends of a range. None if the text has no
+/// two full stops one after the other.
 #[tactic(auto, using(crate::proofs::RecordTexts::ends_found, crate::proofs::RecordTexts::ends_stay, crate::proofs::RecordTexts::ends_none, std::proofs::lemmas::List::take_rest))]
 pub(crate) fn ends_of(text: &[u8]) -> Option<(&[u8], &[u8])>
     ensures { MatchOption result (record_words.ends_of text.now ≡ None) (λ ends. record_words.ends_of text.now ≡ Some (ends.0.now, ends.1.now)) }

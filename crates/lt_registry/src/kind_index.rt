@@ -50,6 +50,7 @@ impl KindIndex {
     }
 
     /// The entry of a subtag under the kind: the record of the subtag alone, or else that of a range. None if it has none.
+    /// The index must be that of these entries.
     pub(crate) fn find<'a>(&self, entries: &'a [Entry], subtag: &Subtag) -> Option<&'a Entry>
         requires index { sorted.IsKindIndex entries.now self.now }
         requires forms { All IsEntry entries.now }
@@ -61,7 +62,8 @@ impl KindIndex {
         }
     }
 
-    /// The first record of the kind that names a subtag alone, or None if there is none.
+    /// The first record of the kind that names a subtag alone, or None if there is none. The index must be that of these
+    /// entries.
     fn single<'a>(&self, entries: &'a [Entry], subtag: &Subtag) -> Option<&'a Entry>
         requires index { sorted.IsKindIndex entries.now self.now }
         requires forms { All IsEntry entries.now }
@@ -72,7 +74,8 @@ impl KindIndex {
     }
 
     /// The place of the record of a subtag alone, by the number of the subtag; None if there is none. It is looked for
-    /// only among the subtags with the same beginning, which are few.
+    /// only among the subtags with the same beginning, which are few. The numbers of the single records must rise, and the
+    /// starts must be theirs.
     #[tactic(auto, using(crate::proofs::SpanLemmas::none_listed, crate::proofs::SpanLemmas::none_alike, crate::proofs::SpanLemmas::part_rises, crate::proofs::SpanLemmas::place_alike))]
     fn place(&self, number: u64) -> Option<usize>
         requires rising { sorted.RowsRise self.now.singles.items }
@@ -86,7 +89,8 @@ impl KindIndex {
         place_of(alike, number)
     }
 
-    /// The first range of the kind that holds a subtag, or None if there is none. Ranges hold subtags of letters alone.
+    /// The first range of the kind that holds a subtag, or None if there is none. Ranges hold subtags of letters alone. The
+    /// index must be that of these entries.
     #[tactic(auto, using(crate::proofs::RangeLemmas::range_found, crate::proofs::RangeLemmas::none_holds, lt_subtag::proofs::NumberLemmas::subtag_few))]
     fn range<'a>(&self, entries: &'a [Entry], subtag: &Subtag) -> Option<&'a Entry>
         requires index { sorted.IsKindIndex entries.now self.now }
@@ -113,9 +117,9 @@ fn sorted_rows(mut rows: Vec<Row>) -> Result<Vec<Row>, AllocError>
     Ok(rows)
 }
 
-/// The beginning of a subtag's number: its first byte, and the place of its second among the letters, which is 0 for a
-/// digit. The two are the highest bytes of the number's eight; 96 is the byte before `a`, and 32 is more than there are
-/// letters.
+/// The beginning of a subtag, by its number: the first byte, times 32, and the place of the second among the letters,
+/// which is 0 for a digit. The two are the highest bytes of the number's eight. 96 is the byte before `a`, and 32 is more
+/// than there are letters.
 fn beginning(number: u64) -> usize
     ensures { result ≡ sorted.beginning number }
 {
@@ -124,7 +128,7 @@ fn beginning(number: u64) -> usize
     first * 32 + second.saturating_sub(96).min(31)
 }
 
-/// The place of the record with this number, by binary search in rows of rising numbers; None if no row has it.
+/// The place of the record with this number, by binary search; None if no row has it. The numbers of the rows must rise.
 fn place_of(rows: &[Row], number: u64) -> Option<usize>
     requires { sorted.RowsRise rows.now }
     ensures { result ≡ sorted.place_of number rows.now }
@@ -135,8 +139,8 @@ fn place_of(rows: &[Row], number: u64) -> Option<usize>
     }
 }
 
-/// Where the rows of each beginning start, in sorted rows, and after these the count of the rows. They are refused only
-/// where memory runs out.
+/// Where the rows of each beginning start, and after these starts the count of the rows. They are refused only where
+/// memory runs out. The numbers of the rows must rise.
 fn starts(alloc: Global, rows: &[Row]) -> Result<Vec<usize>, AllocError>
     requires { sorted.RowsRise rows.now }
     ensures { IfOk result (λ starts. sorted.AreStarts rows.now starts.items) }

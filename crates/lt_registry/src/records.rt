@@ -96,8 +96,8 @@ fn read_whole(alloc: Global, text: &[u8]) -> Result<Option<WholeTag>, OutOfMemor
     }
 }
 
-/// The subtag that a text names, or the range if it has two full stops. Refused with `BadRange` or `BadSubtag` if it
-/// doesn't have the form of the kind. Most texts are a subtag, which is tried first.
+/// The subtag that a text names, or the range if the text has two full stops. Refused with `BadRange` or `BadSubtag` if
+/// it doesn't have the form of the kind. Most texts are a subtag, so that is tried first.
 fn read_subtags(kind: Kind, text: &[u8]) -> Result<EntryName, RecordFaultKind>
     ensures named { result ≡ record_words.subtags_named kind text.now }
     ensures fits { IfOk result (FitsName kind) }
@@ -137,7 +137,7 @@ fn has_form(kind: Kind, subtag: &Subtag) -> bool
     }
 }
 
-/// The range from a first to a last subtag. Refused with `BadRange` if they aren't the ends of one of the kind.
+/// The range from a first to a last subtag. Refused with `BadRange` if they aren't the ends of a range of the kind.
 fn read_range(kind: Kind, first: &[u8], last: &[u8]) -> Result<EntryName, RecordFaultKind>
     ensures range { result ≡ record_words.range_of kind (subtag_of first.now) (subtag_of last.now) }
     ensures fits { IfOk result (FitsName kind) }

@@ -33,9 +33,9 @@ impl Model for Registry {
 }
 
 impl Registry {
-    /// The entries of a file's records, 100,000 at most, as the record-jar reader gives them: each record but the
-    /// header gives one (RFC 5646, 3.1). A refusal names the lowest record at fault and, there, the first fault; where
-    /// memory runs out, the record that was being read.
+    /// The entries of a file's records, as the record-jar reader gives them. Each record but the header gives one
+    /// (RFC 5646, 3.1). There must be at most 100,000 records. A refusal names the lowest record at fault and its first
+    /// fault; where memory runs out, it names the record that was being read.
     #[tactic(auto, using(crate::proofs::EntryLaws::made_stops))]
     pub fn from_records(alloc: Global, records: &[Record]) -> Result<Registry, RecordFault>
         requires { length records.now ≤ 100000 }
@@ -52,8 +52,8 @@ impl Registry {
     /// The entries of a file's records, which are read one by one to the end of what the device gives.
     ///
     /// - `Jar`: what is wrong with the text, or that the device failed, or that 10,000,000 reads did not come
-    ///   to its end, with the line; a fault of the text goes before one of a record.
-    /// - `Record`: else the lowest record at fault, as `from_records` says it.
+    ///   to its end, with the line. It is answered even if a record is at fault too.
+    /// - `Record`: else the lowest record at fault, as `from_records` names it.
     #[tactic(auto, using(crate::proofs::EntryLaws::draft_none, crate::proofs::EntryLaws::draft_next))]
     pub fn read<R: Read>(alloc: Global, device: &mut Device<R>) -> Result<Registry, RegistryFault>
         ensures { ReadsRegistry R.remaining device.old device.new result }

@@ -25,7 +25,7 @@ pub(crate) fn rank_of(subtag: &Subtag) -> u128
     length * NUMBERS + subtag.number() as u128
 }
 
-/// The numbers of subtags, at most 256, in an array, so that nothing is allocated.
+/// The numbers of subtags, in an array, so that nothing is allocated. There must be at most 256 subtags.
 fn numbers_of(subtags: &[Subtag]) -> ArrayVec<u64, 256>
     requires { length subtags.now ≤ 256 }
     ensures { result.items ≡ map lanes.number subtags.now }
@@ -45,7 +45,7 @@ fn differ(numbers: &mut [u64]) -> bool
     numbers.is_sorted_by(|number, next| number < next)
 }
 
-/// True only if subtags are all different, as a sort of their numbers shows. It is not tried, and false, of fewer than
+/// True only if a sort of their numbers shows that subtags are all different. It is false without a sort of fewer than
 /// 16, which are quickly compared pair by pair, and of more than 256, whose numbers don't fit the array.
 #[tactic(auto, using(crate::proofs::NumberLemmas::subtags_differ))]
 pub(crate) fn many_differ(subtags: &[Subtag]) -> bool

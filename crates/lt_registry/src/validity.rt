@@ -16,8 +16,9 @@ use lt_subtag::Subtag;
 use lt_tag::{Core, Extension, OutOfMemory, Tag, TransformFault, split_t};
 use std::alloc::Global;
 
-/// Whether a tag is valid (RFC 5646, 2.2.9): Ok if it is, else the fault of the least place and, there, of the first kind.
-/// Memory is taken only for the parts of a `t` extension, so `OutOfMemory` comes for no other tag.
+/// Checks that a tag is valid (RFC 5646, 2.2.9). Refused with its first fault: the one with the least place and, of those at
+/// one place, the first kind in the order of `ValidFaultKind`. Memory is taken only for the parts of a `t` extension, so no
+/// other tag is refused with `OutOfMemory`.
 pub fn validate<L: Lookup>(alloc: Global, table: &L, tag: &Tag) -> Result<(), ValidRefusal>
     ensures ok { OnOk result (HasNoFault (L.listed table.now) tag.now) }
     ensures err { IfErr result (IsRefusal (L.listed table.now) tag.now) }
@@ -73,7 +74,8 @@ fn core_length(core: &Core) -> u32
 }
 
 /// Checks a core that begins after `start` subtags, and refuses it with its first fault. If `may_repeat`, variants that
-/// repeat are no fault. No tag has 1,100,000 subtags: it has up to 1,024 extensions, each of up to 1,025 subtags.
+/// repeat are no fault. `start` must be at most 1,100,000. No tag has as many subtags: it has up to 1,024 extensions, each
+/// of up to 1,025 subtags.
 #[tactic(auto, unfolding(crate::specs::Checking::core_check))]
 fn check_core<L: Lookup>(
     table: &L,
@@ -124,7 +126,8 @@ fn check(holds: bool, kind: ValidFaultKind, place: u32) -> Result<(), ValidFault
 }
 
 /// Checks the extlangs of a core that begins after `start` subtags and has this language: the first is registered, the
-/// language is one of its Prefixes, and there is no second one.
+/// language is one of its Prefixes, and there is no second one. Refused with the first fault of an extlang. `start` must
+/// be at most 1,100,000.
 fn check_extlangs<L: Lookup>(
     table: &L,
     start: u32,
@@ -145,8 +148,9 @@ fn check_extlangs<L: Lookup>(
     )
 }
 
-/// Checks the first extlang of a core by its entry, None if it isn't registered: the language is one of its Prefixes.
-/// The core begins after `start` subtags.
+/// Checks the first extlang of a core by its entry, None if it isn't registered. Refused with `UnknownExtlang`, or with
+/// `ExtlangPrefix` if the language is none of its Prefixes. The core begins after `start` subtags, which must be at most
+/// 1,100,000.
 fn check_prefix(extlang: Option<&Entry>, start: u32, language: &Subtag) -> Result<(), ValidFault>
     requires { start ≤ 1100000 }
     ensures { result ≡ checking.prefix_check start language.now (option_copied extlang.entry) }
@@ -163,8 +167,8 @@ fn check_prefix(extlang: Option<&Entry>, start: u32, language: &Subtag) -> Resul
     }
 }
 
-/// Checks that a subtag of this kind, a script or a region, is registered, if there is one. `fault` is the fault of one
-/// that isn't, `place` the subtag's place.
+/// Checks that a subtag of this kind, a script or a region, is registered, if there is one. One that isn't is refused with
+/// the fault `fault` at the subtag's place, `place`.
 fn check_part<L: Lookup>(
     table: &L,
     kind: Kind,
@@ -181,8 +185,8 @@ fn check_part<L: Lookup>(
 }
 
 /// Checks the variants of a core, of which the first has the place `start`: each is registered and, unless
-/// `may_repeat`, none occurs twice. Whether many variants all differ is seen by a sort first; if they do, none is
-/// looked for among those before it.
+/// `may_repeat`, none occurs twice. Refused with the first fault. If a sort shows first that many variants all differ, none
+/// is looked for among those before it. `start` must be at most 1,100,006, and there must be at most 1,024 variants.
 fn check_variants<L: Lookup>(
     table: &L,
     start: u32,
@@ -198,7 +202,7 @@ fn check_variants<L: Lookup>(
 }
 
 /// Checks one variant after another, of which the first has the place `start`. Unless `may_repeat`, each is looked for among
-/// those before it.
+/// those before it. Refused with the first fault. `start` must be at most 1,100,006, and there must be at most 1,024 variants.
 #[tactic(auto, using(crate::proofs::VariantFaultLemmas::variants_on, crate::proofs::VariantFaultLemmas::variants_stop, crate::proofs::VariantFaultLemmas::variants_end))]
 fn check_each_variant<L: Lookup>(
     table: &L,
@@ -218,7 +222,8 @@ fn check_each_variant<L: Lookup>(
     Ok(())
 }
 
-/// Checks a variant, which has this place and comes after those of `before`. Unless `may_repeat`, it must not be among them.
+/// Checks a variant, which has this place and comes after those of `before`. Refused with `UnknownVariant`, or, unless
+/// `may_repeat`, with `DuplicateVariant` if it is among them.
 fn check_variant<L: Lookup>(
     table: &L,
     place: u32,
@@ -235,7 +240,8 @@ fn check_variant<L: Lookup>(
 }
 
 /// Checks the extensions of a langtag: no singleton occurs twice, and each extension passes. The singleton of the first
-/// has the place `first`. If `may_repeat`, variants that repeat in a source are no fault.
+/// has the place `first`. If `may_repeat`, variants that repeat in a source are no fault. Refused with the first fault, or
+/// where memory runs out. `first` must be at most 1,031, and there must be at most 1,024 extensions.
 #[tactic(auto, using(crate::proofs::TagFaultLemmas::told_extension, crate::proofs::TagFaultLemmas::stepped, crate::proofs::TagFaultLemmas::all_told))]
 fn check_extensions<L: Lookup>(
     alloc: Global,
@@ -272,7 +278,8 @@ fn has_singleton(extensions: &[Extension], singleton: u8) -> bool
 }
 
 /// Checks an extension whose singleton has this place: a `t` extension has its form, and its source passes. Any other
-/// extension passes. If `may_repeat`, variants that repeat in the source are no fault.
+/// extension passes. If `may_repeat`, variants that repeat in the source are no fault. Refused with the first fault, or where
+/// memory runs out. The place must be at most 1,100,000.
 fn check_extension<L: Lookup>(
     alloc: Global,
     table: &L,
@@ -296,8 +303,8 @@ fn check_extension<L: Lookup>(
     }
 }
 
-/// Checks the source of a `t` extension, if it has one. The extension's singleton has this place. If `may_repeat`,
-/// variants that repeat are no fault.
+/// Checks the source of a `t` extension, if it has one, and refuses it with its first fault. The extension's singleton has
+/// this place, which must be at most 1,100,000. If `may_repeat`, variants that repeat are no fault.
 fn check_source<L: Lookup>(
     table: &L,
     source: &Option<Core>,

@@ -31,7 +31,7 @@ impl WholeIndex {
         Ok(WholeIndex { rows })
     }
 
-    /// The first record of a whole tag, or None if it has none.
+    /// The first record of a whole tag, or None if it has none. The index must be that of these entries.
     pub(crate) fn find<'a>(&self, entries: &'a [Entry], tag: &Tag) -> Option<&'a Entry>
         requires { sorted.IsWholes entries.now self.now.rows.items }
         ensures { option_copied result ≡ forms.whole entries.now tag.now }

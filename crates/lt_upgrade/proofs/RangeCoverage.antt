@@ -26,8 +26,6 @@ use Rattle.lt_check.specs.NameChecks.{kind_number}
 use Rattle.lt_check.proofs.OwnNames.{kinds_same}
 use Rattle.lt_registry.specs.declared.entries.EntryName.TheVariants as names
 
--- the order of ends
-
 -- the order of ends of ranges is a total order
 pub end_total : IsTotalOrder end_cmp
 end_total =

@@ -1,4 +1,5 @@
--- What decides the conditions on an upgrade that speak of one record after another, and that the first record that does not meet one is the lowest at fault.
+-- What decides the conditions on an upgrade that speak of one record after another. The first record that does not
+-- meet one is the lowest at fault.
 use Rattle.std.proofs.Common.{◌≡◌, ◌↔◌, ℕ, Bool, true, false, ◌&&◌, cond, List, [], ◌∷◌, length, Option, Some, None, refl, sym, ap, ◌∙◌, subst, ◌<◌, IsTrue, is_some, bytes_eq, inl, inr, ◌+◌, ◌-◌, All, arith, Contains, slice_index_or}
 use Rattle.std.specs.Cmp.{both_ways}
 use Rattle.std.specs.List.{list_all}
@@ -201,7 +202,7 @@ module _ (R : List EntryParts) (C : IsChecked R) where
         right = subst (λ x. IsReached R x (core_alone (core_end R C p.core))) (sym p.is) (cores_reached R C n.reached [] [] (subst (IsProper R) p.is p.valid.proper));
       }
 
--- ---- the first record that does not meet a condition is the lowest at fault
+-- ---- the lowest record at fault
 
 -- each of the records that a condition is on, before index `i`, meets it
 abbrev pub EachBefore : List EntryParts → List EntryParts → UpgradeCondition → ℕ → Type 0

@@ -51,8 +51,6 @@ use Rattle.lt_upgrade.specs.declared.conditions.UpgradeCondition.TheVariants as 
 use Rattle.lt_upgrade.proofs.RangeCoverage.{further, letters_compared}
 use Rattle.lt_upgrade.proofs.UpgradeChecks.{canonical_end}
 
--- ---- what follows for tags from an upgrade
-
 -- the order of letters is transitive
 letters_trans : (a b c : List ℕ) → letters_le a b ≡ true → letters_le b c ≡ true → letters_le a c ≡ true
 letters_trans a b c h k = sym (letters_compared a c) ∙ further nat_list_cmp_total a b c (letters_compared a b ∙ h) (letters_compared b c ∙ k)
@@ -360,8 +358,7 @@ module _ (A B : List EntryParts) (CA : IsChecked A) (CB : IsChecked B) (U : Upgr
         absurd (plain_unnamed t v is_plain (subst RepeatsNoVariant (sym (canonical_end B CB t m.tag m.canonical m.left)) m.canonical.valid.distinct) r)
   ]
 
-  -- ---- after an upgrade valid tags stay valid, equivalent tags equivalent, and an old canonical form comes to what its tag
-  -- comes to.
+  -- ---- what an upgrade keeps of tags
 
   -- a valid tag `u` with the end form of `t` has the canonical form of `t`
   form_moves : (t u c : TagForm) → IsValid B u → tag_end B CB t ≡ tag_end B CB u → IsCanonicalFormOf B t c → IsCanonicalFormOf B u c

@@ -55,8 +55,8 @@ KeepsEnds B e =
     (s v : List ℕ) → e.name ≡ names.Single s → one_of e.value ≡ Some v
     → KeepsKind e.kind v → SameEnd (next_value B e.kind) s v
 
--- the newer registry has the extlang `s`, the record `e` of the older one, with the same Prefix; the chains from its
--- older and its newer replacement end in one language
+-- The newer registry has the extlang `s`, which the record `e` of the older one names, with the same Prefix. The chains
+-- from its older and from its newer replacement end in one language.
 pub record IsSameExtlang (B : List EntryParts) (e : EntryParts) (s : List ℕ) : Type 0 where
   pub newer : EntryParts
   pub there : entry B kinds.Extlang s ≡ Some newer
@@ -68,8 +68,8 @@ pub record IsSameExtlang (B : List EntryParts) (e : EntryParts) (s : List ℕ) :
 abbrev pub KeepsExtlang : List EntryParts → EntryParts → Type 0
 KeepsExtlang B e = (s : List ℕ) → e.kind ≡ kinds.Extlang → e.name ≡ names.Single s → IsSameExtlang B e s
 
--- in the newer registry the variant `s`, the record `e` of the older one, has a language as its value, whose chain ends
--- as that of its older value `v`, and Prefixes of the same languages
+-- In the newer registry the variant `s`, which the record `e` of the older one names, has a language as its value. The
+-- chain of this language ends as that of the older value `v`, and the Prefixes are of the same languages.
 pub record IsSameVariantLanguage (B : List EntryParts) (e : EntryParts) (s v : List ℕ) : Type 0 where
   pub newer : List ℕ
   pub has : language_value B s ≡ Some newer

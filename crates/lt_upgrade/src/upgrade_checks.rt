@@ -23,7 +23,8 @@ use lt_subtag::Subtag;
 use lt_tag::{OutOfMemory, Tag};
 use std::alloc::Global;
 
-/// Whether the subtag or the range of a record is registered in the newer registry. True of a record of a whole tag.
+/// Whether the subtag or the range of a record is registered in the newer registry. True of a record of a whole tag. The
+/// ranges must be those of the newer registry.
 pub(crate) fn stays_registered<L: Lookup>(newer: &L, ranges: &WidestRanges, entry: &Entry) -> bool
     requires { HoldRanges (L.listed newer.now) ranges.now }
     ensures { IsTrue result ↔ StaysRegistered (L.listed newer.now) entry.now }
@@ -35,8 +36,9 @@ pub(crate) fn stays_registered<L: Lookup>(newer: &L, ranges: &WidestRanges, entr
     }
 }
 
-/// Whether the chains of values of two subtags of a kind have the same end. False if one has none. The kind is not
-/// that of extlangs.
+/// Whether the preferred value of a subtag of the kind, then that of this value, and so on, ends at the same subtag for left
+/// and for right. False where one of the chains goes in a circle. The kind must not be that of extlangs, and the shortcuts
+/// must be those of the table.
 #[tactic(auto, using(crate::proofs::UpgradeChecks::endless_apart))]
 fn have_same_end<L: Lookup>(
     table: &L,
@@ -70,7 +72,7 @@ fn keeps_kind(kind: Kind, value: &Subtag) -> bool
 }
 
 /// Whether the chains of a subtag and its older preferred value have the same end in the newer registry. True of a record
-/// without a value of its own kind.
+/// without a value of its own kind. The shortcuts must be those of the newer registry.
 pub(crate) fn keeps_ends<L: Lookup>(newer: &L, shortcuts: &Shortcuts, entry: &Entry) -> bool
     requires { AreShortcuts (L.listed newer.now) shortcuts.now }
     ensures { IsTrue result ↔ KeepsEnds (L.listed newer.now) entry.now }
@@ -101,7 +103,7 @@ fn replacement<'a>(entry: &'a Entry, subtag: &'a Subtag) -> &'a Subtag
 }
 
 /// Whether an extlang has, in the newer registry, the same Prefixes, and a replacement whose chain of values has the same
-/// end. `entry` is its older record.
+/// end. `entry` is its older record. The shortcuts must be those of the newer registry.
 fn is_same_extlang<L: Lookup>(
     newer: &L,
     shortcuts: &Shortcuts,
@@ -119,7 +121,8 @@ fn is_same_extlang<L: Lookup>(
         && have_same_end(newer, shortcuts, Kind::Language, old, new)
 }
 
-/// Whether an extlang keeps its Prefixes and the end of its replacement in the newer registry. True of any other record.
+/// Whether an extlang keeps its Prefixes and the end of its replacement in the newer registry. True of any other record. The
+/// shortcuts must be those of the newer registry.
 pub(crate) fn keeps_extlang<L: Lookup>(newer: &L, shortcuts: &Shortcuts, entry: &Entry) -> bool
     requires { AreShortcuts (L.listed newer.now) shortcuts.now }
     ensures { IsTrue result ↔ KeepsExtlang (L.listed newer.now) entry.now }
@@ -157,7 +160,7 @@ fn same_languages(left: &Entry, right: &Entry) -> bool
 }
 
 /// Whether a variant whose value is a language keeps, in the newer registry, a language of the same end as its value, and
-/// the set of its Prefixes of one subtag. True of any other record.
+/// the set of its Prefixes of one subtag. True of any other record. The shortcuts must be those of the newer registry.
 pub(crate) fn keeps_variant_language<L: Lookup>(
     newer: &L,
     shortcuts: &Shortcuts,
@@ -175,8 +178,8 @@ pub(crate) fn keeps_variant_language<L: Lookup>(
 }
 
 /// Whether a variant has, in the newer registry, a language of the same end as its value, and the same Prefixes of one
-/// subtag: so whether VariantLanguage steps lead to the same end beside the same languages. `entry` is its older
-/// record, and `value` its older value.
+/// subtag. VariantLanguage steps then lead to the same end beside the same languages. `entry` is its older record, and
+/// `value` its older value. The shortcuts must be those of the newer registry.
 fn have_same_variant_language<L: Lookup>(
     newer: &L,
     shortcuts: &Shortcuts,
@@ -213,7 +216,7 @@ pub(crate) fn had_variant_language<L: Lookup>(older: &L, entry: &Entry) -> bool
     }
 }
 
-/// Whether two tags that repeat no variant have the same canonical form. False if one of them has none.
+/// Whether two tags have the same canonical form. False if one of them has none. Neither tag may repeat a variant.
 #[tactic(auto, using(crate::proofs::UpgradeChecks::forms_compared, crate::proofs::UpgradeChecks::refused_apart))]
 fn meet_in_canonical<L: Lookup>(
     alloc: Global,
@@ -248,7 +251,8 @@ fn replaces<L: Lookup>(newer: &L, tag: &Tag, value: &Tag) -> bool
 }
 
 /// Whether the tag and the preferred value of a record of the older registry have the same canonical form by the newer one.
-/// They do if the newer one has the same value for the tag. True of a record that replaces no whole tag.
+/// They do if the newer one has the same value for the tag. True of a record that replaces no whole tag. The record must be
+/// one of the older registry's.
 pub(crate) fn keeps_whole<A: Lookup, B: Lookup>(
     alloc: Global,
     older: &Checked<A>,

@@ -35,7 +35,7 @@ pub enum UpgradeFault {
 }
 
 impl UpgradeFault {
-    /// The fault's name, as it is printed: the code of the condition, as `U2`, or `OutOfMemory`.
+    /// The fault's name, as it is printed: the code of the condition, such as `U2`, or `OutOfMemory`.
     pub fn name(self) -> &'static str
         ensures { result.now ≡ upgrade_fault_name_of self }
     {
@@ -87,7 +87,8 @@ fn records_of<'a, A: Lookup, B: Lookup>(
     }
 }
 
-/// Whether a record that a condition speaks of meets it. `ranges` are those of the newer registry.
+/// Whether a record meets a condition. The record must be one of those that the condition speaks of, and `ranges` must be
+/// those of the newer registry.
 fn meets<A: Lookup, B: Lookup>(
     alloc: Global,
     older: &Checked<A>,
@@ -114,7 +115,7 @@ fn meets<A: Lookup, B: Lookup>(
     }
 }
 
-/// The number of the first record that does not meet a condition, or None if each does. `ranges` are those of the newer
+/// The number of the first record that does not meet a condition, or None if each does. `ranges` must be those of the newer
 /// registry.
 fn lowest_fault<A: Lookup, B: Lookup>(
     alloc: Global,
@@ -135,8 +136,8 @@ fn lowest_fault<A: Lookup, B: Lookup>(
 }
 
 /// Whether a newer registry upgrades an older one: whether it meets each of the six
-/// [conditions](UpgradeCondition) beside it. They are judged in order, and a condition only where all records
-/// meet those before it. `Fails` is the first that is not met, and there the lowest record at fault;
+/// [conditions](UpgradeCondition) beside it. They are judged in order, each only if all records meet those before
+/// it. `Fails` names the first condition that some record does not meet, and the lowest of those records.
 /// `OutOfMemory` comes where memory runs out.
 ///
 /// A tag is then valid by the newer registry if it is so by the older one, and two tags are equivalent if they

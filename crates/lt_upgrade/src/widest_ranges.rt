@@ -70,7 +70,7 @@ impl Model for WidestRanges {
 }
 
 impl WidestRanges {
-    /// The widest ranges among entries. They are refused only where memory runs out.
+    /// The widest ranges among entries, each of which must have its forms. They are refused only where memory runs out.
     pub(crate) fn of_entries(alloc: Global, entries: &[Entry]) -> Result<WidestRanges, AllocError>
         requires { All IsEntry entries.now }
         ensures { IfOk result (HoldRanges entries.now) }
@@ -90,7 +90,7 @@ impl WidestRanges {
     }
 
     /// Whether one of the ranges, of the same kind and length, goes from `first` or a subtag before it to `last` or one
-    /// after it.
+    /// after it. `first` and `last` must be equally long.
     pub(crate) fn cover(&self, kind: Kind, first: &Subtag, last: &Subtag) -> bool
         requires { length first.now ≡ length last.now }
         ensures { (R : List EntryParts) → HoldRanges R self.now → result ≡ some_covers R kind first.now last.now }
@@ -108,7 +108,7 @@ impl WidestRanges {
     }
 }
 
-/// The ranges among entries.
+/// The ranges among entries, in their order. They are refused only where memory runs out.
 fn range_rows(alloc: Global, entries: &[Entry]) -> Result<Vec<RangeRow>, AllocError>
     ensures { IfOk result (λ rows. rows.items ≡ range_rows entries.now) }
 {

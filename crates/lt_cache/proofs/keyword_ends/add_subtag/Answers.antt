@@ -3,12 +3,14 @@ use Rattle.lt_tag.specs.Parts.{KeywordParts}
 use Rattle.lt_cache.proofs.KeywordEnds.{added_key, added_type}
 use Rattle.lt_cache.proofs.keyword_ends.add_subtag.Goals as goal
 
+-- a key begins a further keyword, which has no types yet
 pub returns-then-is_key : goal.returns-then-is_key
 returns-then-is_key c = λ _.
     let old = c.args.keywords.now.items in
     added_key c.args.subtag old c.push.new.self.items (sym c.is_key.ensures ∙ c.if-is_key.true)
     (c.in_ok-push.ensures.items ∙ ap (λ (types : List (List ℕ)). old ++ record { key = c.args.subtag; types = types } ∷ []) c.new.ensures.items)
 
+-- a type goes to the last keyword, and those before it stay
 pub returns : goal.returns
 returns c = λ _.
     let last = c.last.inside in

@@ -9,6 +9,7 @@ use Rattle.lt_cache.proofs.KeywordEnds.{keywords_read}
 use Rattle.lt_cache.proofs.SettledEnds.{some_list}
 use Rattle.lt_cache.proofs.keyword_ends.read_keywords.Goals as goal
 
+-- nothing is left of the text, so the keywords read spell it, and there are no attributes
 pub returns : goal.returns
 returns c =
     let spelled = flat_map spell_keyword c.loop-rest.keywords.items in

@@ -5,6 +5,7 @@ use lib.Lanes.{chunk}
 use Rattle.lt_cache.proofs.LaneLemmas.{front_lanes}
 use Rattle.lt_cache.proofs.short_texts.front_of_32.Goals as goal
 
+-- a lane below `count` has the byte of the text, and each lane from there on has zero
 pub returns : goal.returns
 returns c =
     let t = c.args.text.now in

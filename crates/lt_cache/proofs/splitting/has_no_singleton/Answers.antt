@@ -5,6 +5,7 @@ use Rattle.std.proofs.lemmas.List.{length-map}
 use Rattle.std.proofs.lemmas.List.Folds.{list_all-map}
 use Rattle.lt_cache.proofs.splitting.has_no_singleton.Goals as goal
 
+-- the pieces between hyphens are the list of the text, and each is tried; letter case doesn't change a length
 pub returns : goal.returns
 returns c =
     all_from_yields_List (λ (s : List ℕ). not (length s == 1)) _ _ c.all.result c.all.ensures.ran

@@ -11,11 +11,13 @@ fitting g c = fitting_prefix (g.L.Lookup.listed c.args.checked.now) c.table-tabl
 fronted : (g : _) (c : After-set_extlang g) → c.set_extlang.new.self ≡ record c.in-Some.canonical_core.now { language = c.in-Some-extlang_prefix.prefix.now; extlangs = c.in-Some.canonical_core.now.language ∷ [] }
 fronted g c = rw (c.set_extlang.ensures, c.set_language.ensures, c.in_ok-core.ensures {u = tt}, c.copy-2.ensures, c.copy-3.ensures, c.language-2.ensures.value)
 
+-- the Prefix is a language, short enough for an extlang to follow it
 pub set_language-requires : goal.set_language-requires
 set_language-requires g c =
     let f = fitting g (goal.at.set_language-requires g c).In-Some-extlang_prefix in
     record { language = rw c.copy-2.ensures f.prefix; short_before_extlangs = λ _. rw c.copy-2.ensures f.short }
 
+-- the language has the form of an extlang, and the canonical core has none, but a short language in front
 pub set_extlang-requires : goal.set_extlang-requires
 set_extlang-requires g c =
     let f = fitting g (goal.at.set_extlang-requires g c).In-Some-extlang_prefix in
@@ -25,12 +27,14 @@ set_extlang-requires g c =
       short_before = rw (c.set_language.ensures, c.copy-2.ensures) f.short;
     }
 
+-- a canonical core with the Prefix of its language in front spells no grandfathered tag
 pub from_parts-requires-clause-not_grandfathered :
     goal.from_parts-requires-clause-not_grandfathered
 from_parts-requires-clause-not_grandfathered g c =
     let at = goal.at.from_parts-requires-clause-not_grandfathered g c in
     inl (rw (fronted g at.After-set_extlang) (front_spells_none (g.L.Lookup.listed c.args.checked.now) c.table-table.ensures.checked c.in_ok-form.form c.in-Some.canonical_core.now c.in-Some-extlang_prefix.prefix.now (c.in_ok-form.ensures {u = tt}).ok.canonical (sym c.in-Some.ensures.value) (fitting g at.In-Some-extlang_prefix).found))
 
+-- the tag is made of the canonical form with the Prefix in front, which is the extlang form
 pub returns-clause-form : goal.returns-clause-form
 returns-clause-form g c =
     let at = goal.at.returns-clause-form g c in

@@ -5,6 +5,7 @@ use Rattle.lt_check.proofs.Judging.{judged_whole}
 use Rattle.lt_check.proofs.checking.first_whole_fault.Goals as goal
 use Rattle.lt_check.proofs.checking.first_whole_fault.Goals.{then-not-judged-2, else-not-judged-2}
 
+-- all entries before meet C10, so this is its lowest fault; it goes before any fault of C11
 pub returns-then-not-judged : goal.returns-then-not-judged
 returns-then-not-judged g c =
     let at = item_at _ _ _ _ c.entries-entry-items.ensures.value c.loop-entry-test.true c.entry-item.is in
@@ -12,6 +13,7 @@ returns-then-not-judged g c =
     (iff_false c.in_ok-judged.ensures.rests (not-true _ c.if-not-judged.true))).1 in
     record { fault = f.fault; lower = c.requires.lower; first = f.first }
 
+-- a turn has one entry more that meets C10, and keeps the first that fails C11
 pub loop-entry-preserved : goal.loop-entry-preserved
 loop-entry-preserved g c =
     let at = item_at _ _ _ _ c.entries-entry-items.ensures.value c.loop-entry-test.true c.entry-item.is in
@@ -23,6 +25,7 @@ loop-entry-preserved g c =
       ];
     }
 
+-- no entry is left: all meet C10, and what was found is the lowest fault of C11, or there is none
 pub returns : goal.returns
 returns g c =
     judged_whole _ c.requires.lower (all_met _ _ conditions.RestingWhole _ c.entries-entry-items.ensures.value c.loop-entry-test.false c.loop-entry.invariant.rests)

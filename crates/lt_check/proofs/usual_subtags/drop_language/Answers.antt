@@ -5,12 +5,14 @@ use Rattle.lt_check.specs.Flags.{stays_beside}
 use Rattle.lt_check.proofs.FlagLemmas.{language_first}
 use Rattle.lt_check.proofs.usual_subtags.drop_language.Goals as goal
 
+-- the flag of the language is cleared, and no other subtag is this language
 pub returns-in-Some : goal.returns-in-Some
 returns-in-Some c = λ R es tell k s n h.
     let told = c.put_subtag.ensures (stays_beside R es) tell k s n h in
     let one = (c.in-Some.ensures {u = tt}).language (folded s) in
     grind (arith, list_any-append, language_first)
 
+-- the record replaces no tag that has neither extlangs nor variants, so all flags stay
 pub returns-in_default : goal.returns-in_default
 returns-in_default c = λ R es tell k s n h.
     let told = tell k s n h in

@@ -4,6 +4,7 @@ use Rattle.lt_registry.specs.declared.entries.Kind.TheVariants as kinds
 use Rattle.lt_registry.proofs.FoundLemmas.{language_spelled}
 use Rattle.lt_registry.proofs.fields.kind_of.Goals as goal
 
+-- a text that is `language` byte for byte is it letter case aside too
 pub returns-in-language : goal.returns-in-language
 returns-in-language c =
     sym (subst (λ (l : List ℕ). kind_of l ≡ Some kinds.Language) c.as_bytes.ensures.value

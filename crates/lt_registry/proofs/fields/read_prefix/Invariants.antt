@@ -8,5 +8,6 @@ use Rattle.lt_registry.proofs.fields.read_prefix.Given as goal
 abbrev pub invariant-pieces : goal.invariant-pieces
 invariant-pieces l = subtags_of (pieces l.fn.text) ≡ after l.subtags.items (subtags_of (pieces l.rest))
 
+-- a turn leaves less of the text
 abbrev pub decreases-pieces : goal.decreases-pieces
 decreases-pieces l = length l.rest

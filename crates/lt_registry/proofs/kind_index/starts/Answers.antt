@@ -4,6 +4,7 @@ use Rattle.lt_registry.specs.declared.rows.Row.{Row}
 use Rattle.lt_registry.proofs.SpanLemmas.{StartsSoFar, starts_more, starts_all}
 use Rattle.lt_registry.proofs.kind_index.starts.Goals as goal
 
+-- a turn adds starts up to that of the row's beginning: those that are new have no row before this one
 pub loop-place-preserved : goal.loop-place-preserved
 loop-place-preserved c =
     let rows = c.args.rows.now in
@@ -15,6 +16,7 @@ loop-place-preserved c =
     (c.in_ok-resize.ensures.items ∙ ap (λ n. take (c.beginning.result + 1) starts ++ replicate (c.beginning.result + 1 - n) i) c.loop-place.starts.ok.0
     ∙ ap (λ k. take (k + 1) starts ++ replicate (k + 1 - length starts) i) c.beginning.ensures)
 
+-- no row is left, and the count of the rows ends the span of the last beginning
 pub returns : goal.returns
 returns c =
     let rows = c.args.rows.now in

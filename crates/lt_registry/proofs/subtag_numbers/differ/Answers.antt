@@ -4,6 +4,7 @@ use Rattle.std.proofs.lemmas.List.Sorted.{answers_always}
 use Rattle.lt_registry.proofs.NumberLemmas.{rising_differ}
 use Rattle.lt_registry.proofs.subtag_numbers.differ.Goals as goal
 
+-- if each of the sorted numbers is less than the next, no two are equal, nor were they before the sort
 pub returns : goal.returns
 returns c all =
     let ns = c.sort_unstable.new.self in

@@ -1,6 +1,7 @@
 use Rattle.lt_upgrade.proofs.UpgradeChecks.{extlang_compared}
 use Rattle.lt_upgrade.proofs.upgrade_checks.is_same_extlang.Goals as goal
 
+-- the Prefixes are the same, so U3 asks just that the chains of the replacements end alike
 pub returns-then-same_prefixes : goal.returns-then-same_prefixes
 returns-then-same_prefixes g c =
     extlang_compared (g.L.Lookup.listed c.args.newer.now) c.args.entry.now c.in-Some.other.now c.args.subtag.now c.replacement-old.result.now c.replacement-new.result.now c.have_same_end.result c.in-Some.ensures

@@ -2,6 +2,7 @@ use Rattle.lt_check.proofs.FirstFaults.{item_at}
 use Rattle.lt_upgrade.proofs.UpgradeChecks.{lowest_of}
 use Rattle.lt_upgrade.proofs.upgrades.lowest_fault.Goals as goal
 
+-- all records before meet the condition, and their numbers are lower, so this is the lowest at fault
 pub returns-then-not-branch : goal.returns-then-not-branch
 returns-then-not-branch g c =
     let found = c.records_of-entry-items in

@@ -2,6 +2,7 @@ use Rattle.std.proofs.Common.{◌<◌, ◌+◌, arith, drop, length, refl}
 use Rattle.lt_canon.proofs.LinesLeft.{step_at, trace_behind}
 use Rattle.lt_canon.proofs.explanation_texts.ExplanationLines.append_line.Goals as goal
 
+-- the steps after this one lead from the tag that it leads to, which is proper, to the same end
 pub invariant_of-self : goal.invariant_of-self
 invariant_of-self g c =
     let inside = c.self.inside in
@@ -14,6 +15,7 @@ invariant_of-self g c =
       trace = trace_behind (g.L.Lookup.listed inside.table.now) inside.here c.in-Ok.next inside.trace.last c.index.result.now (drop (inside.taken + 1) steps) (rw next at c.self.invariant.trace) on;
     }
 
+-- the line is that of the first step that was left, and the steps after it are still left
 pub returns-clause-line : goal.returns-clause-line
 returns-clause-line g c =
     let inside = c.self.inside in

@@ -4,6 +4,7 @@ use Rattle.lt_registry.specs.AddedRecords.{finished}
 use Rattle.lt_registry.proofs.EntryLaws.{draft_ended, draft_stops}
 use Rattle.lt_registry.proofs.registry.Registry.read.Goals as goal
 
+-- the reader's fault is answered, whatever fault a record before it has
 pub returns-in_err-take_next : goal.returns-in_err-take_next
 returns-in_err-take_next g c =
     let p = err_from_is_err_and c.from_residual-in_err-take_next.result c.from_residual-in_err-take_next.ensures.1 in
@@ -13,6 +14,7 @@ returns-in_err-take_next g c =
     (rw c.in_err-take_next.was at c.take_next.ensures.advances) in
     rw (p.1, p.2) (search rules)
 
+-- the text has ended without a fault, so the draft's fault, of the lowest record at fault, is answered
 pub returns-in_err-finish : goal.returns-in_err-finish
 returns-in_err-finish g c =
     let p = err_from_is_err_and c.from_residual-in_err-finish.result c.from_residual-in_err-finish.ensures.1 in
@@ -22,6 +24,7 @@ returns-in_err-finish g c =
     (rw no_more at c.take_next.ensures.advances)) in
     rw (p.1, p.2) (search rules)
 
+-- the text has ended without a fault, and the draft has none, so its entries are those of all records
 pub returns : goal.returns
 returns g c =
     let no_more = c.in_ok-take_next.was ∙ ap Ok c.if-branch.false in

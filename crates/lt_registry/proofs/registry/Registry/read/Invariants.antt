@@ -11,5 +11,6 @@ invariant-records g l =
     (l.reader.device.ghost_name ≡ l.initial.reader.device.ghost_name)
     × HasReadSoFar g.R.Read.remaining l.initial.reader.source l.reader.source l.fn.device l.reader.device.now (IsDraftOf l.draft)
 
+-- a turn takes one record more, and the reader lends no more than `most_records`
 abbrev pub decreases-records : goal.decreases-records
 decreases-records g l = most_records - lent_by l.reader.source
