@@ -96,7 +96,7 @@ abbrev pub ShowsAs : (json : Bool) → List EntryParts → List (List Field) →
 ShowsAs false R records text block refused = ShowsTag R records text block refused ⊎ ShowsFault text block refused
 ShowsAs true R records text block refused = ShowsObject R text refused
 
--- whether a text is refused whose block was written, or why the run ended before all of it was
+-- whether the text of a block is refused, if the block was written; or why the run ended before all of it was
 abbrev pub told : (refused : Bool) → Result (Unit {0}) ToolFault → Result Bool ToolFault
 told refused (Ok done) = Ok refused
 told refused (Err fault) = Err fault
@@ -107,8 +107,8 @@ abbrev pub WritesTold : {O : Type 0} → (block : List ℕ) → (refused : Bool)
 WritesTold block refused output result =
     (end : Result (Unit {0}) ToolFault) × WritesAll output block end × (result ≡ told refused end)
 
--- a block was written of which, and of whether its text is refused, `Shows` is true, or a front of it where the run
--- ended; or memory ran out before that
+-- a block was written, or a front of it where the run ended, or memory ran out before that; `Shows` is true of the
+-- block and of whether its text is refused
 abbrev pub WritesBlock : {O : Type 0} → ((block : List ℕ) → (refused : Bool) → Type 0) → Stream O → Result Bool ToolFault
     → Type 0
 WritesBlock Shows output result =
@@ -120,15 +120,15 @@ abbrev pub with_first : (refused : Bool) → Result Bool ToolFault → Result Bo
 with_first refused (Ok more) = Ok (refused || more)
 with_first refused (Err fault) = Err fault
 
--- what came of several texts, of whose first `first` came: the output was `between` then, and of what is written after
--- that and of what comes of the other texts `Others` is true; a fault ends the run
+-- what came of several texts, where `first` came of the first one: a fault of it ends the run; else the output was
+-- `between` then, and `Others` is true of what is written after that and of what comes of the other texts
 abbrev pub GoesOn : {O : Type 0} → (Stream O → Result Bool ToolFault → Type 0) → Stream O → (between : Device O)
     → (first result : Result Bool ToolFault) → Type 0
 GoesOn Others output between (Ok refused) result = (rest : Result Bool ToolFault)
     × Others (stream output.bytes between output.after) rest × (result ≡ with_first refused rest)
 GoesOn Others output between (Err fault) result = (output.after ≡ between) × (result ≡ Err fault)
 
--- the block of the first of several texts was written, of which `Shows` is true, and what of the others `Others` says
+-- the block of the first of several texts was written, as `Shows` says, and then those of the others, as `Others` says
 pub record WritesFirst {O : Type 0} (Shows : (block : List ℕ) → (refused : Bool) → Type 0)
     (Others : Stream O → Result Bool ToolFault → Type 0) (output : Stream O) (result : Result Bool ToolFault) : Type 0 where
   pub between : Device O
