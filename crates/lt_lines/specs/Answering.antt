@@ -79,8 +79,8 @@ IsLongBy (forms.Csv row delimiter) kept count = longest_row < kept + count
 abbrev pub line_of : Answering → ℕ
 line_of state = (state.feeds - feeds_in state.kept.items) + 1
 
--- `part` is the last bytes of a line, after those that are kept and the place that these end at: the line ends outside
--- of quotes, and is short enough
+-- `part` is the last bytes of a line of which `kept` is kept, and `place` is the place after that: the line ends
+-- outside of quotes, and is short enough
 pub record IsWholeAfter (form : LineForm) (kept : List ℕ) (place : Place) (part : List ℕ) : Type 0 where
   pub one : IsOneLine part
   pub closed : is_quoted (place_then form place part) ≡ false
@@ -95,7 +95,7 @@ pub record AppendsTextReply (R : List EntryParts) (text old new : List ℕ) (ref
 
 -- the row `line` was appended to the answers `old`, which gives `new`, unchanged but for two further fields: the
 -- canonical text of `text`, which is that of the row's field, and an empty one; or, if it is refused, an empty one and
--- why
+-- why. `G` is the entries and the codes by which texts are answered
 pub record AppendsKept (S : Separator) (G : Ground) (text line old new : List ℕ) (refused : Bool) : Type 0 where
   pub canonical : List ℕ
   pub told : List ℕ
@@ -104,8 +104,8 @@ pub record AppendsKept (S : Separator) (G : Ground) (text line old new : List �
       ⊎ ((refusal : TextRefusal) × IsTextRefusal G.entries (registered_text G.codes text) refusal × IsTold refusal told
       × (canonical ≡ []) × (refused ≡ true))
 
--- the answer to a row, `line`, was appended to the answers `old`, which gives `new`; `refused` is whether it is a
--- refusal
+-- the answer to a row, `line`, was appended to the answers `old`, which gives `new`; `G` is the entries and the codes
+-- by which texts are answered, `row` the form of rows, and `refused` whether the answer is a refusal
 pub record AppendsRowReply (S : Separator) (G : Ground) (row : RowForm) (line old new : List ℕ)
     (refused : Bool) : Type 0 where
   pub bytes : List ℕ
@@ -120,7 +120,8 @@ pub record AppendsHeadingReply (kept : Bool) (S : Separator) (line old new : Lis
   pub owed : IsHeadingReply kept S line (reply bytes refused)
 
 -- the answer to a line of a table was appended to the answers `old`, which gives `new`: `heading` is whether the line
--- is the table's heading, else it is a row, and `refused` is whether the answer is a refusal
+-- is the table's heading, else it is a row; `G` is the entries and the codes by which texts are answered, and
+-- `refused` is whether the answer is a refusal
 pub record AppendsReplyAmong (S : Separator) (G : Ground) (row : RowForm) (heading : Bool) (line old new : List ℕ)
     (refused : Bool) : Type 0 where
   pub bytes : List ℕ

@@ -161,7 +161,7 @@ pub record LacksField (kept : Bool) (S : Separator) (before : ℕ) (line bytes :
   pub fewer : HasFewer S before (content_of line)
   pub line_is : bytes ≡ refused_line kept S line (codes "NoColumn")
 
--- the answer that is owed for a row by its field, but for one where memory runs out
+-- the answer that is owed for a row by what its field is; none is owed where memory runs out
 abbrev pub IsFieldReply : Separator → Ground → RowForm → List ℕ → Reply → Type 0
 IsFieldReply S G row line r =
     (AnswersOrKeeps row.is_kept S G row.before line r.bytes × (r.refused ≡ false))

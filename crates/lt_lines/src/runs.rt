@@ -27,7 +27,7 @@ pub struct Counts {
 }
 
 impl Counts {
-    /// Counts a line, and whether it was refused.
+    /// Counts a line, and whether it was refused. Both counts must have room for one more.
     pub(crate) fn count(&mut self, refused: bool)
         requires { (self.old.lines + 1 < 2 ^ 64) × (self.old.refused + 1 < 2 ^ 64) }
         ensures lines { self.new.lines ≡ self.old.lines + 1 }
@@ -93,7 +93,7 @@ impl<'a, L: Lookup, W: Write> Pieces<Device<W>> for Reading<'a, L> {
 /// - `Utf16`, if rows or records begin with a byte order mark of UTF-16: nothing has been written. Before tags no mark is
 ///   looked for, and each line is answered as it is.
 /// - `Read`, if a read fails: what is owed for each line whose line feed was read has been written.
-/// - `TooManyTurns`, if all 10,000,000 reads were made and the last gave bytes: the same has been written.
+/// - `TooManyTurns`, if all 10,000,000 reads were made and the last gave bytes: as much has been written as after `Read`.
 /// - `Write`, if a write fails or takes none of some bytes, and `OutOfMemory`: a front of what is owed was
 ///   written.
 pub fn run_tallied<L: Lookup, R: Read, W: Write>(
@@ -121,7 +121,7 @@ pub fn run_tallied<L: Lookup, R: Read, W: Write>(
 /// [`run_tallied`] for tags, without a table of codes, and forgets the tallies.
 ///
 /// - `Read`, if a read fails: what is owed for each line whose line feed was read has been written.
-/// - `TooManyTurns`, if all 10,000,000 reads were made and the last gave bytes: the same has been written.
+/// - `TooManyTurns`, if all 10,000,000 reads were made and the last gave bytes: as much has been written as after `Read`.
 /// - `Write`, if a write fails or takes none of some bytes, and `OutOfMemory`: a front of what is owed was written.
 pub fn run_lines<L: Lookup, R: Read, W: Write>(
     alloc: Global,
