@@ -159,7 +159,7 @@ module _ (S : Separator) (old new : FirstRow) where
   finish_begun (Err f) b e =
       inl (e.0, record { mark = old.mark.items; text = old.text.items; split = marked_alone old b.marked; one = b.so_far.one; inside = e.1 b.so_far })
 
-  -- of bytes that are shorter than a mark
+  -- the bytes are shorter than a mark, and end
   module _ (u : IsUndecided old) where
     -- all bytes that were taken are those that are kept for the mark
     all_of : taken_by old ≡ old.mark.items

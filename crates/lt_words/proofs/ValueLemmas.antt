@@ -46,7 +46,7 @@ lacks_first rows first others (fault.Usage said) lacks = λ texts given.
     let parts = given_first rows first others texts given in lacks (parts.0 ∷ []) parts.2
 lacks_first rows first others fault.OutOfMemory lacks = tt
 
--- the same where one of the others does
+-- positionals lack a value where one after the first does; `f` is the fault
 pub lacks_other : (rows : List Row) (first : Text) (others : List Text) (f : WordsFault) → LacksValue rows others f → LacksValue rows (first ∷ others) f
 lacks_other rows first others (fault.Help text) lacks = lacks
 lacks_other rows first others (fault.Version text) lacks = lacks
