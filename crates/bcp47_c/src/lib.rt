@@ -470,7 +470,8 @@ pub extern "C" fn bcp47_handle_filter(
     outcome
 }
 
-/// Tells whether the registry that the handle `newer` holds upgrades an older one. The handle holds it afterwards too.
+/// Tells whether the registry that the handle `newer` holds upgrades an older one. The handle must hold a registry, and holds
+/// it afterwards too.
 fn check_newer(alloc: Global, older: &Opened, newer: &mut Handle) -> Outcome
     ghost registry: { Kept }
     requires { newer.old.held ≡ Some registry }
@@ -504,7 +505,7 @@ pub extern "C" fn bcp47_handle_upgrade_check(
     outcome
 }
 
-/// Writes the name of a status, 0 to 12, as `NotATag` for 1; nothing for another number.
+/// Writes the name of a status, 0 to 12, for example `NotATag` for 1; nothing for another number.
 #[unsafe(no_mangle)]
 pub extern "C" fn bcp47_write_status_name(status: u8, buffer: &mut [u8]) -> Outcome
     ensures named { status ≤ 12 → IsDelivered (ended 0) (slice_index_or status_names status []) buffer.old buffer.new result }

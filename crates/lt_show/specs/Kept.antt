@@ -17,8 +17,8 @@ pub record KeepsMore (r : List Field) (old new : Draft) : Type 0 where
   pub before : old.lacks ≡ false
   pub more : new.records.items ≡ old.records.items ++ kept_fields r ∷ []
 
--- what is kept of the record `r` is put behind those of the draft `old`, which gives `new`, unless memory ran out for it or for one
--- before
+-- what is kept of the record `r` is put behind the records of the draft `old`, which gives `new`, unless memory ran
+-- out for it or for one before
 abbrev pub Keeps : List Field → (old new : Draft) → Type 0
 Keeps r old new = new.lacks ≡ false → KeepsMore r old new
 
