@@ -203,7 +203,8 @@ impl Pieces<()> for Heading {
         self.first.take_piece(self.separator, piece)
     }
 
-    /// Ends the bytes, and gives the index in the text after the mark at which the first row ends.
+    /// Ends the bytes, and gives the index in the text after the mark at which the first row ends. Refused as
+    /// `FirstRow::finish` is.
     fn finish(&mut self, _alloc: Global, _output: &mut ()) -> Result<usize, ToolFault> {
         self.first.finish(self.separator)
     }

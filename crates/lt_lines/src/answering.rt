@@ -80,7 +80,7 @@ fn long_fault(form: LineForm, line: u64) -> ToolFault
 
 /// Appends the answer to a line, and tells whether it was refused. The line is the first `count` bytes of `text`; what
 /// follows them is for speed alone, as up to 64 bytes are taken at once. `is_first` is whether it is the first of all, so
-/// that it may be a heading, and `look` must be the look at it, if there was one.
+/// that it may be a heading, and `look` must be the look at it, if there was one. `text` must have at least `count` bytes.
 #[tactic(auto, using(crate::proofs::TextLemmas::csv_recent))]
 #[inline(always)]
 fn append_reply<L: Lookup>(
@@ -173,7 +173,7 @@ fn append_kept_line<L: Lookup>(
 /// Appends the answer to a line, and tells whether it was refused. The line is what is in `kept` and then the first `count`
 /// bytes of `text`, which are kept too if anything was; what follows them is for speed alone, as up to 64 bytes are taken at
 /// once. `is_first` is whether it is the first of all. `look` must be the look at it, and there must be none if anything is
-/// kept.
+/// kept. `text` must have at least `count` bytes.
 #[inline(always)]
 fn append_line<L: Lookup>(
     lines: &mut Vec<u8>,
@@ -243,7 +243,8 @@ impl Answering {
 
     /// Answers the line that ends after the first `count` bytes of `text`, counts it, and keeps nothing of it. What follows
     /// these bytes is for speed alone, as up to 64 bytes are taken at once. `look` must be the look at the line, and there
-    /// must be none if a front of the line was kept. The counts must have room for a line more.
+    /// must be none if a front of the line was kept. The counts must have room for a line more. `text` must have at least
+    /// `count` bytes.
     #[inline(always)]
     fn answer_line<L: Lookup>(
         &mut self,
@@ -308,7 +309,7 @@ impl Answering {
     /// Takes the first `count` bytes of `text` and the line feed after them: answers the row or the record that they end, or
     /// keeps them if the line feed is within quotes. What follows in `text` is for speed alone, as up to 64 bytes are taken
     /// at once. `lacks` must be true of the `count` bytes: it is what they are known to lack. The counts must have room for a
-    /// line more.
+    /// line more. `text` must have at least `count` bytes.
     #[inline(never)]
     fn end_row<L: Lookup>(
         &mut self,
@@ -337,7 +338,7 @@ impl Answering {
     /// Takes the first `count` bytes of `text` and the line feed after them: answers the line that they end, or keeps them if
     /// the line feed is within the quotes of a record. What follows in `text` is for speed alone, as up to 64 bytes are taken
     /// at once. `lacks` must be true of the `count` bytes: it is what they are known to lack. The counts must have room for a
-    /// line more.
+    /// line more. `text` must have at least `count` bytes.
     #[inline(always)]
     fn end_line<L: Lookup>(
         &mut self,

@@ -58,7 +58,7 @@ impl<'a, L: Lookup, W: Write> Pieces<Device<W>> for Reading<'a, L> {
 
     ghost finished = { λ first start now read here result. spec.EndsReading (terms (ground_of L.listed first.basis.now) first.form) W.contents start now read here.text.answering.tallies result };
 
-    /// Answers the lines that the piece ends. Only a fault ends the run here.
+    /// Answers the lines that the piece ends. Only a fault ends the run here: it is refused as `Marked::take_piece` is.
     fn take_piece(
         &mut self,
         alloc: Global,
@@ -70,7 +70,7 @@ impl<'a, L: Lookup, W: Write> Pieces<Device<W>> for Reading<'a, L> {
         Ok(None)
     }
 
-    /// Answers what is left, and gives the counts of lines.
+    /// Answers what is left, and gives the counts of lines. Refused as `Marked::finish` is.
     fn finish(&mut self, alloc: Global, output: &mut Device<W>) -> Result<Counts, ToolFault> {
         self.text.finish(alloc, self.basis, self.form, output)
     }

@@ -109,7 +109,7 @@ pub(crate) fn ended(mut line: Vec<u8>) -> Result<Vec<u8>, OutOfMemory>
     Ok(line)
 }
 
-/// The answer that prints a line that was found.
+/// The answer that prints a line that was found. Refused where memory runs out.
 fn found(line: Vec<u8>) -> Result<Answer, Fault>
     ensures { PrintsLine line.items result }
 {

@@ -193,7 +193,8 @@ fn shown(any: Result<bool, ToolFault>) -> Result<Answer, Fault>
     }
 }
 
-/// Writes what `show` prints of the tags on its command line, by a registry and its records.
+/// Writes what `show` prints of the tags on its command line, by a registry and its records. `Err` means that a write failed
+/// or memory ran out.
 pub(crate) fn show_texts<L: Lookup, O: Write>(
     alloc: Global,
     checked: &Checked<L>,
