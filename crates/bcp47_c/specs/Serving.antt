@@ -1,5 +1,5 @@
--- The list of tags that a handle keeps, which tag of it is served to the reader of an Accept-Language header, which tags
--- the header accepts (RFC 9110, 12.5.4), and what the calls answer that tell it.
+-- The list of tags that a handle keeps: which tag of it is served to the reader of an Accept-Language header, and
+-- which tags the header accepts (RFC 9110, 12.5.4). And what the calls answer that tell this.
 use Rattle.std.specs.Prelude.{ℕ, ◌≡◌, ◌⊎◌, List, [], ◌∷◌, Option, Some, None, drop, length, min, take}
 use Rattle.lt_registry.specs.Parts.{EntryParts}
 use Rattle.lt_range.specs.Asked.{Asks, IsHeaderRefusal}

@@ -12,8 +12,8 @@ use Rattle.lt_heading.specs.declared.first_rows.FirstRow.{FirstRow}
 
 -- ---- the mark is split off
 
--- the text after the mark was taken: `kept`, the bytes before, are the new mark and the new text, which is one row so
--- far, or has a first row of the length `end`; `mark` and `text` are what `kept` was split into
+-- The text after the mark was taken. `kept`, the bytes before, were split into `mark` and `text`. They are the new
+-- mark and the new text, which is one row so far, or has a first row of the length `end`.
 pub begin_done : (S : Separator) (kept mark text old_text new_text new_mark : List ℕ) (place : Place) (end : Option ℕ) → SplitsMark kept mark text
     → old_text ≡ [] → new_mark ≡ take (length mark) kept → TakesText S text old_text new_text place (Ok end) → SplitsMark kept new_mark new_text × IsRowIn S new_text place end
 begin_done S kept mark text old_text new_text new_mark place end s none cut t =

@@ -278,7 +278,7 @@ abbrev pub AreLinesIn : (text : List ℕ) → List (List ℕ) → Type 0
 AreLinesIn text lines = (text ≡ ended lines) ⊎ (text ++ 10 ∷ [] ≡ ended lines)
 
 -- a line of this form is one of the grammar: in CSV a record in the words of RFC 4180 (2), unless the delimiter is a
--- quote (34) or a line feed; in other forms each line is
+-- quote (34) or a line feed (10); in other forms any line
 abbrev pub IsOfGrammar : LineForm → List ℕ → Type 0
 IsOfGrammar forms.Tag line = Unit {0}
 IsOfGrammar (forms.Row row) line = Unit {0}

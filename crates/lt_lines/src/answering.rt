@@ -27,8 +27,8 @@ use lt_tag::OutOfMemory;
 use std::alloc::{AllocError, Global};
 use std::io::Write;
 
-/// The most bytes that are kept of a line that is a tag: 1,024 of the longest tag, one as a code may be a byte longer
-/// than the subtag that replaces it, one that tells that the line is too long, and a carriage return.
+/// The most bytes that are kept of a line that is a tag. The longest tag has 1,024. A code may be a byte longer than the
+/// subtag that replaces it, one byte more tells that the line is too long, and a carriage return may end it.
 const LONGEST_KEPT: usize = 1027;
 
 /// The most bytes of a row or a record, which is kept whole: 16 MiB.

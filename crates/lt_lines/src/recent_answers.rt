@@ -228,8 +228,8 @@ fn append_replaced_field<L: Lookup>(
 }
 
 /// Appends the canonical text of a field, the first `count` bytes of `rest`, and gives None, or gives why it is refused. A
-/// field whose subtags stay as they are is answered at once, and another canonical text that was found lately is not worked
-/// out again: if `rest` has at least 32 bytes, it is looked for without a copy. `rest` must have at least `count` bytes.
+/// field whose subtags stay as they are is answered at once. Another canonical text that was found lately is not worked out
+/// again: if `rest` has at least 32 bytes, it is looked for without a copy. `rest` must have at least `count` bytes.
 #[inline(always)]
 fn append_read_field<L: Lookup>(
     lines: &mut Vec<u8>,

@@ -35,9 +35,9 @@ pub record KeepsNext {R : Type 0} (remaining : R → Option (List ℕ)) (old new
 abbrev pub HasKept : Draft → List (List Field) → Type 0
 HasKept draft records = draft.lacks ≡ false → draft.records.items ≡ map kept_fields records
 
--- What is true of an answer after `reads` reads of a device that gave `bytes`: the draft has kept the records of the
--- bytes, or the fault is why they have none or were not read to their end. `remaining` is what a reader has left, where
--- that is known.
+-- What is true of an answer after `reads` reads of a device that gave `bytes`. Either the draft has kept the records
+-- of the bytes, or the fault is why they have none or were not read to their end. `remaining` is what a reader has
+-- left, where that is known.
 abbrev pub AnswersDraft : {R : Type 0} → (R → Option (List ℕ)) → Result Draft JarFault → (before after : Device R)
     → List ℕ → ℕ → Type 0
 AnswersDraft remaining (Ok draft) before after bytes reads =

@@ -38,8 +38,8 @@ fn is_of_file(line: &str, path: &str) -> bool {
     }
 }
 
-/// Appends what to write where a file can't be opened, as `line` says: what `@` means; or, if a text that may be a tag was
-/// given in the place of the registry, the words by which it is read as a tag. `registry` is the path that `@` means.
+/// Appends what to write where a file can't be opened, as `line` says. That is what `@` means; or, if a text that may be a
+/// tag was given in the place of the registry, the words by which it is read as a tag. `registry` is the path that `@` means.
 pub(crate) fn append_hint(
     told: &mut Vec<u8>,
     alloc: Global,

@@ -120,8 +120,8 @@ abbrev pub with_first : (refused : Bool) → Result Bool ToolFault → Result Bo
 with_first refused (Ok more) = Ok (refused || more)
 with_first refused (Err fault) = Err fault
 
--- what came of several texts, where `first` came of the first one: a fault of it ends the run; else the output was
--- `between` then, and `Others` is true of what is written after that and of what comes of the other texts
+-- What came of several texts, where `first` came of the first one. A fault of that ends the run. Else the output was
+-- `between` then, and `Others` is true of what is written after that and of what comes of the other texts.
 abbrev pub GoesOn : {O : Type 0} → (Stream O → Result Bool ToolFault → Type 0) → Stream O → (between : Device O)
     → (first result : Result Bool ToolFault) → Type 0
 GoesOn Others output between (Ok refused) result = (rest : Result Bool ToolFault)
@@ -136,8 +136,8 @@ pub record WritesFirst {O : Type 0} (Shows : (block : List ℕ) → (refused : B
   pub writes : WritesBlock Shows (stream output.bytes output.before between) first
   pub goes_on : GoesOn Others output between first result
 
--- the blocks of texts were written one after another, each as the first parameter says, up to the first that was not
--- written whole; the result is whether one of the texts is refused, or why the run ended before
+-- The blocks of texts were written one after another, each as the first parameter says, up to the first that was not
+-- written whole. The result is whether one of the texts is refused, or why the run ended before.
 abbrev pub WritesBlocks : {O : Type 0} → ((text block : List ℕ) → (refused : Bool) → Type 0) → List (List ℕ)
     → Stream O → Result Bool ToolFault → Type 0
 WritesBlocks Shows [] output result = IsUntouched output × (result ≡ Ok false)
@@ -169,8 +169,8 @@ abbrev pub Refuses : (RegistryRefusal → Type 0) → Result Plan Fault → Type
 Refuses IsRefusal result =
     (refusal : RegistryRefusal) × IsRefusal refusal × (result ≡ Err (faults.Registry roles.Only refusal))
 
--- what is left to do of `show` once its registry file was read with its records (`both` are the entries and the
--- records): to show its tags, by a registry that passes the check; or why that is refused
+-- What is left to do of `show` once its registry file was read with its records: to show its tags, by a registry that
+-- passes the check; or why the registry is refused. `both` are the entries and the records.
 abbrev pub PlansBy : Tags → kept.RecordsReading → Result Plan Fault → Type 0
 PlansBy tags (Ok both) result =
     (IsChecked both.0 × PlansShow tags both.0 both.1 result) ⊎ Refuses (IsRegistryRefusal (Ok both.0)) result

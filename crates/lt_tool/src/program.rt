@@ -232,8 +232,8 @@ pub fn run_program<F: Read + Drop, P: FnMut(&str) -> io::Result<F>, I: Read, O: 
     }
 }
 
-/// What a run comes to if its words name no command: help and the version are to be printed; wrong usage is refused, and so
-/// is the run if memory ran out.
+/// What a run comes to if its words name no command. Help and the version are to be printed. Wrong usage is refused, and
+/// where memory ran out, the run failed.
 fn end_of_words(fault: WordsFault) -> Result<Answer, Fault>
     ensures { EndsWords fault result }
 {
@@ -245,9 +245,9 @@ fn end_of_words(fault: WordsFault) -> Result<Answer, Fault>
     }
 }
 
-/// Says why the words are no command, and gives what the run came to: the status is 0 for help and the version, 3 for
-/// words that name no command, 4 where memory ran out or a write failed. Help and the version are printed, and any other
-/// fault is told on the errors.
+/// Says why the words are no command, and gives what the run came to. Help and the version are printed, and any other fault
+/// is told on the errors. The status is 0 for help and the version, 3 for words that name no command, and 4 where memory ran
+/// out or a write failed.
 pub fn report<I, O: Write, E: Write>(
     alloc: Global,
     fault: WordsFault,

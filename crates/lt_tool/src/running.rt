@@ -71,7 +71,7 @@ fn run_over<I: Read, O: Write>(
 }
 
 /// Answers the lines of the input. They begin with the bytes that were read to find a column, if any were. Refused as by
-/// [`run_over`].
+/// `run_over`.
 fn answer_lines<I: Read, O: Write>(
     alloc: Global,
     plan: &LinesPlan,
