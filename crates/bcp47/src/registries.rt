@@ -50,8 +50,8 @@ pub struct Registry {
     checked: Checked<SortedTable>,
 }
 
-// By hand: the proof of a function that lets one go then has this one call to go through, and not the drop of each of its
-// vectors.
+// Written by hand, so that the proof of a function that drops a registry goes through this one call, and not through the drop of
+// each of its vectors.
 impl Drop for Registry {
     fn drop(self) {
         let Registry { checked } = self;

@@ -9,7 +9,7 @@ use Rattle.bcp47_c.specs.Outcomes.{AreDelivered, ended, IsDelivered}
 use Rattle.bcp47_c.specs.declared.outcomes.Outcome.{Outcome}
 use Rattle.bcp47_c.specs.declared.records.FieldLengths.{FieldLengths}
 
--- a registry, as its entries, and what is kept with it: records, and the lists of subtags of the tags of which one is
+-- a registry, as its entries, and what is kept with it: records, and the lists of subtags of each tag that may be
 -- served
 pub record Kept : Type 0 where
   pub entries : List EntryParts

@@ -137,7 +137,7 @@ no_memory = ended 4
 abbrev pub no_language : Said
 no_language = record { status = 1; detail = 5; place = 1 }
 
--- what an outcome says of a fault of a text, of which so many subtags at its front are not counted: NotATag (1) or
+-- what an outcome says of a fault of a text, if so many subtags at its front are not counted: NotATag (1) or
 -- OutOfMemory (4)
 abbrev pub fault_said : ℕ → TagFault → Said
 fault_said skipped fault = said_of skipped fault.kind fault.place

@@ -57,7 +57,7 @@ pub record ReadsTable {I : Type 0} (remaining : I → Option (List ℕ)) (before
 
 -- ---- within a reading
 
--- the fault of a table for what ended the reading of it
+-- the fault of a table whose reading was ended by this fault
 abbrev pub kind_of : ToolFault → TableFaultKind
 kind_of faults.OutOfMemory = kinds.OutOfMemory
 kind_of fault = kinds.Read

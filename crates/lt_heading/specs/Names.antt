@@ -93,7 +93,7 @@ shown_name name = 32 ∷ 34 ∷ escaped (take most_shown name) ++ 34 ∷ dots_af
 abbrev pub listed_names : List (List ℕ) → List ℕ
 listed_names names = flat_map shown_name (take most_listed names)
 
--- how many of so many names are not listed, if any
+-- how many of `count` names are not listed, if any
 abbrev pub rest_said : (count : ℕ) → List ℕ
 rest_said count =
     if nat_lt most_listed count then codes " and " ++ decimal (count - most_listed) ++ codes " more" else []

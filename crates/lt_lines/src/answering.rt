@@ -55,7 +55,7 @@ pub(crate) struct Answering {
     recent: RecentAnswers,
 }
 
-/// Keeps a further part of a line, of a tag only as far as `LONGEST_KEPT` bytes in all.
+/// Keeps a further part of a line. Of a line that is a tag, `LONGEST_KEPT` bytes in all are kept at most.
 fn keep(form: LineForm, kept: &mut Vec<u8>, part: &[u8]) -> Result<(), AllocError>
     ensures { OnOk result (kept.new.items ≡ kept.old.items ++ spec.part_kept form (vec_len kept.old) part.now) }
 {

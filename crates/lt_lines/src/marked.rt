@@ -36,7 +36,7 @@ fn may_have_mark(form: LineForm) -> bool
 }
 
 impl Marked {
-    /// No bytes taken so far, of a text whose lines have this form.
+    /// A text whose lines have this form, of which no bytes were taken so far.
     pub(crate) fn new(alloc: Global, form: LineForm) -> Marked
         ensures { (terms : Terms) → terms.form ≡ form → IsNew terms result }
     {

@@ -76,16 +76,15 @@ impl<'a, L: Lookup, W: Write> Pieces<Device<W>> for Reading<'a, L> {
     }
 }
 
-/// Answers each line of a reader by one line, in order, each ended by a line feed, as its form says: a tag by
-/// its canonical text, or by `! `, the name of the fault and its place, or by `! ReplacementRepeats ` and the
-/// variant in lower case. Where the basis has codes, a text is read with what is registered for its first subtag in the place
-/// of that; what is refused is shown as it is.
+/// Answers each line of a reader by one line, in order, each ended by a line feed, as its form says. A tag is answered by its
+/// canonical text; or by `! `, the name of the fault and its place; or by `! ReplacementRepeats ` and the variant in lower
+/// case. If the basis has codes, a text is read with what is registered for its first subtag in the place of that; what is
+/// refused is shown as it is.
 ///
-/// A line feed ends a line, in CSV where it is not within quotes, and what follows the last one is a line if it is
-/// anything. What is owed for the lines of the bytes that were read is written before the next read. A row or a record
-/// is kept whole until it is answered. A byte order mark of UTF-8 before rows or records is written as it is, and is no
-/// part of the first. `tallies` is what was refused of the lines that were answered, by fault; it says nothing after
-/// `Write` and `OutOfMemory`.
+/// A line feed ends a line, in CSV only outside of quotes. What follows the last line feed is a line too, unless it is empty.
+/// What is owed for the lines of the bytes that were read is written before the next read. A row or a record is kept whole
+/// until it is answered. A byte order mark of UTF-8 before rows or records is written as it is, and is no part of the first.
+/// `tallies` is what was refused of the lines that were answered, by fault; after `Write` and `OutOfMemory` it says nothing.
 ///
 /// - `BadCsv`, if the reader's bytes end within the quotes of a record, or a record is longer than 16,777,216 bytes: the
 ///   records before it have been answered.
@@ -94,8 +93,7 @@ impl<'a, L: Lookup, W: Write> Pieces<Device<W>> for Reading<'a, L> {
 ///   looked for, and each line is answered as it is.
 /// - `Read`, if a read fails: what is owed for each line whose line feed was read has been written.
 /// - `TooManyTurns`, if all 10,000,000 reads were made and the last gave bytes: as much has been written as after `Read`.
-/// - `Write`, if a write fails or takes none of some bytes, and `OutOfMemory`: a front of what is owed was
-///   written.
+/// - `Write`, if a write fails or takes none of some bytes, and `OutOfMemory`: a front of what is owed was written.
 pub fn run_tallied<L: Lookup, R: Read, W: Write>(
     alloc: Global,
     basis: &Basis<'_, L>,
@@ -116,9 +114,9 @@ pub fn run_tallied<L: Lookup, R: Read, W: Write>(
     end
 }
 
-/// Answers each line of a reader, which is a tag, by one line, in order, each ended by a line feed: its canonical text, or
-/// `! `, the name of the fault and its place, or `! ReplacementRepeats ` and the variant in lower case. It is
-/// [`run_tallied`] for tags, without a table of codes, and forgets the tallies.
+/// Answers each line of a reader, which is a tag, by one line, in order, each ended by a line feed: its canonical text; or
+/// `! `, the name of the fault and its place; or `! ReplacementRepeats ` and the variant in lower case. It is [`run_tallied`]
+/// for tags, without a table of codes, and forgets the tallies.
 ///
 /// - `Read`, if a read fails: what is owed for each line whose line feed was read has been written.
 /// - `TooManyTurns`, if all 10,000,000 reads were made and the last gave bytes: as much has been written as after `Read`.
