@@ -9,7 +9,7 @@ use std::alloc::{AllocError, Global};
 const OF_REGISTRY: &str =
     "@ is the registry that LANGTAG_REGISTRY names, or else the installed one.\n";
 
-/// Whether a text may be meant as a tag and not as the name of a file: it is one, and begins with a language of at most 3
+/// Whether a text may be meant as a tag and not as the name of a file: it is a tag, and begins with a language of at most 3
 /// letters.
 fn is_likely_tag(alloc: Global, text: &[u8]) -> bool {
     first_subtag(text).len() <= 3 && read_tag(alloc, text).is_ok()

@@ -32,7 +32,7 @@ impl<'a> Place<'a> {
     }
 }
 
-/// The text that bytes begin with: all of them if they are UTF-8.
+/// The text that bytes begin with, up to the first byte that is not UTF-8.
 fn front_text(bytes: &[u8]) -> &str {
     match std::str::from_utf8(bytes) {
         Ok(text) => text,

@@ -65,7 +65,7 @@ fn append_file(
     told.extend_from_slice(b".\n")
 }
 
-/// The text that a command reads as its only tag, or as the first of two; no text if it reads none.
+/// The text that a command reads as its only tag, or as the first of two. It is empty for any other command.
 fn text_of(command: &Command) -> &str {
     match command {
         Command::Classify(tag) | Command::Extlang(_, tag) => tag.as_str(),

@@ -51,8 +51,9 @@ abbrev pub IsTextAnswer : List EntryParts → List ℕ → Result (Vec ℕ Globa
 IsTextAnswer R text (Ok canonical) = IsCanonicalTextOf R text canonical.items
 IsTextAnswer R text (Err refusal) = IsTextRefusal R text refusal
 
--- Whether the first of two texts, which has this answer, passes, so that the refusal is that of the second. It is a
--- tag; and it has a canonical form, unless the refusal is that a text is no tag.
+-- Whether the first of two texts, which has this answer, passes, so that the refusal is that of the second. It passes
+-- if it is a tag that has a canonical form; and if the refusal is that a text is no tag, it passes without a canonical
+-- form too.
 abbrev pub is_passed : TextRefusal → Result (Vec ℕ Global) TextRefusal → Bool
 is_passed refusal (Ok canonical) = true
 is_passed (refusals.NotATag fault) (Err (refusals.Invalid own)) = true

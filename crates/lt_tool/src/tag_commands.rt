@@ -106,7 +106,8 @@ fn equality<L: Lookup>(
 }
 
 /// Whether the first of two texts passes, so that `refusal` is that of the second. `own` is what is answered to the first
-/// alone: it must be a tag, and it must have a canonical form, unless `refusal` says that a text is no tag.
+/// alone. It passes if it is a tag that has a canonical form; and if `refusal` says that a text is no tag, it passes without
+/// a canonical form too.
 fn is_passed(refusal: &TextRefusal, own: &Result<Vec<u8>, TextRefusal>) -> bool
     ensures { result ≡ spec_of_tags.is_passed refusal.now own.now }
 {
