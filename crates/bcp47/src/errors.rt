@@ -27,8 +27,8 @@ pub enum RegistryError {
 }
 
 impl RegistryError {
-    /// The name of what is wrong: the kind of a fault, as `BadLine` or `UnknownType`, the code of a
-    /// condition, from `C1` to `C12`, or `OutOfMemory`.
+    /// The name of what is wrong: the kind of a fault, for example `BadLine` or `UnknownType`, the code of a condition, from
+    /// `C1` to `C12`, or `OutOfMemory`.
     pub fn name(self) -> &'static str
         ensures { result.now ≡ error_name_of self }
     {
@@ -44,7 +44,8 @@ impl RegistryError {
 impl From<RegistryFault> for RegistryError {
     ghost from_gives = { λ fault error. IsRefusal (Err fault) error };
 
-    /// Lack of memory, for the file or for a record, is one error.
+    /// The error of a reading with this fault. Memory that ran out for the file and memory that ran out for a record are one
+    /// error.
     fn from(fault: RegistryFault) -> RegistryError {
         match fault {
             RegistryFault::Jar(fault) if fault.kind == JarFaultKind::OutOfMemory => {
@@ -62,7 +63,7 @@ impl From<RegistryFault> for RegistryError {
 impl fmt::Display for RegistryError {
     ghost output = { λ error. Some (error_text error) };
 
-    /// Where the fault was found, and its name, as `jar BadLine line 3`.
+    /// Where the fault was found, and its name, for example `jar BadLine line 3`.
     fn fmt<W: fmt::Write>(&self, f: &mut fmt::Formatter<W>) -> fmt::Result {
         let name = self.name();
         match self {

@@ -50,8 +50,8 @@ pub struct Registry {
     checked: Checked<SortedTable>,
 }
 
-// By hand: the proof of a function that lets one go then has this one call to go through, and not the drop of each of its
-// vectors.
+// Written by hand, so that the proof of a function that drops a registry goes through this one call, and not through the drop of
+// each of its vectors.
 impl Drop for Registry {
     fn drop(self) {
         let Registry { checked } = self;
@@ -74,7 +74,7 @@ impl Model for Registry {
 impl fmt::Debug for Registry {
     ghost debug_output = { λ entries. Some (registry_shown entries) };
 
-    /// The number of its entries alone, as `Registry { entries: 7 }`.
+    /// The number of its entries alone, for example `Registry { entries: 7 }`.
     fn fmt<W: fmt::Write>(&self, f: &mut fmt::Formatter<W>) -> fmt::Result {
         let entries = self.entries().len();
         write!(f, "Registry {{ entries: {entries} }}")
@@ -90,8 +90,8 @@ fn sorted(alloc: Global, entries: Entries) -> Option<SortedTable>
     SortedTable::new(alloc, entries).ok()
 }
 
-/// The registry of these entries, or why the check rejects them. It is not inlined into its callers, so that what reads
-/// a registry needs no stack for what checks it.
+/// The registry of these entries, or why the check rejects them, which may be that memory ran out. It is not inlined into its
+/// callers, so that what reads a registry needs no stack for what checks it.
 #[inline(never)]
 fn check_entries(alloc: Global, entries: Entries) -> Result<Registry, RegistryError>
     ensures { IsJudged (Ok entries) result }
@@ -161,9 +161,9 @@ impl Registry {
         self.checked.table().entries()
     }
 
-    /// The entry of a subtag under a kind (RFC 5646, 3.1.4): the first record of the kind that names this subtag
-    /// and no other; or, without such a record, the first whose range holds it, as `qaa..qtz` holds `qab`. There
-    /// is none where the subtag is not registered; no subtag has one as a grandfathered or redundant tag.
+    /// The entry of a subtag under a kind (RFC 5646, 3.1.4): the first record of the kind that names this subtag and no
+    /// other; or, without such a record, the first whose range holds it: `qaa..qtz` holds `qab`. None if the subtag is not
+    /// registered; no subtag has an entry as a grandfathered or redundant tag.
     pub fn entry(&self, kind: Kind, subtag: &Subtag) -> Option<&Entry>
         ensures { option_copied result ≡ listed.entry self.now kind subtag.now }
     {
@@ -313,8 +313,8 @@ impl Registry {
         lt_range::extlang_range(alloc, &self.checked, text)
     }
 
-    /// The subtags by which ranges match a tag: those of its extlang form (RFC 5646, 4.5), as `zh`, `yue` and `HK` for
-    /// `yue-HK`. So equivalent tags match the same ranges, and `zh` finds `yue`. It is refused as `canonical` refuses.
+    /// The subtags by which ranges match a tag: those of its extlang form (RFC 5646, 4.5), for example `zh`, `yue` and `HK`
+    /// for `yue-HK`. So equivalent tags match the same ranges, and `zh` finds `yue`. It is refused as `canonical` refuses.
     pub fn subtags(&self, alloc: Global, tag: &Tag) -> Result<TagSubtags, Refusal>
         ensures subtags { IfOk result (λ subtags. HasExtlangList self.now tag.now subtags) }
         ensures refusal { IfErr result (λ refusal. IsRefusedWith self.now tag.now refusal) }

@@ -155,7 +155,7 @@ conventional_length list =
 
 -- ---- what is written, and what is refused
 
--- a text that is no tag, since memory ran out, and a value that is none
+-- memory may run out for any value, which is then none
 pub no_value_memory : (section : Section) (value : List ℕ) → IsNoValue section value no_memory
 no_value_memory section value = inl (inl (record { fault = memory_fault; owed = refl; told = refl }))
 

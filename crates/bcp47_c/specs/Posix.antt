@@ -56,7 +56,7 @@ is_silent text = bytes_eq text (codes "") || (bytes_eq text (codes "euro") || by
 abbrev pub is_latin : List ℕ → Bool
 is_latin text = bytes_eq text (codes "latin") || bytes_eq text (codes "iqtelif")
 
--- what a modifier says of the tag; None of one that is not known
+-- what a modifier says of the tag; None if the modifier is not known
 abbrev pub modifier_of : List ℕ → Option Modifier
 modifier_of text =
     if is_silent text then Some modifiers.Silent
@@ -75,7 +75,8 @@ section_of modifiers.Devanagari = Some sections.Script
 section_of modifiers.Valencia = Some sections.Variants
 section_of modifiers.Saaho = Some sections.Language
 
--- the value that it puts there: a script (ISO 15924), the variant of Valencian, or the language Saho (ISO 639-3)
+-- the value that a modifier puts there: a script (ISO 15924), the variant of Valencian, or the language Saho (ISO
+-- 639-3)
 abbrev pub value_of : Modifier → List ℕ
 value_of modifiers.Silent = []
 value_of modifiers.Latin = codes "latn"
@@ -97,7 +98,7 @@ abbrev pub IsChanged : Option Section → List ℕ → List ℕ → List ℕ →
 IsChanged None text value made = IsShownAs text made
 IsChanged (Some section) text value made = IsReplacement section text value made
 
--- why the tag of `text` is not changed so
+-- why the tag of `text` has no text with the value in place of its section
 abbrev pub IsNotChanged : Option Section → List ℕ → List ℕ → Said → Type 0
 IsNotChanged None text value said = HasFaultSaid 0 text said
 IsNotChanged (Some section) text value said =
@@ -109,7 +110,7 @@ pub record IsPosixTag (name made : List ℕ) : Type 0 where
   pub named : modifier_of (after 64 name) ≡ Some modifier
   pub changed : IsChanged (section_of modifier) (tag_text (locale name)) (value_of modifier) made
 
--- the modifier is none of those: NotATag (1) with BadByte (3), of its `@`, at 0
+-- the modifier is not known: NotATag (1) with BadByte (3), of its `@`, at 0
 pub record HasNoModifier (name : List ℕ) (said : Said) : Type 0 where
   pub none : modifier_of (after 64 name) ≡ None
   pub told : said ≡ record { status = 1; detail = 3; place = 0 }

@@ -9,7 +9,7 @@ use Rattle.bcp47_c.specs.Outcomes.{AreDelivered, ended, IsDelivered}
 use Rattle.bcp47_c.specs.declared.outcomes.Outcome.{Outcome}
 use Rattle.bcp47_c.specs.declared.records.FieldLengths.{FieldLengths}
 
--- a registry, as its entries, and what is kept with it: records, and the lists of subtags of the tags of which one is
+-- a registry, as its entries, and what is kept with it: records, and the lists of subtags of each tag that may be
 -- served
 pub record Kept : Type 0 where
   pub entries : List EntryParts
@@ -20,11 +20,11 @@ pub record Kept : Type 0 where
 abbrev pub alone : List EntryParts → Kept
 alone R = record { entries = R; records = []; lists = [] }
 
--- the same, with these records in place of those that were kept
+-- what is kept, with these records in place of those that were kept
 abbrev pub with_records : Kept → List (List Field) → Kept
 with_records registry records = record { entries = registry.entries; records = records; lists = registry.lists }
 
--- the same, with these lists in place of those that were kept
+-- what is kept, with these lists in place of those that were kept
 abbrev pub with_lists : Kept → List (List (List ℕ)) → Kept
 with_lists registry lists = record { entries = registry.entries; records = registry.records; lists = lists }
 
@@ -48,9 +48,9 @@ abbrev pub AreFieldsWritten : List Field → List FieldLengths → List FieldLen
 AreFieldsWritten fields room filled before after o =
     AreDelivered (map lengths_of fields) (flat_map field_text fields) room filled before after o
 
--- the fields of the record with this number, counted from 1, are answered, or that memory ran out (4); of a record that
--- is not there none are. In order: the records, the number, the room before and after, the buffer before and after, the
--- outcome
+-- the fields of the record with this number, counted from 1, are answered, or that memory ran out (4); a record that
+-- is not there has no fields. In order: the records, the number, the room before and after, the buffer before and
+-- after, the outcome
 abbrev pub TellsRecord : List (List Field) → ℕ → List FieldLengths → List FieldLengths → List ℕ → List ℕ → Outcome → Type 0
 TellsRecord records number room filled before after o =
     AreFieldsWritten (fields_of records number) room filled before after o

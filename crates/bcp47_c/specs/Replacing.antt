@@ -137,7 +137,8 @@ no_memory = ended 4
 abbrev pub no_language : Said
 no_language = record { status = 1; detail = 5; place = 1 }
 
--- what an outcome says of a fault of a text, of which so many subtags are not told: NotATag (1) or OutOfMemory (4)
+-- what an outcome says of a fault of a text, if so many subtags at its front are not counted: NotATag (1) or
+-- OutOfMemory (4)
 abbrev pub fault_said : ℕ → TagFault → Said
 fault_said skipped fault = said_of skipped fault.kind fault.place
   where
@@ -158,7 +159,7 @@ pub record HasNoLanguage (text : List ℕ) (said : Said) : Type 0 where
   pub none : core_of tag ≡ None
   pub told : said ≡ no_language
 
--- why the text is no langtag; of its subtags so many are not told
+-- why the text is no langtag; so many subtags at its front are not counted
 abbrev pub IsNoLangtag : ℕ → List ℕ → Said → Type 0
 IsNoLangtag skipped text said = HasFaultSaid skipped text said ⊎ HasNoLanguage text said
 
@@ -206,7 +207,7 @@ pub record HasNoValue (section : Section) (text value : List ℕ) (said : Said) 
   pub langtag : ReadsLangtag text tag
   pub none : IsNoValue section value said
 
--- why the section is not replaced: of the text, which is 1, of the value, 2, or of what they make, 0
+-- why the section is not replaced, and which text is refused: 1 is the text, 2 the value, and 0 what they make
 abbrev pub IsReplacingRefusal : Section → List ℕ → List ℕ → Refused → Type 0
 IsReplacingRefusal section text value refused =
     ((refused.text ≡ 1) × IsNoLangtag 0 text refused.said)

@@ -1,5 +1,5 @@
--- The list of tags that a handle keeps, which tag of it is served to the reader of an Accept-Language header, which tags
--- the header accepts (RFC 9110, 12.5.4), and what the calls answer that tell it.
+-- The list of tags that a handle keeps: which tag of it is served to the reader of an Accept-Language header, and
+-- which tags the header accepts (RFC 9110, 12.5.4). And what the calls answer that tell this.
 use Rattle.std.specs.Prelude.{ℕ, ◌≡◌, ◌⊎◌, List, [], ◌∷◌, Option, Some, None, drop, length, min, take}
 use Rattle.lt_registry.specs.Parts.{EntryParts}
 use Rattle.lt_range.specs.Asked.{Asks, IsHeaderRefusal}
@@ -37,7 +37,7 @@ pub record AreListed (registry : Kept) (texts : List (List ℕ)) (held : Held) (
   pub holds : held ≡ Some (with_lists registry lists)
   pub told : o ≡ outcome (ended 0) 0
 
--- why the first of the texts that is refused is refused is answered
+-- the first of the texts that is refused is answered, with the reason
 pub record IsTagsRefused (R : List EntryParts) (texts : List (List ℕ)) (o : Outcome) : Type 0 where
   pub refused : AvailableRefusal
   pub owed : IsAvailableRefusal R texts refused
@@ -52,7 +52,7 @@ Lists registry texts held o =
 -- ---- the tags for a header
 
 -- the status, detail and place for a header that is refused: BadHeader (18) with its fault and the number of the list
--- element, or what is said of a range that is refused
+-- element, what is said of a range that is refused, or OutOfMemory (4)
 abbrev pub header_said : HeaderRefusal → Said
 header_said (refusals.NotAHeader fault) = record { status = 18; detail = accept_fault fault.kind; place = fault.place }
 header_said (refusals.BadRange refusal) = range_said refusal

@@ -62,8 +62,8 @@ IsToldFault R t told end (faults.NoSuchStep n) = IsValid R t × HasMisstep R t t
 IsToldFault R t told end faults.WrongEnd = IsValid R t × TellsOtherEnd R t told end
 IsToldFault R t told end faults.OutOfMemory = Unit {0}
 
--- the fault of a trace whose step number `n` is no step, from the fault of the steps before it: if these lead to
--- another tag than the last, the fault is that there is no step `n`
+-- The fault of a trace whose step number `n` is no step, by the fault of the steps before it. If these lead to another
+-- tag than the last, the fault is that there is no step `n`.
 abbrev pub of_front : TraceFault → ℕ → TraceFault
 of_front (faults.Invalid fault) n = faults.Invalid fault
 of_front (faults.NoSuchStep m) n = faults.NoSuchStep m

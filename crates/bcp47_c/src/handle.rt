@@ -43,7 +43,7 @@ impl Handle {
         }
     }
 
-    /// The block of the registry that the handle holds; it holds one.
+    /// The block of the registry that the handle holds; it must hold one.
     fn into_block(self) -> Block<Opened, Global>
         ghost registry: { Kept }
         requires { self.held ≡ Some registry }
@@ -57,8 +57,8 @@ impl Handle {
     }
 }
 
-/// Takes the registry that a handle holds out of it. The handle holds nothing then; `alloc` is the allocator that it
-/// has meanwhile.
+/// Takes the registry that a handle holds out of it; it must hold one. The handle holds nothing then; `alloc` is the
+/// allocator that it has meanwhile.
 pub(crate) fn take(alloc: Global, handle: &mut Handle) -> Box<Opened>
     ghost registry: { Kept }
     requires { handle.old.held ≡ Some registry }
@@ -71,7 +71,7 @@ pub(crate) fn take(alloc: Global, handle: &mut Handle) -> Box<Opened>
         .into_box()
 }
 
-/// Puts a registry in a handle that holds nothing. A handle is never dropped, so none is lost by mistake.
+/// Puts a registry in a handle, which must hold nothing: a handle is never dropped, so what it held would be lost.
 pub(crate) fn put(handle: &mut Handle, opened: Box<Opened>)
     requires { handle.old.held ≡ None }
     ensures { handle.new.held ≡ Some opened.value }

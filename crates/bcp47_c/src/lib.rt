@@ -153,11 +153,10 @@ pub extern "C" fn bcp47_digest(bytes: &[u8], buffer: &mut [u8]) -> Outcome
     deliver(ended(DONE), &digest, buffer)
 }
 
-/// Writes the canonical text of the tag that a text is read as (RFC 5646, 4.5): status 0, and `yue` for
-/// `zh-yue`.
+/// Writes the canonical text of the tag that a text is read as (RFC 5646, 4.5): status 0, and `yue` for `zh-yue`.
 ///
-/// Status 1 says that the text is no tag, 2 that the tag is not valid, both with the number of the fault and
-/// its place; 3 that steps can repeat a variant, which is written; 4 that memory ran out.
+/// Status 1 says that the text is no tag, and 2 that the tag is not valid, both with the number of the fault and its place.
+/// Status 3 says that steps can repeat a variant, which is written, and 4 that memory ran out.
 #[unsafe(no_mangle)]
 pub extern "C" fn bcp47_handle_canonical(
     alloc: Global,
@@ -225,9 +224,9 @@ pub extern "C" fn bcp47_classify_text(alloc: Global, text: &[u8], buffer: &mut [
     classify(alloc, text, &mut Vec::new(alloc), buffer)
 }
 
-/// Writes the explanation of the tag that a text is read as: each step to its canonical form, with the tag to
-/// which the step leads, and that form, each a line that a line feed ends (RFC 5646, 4.5). The statuses are
-/// those of `bcp47_handle_canonical`.
+/// Writes the explanation of the tag that a text is read as (RFC 5646, 4.5): a line for each step to its canonical form, with
+/// the tag to which the step leads, and a line for that form. A line feed ends each line. The statuses are those of
+/// `bcp47_handle_canonical`.
 #[unsafe(no_mangle)]
 pub extern "C" fn bcp47_handle_explain(
     alloc: Global,
@@ -314,11 +313,12 @@ pub extern "C" fn bcp47_handle_record(
     outcome
 }
 
-/// Whether steps lead, one after another, from the tag that `text` is read as, which is valid, to the tag that `last`
-/// is read as, which is then equivalent to it (RFC 5646, 4.5): status 0.
+/// Whether steps lead, one after another, from the tag that `text` is read as, which is valid, to the tag that `last` is read
+/// as, which is then equivalent to it (RFC 5646, 4.5): status 0.
 ///
-/// Status 1 says that one of the texts is no tag, 2 that the tag of `text` is not valid, 11 that a step, whose number
-/// from 1 is the place, does not lead on, 12 that the steps lead to another tag, 4 that memory ran out.
+/// Status 1 says that one of the texts is no tag, and 2 that the tag of `text` is not valid. Status 11 says that a step,
+/// whose number from 1 is the place, does not lead on, and 12 that the steps lead to another tag. Status 4 says that memory
+/// ran out.
 #[unsafe(no_mangle)]
 pub extern "C" fn bcp47_handle_verify(
     alloc: Global,
@@ -355,8 +355,8 @@ pub extern "C" fn bcp47_handle_validate(alloc: Global, handle: &mut Handle, text
 
 /// Whether the tags that two texts are read as are equivalent (RFC 5646, 4.5): status 0, or 6 where they are not.
 ///
-/// Status 1 says that a text is no tag, the first or else the second; 2 and 3 that a tag is refused as by
-/// `bcp47_handle_canonical`, the first or else the second; 4 that memory ran out. The buffer is for the variant that is
+/// Status 1 says that a text is no tag, the first or else the second. Status 2 and 3 say that a tag is refused as by
+/// `bcp47_handle_canonical`, the first or else the second, and 4 that memory ran out. The buffer is for the variant that is
 /// written with status 3.
 #[unsafe(no_mangle)]
 pub extern "C" fn bcp47_handle_equal(
@@ -430,12 +430,12 @@ pub extern "C" fn bcp47_handle_list(
     outcome
 }
 
-/// Which tag of the list that is kept is served to the reader of an Accept-Language header (RFC 9110, 12.5.4): status 0, with 1
-/// as the detail and the place of the tag, counted from 0; or with 0 as the detail where no range serves a tag. Ranges and tags
-/// are matched by their extlang forms (RFC 5646, 4.5).
+/// Which tag of the list that is kept is served to the reader of an Accept-Language header (RFC 9110, 12.5.4): status 0, with
+/// 1 as the detail and the place of the tag, counted from 0. If no range serves a tag, the detail is 0. Ranges and tags are
+/// matched by their extlang forms (RFC 5646, 4.5).
 ///
-/// Status 18 says that the text is no header, with the number of the fault and of the list element from 1. Status 3 says
-/// that steps can repeat a variant of one of its ranges, and 4 that memory ran out.
+/// Status 18 says that the text is no header, with the number of the fault and of the list element from 1. Status 3 says that
+/// steps can repeat a variant of one of its ranges, and 4 that memory ran out.
 #[unsafe(no_mangle)]
 pub extern "C" fn bcp47_handle_best(alloc: Global, handle: &mut Handle, header: &[u8]) -> Outcome
     ghost registry: { Kept }
@@ -449,9 +449,9 @@ pub extern "C" fn bcp47_handle_best(alloc: Global, handle: &mut Handle, header: 
     outcome
 }
 
-/// The places, counted from 0, of the tags of the list that is kept which an Accept-Language header accepts, from the greatest
-/// weight to the least (RFC 9110, 12.5.4): status 0, and how many there are as the place. Where they do not fit the room,
-/// none is written, and the status is 5. The other statuses are those of `bcp47_handle_best`.
+/// The places, counted from 0, of those tags of the list that is kept which an Accept-Language header accepts, from the
+/// greatest weight to the least (RFC 9110, 12.5.4). The status is 0, and the place is how many there are. Where they do not
+/// fit the room, none is written, and the status is 5. The other statuses are those of `bcp47_handle_best`.
 #[unsafe(no_mangle)]
 pub extern "C" fn bcp47_handle_filter(
     alloc: Global,
@@ -470,7 +470,8 @@ pub extern "C" fn bcp47_handle_filter(
     outcome
 }
 
-/// Tells whether the registry that the handle `newer` holds upgrades an older one. The handle holds it afterwards too.
+/// Tells whether the registry that the handle `newer` holds upgrades an older one. The handle must hold a registry, and holds
+/// it afterwards too.
 fn check_newer(alloc: Global, older: &Opened, newer: &mut Handle) -> Outcome
     ghost registry: { Kept }
     requires { newer.old.held ≡ Some registry }
@@ -504,7 +505,7 @@ pub extern "C" fn bcp47_handle_upgrade_check(
     outcome
 }
 
-/// Writes the name of a status, 0 to 12, as `NotATag` for 1; nothing for another number.
+/// Writes the name of a status, 0 to 12, for example `NotATag` for 1; nothing for another number.
 #[unsafe(no_mangle)]
 pub extern "C" fn bcp47_write_status_name(status: u8, buffer: &mut [u8]) -> Outcome
     ensures named { status ≤ 12 → IsDelivered (ended 0) (slice_index_or status_names status []) buffer.old buffer.new result }

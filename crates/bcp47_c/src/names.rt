@@ -13,7 +13,7 @@ pub(crate) const LAST_STATUS: u8 = 12;
 /// The greatest number of a fault.
 pub(crate) const LAST_FAULT: u8 = 55;
 
-/// The name of a status, 0 to 12, as `NotATag` for 1.
+/// The name of a status, for example `NotATag` for 1. The number must be 0 to 12.
 #[tactic(auto, unfolding(crate::specs::Names::status_names))]
 pub(crate) fn status_name(status: u8) -> &'static str
     requires { status ≤ 12 }
@@ -37,7 +37,7 @@ pub(crate) fn status_name(status: u8) -> &'static str
     }
 }
 
-/// The name of the fault of a number, 0 to 55, as the program prints it.
+/// The name of the fault of a number, as the program prints it. The number must be 0 to 55.
 #[tactic(auto, unfolding(crate::specs::Names::fault_names))]
 pub(crate) fn fault_name(fault: u8) -> &'static str
     requires { fault ≤ 55 }

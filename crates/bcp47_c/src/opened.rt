@@ -97,8 +97,8 @@ impl Opened {
         }
     }
 
-    /// Keeps the records that bytes have with the registry, in place of those that were kept, and gives the status 0;
-    /// or 7 where the bytes are not in the format and 4 where memory ran out, and nothing changes then.
+    /// Keeps the records that bytes have with the registry, in place of those that were kept, and gives the status 0. Or it
+    /// gives 7 where the bytes are not in the format, and 4 where memory ran out; nothing changes then.
     pub(crate) fn keep(&mut self, alloc: Global, bytes: &[u8]) -> u8
         ensures { Keeps self.old (Some self.new) bytes.now result }
     {

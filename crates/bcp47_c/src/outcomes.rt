@@ -114,8 +114,7 @@ pub(crate) fn refuse(refusal: &TextRefusal, buffer: &mut [u8]) -> Outcome
     deliver(refusal_said(refusal), refusal_text(refusal), buffer)
 }
 
-/// The outcome with this status, `count`, how many rows there are, as the place, and `length`, how many bytes the text
-/// has.
+/// The outcome with this status; its place is `count`, the number of rows, and its length that of the text in bytes.
 fn counted(status: u8, count: usize, length: usize) -> Outcome
     ensures { result ≡ spec.outcome (record { status = status; detail = 0; place = count }) length }
 {

@@ -29,7 +29,7 @@ fn show(alloc: Global, tag: &Tag) -> Result<Shown, OutOfMemory>
     Ok(Shown { text, parts })
 }
 
-/// The last of some parts that has more than one byte.
+/// The last of some parts that has more than one byte. None if no part has.
 fn last_long(parts: &[Part]) -> Option<&Part>
     ensures { option_copied result ≡ spec.last_long None parts.now }
 {
@@ -56,7 +56,7 @@ fn parent(alloc: Global, tag: &Tag) -> Result<Vec<u8>, OutOfMemory>
     Ok(text)
 }
 
-/// The text of the parent of the tag that a text is read as, or why it is none.
+/// The text of the parent of the tag that a text is read as, or why the text is no tag.
 fn read_parent(alloc: Global, text: &[u8]) -> Result<Vec<u8>, TextRefusal>
     ensures parent { IfOk result (λ parent. spec.IsParentOf text.now parent.items) }
     ensures refusal { IfErr result (IsReadingRefusal text.now) }

@@ -27,14 +27,14 @@ enum Modifier {
     Saaho,
 }
 
-/// Where the first such byte of a text is.
+/// Where the first byte of a text is that is `mark`. None if there is none.
 fn first(text: &[u8], mark: u8) -> Option<usize>
     ensures { result ≡ position (λ byte. byte == mark) text.now }
 {
     text.iter().position(|byte| *byte == mark)
 }
 
-/// What comes before the first such byte of a text: all where there is none.
+/// What comes before the first byte of a text that is `mark`: all of the text if there is none.
 fn before(text: &[u8], mark: u8) -> &[u8]
     ensures { result.now ≡ spec.before mark text.now }
 {
@@ -44,7 +44,7 @@ fn before(text: &[u8], mark: u8) -> &[u8]
     }
 }
 
-/// What comes after the first such byte of a text: nothing where there is none.
+/// What comes after the first byte of a text that is `mark`: nothing if there is none.
 fn after(text: &[u8], mark: u8) -> &[u8]
     ensures { result.now ≡ spec.after mark text.now }
 {
@@ -68,7 +68,7 @@ fn is_latin(text: &[u8]) -> bool
     text == b"latin".as_slice() || text == b"iqtelif".as_slice()
 }
 
-/// What a modifier says of the tag. None of one that is not known.
+/// What a modifier says of the tag. None if the modifier is not known.
 fn modifier_of(text: &[u8]) -> Option<Modifier>
     ensures { result ≡ spec.modifier_of text.now }
 {
@@ -93,7 +93,7 @@ fn modifier_of(text: &[u8]) -> Option<Modifier>
     None
 }
 
-/// The section of the tag that a modifier replaces, if it does.
+/// The section of the tag that a modifier replaces. None if it replaces none.
 fn section_of(modifier: Modifier) -> Option<Section>
     ensures { result ≡ spec.section_of modifier }
 {
@@ -105,7 +105,7 @@ fn section_of(modifier: Modifier) -> Option<Section>
     }
 }
 
-/// The value that a modifier puts there.
+/// The value that a modifier puts in place of a section.
 fn value_of(modifier: Modifier) -> &'static [u8]
     ensures { result.now ≡ spec.value_of modifier }
 {
@@ -119,7 +119,7 @@ fn value_of(modifier: Modifier) -> &'static [u8]
     }
 }
 
-/// A hyphen for an underscore.
+/// A hyphen for an underscore, and any other byte as it is.
 fn hyphen_for(byte: u8) -> u8
     ensures { result ≡ spec.hyphen_for byte }
 {
@@ -140,7 +140,7 @@ fn tag_text(alloc: Global, locale: &[u8]) -> Result<Vec<u8>, OutOfMemory>
     Ok(text)
 }
 
-/// The text of the tag that a text is read as, in conventional case, or why it is none.
+/// The text of the tag that a text is read as, in conventional case, or why the text is no tag.
 #[tactic(auto, using(crate::proofs::Locales::no_fault_memory))]
 fn show(alloc: Global, text: &[u8]) -> Result<Vec<u8>, Said>
     ensures shown { IfOk result (λ made. IsShownAs text.now made.items) }
@@ -155,7 +155,8 @@ fn show(alloc: Global, text: &[u8]) -> Result<Vec<u8>, Said>
     }
 }
 
-/// The text of the tag that a text is read as, with the value in place of a section, or as it is.
+/// The text of the tag that a text is read as, with the value in place of the section, or as it is without a section; or why
+/// the text or the value is refused.
 #[tactic(auto, using(crate::proofs::Locales::not_changed))]
 fn change(
     alloc: Global,
@@ -193,11 +194,11 @@ fn tag_of(alloc: Global, name: &[u8]) -> Result<Vec<u8>, Said>
 
 /// Writes the text, in conventional case, of the tag that the name of a POSIX locale stands for (a rule of this project):
 /// `sr-Latn-RS` for `sr_RS.UTF-8@latin`. Hyphens stand for underscores, and the codeset goes. The modifiers `latin`,
-/// `iqtelif`, `cyrillic` and `devanagari` name a script, `valencia` a variant, `saaho` a language; `euro` and `abegede`
-/// say nothing of the tag. `C` and `POSIX` stand for `en-US-u-va-posix`. It asks no registry.
+/// `iqtelif`, `cyrillic` and `devanagari` name a script, `valencia` a variant, `saaho` a language; `euro` and `abegede` say
+/// nothing of the tag. `C` and `POSIX` stand for `en-US-u-va-posix`. It asks no registry.
 ///
-/// Status 1 says that there is no tag, with the fault and its place, a subtag: of another modifier BadByte at 0. Status 4 says
-/// that memory ran out.
+/// Status 1 says that there is no tag, with the fault and its place, which is that of a subtag; another modifier is the fault
+/// BadByte at 0. Status 4 says that memory ran out.
 #[unsafe(no_mangle)]
 pub extern "C" fn bcp47_write_posix(alloc: Global, name: &[u8], buffer: &mut [u8]) -> Outcome
     ensures { WritesPosix name.now buffer.old buffer.new result }

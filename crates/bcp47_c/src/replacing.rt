@@ -114,7 +114,7 @@ fn before_value(section: Section) -> u32
     }
 }
 
-/// What an outcome says of a fault of a text, of which so many subtags are not told.
+/// What an outcome says of a fault of a text whose first `skipped` subtags are not counted.
 pub(crate) fn fault_said(skipped: u32, fault: TagFault) -> Said
     ensures { result ≡ spec.fault_said skipped fault }
 {
@@ -195,7 +195,8 @@ fn parts_of_value(section: Section, parts: &[Part]) -> &[Part]
     }
 }
 
-/// Which part of a value, counted from 0, is in another section. `parts` are those of the text by which it is read.
+/// Which part of a value, counted from 0, is in another section. None if none is. `parts` are those of the text by which the
+/// value is read.
 fn foreign(section: Section, parts: &[Part]) -> Option<usize>
     ensures { result ≡ position (λ (part : Part). not (spec.has section part.kind)) (drop (spec.before_value section) parts.now) }
 {
@@ -204,8 +205,8 @@ fn foreign(section: Section, parts: &[Part]) -> Option<usize>
         .position(|part| !has(section, part.kind))
 }
 
-/// The langtag that has the value of a section and no other, or why the value has not its form. No value takes the
-/// section away, but a language.
+/// The langtag that has the value of a section and no other, or why the value has not its form. An empty value takes the
+/// section away, but is refused for a language.
 #[tactic(auto, using(crate::proofs::Replaced::no_value_memory))]
 fn read_value(alloc: Global, section: Section, value: &[u8]) -> Result<Langtag, Said>
     ensures value { IfOk result (λ langtag. ReadsValue section value.now (form langtag)) }
@@ -239,7 +240,7 @@ fn language<'a>(section: Section, tag: &'a Langtag, other: &'a Langtag) -> &'a C
     }
 }
 
-/// The script, once a section of the tag is replaced by that of the other.
+/// The script, or None if there is none, once a section of the tag is replaced by that of the other.
 fn script<'a>(section: Section, tag: &'a Langtag, other: &'a Langtag) -> Option<&'a Subtag>
     ensures { option_copied result ≡ (with_core section tag.now.core other.now.core).script }
 {
@@ -249,7 +250,7 @@ fn script<'a>(section: Section, tag: &'a Langtag, other: &'a Langtag) -> Option<
     }
 }
 
-/// The region, once a section of the tag is replaced by that of the other.
+/// The region, or None if there is none, once a section of the tag is replaced by that of the other.
 fn region<'a>(section: Section, tag: &'a Langtag, other: &'a Langtag) -> Option<&'a Subtag>
     ensures { option_copied result ≡ (with_core section tag.now.core other.now.core).region }
 {
@@ -361,8 +362,8 @@ fn join(
     Ok(text)
 }
 
-/// The text of a tag with a section replaced by that of another, in conventional case. Refused if it has more than 1,024
-/// bytes.
+/// The text of a tag with a section replaced by that of another, in conventional case. Both must have the form of a tag.
+/// Refused if the text has more than 1,024 bytes, or where memory runs out.
 fn write_replaced(
     alloc: Global,
     section: Section,
@@ -382,8 +383,8 @@ fn write_replaced(
     }
 }
 
-/// The text of the tag that a text is read as, with a section replaced by a value; no value takes the section away. Or why
-/// that is refused.
+/// The text of the tag that a text is read as, with a section replaced by a value; an empty value takes the section away. Or
+/// why the text, the value or what they make is refused.
 pub(crate) fn replace(
     alloc: Global,
     section: Section,
@@ -408,13 +409,13 @@ pub(crate) fn replace(
 }
 
 /// Writes the text, in conventional case, of the tag that a text is read as, with one of its sections replaced by a value
-/// (RFC 5646, 2.1): `zh-Hant-TW` for `zh-TW` and the script `hant`. No value takes the section away: `zh` for `zh-TW` and no
-/// region. A section is told by the kind of part that begins it: 1, a language, with its extlangs; 3, a script; 4, a region; 5, all
-/// variants; 6, all extensions; 18, private use with its `x`. It asks no registry.
+/// (RFC 5646, 2.1): `zh-Hant-TW` for `zh-TW` and the script `hant`. An empty value takes the section away: `zh` for `zh-TW`
+/// and no region. A section is told by the kind of part that begins it: 1, a language, with its extlangs; 3, a script; 4, a
+/// region; 5, all variants; 6, all extensions; 18, private use with its `x`. It asks no registry.
 ///
-/// Status 1 says that a text is refused, with the fault and its place: text 1 is no langtag, as `i-klingon` is not (BadLanguage at
-/// 1); text 2, the value, has not the form of the section; or, where the outcome names no text, what they make has more than 1,024
-/// bytes. Status 4 says that memory ran out, and 14 that the number is that of no section.
+/// Status 1 says that a text is refused, with the fault and its place. Either text 1 is no langtag, for example `i-klingon`
+/// (BadLanguage at 1); or text 2, the value, has not the form of the section; or, where the outcome names no text, what they
+/// make has more than 1,024 bytes. Status 4 says that memory ran out, and 14 that the number is that of no section.
 #[unsafe(no_mangle)]
 pub extern "C" fn bcp47_write_with(
     alloc: Global,

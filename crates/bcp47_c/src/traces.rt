@@ -9,8 +9,8 @@ use crate::steps::{StepNumbers, front_steps};
 use bcp47::{Registry, Tag, Trace, TraceFault};
 use std::alloc::Global;
 
-/// The fault of a trace whose step number `next`, counted from 1, is no step, from the fault of the steps before it: if
-/// these lead to another tag than the last, the fault is that there is no step `next`.
+/// The fault of a trace whose step number `next`, counted from 1, is no step, by the fault of the steps before it. If these
+/// lead to another tag than the last, the fault is that there is no step `next`.
 fn of_front(fault: TraceFault, next: usize) -> TraceFault
     ensures { result ≡ spec.of_front fault next }
 {

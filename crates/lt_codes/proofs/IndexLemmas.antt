@@ -81,7 +81,7 @@ indexed_none places is = record {
   place = λ text n has. subst (IsPlaceOf [] text) (sym (ap (λ l. get_or l n 0) is ∙ get_or-replicate {A = ℕ} numbers n 0 0 (number_small text n has))) refl;
 }
 
--- one more code x with the number n, of which a code before has the place: the places stay
+-- one more code x with the number n, at which a code before has its place: the places stay
 pub indexed_known : (codes : List Code) (places : List ℕ) (x : Code) (n : ℕ) → AreIndexed codes places → IsCode x → number_of x.code ≡ Some n → get_or places n 0 ≢ 0 → AreIndexed (codes ++ x ∷ []) places
 indexed_known codes places x n old code is taken = record {
   each = All-push IsCode codes x old.each code;

@@ -44,8 +44,8 @@ EndsTable remaining before after read (Ok codes) = HoldsTable remaining before a
 EndsTable remaining before after read (Err fault) =
     FailsRead before after read fault ⊎ RefusesRead remaining before after read fault
 
--- a table was read from a device, `before` and `after`, of whose own reader `remaining` tells what it has still to
--- give
+-- a table was read from a device, which was `before` and is `after`; `remaining` tells what its own reader has still
+-- to give
 pub record ReadsTable {I : Type 0} (remaining : I → Option (List ℕ)) (before after : Device I)
     (result : Result (List Code) TableFault) : Type 0 where
   pub read : List ℕ
@@ -57,7 +57,7 @@ pub record ReadsTable {I : Type 0} (remaining : I → Option (List ℕ)) (before
 
 -- ---- within a reading
 
--- the fault of a table for what ended the reading of it
+-- the fault of a table whose reading was ended by this fault
 abbrev pub kind_of : ToolFault → TableFaultKind
 kind_of faults.OutOfMemory = kinds.OutOfMemory
 kind_of fault = kinds.Read

@@ -1,4 +1,4 @@
--- The rows of a table of codes, as of ISO 639-2, and the codes that each adds.
+-- The rows of a table of codes (ISO 639-2), and the codes that each row adds.
 use Rattle.std.specs.Prelude.{◌≡◌, ◌==◌, ◌&&◌, ℕ, Bool, List, [], ◌∷◌, Option, Some, None, Result, Ok, Err}
 use Rattle.std.specs.Prelude.{if◌then◌else◌, is_some, length, option_map, unwrap_or}
 use Rattle.std.specs.List.{after_first, before_first, slice_split}
@@ -24,7 +24,7 @@ abbrev pub if_letters : ℕ → Result (List ℕ) SubtagFault → Option (List �
 if_letters count (Ok code) = if is_alphabetic code && (length code == count) then Some code else None
 if_letters count (Err fault) = None
 
--- the code of this many letters that a field is, in lower case; None if it is none
+-- the code of this many letters that a field is, in lower case; None if it is no such code
 abbrev pub code_of : (count : ℕ) → List ℕ → Option (List ℕ)
 code_of count field = if_letters count (subtag_of field)
 
@@ -33,7 +33,7 @@ abbrev pub code_or_none : (count : ℕ) → List ℕ → Option (Option (List �
 code_or_none count [] = Some None
 code_or_none count (byte ∷ field) = option_map Some (code_of count (byte ∷ field))
 
--- whether a field is two codes of three letters with a hyphen (45) between them, as `qaa-qtz`
+-- whether a field is two codes of three letters with a hyphen (45) between them, for example `qaa-qtz`
 abbrev pub is_range : List ℕ → Bool
 is_range field =
     is_some (code_of 3 (after_first (λ byte. byte == 45) field))

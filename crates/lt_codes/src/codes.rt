@@ -40,7 +40,7 @@ impl Model for CodeTable {
     ghost invariant = { λ table. AreIndexed table.codes.items table.places.items };
 }
 
-/// The number of a letter, counted from 0, whatever its case. None of any other byte.
+/// The number of a letter, counted from 0, whatever its case. None for any other byte.
 fn letter_of(byte: u8) -> Option<usize>
     ensures number { result ≡ spec.letter_of byte }
     ensures small { IfSome result (λ number. number < 26) }
@@ -52,8 +52,8 @@ fn letter_of(byte: u8) -> Option<usize>
     }
 }
 
-/// The number of a text of three letters, whatever their case: the three digits, to the base 26, that the letters are.
-/// None of any other text.
+/// The number of a text of three letters, whatever their case: the letters are its digits to the base 26. None for any other
+/// text.
 fn number_of(text: &[u8]) -> Option<usize>
     ensures number { result ≡ spec.number_of text.now }
     ensures small { IfSome result (λ number. number < 17576) }
@@ -90,7 +90,8 @@ impl CodeTable {
         let _ = &self.codes;
     }
 
-    /// Adds a code after the others, with the subtag that is registered for it. Refused where memory runs out.
+    /// Adds a code after the others, with the subtag that is registered for it. The code must be three letters in lower case,
+    /// and the subtag at least two bytes long. Refused where memory runs out.
     pub(crate) fn push(&mut self, code: Subtag, registered: Subtag) -> Result<(), AllocError>
         requires { IsCode (record { code = code; registered = registered }) }
         ensures { OnOk result (self.new ≡ self.old ++ record { code = code; registered = registered } ∷ []) }

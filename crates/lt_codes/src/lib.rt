@@ -1,6 +1,5 @@
-//! Codes of languages as library catalogues write them (ISO 639-2), `ger` and `fre`, and what BCP 47 registers for them, by
-//! the table that the Library of Congress publishes. A program of your own begins with the crate
-//! `bcp47`.
+//! Codes of languages as library catalogues write them (ISO 639-2), for example `ger` and `fre`, and what BCP 47 registers
+//! for them, by the table that the Library of Congress publishes. A program of your own begins with the crate `bcp47`.
 #![tactic(auto)]
 
 mod codes;

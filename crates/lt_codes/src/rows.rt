@@ -79,8 +79,7 @@ fn code_of(field: &[u8], count: usize) -> Option<Subtag>
     }
 }
 
-/// The code that a field is, within Some, or Some(None) if the field is empty. None if it is anything else but `count`
-/// letters.
+/// The code that a field is, or Some(None) if the field is empty. None if the field is neither empty nor `count` letters.
 fn code_or_none(field: &[u8], count: usize) -> Option<Option<Subtag>>
     ensures { result ≡ spec.code_or_none count field.now }
 {

@@ -12,8 +12,8 @@ use Rattle.lt_heading.specs.declared.first_rows.FirstRow.{FirstRow}
 
 -- ---- the mark is split off
 
--- the text after the mark was taken: `kept`, the bytes before, are the new mark and the new text, which is one row so
--- far, or has a first row of the length `end`; `mark` and `text` are what `kept` was split into
+-- The text after the mark was taken. `kept`, the bytes before, were split into `mark` and `text`. They are the new
+-- mark and the new text, which is one row so far, or has a first row of the length `end`.
 pub begin_done : (S : Separator) (kept mark text old_text new_text new_mark : List ℕ) (place : Place) (end : Option ℕ) → SplitsMark kept mark text
     → old_text ≡ [] → new_mark ≡ take (length mark) kept → TakesText S text old_text new_text place (Ok end) → SplitsMark kept new_mark new_text × IsRowIn S new_text place end
 begin_done S kept mark text old_text new_text new_mark place end s none cut t =
@@ -159,7 +159,7 @@ module _ (S : Separator) (old new : FirstRow) where
   finish_begun (Err f) b e =
       inl (e.0, record { mark = old.mark.items; text = old.text.items; split = marked_alone old b.marked; one = b.so_far.one; inside = e.1 b.so_far })
 
-  -- of bytes that are shorter than a mark
+  -- the bytes are shorter than a mark, and end
   module _ (u : IsUndecided old) where
     -- all bytes that were taken are those that are kept for the mark
     all_of : taken_by old ≡ old.mark.items

@@ -40,7 +40,8 @@ heading_ended S bytes mark text more end split narrow e = record {
   first = rw (e.cut, e.end_is, heading_is e.row e.rest, append_assoc e.row (10 ∷ e.rest) more) (rows_of S (e.rest ++ more), rows_ended S e.row (e.rest ++ more) e.whole.one e.whole.closed, e.whole);
 }
 
--- the same where no bytes follow
+-- bytes with a first row that ends have it as their heading, where no bytes follow; `text` is what they have after the
+-- byte order mark, and `end` the length of the row
 heading_at_end : (S : Separator) (bytes mark text : List ℕ) (end : ℕ) → SplitsMark bytes mark text → (IsWide bytes → ⊥) → EndsRow S text end → HasHeading S bytes (heading_in text end)
 heading_at_end S bytes mark text end split narrow e = record {
   mark = mark;

@@ -85,7 +85,7 @@ long_fault separators.Tab = faults.BadTsv 1
 long_fault (separators.Delimiter delimiter) = faults.BadCsv 1
 
 -- why the heading of a reader was not read: `before` and `after` are its device, whose bytes `remaining` gives, and
--- `read` the bytes that so many `reads` gave; OutOfMemory may be answered of any
+-- `read` the bytes that so many `reads` gave; OutOfMemory may be answered of any reader
 abbrev pub StopsHeading : {I : Type 0} → Separator → (I → Option (List ℕ)) → (before after : Device I)
     → (reads : ℕ) → (read : List ℕ) → ToolFault → Type 0
 StopsHeading S remaining before after reads read faults.Read = HasFailed before after

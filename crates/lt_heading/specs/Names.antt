@@ -11,8 +11,8 @@ use Rattle.lt_heading.specs.declared.names.Found.{Found}
 use Rattle.lt_heading.specs.declared.names.Found.TheVariants as founds
 use Rattle.lt_heading.specs.declared.names.Looked.{Looked}
 
--- a text in quotes as it is meant, with one quote (34) for each two; `after_quote` says whether one that stays was
--- before it (RFC 4180, 2)
+-- a text in quotes as it is meant, with one quote (34) for each two; `after_quote` says whether the byte before it is
+-- a quote that stays (RFC 4180, 2)
 abbrev pub undoubled : (after_quote : Bool) → List ℕ → List ℕ
 undoubled after_quote [] = []
 undoubled after_quote (byte ∷ text) =
@@ -93,7 +93,7 @@ shown_name name = 32 ∷ 34 ∷ escaped (take most_shown name) ++ 34 ∷ dots_af
 abbrev pub listed_names : List (List ℕ) → List ℕ
 listed_names names = flat_map shown_name (take most_listed names)
 
--- how many of so many names are not listed, if any
+-- how many of `count` names are not listed, if any
 abbrev pub rest_said : (count : ℕ) → List ℕ
 rest_said count =
     if nat_lt most_listed count then codes " and " ++ decimal (count - most_listed) ++ codes " more" else []
@@ -102,8 +102,8 @@ rest_said count =
 abbrev pub shown_names : List (List ℕ) → List ℕ
 shown_names names = listed_names names ++ rest_said (length names)
 
--- the line that says how many columns have a name, as `no column` (`whose`), and lists the names; the name (`shown`)
--- and these (`listed`) are given as they are shown
+-- the line that says how many columns have a name, in the words `whose`, for example `no column`, and lists the names;
+-- the name (`shown`) and the list (`listed`) are given as they are shown
 abbrev pub shown_line : (whose shown listed : List ℕ) → List ℕ
 shown_line whose shown listed =
     codes "error: " ++ whose ++ codes " has the name" ++ shown ++ codes "; names:" ++ listed ++ 10 ∷ []
@@ -114,7 +114,7 @@ name_line whose name names = shown_line whose (shown_name name) (shown_names nam
 
 -- ---- the steps
 
--- what is appended to a list of names for a further one, if so many come before it
+-- what is appended to a list of names for a further one, before which `count` come
 abbrev pub listed_after : (count : ℕ) → (name : List ℕ) → List ℕ
 listed_after count name = if nat_lt count most_listed then shown_name name else []
 

@@ -49,8 +49,8 @@ impl From<AllocError> for ColumnFault {
     }
 }
 
-/// The line that says why a name is not found: that `whose`, as `no column`, has the name `shown`. `listed` are the
-/// names of the heading, and both are as they are shown.
+/// The line that says why a name is not found: `whose` has the name `shown`, where `whose` is `no column` or
+/// `more than one column`. `listed` are the names of the heading, which are given, like `shown`, as they are shown.
 fn line_of(alloc: Global, whose: &str, shown: &str, listed: &str) -> Result<String, AllocError>
     ensures { IfOk result (λ line. string_bytes line ≡ shown_line whose.now shown.now listed.now) }
 {
@@ -76,7 +76,7 @@ fn pick_column(alloc: Global, looked: &Looked, name: &str) -> Result<usize, Colu
     Err(ColumnFault::Name(line_of(alloc, whose, &shown, &looked.listed)?))
 }
 
-/// The part of a text before the index `end`, or None if the text is empty.
+/// The part of a text before the index `end`, or None if the text is empty. The index must be within the text, or at its end.
 fn heading_in(text: &[u8], end: usize) -> Option<&[u8]>
     requires { end ≤ length text.now }
     ensures { option_map (λ row. row.now) result ≡ spec.heading_in text.now end }
@@ -87,16 +87,16 @@ fn heading_in(text: &[u8], end: usize) -> Option<&[u8]>
     Some(&text[..end])
 }
 
-/// Finds the only column that has a name in the heading of rows, which is the first of them, after a byte order mark of UTF-8.
-/// The texts of its fields are the names; of a quoted one each doubled quote is one quote, and a carriage return that ends the
-/// heading is no part of the last. Names are equal where all bytes are. Where there is no row, no column has a name. It reads
-/// until the heading is whole, and gives all bytes that it read.
+/// Finds the only column that has a name in the heading of rows, which is the first of them, after a byte order mark of
+/// UTF-8. The texts of its fields are the names. In a quoted field each doubled quote is one quote, and a carriage return
+/// that ends the heading is no part of the last name. Names are equal where all bytes are. If there is no row, no column has
+/// a name. It reads until the heading is whole, and gives all bytes that it read.
 ///
-/// - `Name`, if no column has the name, or more than one: the text is one line that says so and has the first 64 names,
-///   each cut to 64 bytes.
-/// - `Heading`, if the heading can't be read: `BadCsv(1)` if the reader's bytes end within its quotes, this or `BadTsv(1)` if it
-///   is longer than 16,777,216 bytes, `Utf16` if the bytes begin with a byte order mark of UTF-16, `Read` if a read fails,
-///   `TooManyTurns` if all 10,000,000 reads were made and the last gave bytes; and `OutOfMemory`.
+/// - `Name`, if no column has the name, or more than one: the text is one line that says so and has the first 64 names, each
+///   cut to 64 bytes.
+/// - `Heading`, if the heading can't be read: `BadCsv(1)` if the reader's bytes end within its quotes, `BadCsv(1)` or
+///   `BadTsv(1)` if it is longer than 16,777,216 bytes, `Utf16` if the bytes begin with a byte order mark of UTF-16, `Read`
+///   if a read fails, `TooManyTurns` if all 10,000,000 reads were made and the last gave bytes; and `OutOfMemory`.
 pub fn find_column<R: Read>(
     alloc: Global,
     separator: Separator,

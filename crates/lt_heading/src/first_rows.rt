@@ -60,8 +60,9 @@ fn append_part(
     Ok(place_then(separator, place, part))
 }
 
-/// Appends a piece to a text that is one row so far, and gives the index at which the row ends, or None if it goes on;
-/// `place`, the place at the end of the text, moves on with it. Refused as `append_part` is.
+/// Appends a piece to a text, which must be one row so far and not too long, with `place` as the place at its end. Gives the
+/// index at which the row ends, or None if it goes on; `place` moves on to the new end of the text. Refused as `append_part`
+/// is.
 fn take_text(
     separator: Separator,
     text: &mut Vec<u8>,
@@ -101,8 +102,8 @@ impl FirstRow {
         }
     }
 
-    /// Splits the byte order mark off the bytes that are kept, and takes the text after it. It gives the index in that
-    /// text at which the first row ends, or None if it goes on. Refused as `append_part` is.
+    /// Splits the byte order mark off the bytes that are kept, and takes the text after it. It gives the index in that text
+    /// at which the first row ends, or None if it goes on. Refused as `append_part` is. No text must have been taken before.
     fn begin(&mut self, separator: Separator) -> Result<Option<usize>, ToolFault>
         requires none { self.old.text.items ≡ [] }
         requires fresh { self.old.place ≡ Place.Fresh }
@@ -116,8 +117,9 @@ impl FirstRow {
         Ok(end)
     }
 
-    /// Takes the next bytes, and gives the index in the text after the mark at which the first row ends, or None if it
-    /// goes on. Refused with `Utf16` if the bytes begin with a byte order mark of UTF-16, or as `append_part` is.
+    /// Takes the next bytes, and gives the index in the text after the mark at which the first row ends, or None if it goes
+    /// on. Refused with `Utf16` if the bytes begin with a byte order mark of UTF-16, or as `append_part` is. The bytes before
+    /// must not have ended the first row.
     fn take_piece(&mut self, separator: Separator, piece: &[u8]) -> Result<Option<usize>, ToolFault>
         requires { IsGoing separator self.old }
         ensures { TakesPiece separator piece.now self.old self.new result }
@@ -159,8 +161,8 @@ impl FirstRow {
         Ok(self.text.len())
     }
 
-    /// Ends the bytes, and gives the index in the text after the mark at which the first row ends. Refused with
-    /// `BadCsv(1)` if a quote is open, or as `append_part` is.
+    /// Ends the bytes, and gives the index in the text after the mark at which the first row ends. Refused with `BadCsv(1)`
+    /// if a quote is open, or as `append_part` is. The bytes must not have ended the first row.
     fn finish(&mut self, separator: Separator) -> Result<usize, ToolFault>
         requires { IsGoing separator self.old }
         ensures { FinishesText separator (spec.taken_by self.old) self.new result }
@@ -201,7 +203,8 @@ impl Pieces<()> for Heading {
         self.first.take_piece(self.separator, piece)
     }
 
-    /// Ends the bytes, and gives the index in the text after the mark at which the first row ends.
+    /// Ends the bytes, and gives the index in the text after the mark at which the first row ends. Refused as
+    /// `FirstRow::finish` is.
     fn finish(&mut self, _alloc: Global, _output: &mut ()) -> Result<usize, ToolFault> {
         self.first.finish(self.separator)
     }

@@ -105,7 +105,7 @@ pub(crate) fn append_shown(shown: &mut String, alloc: Global, name: &[u8]) -> Re
     Ok(())
 }
 
-/// Appends a name to the list of those before it, which are so many, if it is one of the first that are listed.
+/// Appends a name to a list of names, if it is one of the first that are listed: `count` names come before it.
 fn append_listed(
     listed: &mut String,
     alloc: Global,
@@ -120,7 +120,8 @@ fn append_listed(
     Ok(())
 }
 
-/// What was found of a name among so many names, the first of which are listed: the list says how many more there are.
+/// What was found of a name among `count` names. `listed` are the first of them, and the list then says how many more there
+/// are.
 fn looked_among(
     alloc: Global,
     found: Found,

@@ -39,8 +39,8 @@ counts_for_kept forms.Tag number line bytes true old new c =
     }
 counts_for_kept form number line bytes true old new c = c
 
--- the line of the front `last` and the last bytes `part` is counted as by all of it where it is counted by what is
--- kept: `before` was kept of `last`, and `kept` with `part`; where nothing was kept, the line is `part` alone
+-- A line is counted as by all of it where it is counted by what is kept of it. `last` is its front, of which `before`
+-- was kept, and `part` its last bytes, with which `kept` is kept. Where nothing was kept, the line is `part` alone.
 pub counts_line : (form : LineForm) (number : ℕ) (last part bytes before kept : List ℕ) (refused : Bool) (old new : List Tally) → before ≡ kept_of form last → KeepsPart form before part kept
     → CountsIf form number (line_at kept part) bytes refused old new → CountsIf form number (last ++ part) bytes refused old new
 counts_line form number last part bytes [] kept refused old new is keeps c =

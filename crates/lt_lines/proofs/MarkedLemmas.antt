@@ -75,7 +75,7 @@ pub record IsAt (T : Terms) (bytes written : List ℕ) (state : Answering) : Typ
   pub written_is : written ≡ mark ++ out
   pub taken : IsTaken T text out state
 
--- of a state past the mark the mark was written, and the text after it was taken in
+-- in a state past the mark, the mark was written, and the text after it was taken in
 pub at_after : (T : Terms) (bytes written : List ℕ) (state : Marked) → IsTakenAfter T bytes written state → IsAt T bytes written state.answering
 at_after T bytes written state a = record {
   mark = a.mark;

@@ -82,7 +82,7 @@ module _ {W : Type 0} (T : Terms) (contents : W → Option (List ℕ)) (start : 
           emptied = (p.done.1 read t.written t.taken t.emptied).1;
         }
 
-    -- why a run over a text ends, told of the output since `before`, is true of it since the beginning of the run
+    -- why a run over a text ends is true since the beginning of the run, if it is true since the output was `before`
     ends_from : (bytes written : List ℕ) (tallies : List Tally) (f : ToolFault) → EndsText T before after bytes written tallies f → EndsText T start after bytes written tallies f
     ends_from bytes written tallies f (inl stop) = inl (stop_from start before after f t.same stop.0, stop.1)
     ends_from bytes written tallies f (inr (inl wide)) = inr (inl (wide.0, wide.1 ∙ t.same, wide.2, wide.3, wide.4, wide.5))
@@ -122,11 +122,11 @@ module _ {I W A : Type 0} (T : Terms) (U : A → Terms) (text : A → Marked) (r
   abbrev Taken : RunFact (Device W) A
   Taken start now read state = (U state ≡ T) × IsReading T contents start now read (text state)
 
-  -- what is true of it where a piece ended it
+  -- what is true of the run if a piece ended it
   abbrev Stopped : EndFact (Device W) A Counts
   Stopped start now read state r = StopsReading T contents start now read (text state).answering.tallies r
 
-  -- what is true of it where the end of the text did
+  -- what is true of the run if the end of the text ended it
   abbrev Finished : EndFact (Device W) A Counts
   Finished start now read state r = EndsReading T contents start now read (text state).answering.tallies r
 

@@ -18,7 +18,7 @@ use Rattle.lt_lines.specs.TagLines.{AreOwedLines, EndsTags, IsOwedLine, Owes, Ow
 use Rattle.lt_lines.specs.declared.forms.LineForm.TheVariants as forms
 use Rattle.lt_lines.specs.declared.runs.Counts.{Counts}
 
--- a text is a front of it and what is behind that
+-- a text is its first `n` bytes and the bytes after them
 front_rest : (n : ℕ) (text : List ℕ) → take n text ++ drop (length (take n text)) text ≡ text
 front_rest zero text = refl
 front_rest (suc n) [] = refl

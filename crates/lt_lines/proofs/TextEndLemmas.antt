@@ -1,4 +1,4 @@
--- The call that answers the end of such a text.
+-- The call that answers the end of a text that may begin with a byte order mark.
 use Rattle.std.proofs.Common.{Result, Ok, Err, ◌≡◌, ◌++◌, ◌∙◌, ◌⊎◌, ℕ, List, [], true, false, Option, sym, ap, refl, subst, append_assoc, inl, inr}
 use Rattle.std.proofs.KnownBytes.{Appends-trans}
 use Rattle.lt_jar.specs.Devices.{failures_of}
@@ -15,8 +15,6 @@ use Rattle.lt_lines.specs.declared.runs.Counts.{Counts}
 use Rattle.lt_stream.specs.declared.faults.ToolFault.{ToolFault}
 use Rattle.lt_lines.proofs.MarkedLemmas.{IsAt, at_after, splits_marked, stop_from}
 use Rattle.lt_lines.proofs.TextRunLemmas.{unbegun}
-
--- ---- the end
 
 -- all lines after the mark were answered: all that is owed for the bytes was written; `a` is the state before the end
 finish_done : {W : Type 0} (T : Terms) (contents : W → Option (List ℕ)) (bytes out : List ℕ) (a new : Answering) (before after : Device W) (counts : Counts) → IsAt T bytes out a

@@ -33,8 +33,9 @@ use Rattle.lt_lines.specs.declared.runs.Counts.{Counts}
 use Rattle.lt_stream.specs.declared.faults.ToolFault.{ToolFault}
 use Rattle.lt_stream.specs.declared.faults.ToolFault.TheVariants as faults
 
--- the most bytes that are kept of a line that is a tag: 1,024 of the longest tag, one as a code may be a byte longer
--- than the subtag that replaces it, one that tells that the line is too long, and a carriage return (13)
+-- The most bytes that are kept of a line that is a tag: 1,027. The longest tag has 1,024. A code may be a byte longer
+-- than the subtag that replaces it, one byte more tells that the line is too long, and a carriage return (13) may end
+-- it.
 abbrev pub longest_kept : ℕ
 longest_kept = 1027
 
@@ -79,8 +80,8 @@ IsLongBy (forms.Csv row delimiter) kept count = longest_row < kept + count
 abbrev pub line_of : Answering → ℕ
 line_of state = (state.feeds - feeds_in state.kept.items) + 1
 
--- `part` is the last bytes of a line, after those that are kept and the place that these end at: the line ends outside
--- of quotes, and is short enough
+-- `part` is the last bytes of a line of which `kept` is kept, and `place` is the place after that: the line ends
+-- outside of quotes, and is short enough
 pub record IsWholeAfter (form : LineForm) (kept : List ℕ) (place : Place) (part : List ℕ) : Type 0 where
   pub one : IsOneLine part
   pub closed : is_quoted (place_then form place part) ≡ false
@@ -93,9 +94,9 @@ pub record AppendsTextReply (R : List EntryParts) (text old new : List ℕ) (ref
   pub grown : new ≡ old ++ bytes
   pub owed : IsTextReply R text (reply bytes refused)
 
--- the row `line` was appended to the answers `old`, which gives `new`, unchanged but for two further fields: the
--- canonical text of `text`, which is that of the row's field, and an empty one; or, if it is refused, an empty one and
--- why
+-- The row `line` was appended to the answers `old`, which gives `new`, unchanged but for two further fields. These are
+-- the canonical text of `text`, the text of the row's field, and an empty one; or, if it is refused, an empty one and
+-- why. `G` is the entries and the codes by which texts are answered.
 pub record AppendsKept (S : Separator) (G : Ground) (text line old new : List ℕ) (refused : Bool) : Type 0 where
   pub canonical : List ℕ
   pub told : List ℕ
@@ -104,8 +105,8 @@ pub record AppendsKept (S : Separator) (G : Ground) (text line old new : List �
       ⊎ ((refusal : TextRefusal) × IsTextRefusal G.entries (registered_text G.codes text) refusal × IsTold refusal told
       × (canonical ≡ []) × (refused ≡ true))
 
--- the answer to a row, `line`, was appended to the answers `old`, which gives `new`; `refused` is whether it is a
--- refusal
+-- The answer to a row, `line`, was appended to the answers `old`, which gives `new`. `G` is the entries and the codes
+-- by which texts are answered, `row` is the form of rows, and `refused` is whether the answer is a refusal.
 pub record AppendsRowReply (S : Separator) (G : Ground) (row : RowForm) (line old new : List ℕ)
     (refused : Bool) : Type 0 where
   pub bytes : List ℕ
@@ -119,8 +120,9 @@ pub record AppendsHeadingReply (kept : Bool) (S : Separator) (line old new : Lis
   pub grown : new ≡ old ++ bytes
   pub owed : IsHeadingReply kept S line (reply bytes refused)
 
--- the answer to a line of a table was appended to the answers `old`, which gives `new`: `heading` is whether the line
--- is the table's heading, else it is a row, and `refused` is whether the answer is a refusal
+-- The answer to a line of a table was appended to the answers `old`, which gives `new`. `heading` is whether the line
+-- is the table's heading, else it is a row. `G` is the entries and the codes by which texts are answered, and
+-- `refused` is whether the answer is a refusal.
 pub record AppendsReplyAmong (S : Separator) (G : Ground) (row : RowForm) (heading : Bool) (line old new : List ℕ)
     (refused : Bool) : Type 0 where
   pub bytes : List ℕ
@@ -134,9 +136,9 @@ pub record AppendsReply (T : Terms) (first : Bool) (line old new : List ℕ) (re
   pub grown : new ≡ old ++ bytes
   pub owed : IsReplyTo T first line (reply bytes refused)
 
--- the answer to a line, of whose front `kept` was kept, and whose last bytes are `part`, was appended to the answers
--- `old`, which gives `new`: `first` is whether the line is the first of the text, and `refused` whether the answer is a
--- refusal
+-- The answer to a line, of whose front `kept` was kept, and whose last bytes are `part`, was appended to the answers
+-- `old`, which gives `new`. `first` is whether the line is the first of the text, and `refused` whether the answer is
+-- a refusal.
 pub record AppendsLine (T : Terms) (first : Bool) (kept part old new : List ℕ) (refused : Bool) : Type 0 where
   pub bytes : List ℕ
   pub grown : new ≡ old ++ bytes

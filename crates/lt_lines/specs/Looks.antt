@@ -22,8 +22,8 @@ IsLook forms.Tag line look = look ≡ None
 IsLook (forms.Row row) line look = IsRowLook separators.Tab row.before line look
 IsLook (forms.Csv row delimiter) line look = IsRowLook (separators.Delimiter delimiter) row.before line look
 
--- `kept` is the front of a line that came in earlier pieces, and `line` the bytes of it that came now: a look was made
--- only where `kept` is empty, so at a whole line, and what it found is true
+-- `kept` is the front of a line that came in earlier pieces, and `line` the bytes of it that came now. A look was made
+-- only where `kept` is empty, so at a whole line, and what it found is true.
 pub record IsAhead (form : LineForm) (kept line : List ℕ) (look : Option Look) : Type 0 where
   pub is_look : IsLook form line look
   pub whole : MatchOption look (Unit {0}) (λ _. kept ≡ [])

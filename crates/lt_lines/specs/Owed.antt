@@ -161,7 +161,7 @@ pub record LacksField (kept : Bool) (S : Separator) (before : ℕ) (line bytes :
   pub fewer : HasFewer S before (content_of line)
   pub line_is : bytes ≡ refused_line kept S line (codes "NoColumn")
 
--- the answer that is owed for a row by its field, but for one where memory runs out
+-- the answer that is owed for a row by what its field is; none is owed where memory runs out
 abbrev pub IsFieldReply : Separator → Ground → RowForm → List ℕ → Reply → Type 0
 IsFieldReply S G row line r =
     (AnswersOrKeeps row.is_kept S G row.before line r.bytes × (r.refused ≡ false))
@@ -278,7 +278,7 @@ abbrev pub AreLinesIn : (text : List ℕ) → List (List ℕ) → Type 0
 AreLinesIn text lines = (text ≡ ended lines) ⊎ (text ++ 10 ∷ [] ≡ ended lines)
 
 -- a line of this form is one of the grammar: in CSV a record in the words of RFC 4180 (2), unless the delimiter is a
--- quote (34) or a line feed; in other forms each line is
+-- quote (34) or a line feed (10); in other forms any line
 abbrev pub IsOfGrammar : LineForm → List ℕ → Type 0
 IsOfGrammar forms.Tag line = Unit {0}
 IsOfGrammar (forms.Row row) line = Unit {0}

@@ -16,7 +16,7 @@ detail_of refusals.OutOfMemory = []
 abbrev pub told_of : TextRefusal → List ℕ
 told_of refusal = text_refusal_name_of refusal ++ 32 ∷ [] ++ detail_of refusal
 
--- `told` is what is told of the refusal; of OutOfMemory nothing is
+-- `told` is what is told of the refusal; nothing is told of OutOfMemory
 abbrev pub IsTold : TextRefusal → List ℕ → Type 0
 IsTold (refusals.NotATag fault) told = told ≡ told_of (refusals.NotATag fault)
 IsTold (refusals.Invalid fault) told = told ≡ told_of (refusals.Invalid fault)

@@ -36,9 +36,9 @@ pub(crate) fn append_told(lines: &mut Vec<u8>, refusal: &TextRefusal) -> Result<
     Ok(())
 }
 
-/// Appends the line of a refusal: `! `, its name, a space, the place of the fault or the variant that steps can
-/// repeat, and a line feed, as `! BadByte 1`. Refused where memory runs out, and for
-/// `TextRefusal::OutOfMemory`, which has no line; a part of the line may then have been appended.
+/// Appends the line of a refusal: `! `, its name, a space, the place of the fault or the variant that steps can repeat, and a
+/// line feed, for example `! BadByte 1`. Refused where memory runs out, and for `TextRefusal::OutOfMemory`, which has no
+/// line; a part of the line may then have been appended.
 pub fn append_refusal(lines: &mut Vec<u8>, refusal: &TextRefusal) -> Result<(), OutOfMemory>
     ensures { OnOk result (AppendsRefusal refusal.now lines.old.items lines.new.items) }
 {

@@ -56,8 +56,9 @@ fn append_longer(
     append_end(lines, line)
 }
 
-/// Ends the row of an answer whose canonical text was appended: appends `after`, which is the rest of the row if rows are
-/// not kept, an empty field for the fault, and the end of the line. The answer keeps the carriage return of `line`.
+/// Ends the answer to a row, after its canonical text: appends `after`, a separator with an empty field (no fault), and the
+/// line end of `line`. `after` is the rest of the row where the canonical text stands in the field of the tag; it is empty
+/// where the row stayed as it was (`--keep`).
 #[inline(always)]
 fn end_answered(
     lines: &mut Vec<u8>,
@@ -72,8 +73,9 @@ fn end_answered(
     append_end(lines, line)
 }
 
-/// Ends the row of an answer that is refused: appends `text`, which is the rest of the row as it was if rows are not kept, a
-/// last field that says why, and the end of the line. The answer keeps the carriage return of `line`.
+/// Ends the answer to a row that is refused: appends `text`, a separator with a field that says why, and the line end of
+/// `line`. `text` is the rest of the row, from the text of its field on; it is empty where the row stayed as it was
+/// (`--keep`).
 #[inline(never)]
 fn end_refused(
     lines: &mut Vec<u8>,
@@ -91,9 +93,9 @@ fn end_refused(
     Ok(())
 }
 
-/// Appends a row as it is, and two fields after it: the canonical text of its tag and an empty one, or an empty one and
-/// why the tag is refused. Tells whether it is refused. The tag is the first `count` bytes of `text`; what follows them
-/// is for speed alone, as 32 bytes are taken at once. `line` is the line of the row.
+/// Appends a row as it is, and two fields after it: the canonical text of its tag and an empty one, or an empty one and why
+/// the tag is refused. Tells whether it is refused. The tag is the first `count` bytes of `text`; what follows them is for
+/// speed alone, as 32 bytes are taken at once. `line` is the line of the row. `text` must have at least `count` bytes.
 #[inline(never)]
 fn append_kept<L: Lookup>(
     lines: &mut Vec<u8>,
@@ -126,10 +128,10 @@ fn append_kept<L: Lookup>(
     }
 }
 
-/// Appends the answer to a row whose tag stands at `place`, and tells whether the tag is refused. The row's line is the
-/// first `count` bytes of `text`, with no carriage return outside of quotes but one that ends it; what follows them is
-/// for speed alone, as 32 bytes are taken at once. The clauses suppose that all that `recent` has is right, and then it
-/// stays so; what is kept of fields is the same of rows and of CSV.
+/// Appends the answer to a row whose tag stands at `place`, and tells whether the tag is refused. The row's line is the first
+/// `count` bytes of `text`, and must have no carriage return outside of quotes but one that ends it; what follows these bytes
+/// is for speed alone, as 32 bytes are taken at once. The clauses suppose that all that `recent` has is right, and then it
+/// stays so. The same is kept of the fields of rows and of records of CSV. `text` must have at least `count` bytes.
 #[inline(always)]
 fn append_found<L: Lookup>(
     lines: &mut Vec<u8>,
@@ -173,9 +175,9 @@ fn append_found<L: Lookup>(
     }
 }
 
-/// Looks at a row that is whole only with the bytes of this piece: its front was kept from an earlier one, so that
-/// nothing is known of its bytes. The row's line is the first `count` bytes of `text`, and `before` is how many fields
-/// come before that of the tag.
+/// Looks at a row whose front was kept from an earlier piece, so that it isn't known what its bytes lack. The row's line is
+/// the first `count` bytes of `text`, and `before` is how many fields come before that of the tag. `text` must have at least
+/// `count` bytes.
 #[inline(never)]
 fn look_at_kept(separator: Separator, before: usize, text: &[u8], count: usize) -> Look
     requires { count ≤ length text.now }
@@ -184,8 +186,9 @@ fn look_at_kept(separator: Separator, before: usize, text: &[u8], count: usize) 
     look_at_row(separator, UNKNOWN, before, text, count)
 }
 
-/// What the look at a row found: `look`, or, where there was none before, a look at the first `count` bytes of `text`.
-/// `before` is how many fields come before that of the tag.
+/// What the look at a row found: `look`, or, where there was none before, a look at the first `count` bytes of `text`. `look`
+/// must be one at the same bytes for the same field. `before` is how many fields come before that of the tag. `text` must
+/// have at least `count` bytes.
 #[inline(always)]
 fn looked_at(
     separator: Separator,
@@ -204,9 +207,10 @@ fn looked_at(
     }
 }
 
-/// Appends the answer to a row, and tells whether it is refused: `BadReturn` and `NoColumn` are told in its last field,
-/// and so is the refusal of its tag. The row's line is the first `count` bytes of `text`; what follows them is for
-/// speed alone, as up to 64 bytes are taken at once. `look` is the look at it, if there was one.
+/// Appends the answer to a row, and tells whether it is refused: `BadReturn` and `NoColumn` are told in its last field, and
+/// so is the refusal of its tag. The row's line is the first `count` bytes of `text`; what follows them is for speed alone,
+/// as up to 64 bytes are taken at once. `look` must be the look at it, if there was one. `text` must have at least `count`
+/// bytes.
 #[inline(always)]
 fn append_row<L: Lookup>(
     lines: &mut Vec<u8>,
@@ -271,9 +275,10 @@ fn append_heading(
     Ok(false)
 }
 
-/// Appends the answer to a line, and tells whether it is refused. The line is a heading if `is_first`, as the first of
-/// all is, and the form has one; each other is a row. It is the first `count` bytes of `text`; what follows them is for
-/// speed alone, as up to 64 bytes are taken at once. `look` is the look at it, if there was one.
+/// Appends the answer to a line, and tells whether it is refused. The line is a heading if `is_first`, as the first of all
+/// is, and the form has one; each other is a row. It is the first `count` bytes of `text`; what follows them is for speed
+/// alone, as up to 64 bytes are taken at once. `look` must be the look at it, if there was one. `text` must have at least
+/// `count` bytes.
 #[inline(always)]
 pub(crate) fn append_among<L: Lookup>(
     lines: &mut Vec<u8>,

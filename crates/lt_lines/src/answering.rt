@@ -27,8 +27,8 @@ use lt_tag::OutOfMemory;
 use std::alloc::{AllocError, Global};
 use std::io::Write;
 
-/// The most bytes that are kept of a line that is a tag: 1,024 of the longest tag, one as a code may be a byte longer
-/// than the subtag that replaces it, one that tells that the line is too long, and a carriage return.
+/// The most bytes that are kept of a line that is a tag. The longest tag has 1,024. A code may be a byte longer than the
+/// subtag that replaces it, one byte more tells that the line is too long, and a carriage return may end it.
 const LONGEST_KEPT: usize = 1027;
 
 /// The most bytes of a row or a record, which is kept whole: 16 MiB.
@@ -55,7 +55,7 @@ pub(crate) struct Answering {
     recent: RecentAnswers,
 }
 
-/// Keeps a further part of a line, of a tag only as far as `LONGEST_KEPT` bytes in all.
+/// Keeps a further part of a line. Of a line that is a tag, `LONGEST_KEPT` bytes in all are kept at most.
 fn keep(form: LineForm, kept: &mut Vec<u8>, part: &[u8]) -> Result<(), AllocError>
     ensures { OnOk result (kept.new.items ≡ kept.old.items ++ spec.part_kept form (vec_len kept.old) part.now) }
 {
@@ -79,8 +79,8 @@ fn long_fault(form: LineForm, line: u64) -> ToolFault
 }
 
 /// Appends the answer to a line, and tells whether it was refused. The line is the first `count` bytes of `text`; what
-/// follows them is for speed alone, as up to 64 bytes are taken at once. `is_first` is whether it is the first of all,
-/// so that it may be a heading, and `look` is the look at it, if there was one.
+/// follows them is for speed alone, as up to 64 bytes are taken at once. `is_first` is whether it is the first of all, so
+/// that it may be a heading, and `look` must be the look at it, if there was one. `text` must have at least `count` bytes.
 #[tactic(auto, using(crate::proofs::TextLemmas::csv_recent))]
 #[inline(always)]
 fn append_reply<L: Lookup>(
@@ -170,9 +170,10 @@ fn append_kept_line<L: Lookup>(
     )
 }
 
-/// Appends the answer to a line, and tells whether it was refused. The line is what is in `kept` and then the first
-/// `count` bytes of `text`, which are kept too if anything was; what follows them is for speed alone, as up to 64 bytes
-/// are taken at once. `is_first` is whether it is the first of all, and `look` is the look at it, if there was one.
+/// Appends the answer to a line, and tells whether it was refused. The line is what is in `kept` and then the first `count`
+/// bytes of `text`, which are kept too if anything was; what follows them is for speed alone, as up to 64 bytes are taken at
+/// once. `is_first` is whether it is the first of all. `look` must be the look at it, and there must be none if anything is
+/// kept. `text` must have at least `count` bytes.
 #[inline(always)]
 fn append_line<L: Lookup>(
     lines: &mut Vec<u8>,
@@ -240,9 +241,10 @@ impl Answering {
         }
     }
 
-    /// Answers the line that ends after the first `count` bytes of `text`, counts it, and keeps nothing of it. What
-    /// follows these bytes is for speed alone, as up to 64 bytes are taken at once. `look` is the look at the line, if
-    /// there was one.
+    /// Answers the line that ends after the first `count` bytes of `text`, counts it, and keeps nothing of it. What follows
+    /// these bytes is for speed alone, as up to 64 bytes are taken at once. `look` must be the look at the line, and there
+    /// must be none if a front of the line was kept. The counts must have room for a line more. `text` must have at least
+    /// `count` bytes.
     #[inline(always)]
     fn answer_line<L: Lookup>(
         &mut self,
@@ -290,7 +292,8 @@ impl Answering {
         Ok(())
     }
 
-    /// Keeps `part`, the bytes before a line feed that is within quotes, and the line feed.
+    /// Keeps `part`, the bytes before a line feed that is within quotes, and the line feed. The counts must have room for a
+    /// line more.
     #[inline(never)]
     fn go_on(&mut self, form: LineForm, part: &[u8]) -> Result<(), OutOfMemory>
         requires { spec.HasRoom self.old 1 }
@@ -303,9 +306,10 @@ impl Answering {
         Ok(())
     }
 
-    /// Takes the first `count` bytes of `text` and the line feed after them: answers the row or the record that they
-    /// end, or keeps them if the line feed is within quotes. What follows in `text` is for speed alone, as up to 64
-    /// bytes are taken at once. `lacks` is what the `count` bytes are known to lack.
+    /// Takes the first `count` bytes of `text` and the line feed after them: answers the row or the record that they end, or
+    /// keeps them if the line feed is within quotes. What follows in `text` is for speed alone, as up to 64 bytes are taken
+    /// at once. `lacks` must be true of the `count` bytes: it is what they are known to lack. The counts must have room for a
+    /// line more. `text` must have at least `count` bytes.
     #[inline(never)]
     fn end_row<L: Lookup>(
         &mut self,
@@ -331,9 +335,10 @@ impl Answering {
         self.answer_line(alloc, basis, form, &look, text, count)
     }
 
-    /// Takes the first `count` bytes of `text` and the line feed after them: answers the line that they end, or keeps
-    /// them if the line feed is within the quotes of a record. What follows in `text` is for speed alone, as up to 64
-    /// bytes are taken at once. `lacks` is what the `count` bytes are known to lack.
+    /// Takes the first `count` bytes of `text` and the line feed after them: answers the line that they end, or keeps them if
+    /// the line feed is within the quotes of a record. What follows in `text` is for speed alone, as up to 64 bytes are taken
+    /// at once. `lacks` must be true of the `count` bytes: it is what they are known to lack. The counts must have room for a
+    /// line more. `text` must have at least `count` bytes.
     #[inline(always)]
     fn end_line<L: Lookup>(
         &mut self,
@@ -359,7 +364,7 @@ impl Answering {
         }
     }
 
-    /// Writes the answers that wait, so that none do then.
+    /// Writes the answers that wait, so that none do then. Refused if the write fails.
     fn write<W: Write>(&mut self, output: &mut Device<W>) -> Result<(), ToolFault>
         ensures writes { spec.WritesOwed W.contents self.old self.new output.old output.new result }
         ensures emptied { OnOk result (self.new.owed.items ≡ []) }
@@ -369,7 +374,7 @@ impl Answering {
         Ok(())
     }
 
-    /// Writes the answers that wait if they are `FULL` bytes or more.
+    /// Writes the answers that wait if they are `FULL` bytes or more. Refused if the write fails.
     fn write_much<W: Write>(&mut self, output: &mut Device<W>) -> Result<(), ToolFault>
         ensures writes { spec.WritesOwed W.contents self.old self.new output.old output.new result }
         ensures emptied { OnOk result (full ≤ vec_len self.old.owed → self.new.owed.items ≡ []) }
@@ -393,7 +398,8 @@ impl Answering {
         }
     }
 
-    /// The number of the line, counted from 1, in which the kept part of a row or a record begins.
+    /// The number of the line, counted from 1, in which the kept part of a row or a record begins. The counts must have room
+    /// for a line more.
     fn kept_from(&self) -> u64
         requires { spec.HasRoom self.now 1 }
         ensures { result ≡ spec.line_of self.now }
@@ -402,8 +408,8 @@ impl Answering {
         self.feeds.saturating_sub(within as u64) + 1
     }
 
-    /// Ends the run at a row or a record that is too long: writes the answers that wait, and gives the fault, which is
-    /// that of the write if it fails.
+    /// Ends the run at a row or a record that is too long: writes the answers that wait, and gives the fault, which is that
+    /// of the write if it fails. The counts must have room for a line more.
     #[inline(never)]
     fn stop_long<W: Write>(&mut self, form: LineForm, output: &mut Device<W>) -> ToolFault
         requires { spec.HasRoom self.old 1 }
@@ -416,8 +422,8 @@ impl Answering {
     }
 
     /// Takes `piece`, the next bytes of the input, answers the lines that they end, and writes the answers. A last line
-    /// without a line feed is kept for the next piece. Stops at a row or a record that is too long, and where memory or
-    /// a write fails.
+    /// without a line feed is kept for the next piece. Refused at a row or a record that is too long, and where memory or a
+    /// write fails. The counts must have room for a line more than `piece` has bytes.
     pub(crate) fn take_piece<L: Lookup, W: Write>(
         &mut self,
         alloc: Global,
@@ -447,7 +453,8 @@ impl Answering {
         self.write(output)
     }
 
-    /// Answers a last line that has no line feed, if there is one.
+    /// Answers a last line that has no line feed, if there is one. What is kept is the whole line: no bytes follow, and there
+    /// was no look. The text must not end within quotes, and the counts must have room for a line more.
     fn end_last<L: Lookup>(
         &mut self,
         alloc: Global,
@@ -465,8 +472,8 @@ impl Answering {
         self.answer_line(alloc, basis, form, &None, &[], 0)
     }
 
-    /// Answers a last line without a line feed, if there is one, writes the answers that wait, and gives the counts. No
-    /// quote may be open.
+    /// Answers a last line without a line feed, if there is one, writes the answers that wait, and gives the counts. Refused
+    /// where memory or a write fails. The text must not end within quotes, and the counts must have room for a line more.
     fn finish_closed<L: Lookup, W: Write>(
         &mut self,
         alloc: Global,
@@ -483,8 +490,9 @@ impl Answering {
         Ok(self.counts)
     }
 
-    /// Answers a last line without a line feed, if there is one, writes the answers that wait, and gives the counts.
-    /// Refused with `BadCsv` if a quote is open.
+    /// Answers a last line without a line feed, if there is one, writes the answers that wait, and gives the counts. Refused
+    /// with `BadCsv` if the text ends within quotes, and where memory or a write fails. The counts must have room for a line
+    /// more.
     pub(crate) fn finish<L: Lookup, W: Write>(
         &mut self,
         alloc: Global,

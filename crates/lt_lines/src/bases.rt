@@ -1,4 +1,4 @@
-//! By what texts are answered.
+//! The registry and the codes by which texts are answered.
 ghost use Rattle.std.specs.List.{All};
 ghost use Rattle.lt_codes.specs.Index.{IsCode};
 

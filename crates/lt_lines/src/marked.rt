@@ -36,7 +36,7 @@ fn may_have_mark(form: LineForm) -> bool
 }
 
 impl Marked {
-    /// No bytes taken so far, of a text whose lines have this form.
+    /// A text whose lines have this form, of which no bytes were taken so far.
     pub(crate) fn new(alloc: Global, form: LineForm) -> Marked
         ensures { (terms : Terms) → terms.form ≡ form → IsNew terms result }
     {
@@ -50,7 +50,8 @@ impl Marked {
     }
 
     /// Splits the first bytes, which are kept, into a byte order mark, if there is one, and text: writes the mark, and
-    /// answers the lines of the text.
+    /// answers the lines of the text. Refused at a row or a record that is too long, and where memory or a write fails. The
+    /// counts must have room for a line more than bytes are kept.
     fn begin<L: Lookup, W: Write>(
         &mut self,
         alloc: Global,
@@ -69,8 +70,10 @@ impl Marked {
         Ok(())
     }
 
-    /// Takes the next bytes of the input, answers the lines that they end, and writes the answers. The first bytes wait
-    /// until it is known whether they are a byte order mark; that of UTF-16 is refused with `Utf16`.
+    /// Takes the next bytes of the input, answers the lines that they end, and writes the answers. The first bytes wait until
+    /// it is known whether they are a byte order mark. Refused with `Utf16` at that of UTF-16, at a row or a record that is
+    /// too long, and where memory or a write fails. The counts must have room for the lines of the kept bytes and of `piece`,
+    /// and one more.
     pub(crate) fn take_piece<L: Lookup, W: Write>(
         &mut self,
         alloc: Global,
@@ -95,8 +98,9 @@ impl Marked {
         self.begin(alloc, basis, form, output)
     }
 
-    /// Answers a last line without a line feed, if there is one, writes the answers that wait, and gives the counts.
-    /// Refused with `BadCsv` if a quote is open.
+    /// Answers a last line without a line feed, if there is one, writes the answers that wait, and gives the counts. Refused
+    /// with `BadCsv` if the text ends within quotes, and where memory or a write fails. The counts must have room for the
+    /// lines of the kept bytes, and one more.
     pub(crate) fn finish<L: Lookup, W: Write>(
         &mut self,
         alloc: Global,

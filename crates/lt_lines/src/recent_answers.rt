@@ -51,9 +51,9 @@ fn replaced_text(
     }
 }
 
-/// Appends the answer to a tag, and tells whether it was refused. The tag is the first `count` bytes of `text`, read
-/// with the basis's table of codes if there is one; what follows them is for speed alone, as 32 bytes are taken at
-/// once.
+/// Appends the answer to a tag, and tells whether it was refused. The tag is the first `count` bytes of `text`, read with the
+/// basis's table of codes if there is one; what follows them is for speed alone, as 32 bytes are taken at once. `text` must
+/// have at least `count` bytes.
 pub(crate) fn append_again<L: Lookup>(
     lines: &mut Vec<u8>,
     alloc: Global,
@@ -74,8 +74,9 @@ pub(crate) fn append_again<L: Lookup>(
     }
 }
 
-/// Appends the answer to a tag, the first `count` bytes of `text`, read with the codes of a table, and tells whether it
-/// was refused. What follows in `text` is for speed alone, as 32 bytes are taken at once.
+/// Appends the answer to a tag, the first `count` bytes of `text`, read with the codes of a table, and tells whether it was
+/// refused. What follows in `text` is for speed alone, as 32 bytes are taken at once. `text` must have at least `count`
+/// bytes.
 #[inline(never)]
 fn append_replaced<L: Lookup>(
     lines: &mut Vec<u8>,
@@ -98,9 +99,9 @@ fn append_replaced<L: Lookup>(
     }
 }
 
-/// Appends the answer to a tag, the first `count` bytes of `text`, and tells whether it was refused. A text whose
-/// subtags stay as they are is answered at once. Another answer that was given lately is not worked out again: if
-/// `text` has at least 32 bytes, it is looked for without a copy.
+/// Appends the answer to a tag, the first `count` bytes of `text`, and tells whether it was refused. A text whose subtags
+/// stay as they are is answered at once. Another answer that was given lately is not worked out again: if `text` has at least
+/// 32 bytes, it is looked for without a copy. `text` must have at least `count` bytes.
 #[inline(always)]
 fn append_read<L: Lookup>(
     lines: &mut Vec<u8>,
@@ -141,9 +142,9 @@ fn append_usual_answer<L: Lookup>(
     Ok(told)
 }
 
-/// Appends the answer to a tag, the first `count` bytes of `text`, and tells whether it was refused. An answer that was
-/// given lately is taken; any other is worked out and put with those. What follows in `text` is for speed alone, as 32
-/// bytes are taken at once.
+/// Appends the answer to a tag, the first `count` bytes of `text`, and tells whether it was refused. An answer that was given
+/// lately is taken; any other is worked out and put with those. What follows in `text` is for speed alone, as 32 bytes are
+/// taken at once. `text` must have at least `count` bytes.
 fn append_found<L: Lookup>(
     lines: &mut Vec<u8>,
     alloc: Global,
@@ -171,9 +172,9 @@ fn append_found<L: Lookup>(
     Ok(refused)
 }
 
-/// Appends the canonical text of a field and gives None, or gives why it is refused. The field is the first `count`
-/// bytes of `rest`, read with the basis's table of codes if there is one; what follows them is for speed alone, as 32
-/// bytes are taken at once.
+/// Appends the canonical text of a field and gives None, or gives why it is refused. The field is the first `count` bytes of
+/// `rest`, read with the basis's table of codes if there is one; what follows them is for speed alone, as 32 bytes are taken
+/// at once. `rest` must have at least `count` bytes.
 #[inline(always)]
 pub(crate) fn append_field<L: Lookup>(
     lines: &mut Vec<u8>,
@@ -198,8 +199,9 @@ pub(crate) fn append_field<L: Lookup>(
     }
 }
 
-/// Appends the canonical text of a field, the first `count` bytes of `rest` read with the codes of a table, and gives
-/// None, or gives why it is refused. What follows in `rest` is for speed alone, as 32 bytes are taken at once.
+/// Appends the canonical text of a field, the first `count` bytes of `rest` read with the codes of a table, and gives None,
+/// or gives why it is refused. What follows in `rest` is for speed alone, as 32 bytes are taken at once. `rest` must have at
+/// least `count` bytes.
 #[inline(never)]
 fn append_replaced_field<L: Lookup>(
     lines: &mut Vec<u8>,
@@ -225,9 +227,9 @@ fn append_replaced_field<L: Lookup>(
     }
 }
 
-/// Appends the canonical text of a field, the first `count` bytes of `rest`, and gives None, or gives why it is
-/// refused. A field whose subtags stay as they are is answered at once, and another canonical text that was found
-/// lately is not worked out again: if `rest` has at least 32 bytes, it is looked for without a copy.
+/// Appends the canonical text of a field, the first `count` bytes of `rest`, and gives None, or gives why it is refused. A
+/// field whose subtags stay as they are is answered at once. Another canonical text that was found lately is not worked out
+/// again: if `rest` has at least 32 bytes, it is looked for without a copy. `rest` must have at least `count` bytes.
 #[inline(always)]
 fn append_read_field<L: Lookup>(
     lines: &mut Vec<u8>,
@@ -250,10 +252,10 @@ fn append_read_field<L: Lookup>(
     append_found_field(lines, alloc, checked, row, recent, rest, count)
 }
 
-/// Appends the canonical text of a field, the first `count` bytes of `rest`, and gives None, or gives why it is
-/// refused. A canonical text that was found lately is taken; any other is worked out and put with those. What follows
-/// in `rest` is for speed alone, as 32 bytes are taken at once. Not inlined, so that the way of a field that stays is
-/// short.
+/// Appends the canonical text of a field, the first `count` bytes of `rest`, and gives None, or gives why it is refused. A
+/// canonical text that was found lately is taken; any other is worked out and put with those. What follows in `rest` is for
+/// speed alone, as 32 bytes are taken at once. Not inlined, so that the way of a field that stays is short. `rest` must have
+/// at least `count` bytes.
 #[inline(never)]
 fn append_found_field<L: Lookup>(
     lines: &mut Vec<u8>,

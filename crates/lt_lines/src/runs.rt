@@ -27,7 +27,7 @@ pub struct Counts {
 }
 
 impl Counts {
-    /// Counts a line, and whether it was refused.
+    /// Counts a line, and whether it was refused. Both counts must have room for one more.
     pub(crate) fn count(&mut self, refused: bool)
         requires { (self.old.lines + 1 < 2 ^ 64) × (self.old.refused + 1 < 2 ^ 64) }
         ensures lines { self.new.lines ≡ self.old.lines + 1 }
@@ -58,7 +58,7 @@ impl<'a, L: Lookup, W: Write> Pieces<Device<W>> for Reading<'a, L> {
 
     ghost finished = { λ first start now read here result. spec.EndsReading (terms (ground_of L.listed first.basis.now) first.form) W.contents start now read here.text.answering.tallies result };
 
-    /// Answers the lines that the piece ends. Only a fault ends the run here.
+    /// Answers the lines that the piece ends. Only a fault ends the run here: it is refused as `Marked::take_piece` is.
     fn take_piece(
         &mut self,
         alloc: Global,
@@ -70,22 +70,21 @@ impl<'a, L: Lookup, W: Write> Pieces<Device<W>> for Reading<'a, L> {
         Ok(None)
     }
 
-    /// Answers what is left, and gives the counts of lines.
+    /// Answers what is left, and gives the counts of lines. Refused as `Marked::finish` is.
     fn finish(&mut self, alloc: Global, output: &mut Device<W>) -> Result<Counts, ToolFault> {
         self.text.finish(alloc, self.basis, self.form, output)
     }
 }
 
-/// Answers each line of a reader by one line, in order, each ended by a line feed, as its form says: a tag by
-/// its canonical text, or by `! `, the name of the fault and its place, or by `! ReplacementRepeats ` and the
-/// variant in lower case. Where the basis has codes, a text is read with what is registered for its first subtag in the place
-/// of that; what is refused is shown as it is.
+/// Answers each line of a reader by one line, in order, each ended by a line feed, as its form says. A tag is answered by its
+/// canonical text; or by `! `, the name of the fault and its place; or by `! ReplacementRepeats ` and the variant in lower
+/// case. If the basis has codes, a text is read with what is registered for its first subtag in the place of that; what is
+/// refused is shown as it is.
 ///
-/// A line feed ends a line, in CSV where it is not within quotes, and what follows the last one is a line if it is
-/// anything. What is owed for the lines of the bytes that were read is written before the next read. A row or a record
-/// is kept whole until it is answered. A byte order mark of UTF-8 before rows or records is written as it is, and is no
-/// part of the first. `tallies` is what was refused of the lines that were answered, by fault; it says nothing after
-/// `Write` and `OutOfMemory`.
+/// A line feed ends a line, in CSV only outside of quotes. What follows the last line feed is a line too, unless it is empty.
+/// What is owed for the lines of the bytes that were read is written before the next read. A row or a record is kept whole
+/// until it is answered. A byte order mark of UTF-8 before rows or records is written as it is, and is no part of the first.
+/// `tallies` is what was refused of the lines that were answered, by fault; after `Write` and `OutOfMemory` it says nothing.
 ///
 /// - `BadCsv`, if the reader's bytes end within the quotes of a record, or a record is longer than 16,777,216 bytes: the
 ///   records before it have been answered.
@@ -93,9 +92,8 @@ impl<'a, L: Lookup, W: Write> Pieces<Device<W>> for Reading<'a, L> {
 /// - `Utf16`, if rows or records begin with a byte order mark of UTF-16: nothing has been written. Before tags no mark is
 ///   looked for, and each line is answered as it is.
 /// - `Read`, if a read fails: what is owed for each line whose line feed was read has been written.
-/// - `TooManyTurns`, if all 10,000,000 reads were made and the last gave bytes: the same has been written.
-/// - `Write`, if a write fails or takes none of some bytes, and `OutOfMemory`: a front of what is owed was
-///   written.
+/// - `TooManyTurns`, if all 10,000,000 reads were made and the last gave bytes: as much has been written as after `Read`.
+/// - `Write`, if a write fails or takes none of some bytes, and `OutOfMemory`: a front of what is owed was written.
 pub fn run_tallied<L: Lookup, R: Read, W: Write>(
     alloc: Global,
     basis: &Basis<'_, L>,
@@ -116,12 +114,12 @@ pub fn run_tallied<L: Lookup, R: Read, W: Write>(
     end
 }
 
-/// Answers each line of a reader, which is a tag, by one line, in order, each ended by a line feed: its canonical text, or
-/// `! `, the name of the fault and its place, or `! ReplacementRepeats ` and the variant in lower case. It is
-/// [`run_tallied`] for tags, without a table of codes, and forgets the tallies.
+/// Answers each line of a reader, which is a tag, by one line, in order, each ended by a line feed: its canonical text; or
+/// `! `, the name of the fault and its place; or `! ReplacementRepeats ` and the variant in lower case. It is [`run_tallied`]
+/// for tags, without a table of codes, and forgets the tallies.
 ///
 /// - `Read`, if a read fails: what is owed for each line whose line feed was read has been written.
-/// - `TooManyTurns`, if all 10,000,000 reads were made and the last gave bytes: the same has been written.
+/// - `TooManyTurns`, if all 10,000,000 reads were made and the last gave bytes: as much has been written as after `Read`.
 /// - `Write`, if a write fails or takes none of some bytes, and `OutOfMemory`: a front of what is owed was written.
 pub fn run_lines<L: Lookup, R: Read, W: Write>(
     alloc: Global,

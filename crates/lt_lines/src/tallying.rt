@@ -20,7 +20,7 @@ fn separators_in(row: RowForm) -> usize
     if row.is_kept { 2 } else { 1 }
 }
 
-/// What the answer to `line` tells that refuses it: the name of the fault, and a place or a variant. It comes after `! `, or
+/// What `answer` tells of why it refuses `line`: the name of the fault, and a place or a variant. This comes after `! `, or
 /// after the row and its separators.
 #[tactic(auto, using(crate::proofs::FaultLemmas::after_front))]
 fn told_in<'a>(form: LineForm, line: &[u8], answer: &'a [u8]) -> &'a [u8]
@@ -35,7 +35,7 @@ fn told_in<'a>(form: LineForm, line: &[u8], answer: &'a [u8]) -> &'a [u8]
     &answer[before.min(answer.len())..]
 }
 
-/// Where the name ends that `told` begins with: at the first byte that is a space or below. None if there is none.
+/// Where the name ends with which `told` begins: at the first byte that is a space or below. None if no byte is.
 fn name_end(told: &[u8]) -> Option<usize>
     ensures { result ≡ position (λ byte. nat_le byte 32) told.now }
 {

@@ -32,7 +32,7 @@ members_joined a b c x y z tail =
     ∙ ap (λ (l : List ℕ). second ++ (l ++ tail)) (append-nil third)))
 
 -- Three members, by their names (`a`, `b`, `c`) and values (`x`, `y`, `z`), and a `tail` are appended to `old`, each
--- member after a comma (44): `one` to `six` are the texts after each name or value, and `new` is that after the tail.
+-- member after a comma (44). `one` to `six` are the texts after each name or value, and `new` is that after the tail.
 pub members_told : (a b c x y z tail old one two three four five six new : List ℕ) → one ≡ old ++ 44 ∷ a → two ≡ one ++ x → three ≡ two ++ 44 ∷ b → four ≡ three ++ y
     → five ≡ four ++ 44 ∷ c → six ≡ five ++ z → new ≡ six ++ tail
     → new ≡ old ++ (((44 ∷ (a ++ x)) ++ ((44 ∷ (b ++ y)) ++ ((44 ∷ (c ++ z)) ++ []))) ++ tail)

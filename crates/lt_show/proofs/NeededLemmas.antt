@@ -38,7 +38,7 @@ module _ (p : Field → Bool) (kept : (f : Field) → p f ≡ true → is_kept f
     | inr is_out ↦ rw (is_out, not_passed f is_out) (find_kept r)
   ]
 
-  -- as many pass
+  -- as many of the kept fields pass
   count_kept : (r : List Field) → count_by p (kept_fields r) ≡ count_by p r
   count_kept r = sym (length-filter p (kept_fields r)) ∙ ap length (filter_kept r) ∙ length-filter p r
 
@@ -188,7 +188,7 @@ fault_was records kind number f =
       fault = fault_of f.here w.one alike kind f.fault;
     }
 
--- and the other way round
+-- a record at fault is at fault, too, among those of which fields are left out
 fault_is : (records : List (List Field)) (kind : RecordFaultKind) (number : ℕ) → HasFaultAt records kind number → HasFaultAt (map kept_fields records) kind number
 fault_is records kind number f =
     let alike = turned (kept_fields f.here) f.here (kept_alike f.here) in

@@ -17,8 +17,8 @@ pub record KeepsMore (r : List Field) (old new : Draft) : Type 0 where
   pub before : old.lacks ≡ false
   pub more : new.records.items ≡ old.records.items ++ kept_fields r ∷ []
 
--- what is kept of the record `r` is put behind those of the draft `old`, which gives `new`, unless memory ran out for it or for one
--- before
+-- what is kept of the record `r` is put behind the records of the draft `old`, which gives `new`, unless memory ran
+-- out for it or for one before
 abbrev pub Keeps : List Field → (old new : Draft) → Type 0
 Keeps r old new = new.lacks ≡ false → KeepsMore r old new
 
@@ -35,9 +35,9 @@ pub record KeepsNext {R : Type 0} (remaining : R → Option (List ℕ)) (old new
 abbrev pub HasKept : Draft → List (List Field) → Type 0
 HasKept draft records = draft.lacks ≡ false → draft.records.items ≡ map kept_fields records
 
--- What is true of an answer after `reads` reads of a device that gave `bytes`: the draft has kept the records of the
--- bytes, or the fault is why they have none or were not read to their end. `remaining` is what a reader has left, where
--- that is known.
+-- What is true of an answer after `reads` reads of a device that gave `bytes`. Either the draft has kept the records
+-- of the bytes, or the fault is why they have none or were not read to their end. `remaining` is what a reader has
+-- left, where that is known.
 abbrev pub AnswersDraft : {R : Type 0} → (R → Option (List ℕ)) → Result Draft JarFault → (before after : Device R)
     → List ℕ → ℕ → Type 0
 AnswersDraft remaining (Ok draft) before after bytes reads =

@@ -41,8 +41,8 @@ listing_by None = listings.Unregistered
 abbrev pub entry_of : List EntryParts → Kind → List ℕ → Option EntryParts
 entry_of R kind text = option_and_then (λ s. entry R kind s) (result_ok (subtag_of text))
 
--- what a registry has for a part of a tag, by the part's kind and text: for a grandfathered tag its record (RFC 5646,
--- 2.2.8), for a subtag the record of its kind, and Unlisted where no record registers such parts
+-- What a registry has for a part of a tag, by the part's kind and text. A grandfathered tag has its record (RFC 5646,
+-- 2.2.8), a subtag the record of its kind. What no record registers is Unlisted.
 abbrev pub listing : List EntryParts → TagForm → PartKind → List ℕ → Listing
 listing R tag parts.Grandfathered text = listing_by (whole R tag)
 listing R tag kind text = option_map_or (λ k. listing_by (entry_of R k text)) (kind_of kind) listings.Unlisted

@@ -21,7 +21,7 @@ row_of R tag text place part = record {
   listing = listing R tag part.kind (cut_of text part);
 }
 
--- the rows of these parts of a tag, of which the first has the place `place`; `text` is the tag's text
+-- the rows of these parts of a tag, the first of which has the place `place`; `text` is the tag's text
 abbrev pub part_rows : List EntryParts → TagForm → (text : List ℕ) → (place : ℕ) → List Part → List Row
 part_rows R tag text place [] = []
 part_rows R tag text place (part ∷ parts) = row_of R tag text place part ∷ part_rows R tag text (place + 1) parts

@@ -161,10 +161,10 @@ fn append_each(
     Ok(())
 }
 
-/// Appends the [`rows_of`] a tag as an array of JSON, in which each is an object with the members `place`, `kind`, `text`,
-/// `listing` (`Record`, `Unregistered` or `Unlisted`), `record` (its number, or null) and `fields`, an array of objects
-/// with a `name` and a `body`: the fields of the record that are shown. The records are those of the registry's file. The
-/// only refusal is running out of memory, after which a front of it may have been appended.
+/// Appends the [`rows_of`] a tag as an array of JSON. Each row is an object with the members `place`, `kind`, `text`,
+/// `listing` (`Record`, `Unregistered` or `Unlisted`), `record` (its number, or null) and `fields`. The fields are an array
+/// of objects with a `name` and a `body`: those fields of the record that are shown. The records are those of the registry's
+/// file. The only refusal is running out of memory, after which a front of it may have been appended.
 pub fn append_rows<L: Lookup>(
     objects: &mut Vec<u8>,
     alloc: Global,

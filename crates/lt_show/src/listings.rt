@@ -1,4 +1,4 @@
-//! What a registry has for a part of a tag.
+//! The record that a registry has for a part of a tag, if it has one.
 ghost use Rattle.std.specs.Prelude.{◌≡◌};
 ghost use Rattle.std.specs.Option.{option_copied};
 ghost use Rattle.lt_show.specs.Listings as spec;

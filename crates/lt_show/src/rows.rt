@@ -48,7 +48,7 @@ fn row_of<L: Lookup>(table: &L, tag: &Tag, text: &[u8], place: usize, part: &Par
     }
 }
 
-/// The row of a whole tag that is registered as redundant (RFC 5646, 2.2.8), or no row. `text` is the text of the tag.
+/// The row of a whole tag that is registered as redundant (RFC 5646, 2.2.8), or no row. `text` must be the text of the tag.
 fn whole_rows<L: Lookup>(
     alloc: Global,
     table: &L,

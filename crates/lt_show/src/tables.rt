@@ -15,7 +15,7 @@ use std::alloc::Global;
 /// The width of the first column, of places: three digits, since a text of at most 1,024 bytes has at most 512 parts.
 const PLACE: usize = 3;
 
-/// The width of the column of names of fields: the longest that are shown have 15 characters, as `Preferred-Value`.
+/// The width of the column of names of fields: the longest that are shown have 15 characters, for example `Preferred-Value`.
 const NAME: usize = 15;
 
 /// Appends `count` spaces.

@@ -14,7 +14,7 @@ use Rattle.lt_tool.specs.declared.outcomes.Outcome.{Outcome}
 abbrev pub is_told : (at_terminal : Bool) → Command → Bool
 is_told at_terminal command = at_terminal || has_summary command
 
--- whether a person is told of a run by its words: of words that name no command nobody is
+-- whether a person is told of a run by its words: nobody is where the words name no command
 abbrev pub is_asked : (at_terminal : Bool) → Result Command WordsFault → Bool
 is_asked at_terminal (Ok command) = is_told at_terminal command
 is_asked at_terminal (Err fault) = false

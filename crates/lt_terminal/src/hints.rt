@@ -9,7 +9,7 @@ use std::alloc::{AllocError, Global};
 const OF_REGISTRY: &str =
     "@ is the registry that LANGTAG_REGISTRY names, or else the installed one.\n";
 
-/// Whether a text may be meant as a tag and not as the name of a file: it is one, and begins with a language of at most 3
+/// Whether a text may be meant as a tag and not as the name of a file: it is a tag, and begins with a language of at most 3
 /// letters.
 fn is_likely_tag(alloc: Global, text: &[u8]) -> bool {
     first_subtag(text).len() <= 3 && read_tag(alloc, text).is_ok()
@@ -38,8 +38,8 @@ fn is_of_file(line: &str, path: &str) -> bool {
     }
 }
 
-/// Appends what to write where a file can't be opened, as `line` says: what `@` means, or the words by which a text is read as
-/// a tag that was given in the place of the registry. `registry` is the path that `@` means.
+/// Appends what to write where a file can't be opened, as `line` says. That is what `@` means; or, if a text that may be a
+/// tag was given in the place of the registry, the words by which it is read as a tag. `registry` is the path that `@` means.
 pub(crate) fn append_hint(
     told: &mut Vec<u8>,
     alloc: Global,

@@ -88,8 +88,8 @@ pub(crate) fn first_of(messages: &[&'static str], word: &[u8]) -> Option<&'stati
     None
 }
 
-/// What a person is told of the fault that a word names, as `BadByte` or `C2`: the word, what it means, and what to do.
-/// None if the word names no fault.
+/// What a person is told of the fault that a word names, for example `BadByte` or `C2`: the word, what it means, and what to
+/// do. None if the word names no fault.
 pub(crate) fn message_of(word: &[u8]) -> Option<&'static str> {
     first_of(&MESSAGES, word)
 }

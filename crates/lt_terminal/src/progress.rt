@@ -28,8 +28,9 @@ pub struct Progress<'a, W, T> {
 }
 
 impl<'a, W, T> Progress<'a, W, T> {
-    /// A writer that took nothing so far. Where the output is a terminal itself, its lines tell how far the run is, and
-    /// `is_told` is false. `is_unread` is set once a write finds that the output has no reader.
+    /// A writer over `inner` that took nothing so far. If `is_told`, it tells people how many lines it took, each time a
+    /// million is full; false where the output is a terminal itself, whose lines tell that. `is_unread` is set once a write
+    /// finds no reader.
     pub fn new(
         alloc: Global,
         inner: W,

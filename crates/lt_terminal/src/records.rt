@@ -32,7 +32,7 @@ impl<'a> Place<'a> {
     }
 }
 
-/// The text that bytes begin with: all of them if they are UTF-8.
+/// The text that bytes begin with, up to the first byte that is not UTF-8.
 fn front_text(bytes: &[u8]) -> &str {
     match std::str::from_utf8(bytes) {
         Ok(text) => text,
@@ -43,8 +43,8 @@ fn front_text(bytes: &[u8]) -> &str {
     }
 }
 
-/// Where the record of this number, counted from 1, begins in the text of a registry, and what it is. None if there are
-/// fewer. Lines `%%` part the records (RFC 5646, 3.1.1); where blank lines alone are between two of them, there is no
+/// Where the record of this number, counted from 1, begins in the text of a registry, and what it is. None if there are fewer
+/// records. Lines `%%` part the records (RFC 5646, 3.1.1); where blank lines alone are between two of them, there is no
 /// record.
 fn place_in(text: &str, number: u32) -> Option<Place<'_>> {
     let mut place = None;

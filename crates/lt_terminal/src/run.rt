@@ -33,6 +33,7 @@ fn is_told(at_terminal: bool, command: &Command) -> bool
 }
 
 /// Tells people what the run of a command came to, if they are to be told. `registry` is the path that `@` means.
+/// `people.again` must be callable at any time, with any path.
 fn tell_people<F: Read + Drop, Q: FnMut(&str) -> io::Result<F>, T: Write>(
     alloc: Global,
     command: &Command,
@@ -50,11 +51,13 @@ fn tell_people<F: Read + Drop, Q: FnMut(&str) -> io::Result<F>, T: Write>(
 }
 
 /// Runs the program by its words as [`run_program`] does, and answers the exit status. `registry` is the path of the file
-/// that the name `@` means. At a terminal, or where the words ask for a summary, it then tells people what the run came to.
-/// Of `canon`, `codes`, `tsv` and `csv` it tells how many lines or records were answered and how many refused, if all of
-/// them were answered; and for each fault how many it refused, which was the first, and what to do. Of what was refused or
-/// failed it tells what that means, and what to do; which file was refused or can't be opened; and where it is a record of a
-/// registry, what the record is and where it begins, for which the file is opened again.
+/// that the name `@` means. `opener` and `people.again` must be callable at any time, with any path.
+///
+/// At a terminal, or where the words ask for a summary, it then tells people what the run came to. If all lines or records of
+/// `canon`, `codes`, `tsv` or `csv` were answered, it tells how many there were and how many were refused. For each fault it
+/// tells how many it refused, which was the first, and what to do. If something else was refused or failed, it tells what
+/// that means and what to do, and which file was refused or can't be opened. If a record of a registry is at fault, it opens
+/// the file again, and tells what the record is and where it begins.
 pub fn run_for_people<
     F: Read + Drop,
     P: FnMut(&str) -> io::Result<F>,

@@ -5,7 +5,7 @@ use crate::wrapped::append_number;
 use lt_lines::{Counts, Tallies, Tally};
 use std::alloc::{AllocError, Global};
 
-/// Appends a number of units, as `1 line` or `2 lines`.
+/// Appends a number of units, for example `1 line` or `2 lines`.
 fn append_counted(
     told: &mut Vec<u8>,
     alloc: Global,
@@ -21,7 +21,7 @@ fn append_counted(
     Ok(())
 }
 
-/// Appends the line that tells how many of these units were answered and refused, as `2 lines, 1 refused`.
+/// Appends the line that tells how many of these units were answered and refused, for example `2 lines, 1 refused`.
 pub(crate) fn append_counts(
     told: &mut Vec<u8>,
     alloc: Global,
@@ -51,7 +51,7 @@ pub(crate) fn append_shown(told: &mut Vec<u8>, text: &[u8]) -> Result<(), AllocE
     Ok(())
 }
 
-/// Appends a colon and the text that was refused. Nothing if it is empty.
+/// Appends a colon and the text that was refused. Appends nothing if the text is empty.
 fn append_text(told: &mut Vec<u8>, text: &[u8]) -> Result<(), AllocError> {
     if text.is_empty() {
         return Ok(());
@@ -60,7 +60,7 @@ fn append_text(told: &mut Vec<u8>, text: &[u8]) -> Result<(), AllocError> {
     append_shown(told, text)
 }
 
-/// Appends which line or record, as `unit` names it, was the first that a fault refused, as `, first in line 3`.
+/// Appends which line or record, as `unit` names it, was the first that a fault refused, for example `, first in line 3`.
 fn append_first(
     told: &mut Vec<u8>,
     alloc: Global,
@@ -72,7 +72,7 @@ fn append_first(
 }
 
 /// Appends the line that tells how many lines a fault refused, which was the first, and its text. `unit` names what is
-/// counted, as `line`.
+/// counted, for example `line`.
 fn append_tally(
     told: &mut Vec<u8>,
     alloc: Global,
@@ -88,8 +88,8 @@ fn append_tally(
     Ok(())
 }
 
-/// Appends what a person is told of the lines that a fault refused: the tally of them, and what to do. `unit` names
-/// what is counted, as `line`.
+/// Appends what a person is told of the lines that a fault refused: the tally of them, and what to do. `unit` names what is
+/// counted, for example `line`.
 fn append_told(
     told: &mut Vec<u8>,
     alloc: Global,
@@ -100,8 +100,8 @@ fn append_told(
     append_advice(told, &tally.fault, &tally.text)
 }
 
-/// Appends what a person is told of all the lines that were refused, fault by fault. `unit` names what is counted, as
-/// `line`.
+/// Appends what a person is told of all the lines that were refused, fault by fault. `unit` names what is counted, for
+/// example `line`.
 pub(crate) fn append_tallies(
     told: &mut Vec<u8>,
     alloc: Global,

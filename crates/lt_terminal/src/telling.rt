@@ -17,7 +17,7 @@ use std::io::{self, Read, Write};
 /// The most bytes of a registry in which a record is looked for: 16 MiB.
 const MOST_READ: u64 = 16_777_216;
 
-/// The name of what a command answers one by one.
+/// The name of what a command answers one by one: a line or a record.
 fn unit_of(command: &Command) -> &'static str {
     match command {
         Command::Csv(_, _, _) => "record",
@@ -25,7 +25,7 @@ fn unit_of(command: &Command) -> &'static str {
     }
 }
 
-/// Appends the message for the fault or the answer of this name. Nothing if there is none.
+/// Appends the message for the fault or the answer of this name. Appends nothing if there is none.
 fn append_meaning(told: &mut Vec<u8>, name: &[u8]) -> Result<(), AllocError> {
     match message_of(name) {
         Some(message) => append_wrapped(told, "", message),
@@ -33,7 +33,7 @@ fn append_meaning(told: &mut Vec<u8>, name: &[u8]) -> Result<(), AllocError> {
     }
 }
 
-/// The file of the registry that a command has in this role.
+/// The file of the registry that a command has in this role. None if it names no such file.
 fn file_of(command: &Command, role: Role) -> Option<&str> {
     match role {
         Role::Only | Role::Older => command.first_file(),
@@ -65,7 +65,7 @@ fn append_file(
     told.extend_from_slice(b".\n")
 }
 
-/// The text that a command reads as its only tag.
+/// The text that a command reads as its only tag, or as the first of two. It is empty for any other command.
 fn text_of(command: &Command) -> &str {
     match command {
         Command::Classify(tag) | Command::Extlang(_, tag) => tag.as_str(),
@@ -75,7 +75,7 @@ fn text_of(command: &Command) -> &str {
     }
 }
 
-/// Appends which of the two texts of `equal` is refused. Nothing for other commands.
+/// Appends which of the two texts of `equal` is refused. Appends nothing for other commands.
 fn append_which(told: &mut Vec<u8>, command: &Command, is_other: bool) -> Result<(), AllocError> {
     let Command::Equal(_, tag, other) = command else {
         return Ok(());
@@ -93,7 +93,7 @@ fn append_which(told: &mut Vec<u8>, command: &Command, is_other: bool) -> Result
     Ok(())
 }
 
-/// Appends what to do about the text that a fault refuses: which of two it is, and what it means.
+/// Appends what to do about the text that a fault refuses: which of two texts it is, and what the fault means.
 fn append_text(
     told: &mut Vec<u8>,
     command: &Command,
@@ -116,7 +116,7 @@ fn append_of_shown(told: &mut Vec<u8>, alloc: Global, text: &[u8]) -> Result<(),
     }
 }
 
-/// Appends what to do about the texts of `show`, of which one is refused.
+/// Appends what to do about the texts of `show`, one of which is refused.
 fn append_shown_texts(told: &mut Vec<u8>, alloc: Global, tags: &Tags) -> Result<(), AllocError> {
     for text in &tags.texts {
         append_of_shown(told, alloc, text.as_bytes())?;
@@ -132,8 +132,8 @@ fn append_ranges(told: &mut Vec<u8>, texts: &[String]) -> Result<(), AllocError>
     Ok(())
 }
 
-/// The first bytes of a file, as many as a record is looked for in. None if the file can't be opened or read, or where
-/// memory runs out.
+/// The first bytes of a file, as many as a record is looked for in. None if the file can't be opened or read, or where memory
+/// runs out. `again` must be callable at any time, with any path.
 fn bytes_of<F: Read + Drop, Q: FnMut(&str) -> io::Result<F>>(
     alloc: Global,
     again: &mut Q,
@@ -148,8 +148,9 @@ fn bytes_of<F: Read + Drop, Q: FnMut(&str) -> io::Result<F>>(
     Some(bytes)
 }
 
-/// The line that says what the record is that a fault names, and where it begins in its file, which is read again for
-/// that. None if the fault names none, or if that can't be found. `registry` is the path that `@` means.
+/// The line that says what the record is that a fault names, and where it begins in its file, which is read again for that.
+/// None if the fault names no record, or if the record can't be found. `registry` is the path that `@` means, and `again`
+/// must be callable at any time, with any path.
 fn place_of<F: Read + Drop, Q: FnMut(&str) -> io::Result<F>>(
     alloc: Global,
     command: &Command,
@@ -193,8 +194,8 @@ fn append_cause(
     Ok(())
 }
 
-/// Appends what is told of a fault: what it means, and what to do, and where a record of a registry is, of a fault that names
-/// one. `registry` is the path that `@` means.
+/// Appends what is told of a fault: what it means, and what to do; and, if the fault names a record of a registry, where it
+/// begins. `registry` is the path that `@` means, and `again` must be callable at any time, with any path.
 fn append_fault<F: Read + Drop, Q: FnMut(&str) -> io::Result<F>>(
     told: &mut Vec<u8>,
     alloc: Global,
@@ -213,7 +214,7 @@ fn append_fault<F: Read + Drop, Q: FnMut(&str) -> io::Result<F>>(
     Ok(())
 }
 
-/// Appends what is told of an answer: of no entry, or of tags and ranges that may be refused.
+/// Appends what is told of an answer: that a registry has no entry, or what to do about tags and ranges that may be refused.
 fn append_of_answer(
     told: &mut Vec<u8>,
     alloc: Global,
@@ -232,7 +233,8 @@ fn append_of_answer(
     }
 }
 
-/// The lines that a person is told of what a run of a command came to. `registry` is the path that `@` means.
+/// The lines that a person is told of what a run of a command came to. `registry` is the path that `@` means, and `again`
+/// must be callable at any time, with any path.
 fn told_of<F: Read + Drop, Q: FnMut(&str) -> io::Result<F>>(
     alloc: Global,
     command: &Command,
@@ -261,13 +263,13 @@ pub(crate) fn say<T: Write>(text: &[u8], people: &mut Device<T>) {
     let _ = write_text(text, people);
 }
 
-/// Whether a run ended since its output has no reader any more, as `is_unread` says.
+/// Whether a run ended because its output has no reader any more, as `is_unread` says.
 fn is_left(outcome: &Outcome, is_unread: bool) -> bool {
     matches!(&outcome.end, Err(Fault::Run(ToolFault::Write))) && is_unread
 }
 
-/// Tells a person what a run of a command came to, if there is memory for it; nothing where the output has no reader any
-/// more. `registry` is the path that `@` means.
+/// Tells a person what a run of a command came to, if there is memory for it. Tells nothing if the output has no reader any
+/// more. `registry` is the path that `@` means, and `people.again` must be callable at any time, with any path.
 pub(crate) fn tell<F: Read + Drop, Q: FnMut(&str) -> io::Result<F>, T: Write>(
     alloc: Global,
     command: &Command,

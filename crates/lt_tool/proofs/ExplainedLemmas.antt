@@ -30,9 +30,9 @@ cut_more head lines more tail written kept front rest given cut =
     (rest ++ (more ++ tail)) = simp append_assoc in
     joined ∙ (ap (λ (l : List ℕ). l ++ (more ++ tail)) (sym given ∙ ap (λ (l : List ℕ). written ++ l) cut) ∙ parted)
 
--- the bytes `head` and the lines of the steps from `first`, a whole explanation, to `left`, what is left of it, were
--- given: they were written to the device, which was `before` and is `after`, but for those at their end that are `kept`
--- in memory
+-- `head` and the lines of the steps between `first`, a whole explanation, and `left`, its rest, were given. All these
+-- bytes were written to the device, which was `before` and is `after`, but for those at their end that are `kept` in
+-- memory.
 pub record HasWritten {W : Type 0} (contents : W → Option (List ℕ)) (head : List ℕ) (first left : StepsLeft)
     (before after : Device W) (kept : List ℕ) : Type 0 where
   pub written : List ℕ

@@ -17,16 +17,16 @@ ranges_more R (first ∷ texts) ranges text range (one, more, here, split, are) 
 
 -- `x` is the element of the index `i`, and `f` gives the text of an element
 module _ {X : Type 0} (f : X → List ℕ) (xs : List X) (i : ℕ) (x : X) (within : i < length xs) (is : x ≡ get_or xs i x) where
-  -- the texts up to the index `i` are those before it, and that of it
+  -- the texts up to the index `i` are those before it, and the text at it
   front_more : map f (take (i + 1) xs) ≡ map f (take i xs) ++ f x ∷ []
   front_more = ap (map f) (take_more xs i x within ∙ ap (λ (y : X). take i xs ++ y ∷ []) (sym is)) ∙ map-append f (take i xs) (x ∷ [])
 
-  -- all texts are those before the index `i`, that of it, and those after it
+  -- all texts are those before the index `i`, the text at it, and those after it
   all_parts : map f xs ≡ map f (take i xs) ++ f x ∷ map f (drop (i + 1) xs)
   all_parts = ap (map f) (sym (take-append-drop i xs)) ∙ map-append f (take i xs) (drop i xs)
       ∙ ap (λ (l : List X). map f (take i xs) ++ map f l) (drop_more xs i x within ∙ ap (λ (y : X). y ∷ drop (i + 1) xs) (sym is))
 
-  -- the texts up to the index `i` are read as ranges, where those before it are, and that of it is
+  -- the texts up to the index `i` are read as ranges, if those before it are and the text at it is
   pub next_range : (R : List EntryParts) (ranges : List RangeParts) (range : RangeParts) → AreRanges R (map f (take i xs)) ranges → IsExtlangRange R (f x) range → AreRanges R (map f (take (i + 1) xs)) (ranges ++ range ∷ [])
   next_range R ranges range are is_range = subst (λ (l : List (List ℕ)). AreRanges R l (ranges ++ range ∷ [])) (sym front_more) (ranges_more R (map f (take i xs)) ranges (f x) range are is_range)
 

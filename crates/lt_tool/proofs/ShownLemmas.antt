@@ -23,7 +23,8 @@ use Rattle.lt_tool.specs.declared.plans.Plan.TheVariants as plans
 
 -- ---- one block
 
--- a block of which `P` is true was written, as one of which `Q` is
+-- if a block of which `P` is true was written, and `Q` is true of each such block, a block of which `Q` is true was
+-- written
 pub block_as : {O : Type 0} (P Q : (block : List ℕ) → (refused : Bool) → Type 0) (output : Stream O)
     (result : Result Bool ToolFault) → ((block : List ℕ) (refused : Bool) → P block refused → Q block refused)
     → WritesBlock P output result → WritesBlock Q output result
@@ -85,8 +86,8 @@ first_joined any refused (Err fault) = refl
 -- `start` before all writes
 module _ {O : Type 0} (contents : O → Option (List ℕ)) (Shows : (text block : List ℕ) → (refused : Bool) → Type 0)
     (start : Device O) where
-  -- the blocks of the texts `all` were written, but for those of the texts that are `left`: where these are written
-  -- from the output `before` on, all are. `any` is whether one is refused whose block was written
+  -- The blocks of the texts `all` were written, but for those of the texts that are `left`: if these are written from
+  -- the output `before` on, all are. `any` is whether one of the texts whose blocks were written is refused.
   abbrev pub HasShown : (all left : List (List ℕ)) → (before : Device O) → (any : Bool) → Type 0
   HasShown all left before any = (after : Device O) (result : Result Bool ToolFault)
       → WritesBlocks Shows left (stream contents before after) result

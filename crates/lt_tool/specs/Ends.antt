@@ -28,12 +28,12 @@ PrintsEnd (Ok answer) output printed =
     WritesText output.bytes (of_answers.line_of answer) output.before output.after printed
 PrintsEnd (Err fault) output printed = Prints (IsFaultLine fault) output printed
 
--- what a run comes to, by what it came to before that was printed, and by whether this failed
+-- what a run comes to once its end was to be printed: that end, or the fault of printing if that failed
 abbrev pub end_after : End → (printed : Result (Unit {0}) ToolFault) → End
 end_after end (Ok done) = end
 end_after end (Err fault) = Err (faults.Run fault)
 
--- the errors tell what failed, or how the words are wrong; nothing of a fault whose line is printed
+-- the errors tell what failed, or how the words are wrong; they tell nothing of a fault whose line is printed
 abbrev pub SaysFault : {E : Type 0} → Fault → Stream E → Type 0
 SaysFault (faults.Usage text) errors = Says errors (string_bytes text)
 SaysFault (faults.File told) errors = Says errors (codes "! File" ++ 10 ∷ [])
@@ -45,7 +45,8 @@ abbrev pub SaysEnd : {E : Type 0} → End → Stream E → Type 0
 SaysEnd (Ok answer) errors = IsUntouched errors
 SaysEnd (Err fault) errors = SaysFault fault errors
 
--- a run that came to `end` printed that, which came to `last`, and told it on the errors
+-- the end of a run was printed, and what the run then came to was told on the errors: it is `end` before it is
+-- printed, and `last` after that
 pub record Finishes {O E : Type 0} (end : End) (output : Stream O) (errors : Stream E) (last : End) : Type 0 where
   pub printed : Result (Unit {0}) ToolFault
   pub prints : PrintsEnd end output printed

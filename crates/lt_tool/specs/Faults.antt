@@ -29,8 +29,8 @@ mark_of roles.Only = []
 mark_of roles.Older = codes "old "
 mark_of roles.Newer = codes "new "
 
--- the line for the refusal of a registry: of its format (RFC 5646, 3.1.1) with the number of a line, of a record, or of
--- a condition of the check with the number of a record; OutOfMemory has none
+-- The line for the refusal of a registry. It tells a fault of the format (RFC 5646, 3.1.1) and its line, a fault of a
+-- record and the record, or a condition of the check and a record. OutOfMemory has no line.
 abbrev pub IsRegistryLine : Role → RegistryRefusal → List ℕ → Type 0
 IsRegistryLine role (refusals.Jar fault) line =
     line ≡ mark_of role ++ codes "jar " ++ jar_names.name_of fault.kind ++ codes " line " ++ decimal fault.line ++ 10 ∷ []
@@ -59,7 +59,7 @@ verdict_line (verdicts.NoSuchStep n) = codes "! NoSuchStep " ++ decimal n ++ 10 
 verdict_line verdicts.WrongEnd = codes "! WrongEnd" ++ 10 ∷ []
 verdict_line (verdicts.BadStep n) = codes "! BadStep " ++ decimal n ++ 10 ∷ []
 
--- the line that is printed for a fault; nothing is for one that the errors tell
+-- the line that is printed for a fault; nothing is printed for one that the errors tell
 abbrev pub IsFaultLine : Fault → List ℕ → Type 0
 IsFaultLine (faults.Text refusal) line = IsRefusalLine refusal line
 IsFaultLine (faults.OtherText refusal) line = IsRefusalLine refusal line

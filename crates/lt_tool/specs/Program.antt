@@ -39,7 +39,7 @@ abbrev pub IsFileFault : ErrorKind → Fault → Type 0
 IsFileFault kinds.OutOfMemory fault = fault ≡ no_memory
 IsFileFault kind fault = (told : Option (String Global)) × (fault ≡ faults.File told)
 
--- what is had of the answer of an opener: its file, or the fault
+-- what the answer of an opener gives: its file, or the fault of a file that can't be opened
 abbrev pub IsOpened : {F : Type 0} → Result F Error → Result (Source F) Fault → Type 0
 IsOpened (Ok file) result = result ≡ Ok (sources.File file)
 IsOpened (Err error) result = (fault : Fault) × IsFileFault (error_kind error) fault × (result ≡ Err fault)
@@ -67,7 +67,7 @@ pub record IsNew {T : Type 0} (inner : T) (device : Device T) : Type 0 where
   pub failures : failures_of device ≡ 0
   pub reads : reads_of device ≡ 0
 
--- the files are open, and nothing was read of them
+-- the files are open, and nothing was read from them
 pub record AreOpen {F : Type 0} (first second : Source F) (files : Files F) : Type 0 where
   pub is_first : IsNew first files.first
   pub is_second : IsNew second files.second
@@ -112,7 +112,8 @@ abbrev pub AsksIf : {I : Type 0} → (reads : Bool) → Stream I → Result (Uni
 AsksIf false input result = IsUntouched input × (result ≡ Ok tt)
 AsksIf true input result = (answer : Result ℕ Error) × Asks input answer × (result ≡ asked answer)
 
--- what is done before a command is performed: where the input can be read, if it is to be, the files are opened
+-- what is done before a command is performed: the input is asked for no bytes, if the command reads it; if it can be
+-- read, the files are opened
 pub record Prepares {P F I : Type 0} (calls : P → List ℕ → Result F Error → P → Type 0) (command : Command)
     (registry : List ℕ) (before after : P) (input : Stream I) (result : Result (Files F) Fault) : Type 0 where
   pub asks : Result (Unit {0}) Fault

@@ -77,8 +77,8 @@ abbrev pub refused_end : RegistryRefusal → Status
 refused_end (refusals.Jar fault) = jar_end fault.kind
 refused_end refusal = status.RegistryRefused
 
--- what a command gives by the only registry that it names: of its entries and of that `Goes` is true, or the registry
--- is refused
+-- what a command gives by the only registry that it names: the registry is refused, or `Goes` is true of its entries
+-- and of what the command gives
 pub record ByRegistry {F A : Type 0} (file : Stream F) (Goes : List EntryParts → Result A Fault → Type 0)
     (result : Result A Fault) : Type 0 where
   pub had : Result (List EntryParts) Fault

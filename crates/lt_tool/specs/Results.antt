@@ -5,7 +5,8 @@ use Rattle.lt_stream.specs.declared.faults.ToolFault.TheVariants as tool_faults
 use Rattle.lt_tool.specs.declared.faults.Fault.{Fault}
 use Rattle.lt_tool.specs.declared.faults.Fault.TheVariants as faults
 
--- what follows the result of a step, of which and of the step's value `Goes` is true: a fault of the step ends the run
+-- what follows the result of a step: `Goes` is true of the value of the step and of what follows, and a fault of the
+-- step ends the run
 abbrev pub Then : {A B : Type 0} → (A → Result B Fault → Type 0) → Result A Fault → Result B Fault → Type 0
 Then Goes (Ok value) result = Goes value result
 Then Goes (Err fault) result = result ≡ Err fault

@@ -94,7 +94,7 @@ pub record RunsAhead {I O : Type 0} (plan : LinesPlan) (front : List ℕ) (input
   pub same : Keeps (prepend_known front (input.bytes (inner_of input.before))) (bytes_ahead input.bytes (inner_of before))
   pub runs : RunsOver plan.ground plan.form (stream (bytes_ahead input.bytes) before after) output tallies result
 
--- the lines of the input were answered, from those bytes on that were read to find a column, if any were
+-- the lines of the input were answered; they begin with the bytes that were read to find a column, if any were
 abbrev pub AnswersLines : {I O : Type 0} → LinesPlan → Option (Vec ℕ Global) → Stream I → Stream O → List Tally
     → End → Type 0
 AnswersLines plan None input output tallies result = RunsOver plan.ground plan.form input output tallies result
@@ -102,7 +102,7 @@ AnswersLines plan (Some front) input output tallies result = RunsAhead plan fron
 
 -- ---- lines that are matched
 
--- what a run over lines came to that wrote so many of them
+-- what a run over lines came to, by how many of them it wrote
 abbrev pub selected : Result ℕ ToolFault → End
 selected (Ok count) = Ok (answers.Written (if count == 0 then status.Refused else status.Done))
 selected (Err fault) = Err (faults.Run fault)
@@ -153,8 +153,8 @@ judged (Ok verdicts.Right) = Ok answers.Passed
 judged (Ok verdict) = Err (faults.Explanation verdict)
 judged (Err fault) = Err (faults.Run fault)
 
--- the lines of the input were judged as an explanation of the tag of a text; or that is no valid tag, and no line was
--- read
+-- the lines of the input were judged as an explanation of the tag of a text; or the text is no valid tag, and no line
+-- was read
 abbrev pub VerifiesText : {I : Type 0} → List EntryParts → List ℕ → Stream I → End → Type 0
 VerifiesText R text input result =
     ((refusal : TextRefusal) × IsValidityRefusal R text refusal × IsUntouched input × (result ≡ Err (faults.Text refusal)))

@@ -66,8 +66,8 @@ PlansMatch ranges R = Gives (λ plan. (read : Vec RangeParts Global) × AreRange
     (λ fault. (refused : RefusedRange) × RefusesRange R (map string_bytes ranges.texts.items) refused
     × IsRangeFault refused fault)
 
--- where a header is refused: at the list element of this number, counted from 1; no number is told of a range that is
--- refused though it is one
+-- where a header is refused: at the list element of this number, counted from 1; or no number is told, where each
+-- element is a range but one of the ranges is refused
 abbrev pub header_place : HeaderRefusal → List ℕ
 header_place (header_refusals.NotAHeader fault) = codes " element " ++ decimal fault.place ++ 10 ∷ []
 header_place refusal = codes " header" ++ 10 ∷ []

@@ -96,7 +96,7 @@ abbrev pub ShowsAs : (json : Bool) → List EntryParts → List (List Field) →
 ShowsAs false R records text block refused = ShowsTag R records text block refused ⊎ ShowsFault text block refused
 ShowsAs true R records text block refused = ShowsObject R text refused
 
--- whether a text is refused whose block was written, or why the run ended before all of it was
+-- whether the text of a block is refused, if the block was written; or why the run ended before all of it was
 abbrev pub told : (refused : Bool) → Result (Unit {0}) ToolFault → Result Bool ToolFault
 told refused (Ok done) = Ok refused
 told refused (Err fault) = Err fault
@@ -107,8 +107,8 @@ abbrev pub WritesTold : {O : Type 0} → (block : List ℕ) → (refused : Bool)
 WritesTold block refused output result =
     (end : Result (Unit {0}) ToolFault) × WritesAll output block end × (result ≡ told refused end)
 
--- a block was written of which, and of whether its text is refused, `Shows` is true, or a front of it where the run
--- ended; or memory ran out before that
+-- a block was written, or a front of it where the run ended, or memory ran out before that; `Shows` is true of the
+-- block and of whether its text is refused
 abbrev pub WritesBlock : {O : Type 0} → ((block : List ℕ) → (refused : Bool) → Type 0) → Stream O → Result Bool ToolFault
     → Type 0
 WritesBlock Shows output result =
@@ -120,15 +120,15 @@ abbrev pub with_first : (refused : Bool) → Result Bool ToolFault → Result Bo
 with_first refused (Ok more) = Ok (refused || more)
 with_first refused (Err fault) = Err fault
 
--- what came of several texts, of whose first `first` came: the output was `between` then, and of what is written after
--- that and of what comes of the other texts `Others` is true; a fault ends the run
+-- What came of several texts, where `first` came of the first one. A fault of that ends the run. Else the output was
+-- `between` then, and `Others` is true of what is written after that and of what comes of the other texts.
 abbrev pub GoesOn : {O : Type 0} → (Stream O → Result Bool ToolFault → Type 0) → Stream O → (between : Device O)
     → (first result : Result Bool ToolFault) → Type 0
 GoesOn Others output between (Ok refused) result = (rest : Result Bool ToolFault)
     × Others (stream output.bytes between output.after) rest × (result ≡ with_first refused rest)
 GoesOn Others output between (Err fault) result = (output.after ≡ between) × (result ≡ Err fault)
 
--- the block of the first of several texts was written, of which `Shows` is true, and what of the others `Others` says
+-- the block of the first of several texts was written, as `Shows` says, and then those of the others, as `Others` says
 pub record WritesFirst {O : Type 0} (Shows : (block : List ℕ) → (refused : Bool) → Type 0)
     (Others : Stream O → Result Bool ToolFault → Type 0) (output : Stream O) (result : Result Bool ToolFault) : Type 0 where
   pub between : Device O
@@ -136,8 +136,8 @@ pub record WritesFirst {O : Type 0} (Shows : (block : List ℕ) → (refused : B
   pub writes : WritesBlock Shows (stream output.bytes output.before between) first
   pub goes_on : GoesOn Others output between first result
 
--- the blocks of texts were written one after another, each as the first parameter says, up to the first that was not
--- written whole; the result is whether one of the texts is refused, or why the run ended before
+-- The blocks of texts were written one after another, each as the first parameter says, up to the first that was not
+-- written whole. The result is whether one of the texts is refused, or why the run ended before.
 abbrev pub WritesBlocks : {O : Type 0} → ((text block : List ℕ) → (refused : Bool) → Type 0) → List (List ℕ)
     → Stream O → Result Bool ToolFault → Type 0
 WritesBlocks Shows [] output result = IsUntouched output × (result ≡ Ok false)
@@ -169,8 +169,8 @@ abbrev pub Refuses : (RegistryRefusal → Type 0) → Result Plan Fault → Type
 Refuses IsRefusal result =
     (refusal : RegistryRefusal) × IsRefusal refusal × (result ≡ Err (faults.Registry roles.Only refusal))
 
--- what is left to do of `show` once its registry file was read with its records (`both` are the entries and the
--- records): to show its tags, by a registry that passes the check; or why that is refused
+-- What is left to do of `show` once its registry file was read with its records: to show its tags, by a registry that
+-- passes the check; or why the registry is refused. `both` are the entries and the records.
 abbrev pub PlansBy : Tags → kept.RecordsReading → Result Plan Fault → Type 0
 PlansBy tags (Ok both) result =
     (IsChecked both.0 × PlansShow tags both.0 both.1 result) ⊎ Refuses (IsRegistryRefusal (Ok both.0)) result

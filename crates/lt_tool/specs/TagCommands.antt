@@ -30,7 +30,7 @@ use Rattle.lt_tool.specs.declared.streams.Files.{Files}
 abbrev pub IsText : List ℕ → Plan → Type 0
 IsText text plan = (line : Vec ℕ Global) × (line.items ≡ text) × (plan ≡ plans.Print (answers.Text line))
 
--- `classify` gives the line of the tag that a text is, or why it is none
+-- `classify` gives the line of the tag that a text is, or why the text is no tag
 abbrev pub Classifies : List ℕ → Result Plan Fault → Type 0
 Classifies text = Gives (λ plan. (form : TagForm) × HasTag text form × IsText (class_line form) plan)
     (λ fault. (f : TagFault) × IsFault text f.kind f.place × (fault ≡ faults.Text (of_fault f)))
@@ -51,8 +51,9 @@ abbrev pub IsTextAnswer : List EntryParts → List ℕ → Result (Vec ℕ Globa
 IsTextAnswer R text (Ok canonical) = IsCanonicalTextOf R text canonical.items
 IsTextAnswer R text (Err refusal) = IsTextRefusal R text refusal
 
--- whether the first of two texts, which has this answer, is not the one that is refused so: it is a tag, and has a
--- canonical form unless the refusal is that a text is no tag
+-- Whether the first of two texts, which has this answer, passes, so that the refusal is that of the second. It passes
+-- if it is a tag that has a canonical form; and if the refusal is that a text is no tag, it passes without a canonical
+-- form too.
 abbrev pub is_passed : TextRefusal → Result (Vec ℕ Global) TextRefusal → Bool
 is_passed refusal (Ok canonical) = true
 is_passed (refusals.NotATag fault) (Err (refusals.Invalid own)) = true

@@ -34,7 +34,7 @@ pub(crate) fn status_if(refused: bool) -> Status
 }
 
 impl Answer {
-    /// What is printed of it at the end of a run.
+    /// What is printed of the answer at the end of a run.
     pub(crate) fn line(&self) -> &[u8]
         ensures { result.now ≡ spec.line_of self.now }
     {

@@ -29,7 +29,8 @@ fn append_bytes(lines: &mut Vec<u8>, bytes: &[u8]) -> Result<(), OutOfMemory>
 }
 
 /// Writes the bytes `head`, the lines of what is left of an explanation, and the bytes `tail`, and holds few of the lines in
-/// memory at a time.
+/// memory at a time. The steps that are left must lead, one by one, from the tag where the explanation stands to its end.
+/// Refused if a write fails or memory runs out.
 pub(crate) fn write_lines<L: Lookup, O: Write>(
     alloc: Global,
     head: Vec<u8>,
@@ -51,7 +52,7 @@ pub(crate) fn write_lines<L: Lookup, O: Write>(
     write_text(&lines, output)
 }
 
-/// What a run came to that wrote an explanation.
+/// What a run came to that wrote an explanation: it is done, or the write failed.
 fn written(end: Result<(), ToolFault>) -> Result<Answer, Fault>
     ensures { result ≡ spec.written end }
 {

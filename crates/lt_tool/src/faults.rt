@@ -87,8 +87,8 @@ impl Fault {
         }
     }
 
-    /// The name by which the manual explains the fault, as `BadByte` or `C2`. Wrong usage has none, since its text says
-    /// all.
+    /// The name by which the manual explains the fault, for example `BadByte` or `C2`. Wrong usage has none, since its text
+    /// says all.
     pub fn name(&self) -> Option<&'static str> {
         Some(match self {
             Fault::Text(refusal) | Fault::OtherText(refusal) => refusal.name(),
@@ -104,7 +104,8 @@ impl Fault {
         })
     }
 
-    /// The number of the record that the fault names, counted from 1, and the registry that has it.
+    /// The number of the record that the fault names, counted from 1, and the registry that has it. None if the fault names
+    /// no record.
     pub fn record(&self) -> Option<(Role, u32)> {
         match self {
             Fault::Registry(role, refusal) => Some((*role, refusal.record()?)),

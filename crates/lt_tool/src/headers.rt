@@ -14,8 +14,9 @@ use lt_stream::ToolFault;
 use std::alloc::{AllocError, Global};
 use std::io::Read;
 
-/// The line that is told of a header that is refused: the name of its fault and the number of the list element, as
-/// `! BadWeight element 2`. It tells no number where a range is refused that is one, as `! ReplacementRepeats header`.
+/// The line that tells of a refused header: the name of its fault and the number of the list element, for example
+/// `! BadWeight element 2`. If each element is a range but one of the ranges is refused, no number is told:
+/// `! ReplacementRepeats header`.
 fn header_line(alloc: Global, refusal: &HeaderRefusal) -> Result<String, AllocError>
     ensures { IfOk result (λ line. string_bytes line ≡ spec.header_line refusal.now) }
 {
@@ -29,7 +30,7 @@ fn header_line(alloc: Global, refusal: &HeaderRefusal) -> Result<String, AllocEr
     }
 }
 
-/// The fault of a header that is refused, or that memory ran out.
+/// The fault of a refused header; or of memory that ran out, for the header or for this line.
 fn fault_of(alloc: Global, refusal: &HeaderRefusal) -> Fault
     ensures { IsHeaderFault refusal.now result }
 {
@@ -42,7 +43,8 @@ fn fault_of(alloc: Global, refusal: &HeaderRefusal) -> Fault
     }
 }
 
-/// To print the line of the input to serve for a header, by the registry of a file; or why that or the header is refused.
+/// The plan to print the line of the input that a header is served, by the registry of a file; or why the registry or the
+/// header is refused.
 pub(crate) fn plan_serve<'a, F: Read>(
     alloc: Global,
     header: &[u8],

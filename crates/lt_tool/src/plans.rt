@@ -76,7 +76,7 @@ pub(crate) enum Plan<'a> {
     Json(Checked<SortedTable>),
 }
 
-/// To answer the lines of the input by objects of JSON, by the registry of a file; or why that is refused.
+/// The plan to answer the lines of the input by objects of JSON, by the registry of a file; or why the registry is refused.
 fn plan_json<'a, F: Read>(alloc: Global, file: &mut Device<F>) -> Result<Plan<'a>, Fault>
     ensures { PlansJson (stream F.remaining file.old file.new) result }
 {
@@ -84,8 +84,8 @@ fn plan_json<'a, F: Read>(alloc: Global, file: &mut Device<F>) -> Result<Plan<'a
     Ok(Plan::Json(checked))
 }
 
-/// Reads the files that a command names and judges them; and finds the column of rows in the heading of the input if the
-/// command names it. Gives what is then left to do, or what was refused.
+/// Reads and judges the files that a command names, and finds the column of rows in the heading of the input if the command
+/// names it. Gives what is then left to do, or what was refused.
 pub(crate) fn make_plan<'a, F: Read, I: Read>(
     alloc: Global,
     command: &'a Command,

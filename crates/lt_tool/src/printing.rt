@@ -23,7 +23,7 @@ use lt_verify::Verdict;
 use std::alloc::Global;
 use std::io::Write;
 
-/// The line that is printed for a text that is refused. `TextRefusal::OutOfMemory` has none.
+/// The line that is printed for a text that is refused. `TextRefusal::OutOfMemory` has no line, and is an `Err` here too.
 fn refusal_line(alloc: Global, refusal: &TextRefusal) -> Result<Vec<u8>, OutOfMemory>
     ensures { IfOk result (λ line. IsRefusalLine refusal.now line.items) }
 {
@@ -32,8 +32,8 @@ fn refusal_line(alloc: Global, refusal: &TextRefusal) -> Result<Vec<u8>, OutOfMe
     Ok(line)
 }
 
-/// The line that is printed for a registry that is refused, as `jar BadLine line 3`. `RegistryRefusal::OutOfMemory` has
-/// none.
+/// The line that is printed for a registry that is refused, for example `jar BadLine line 3`. `RegistryRefusal::OutOfMemory`
+/// has no line, and is an `Err` here too.
 fn registry_line(
     alloc: Global,
     role: Role,
@@ -60,8 +60,8 @@ fn registry_line(
     Ok(line.into_bytes())
 }
 
-/// The line that is printed for a table of codes that is refused, as `codes BadRow line 2`. `TableFaultKind::OutOfMemory`
-/// has none.
+/// The line that is printed for a table of codes that is refused, for example `codes BadRow line 2`.
+/// `TableFaultKind::OutOfMemory` has no line, and is an `Err` here too.
 fn table_line(alloc: Global, fault: &TableFault) -> Result<Vec<u8>, OutOfMemory>
     ensures { IfOk result (λ line. faults.IsTableLine fault.now line.items) }
 {
@@ -73,7 +73,7 @@ fn table_line(alloc: Global, fault: &TableFault) -> Result<Vec<u8>, OutOfMemory>
     Ok(line.into_bytes())
 }
 
-/// The line that is printed for a registry that is no upgrade, as `upgrade U1 record 3`.
+/// The line that is printed for a registry that is no upgrade, for example `upgrade U1 record 3`.
 fn upgrade_line(
     alloc: Global,
     condition: UpgradeCondition,
@@ -99,7 +99,7 @@ fn verdict_line(alloc: Global, verdict: Verdict) -> Result<Vec<u8>, OutOfMemory>
     Ok(line.into_bytes())
 }
 
-/// The line that is printed for a fault; no bytes for one that is told on the errors.
+/// The line that is printed for a fault. It is empty for a fault that is told on the errors instead.
 fn line_of(alloc: Global, fault: &Fault) -> Result<Vec<u8>, OutOfMemory>
     ensures { IfOk result (λ line. IsFaultLine fault.now line.items) }
 {
@@ -113,7 +113,7 @@ fn line_of(alloc: Global, fault: &Fault) -> Result<Vec<u8>, OutOfMemory>
     }
 }
 
-/// Prints the line of a fault, if it has one.
+/// Prints the line of a fault, if it has one. Refused if the write fails or memory runs out for the line.
 fn print_fault<O: Write>(
     alloc: Global,
     fault: &Fault,
@@ -125,7 +125,8 @@ fn print_fault<O: Write>(
     write_text(&line, output)
 }
 
-/// Prints the answer, or the line of the fault, if it has one.
+/// Prints the answer, or the line of the fault, if it has one. `Err` means that this could not be printed, since the write
+/// failed or memory ran out for the line; a run that ended with a fault is no `Err` here.
 fn print_end<O: Write>(
     alloc: Global,
     end: &Result<Answer, Fault>,
@@ -139,7 +140,7 @@ fn print_end<O: Write>(
     }
 }
 
-/// What a run comes to, by what it came to before that was printed, and by how printing ended.
+/// What a run comes to once its end was to be printed: that end if it was printed, or else the fault of printing.
 fn end_after(end: Result<Answer, Fault>, printed: Result<(), ToolFault>) -> Result<Answer, Fault>
     ensures { result ≡ spec.end_after end printed }
 {
@@ -165,7 +166,7 @@ fn say_fault<E: Write>(fault: ToolFault, errors: &mut Device<E>)
     let _ = write_fault(fault, errors);
 }
 
-/// Tells on `errors` what failed, or how the words are wrong. Nothing of a fault whose line is printed.
+/// Tells on `errors` what failed, or how the words are wrong. Of a fault whose line is printed it tells nothing.
 fn say_of<E: Write>(fault: &Fault, errors: &mut Device<E>)
     ensures { SaysFault fault.now (stream E.contents errors.old errors.new) }
 {
@@ -189,7 +190,7 @@ fn say_end<E: Write>(end: &Result<Answer, Fault>, errors: &mut Device<E>)
 }
 
 /// Ends a run: prints the answer, or the line of what was refused, or tells on `errors` what failed. Gives what the run came
-/// to, where a write may have failed or memory run out.
+/// to. If a write failed or memory ran out while it was printed, that is what the run came to.
 pub(crate) fn finish<O: Write, E: Write>(
     alloc: Global,
     end: Result<Answer, Fault>,

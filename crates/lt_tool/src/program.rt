@@ -25,8 +25,8 @@ use std::io::{self, Read, Write};
 /// The path of the standard input.
 const INPUT_PATH: &str = "/dev/stdin";
 
-/// The path of the file that a name means. `-` is the standard input, unless `is_taken`: the command reads that for itself.
-/// `@` is the file with the path `registry`.
+/// The path of the file that a name means. `-` is the standard input, unless `is_taken`, which says that the command reads
+/// the standard input for itself. `@` is the file with the path `registry`.
 pub fn path_of<'a>(name: &'a str, is_taken: bool, registry: &'a str) -> &'a str
     ensures { IsPath is_taken registry.entry.now name.entry.now result.now }
 {
@@ -49,8 +49,8 @@ fn file_fault(alloc: Global, path: &str, error: &io::Error) -> Fault
     }
 }
 
-/// Opens the file that a name means. `is_taken` is whether the command reads the standard input for itself, and `registry`
-/// the path that `@` means.
+/// Opens the file that a name means. `is_taken` says whether the command reads the standard input for itself, and `registry`
+/// is the path that `@` means. The opener must be callable at any time, with any path. Refused if the opener gives an error.
 fn open_named<F: Read + Drop, P: FnMut(&str) -> io::Result<F>>(
     alloc: Global,
     opener: &mut P,
@@ -68,7 +68,8 @@ fn open_named<F: Read + Drop, P: FnMut(&str) -> io::Result<F>>(
     }
 }
 
-/// Opens the file of this name, if there is a name.
+/// Opens the file of this name, if there is a name. The opener must be callable at any time, with any path. Refused if the
+/// opener gives an error.
 fn open_file<F: Read + Drop, P: FnMut(&str) -> io::Result<F>>(
     alloc: Global,
     opener: &mut P,
@@ -85,7 +86,8 @@ fn open_file<F: Read + Drop, P: FnMut(&str) -> io::Result<F>>(
     }
 }
 
-/// Opens the files that a command names, in the order in which they are read.
+/// Opens the files that a command names, in the order in which they are read. The opener must be callable at any time, with
+/// any path. Refused at the first file for which the opener gives an error.
 fn open_files<F: Read + Drop, P: FnMut(&str) -> io::Result<F>>(
     alloc: Global,
     command: &Command,
@@ -104,7 +106,8 @@ fn open_files<F: Read + Drop, P: FnMut(&str) -> io::Result<F>>(
     })
 }
 
-/// Asks the input for no bytes, if a command reads it. Refused with `Read` if the input can't be read, as when it is closed.
+/// Asks the input for no bytes, if a command reads it. Refused with `Read` if the input can't be read, for example if it is
+/// closed.
 fn ask<I: Read>(command: &Command, input: &mut Device<I>) -> Result<(), Fault>
     ensures { AsksIf (reads_input_of command.now) (stream I.remaining input.old input.new) result }
 {
@@ -117,8 +120,9 @@ fn ask<I: Read>(command: &Command, input: &mut Device<I>) -> Result<(), Fault>
     }
 }
 
-/// Opens the files that a command names. If the command reads the input, this is asked for no bytes before: one that is
-/// closed is not taken for a file that is opened in its place.
+/// Opens the files that a command names. If the command reads the input, the input is asked for no bytes first, so that a
+/// closed input is not taken for a file that is opened in its place. The opener must be callable at any time, with any path.
+/// Refused if the input can't be read or the opener gives an error.
 fn prepare<F: Read + Drop, P: FnMut(&str) -> io::Result<F>, I: Read>(
     alloc: Global,
     command: &Command,
@@ -133,8 +137,8 @@ fn prepare<F: Read + Drop, P: FnMut(&str) -> io::Result<F>, I: Read>(
     open_files(alloc, command, opener, registry)
 }
 
-/// Does what a command asks for, but for the answer that it gives, which is not printed yet. `tallies` is set to what was
-/// refused of lines that were answered.
+/// Does what a command asks for, and gives its answer, which is not printed yet, or what was refused or failed. `tallies` is
+/// set to what was refused of lines that were answered.
 fn answer_of<F: Read, I: Read, O: Write>(
     alloc: Global,
     command: &Command,
@@ -175,17 +179,18 @@ fn carry_out<F: Read, I: Read, O: Write, E: Write>(
 
 /// Does what a command asks for, and answers the exit status, 0 to 4.
 ///
-/// `files` are those that the command names; one that it does not name is left as it is, and so is the second where the first
-/// is refused. A registry is read record by record, up to its end or the first line at fault. The answer is printed at
-/// once, but by `explain` as its lines are made, and by `show` tag by tag and the steps of a tag as they are made; `canon`,
-/// `codes`, `tsv`, `csv` and `json` answer the lines or records of the input as they come, `match` prints those of its lines
-/// that a range matches, or the one that lookup finds or a header serves, and `verify` reads them up to the first that settles its answer.
+/// `files` are those that the command names. A file that it does not name is left as it is, and so is the second file if the
+/// first one is refused. A registry is read record by record, up to its end or the first line at fault. Most answers are
+/// printed at once. `explain` prints its lines as they are made; `show` prints tag by tag, and the steps of a tag as they are
+/// made. `canon`, `codes`, `tsv`, `csv` and `json` answer the lines or records of the input as they come. `match` prints
+/// those of its lines that a range matches, or the one that lookup finds or that serves a header. `verify` reads lines up to
+/// the first that settles its answer.
 ///
-/// A read of a file that fails, or is one too many, is answered as a fault of the file. A write to the output
-/// that fails, a read of the input that fails, its end within quotes, and an allocation that fails are named on the errors; a
-/// write there that fails is counted by the device alone. Where a column has a name, it is found in the heading of the input
-/// before a byte is written; a name that no column has, or more than one, is told on the errors, and the status is 3. So it
-/// is where a range or the header of `match` is refused, and no line is read.
+/// If a read of a file fails or is one too many, that is answered as a fault of the file. If a write to the output, a read of
+/// the input or an allocation fails, or the input ends within quotes, that is named on the errors; if a write there fails
+/// too, the device alone counts it. Where a column has a name, it is found in the heading of the input before a byte is
+/// written. If no column has that name, or more than one has it, that is told on the errors, and the status is 3. The status
+/// is 3 too if a range or the header of `match` is refused; then no line is read.
 pub fn perform<F: Read, I: Read, O: Write, E: Write>(
     alloc: Global,
     command: &Command,
@@ -201,12 +206,12 @@ pub fn perform<F: Read, I: Read, O: Write, E: Write>(
 
 /// Runs the program by a command, and gives what the run came to.
 ///
-/// `opener` opens the files that the command names, in the order in which they are read: of a table and a registry the
-/// registry, of two registries the older one first. One that can't be opened ends the run by `! File` on the errors,
-/// and the status 4. The name `@` is the file with the path `registry`. The name `-` is the standard input where the command
-/// doesn't read that. Where it does, the input is
-/// asked for no bytes before a file is opened, so that one that is closed is not taken for a file that is opened in its
-/// place: it ends the run by `! Read`, and the status 4. Then all is done as by [`perform`].
+/// `opener` opens the files that the command names, in the order in which they are read: a registry before a table of codes,
+/// and an older registry before a newer one. It must be callable at any time, with any path. A file that can't be opened ends
+/// the run by `! File` on the errors, and the status 4. The name `@` is the file with the path `registry`. The name `-` is
+/// the standard input, if the command doesn't read that. If it does, the input is asked for no bytes before a file is opened,
+/// so that a closed input is not taken for a file that is opened in its place. A closed input ends the run by `! Read`, and
+/// the status 4. Then all is done as by [`perform`].
 pub fn run_program<F: Read + Drop, P: FnMut(&str) -> io::Result<F>, I: Read, O: Write, E: Write>(
     alloc: Global,
     command: &Command,
@@ -227,7 +232,8 @@ pub fn run_program<F: Read + Drop, P: FnMut(&str) -> io::Result<F>, I: Read, O: 
     }
 }
 
-/// What a run comes to whose words name no command.
+/// What a run comes to if its words name no command. Help and the version are to be printed. Wrong usage is refused, and
+/// where memory ran out, the run failed.
 fn end_of_words(fault: WordsFault) -> Result<Answer, Fault>
     ensures { EndsWords fault result }
 {
@@ -239,9 +245,9 @@ fn end_of_words(fault: WordsFault) -> Result<Answer, Fault>
     }
 }
 
-/// Says why the words are no command, and gives what the run came to: the status is 0 for help and the version, 3 for
-/// words that name no command, 4 where memory ran out or a write failed. Help and the version are printed, and any other
-/// fault is told on the errors.
+/// Says why the words are no command, and gives what the run came to. Help and the version are printed, and any other fault
+/// is told on the errors. The status is 0 for help and the version, 3 for words that name no command, and 4 where memory ran
+/// out or a write failed.
 pub fn report<I, O: Write, E: Write>(
     alloc: Global,
     fault: WordsFault,

@@ -30,8 +30,8 @@ pub(crate) struct RefusedRange {
     refusal: RangeRefusal,
 }
 
-/// Puts a range after the others. `number` is that of the range, counted from 1, which the refusal names where memory
-/// runs out.
+/// Puts a range after the others. Refused only where memory runs out. The refusal names `number`, which is that of the range,
+/// counted from 1.
 fn push_range(
     ranges: &mut Vec<LanguageRange>,
     number: usize,
@@ -50,7 +50,8 @@ fn push_range(
     }
 }
 
-/// The range by which a text matches. `number` is that of the text, counted from 1, which its refusal names.
+/// The range that a text is read as, or why the text is refused. The refusal names `number`, which is that of the text,
+/// counted from 1.
 fn read_range<L: Lookup>(
     alloc: Global,
     checked: &Checked<L>,
@@ -67,7 +68,7 @@ fn read_range<L: Lookup>(
     }
 }
 
-/// The ranges by which the texts match, or the first that is refused, by its number, counted from 1.
+/// The ranges that the texts are read as; or the first text that is refused, by its number, counted from 1.
 fn read_ranges<L: Lookup>(
     alloc: Global,
     checked: &Checked<L>,
@@ -97,7 +98,8 @@ fn scheme_of(matching: Matching) -> Option<Scheme>
     }
 }
 
-/// The line that is told of a range that is refused: its name and the number of the range, as `! Empty range 1`.
+/// The line that tells of a refused range: the name of its refusal and the number of the range, for example
+/// `! Empty range 1`.
 fn range_line(alloc: Global, refused: &RefusedRange) -> Result<String, AllocError>
     ensures { IfOk result (λ line. string_bytes line ≡ spec.range_line refused.now.number refused.now.refusal) }
 {
@@ -105,7 +107,7 @@ fn range_line(alloc: Global, refused: &RefusedRange) -> Result<String, AllocErro
     format!(in alloc; "! {name} range {number}\n")
 }
 
-/// The fault of a range that is refused, or that memory ran out.
+/// The fault of a refused range; or of memory that ran out, for the range or for this line.
 fn fault_of(alloc: Global, refused: &RefusedRange) -> Fault
     ensures { IsRangeFault refused.now result }
 {
@@ -118,7 +120,7 @@ fn fault_of(alloc: Global, refused: &RefusedRange) -> Fault
     }
 }
 
-/// To match the lines of the input by ranges, by the registry of a file; or why that or a range is refused.
+/// The plan to match the lines of the input by ranges, by the registry of a file; or why the registry or a range is refused.
 pub(crate) fn plan_match<'a, F: Read>(
     alloc: Global,
     ranges: &Ranges,

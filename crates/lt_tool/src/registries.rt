@@ -51,7 +51,8 @@ impl RegistryRefusal {
         }
     }
 
-    /// The number of the record at fault, counted from 1.
+    /// The number of the record at fault, counted from 1. None for a fault of the format, which has a line instead, and where
+    /// memory ran out.
     pub(crate) fn record(&self) -> Option<u32> {
         match self {
             RegistryRefusal::Record(fault) => Some(fault.number),
@@ -113,7 +114,7 @@ fn judge_file<F: Read>(
     }
 }
 
-/// The registry of a file, or the fault with which it is refused. `role` is which of its registries the command means.
+/// The registry of a file, or the fault with which it is refused. `role` says which of its registries the command means.
 pub(crate) fn read_registry<F: Read>(
     alloc: Global,
     role: Role,

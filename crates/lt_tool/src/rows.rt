@@ -18,7 +18,7 @@ use lt_words::{Column, Rows};
 use std::alloc::Global;
 use std::io::Read;
 
-/// The table of codes of a file, or None if no table is named; or why it is refused.
+/// The table of codes of a file, or None if no table is named. Refused if a table is named and the file holds none.
 fn read_codes<F: Read>(
     alloc: Global,
     is_named: bool,
@@ -35,8 +35,8 @@ fn read_codes<F: Read>(
     }
 }
 
-/// By what lines are answered: the registry of the first file, and the table of codes of the second if `is_named`. Where
-/// the registry is refused, the second file is not read.
+/// What lines are answered by: the registry of the first file, and the table of codes of the second if `is_named`. Refused if
+/// one of them is; if the registry is, the second file is not read.
 fn read_ground<F: Read>(
     alloc: Global,
     is_named: bool,
@@ -49,7 +49,8 @@ fn read_ground<F: Read>(
     Ok(Ground { checked, codes })
 }
 
-/// To answer the lines of the input as tags, by a registry, and by a table of codes if `is_named`; or why a file is refused.
+/// The plan to answer the lines of the input as tags, by a registry, and by a table of codes if `is_named`; or why a file is
+/// refused.
 pub(crate) fn plan_tags<'a, F: Read>(
     alloc: Global,
     is_named: bool,
@@ -65,8 +66,8 @@ pub(crate) fn plan_tags<'a, F: Read>(
     }))
 }
 
-/// The form of rows whose column has this number, counted from 1, by what the words say of headings and of keeping
-/// rows. It counts the fields before the column.
+/// The form of rows whose column of tags has this number, counted from 1. The words say whether there is a heading and
+/// whether rows are kept. The form holds the number of fields before the column.
 fn row_form(rows: &Rows, number: usize) -> RowForm
     ensures { result ≡ spec.row_form rows.now number }
 {
@@ -109,8 +110,8 @@ impl From<ColumnFault> for Fault {
     }
 }
 
-/// Where the column is that the words name, by its number or by its name in the heading of the input; or why it is not
-/// found.
+/// Where the column is that the words name, by its number or by its name in the heading of the input; or why the column is
+/// not found.
 fn place_of<I: Read>(
     alloc: Global,
     separator: Separator,
@@ -137,7 +138,7 @@ fn place_of<I: Read>(
     }
 }
 
-/// To answer the rows of the input; or why a file is refused, or the column is not found.
+/// The plan to answer the rows of the input; or why a file is refused, or the column is not found.
 pub(crate) fn plan_rows<'a, F: Read, I: Read>(
     alloc: Global,
     separator: Separator,

@@ -1,4 +1,5 @@
-//! What is left to do of a run once its files are read: with the lines of the input, of an explanation and of tags that are shown.
+//! What is left to do of a run once its files are read: lines are answered, matched or judged, and tags are explained or
+//! shown.
 ghost use Rattle.std.specs.Prelude.{◌≡◌, ◌++◌, ◌∷◌, [], IfErr, IfOk};
 ghost use Rattle.lt_tag.specs.Faults.{HasTag};
 ghost use Rattle.lt_registry.specs.Validity.{IsValid};
@@ -38,7 +39,7 @@ fn drop_unknown(alloc: Global, end: Result<Counts, ToolFault>, tallies: &mut Tal
     }
 }
 
-/// What a run over lines came to.
+/// What a run over lines came to: how many it answered and refused, or why it failed.
 fn counted(end: Result<Counts, ToolFault>) -> Result<Answer, Fault>
     ensures { result ≡ spec.counted end }
 {
@@ -48,7 +49,8 @@ fn counted(end: Result<Counts, ToolFault>) -> Result<Answer, Fault>
     }
 }
 
-/// Answers lines of this form. `tallies` is set to those that were refused, where it is known which were answered.
+/// Answers lines of this form. `tallies` is set to those that were refused, where it is known which were answered. Refused if
+/// a read or a write fails, the input is at fault, or memory runs out.
 fn run_over<I: Read, O: Write>(
     alloc: Global,
     ground: &Ground,
@@ -68,7 +70,8 @@ fn run_over<I: Read, O: Write>(
     counted(end)
 }
 
-/// Answers the lines of the input, from those bytes on that were read to find a column.
+/// Answers the lines of the input. They begin with the bytes that were read to find a column, if any were. Refused as by
+/// `run_over`.
 fn answer_lines<I: Read, O: Write>(
     alloc: Global,
     plan: &LinesPlan,
@@ -87,7 +90,7 @@ fn answer_lines<I: Read, O: Write>(
     }
 }
 
-/// What a run over lines came to that wrote so many of them.
+/// What a run over lines came to, by how many of them it wrote: it is refused if it wrote none. It failed if `end` says so.
 fn selected(end: Result<u64, ToolFault>) -> Result<Answer, Fault>
     ensures { result ≡ spec.selected end }
 {
@@ -106,7 +109,7 @@ pub(crate) fn ended(mut line: Vec<u8>) -> Result<Vec<u8>, OutOfMemory>
     Ok(line)
 }
 
-/// The answer that prints a line that was found.
+/// The answer that prints a line that was found. Refused where memory runs out.
 fn found(line: Vec<u8>) -> Result<Answer, Fault>
     ensures { PrintsLine line.items result }
 {
@@ -114,7 +117,8 @@ fn found(line: Vec<u8>) -> Result<Answer, Fault>
     Ok(Answer::Text(text))
 }
 
-/// What a search for a line came to.
+/// What a search for a line came to: the line is to be printed, or the run ends as refused if none was found. It failed if
+/// `end` says so.
 fn searched(end: Result<Option<Vec<u8>>, ToolFault>) -> Result<Answer, Fault>
     ensures { IsFound end result }
 {
@@ -125,14 +129,14 @@ fn searched(end: Result<Option<Vec<u8>>, ToolFault>) -> Result<Answer, Fault>
     }
 }
 
-/// The line of the input that lookup by ranges finds.
+/// The line of the input that lookup by ranges finds, as an answer; or why the search failed.
 fn look_up<I: Read>(alloc: Global, plan: &MatchPlan, input: &mut Device<I>) -> Result<Answer, Fault>
     ensures { Searches (LooksUp plan.now.checked plan.now.ranges.items) (stream I.remaining input.old input.new) result }
 {
     searched(look_up_line(alloc, &plan.checked, &plan.ranges, input))
 }
 
-/// The line of the input that preferences serve.
+/// The line of the input that preferences serve, as an answer; or why the search failed.
 fn serve<L: Lookup, I: Read>(
     alloc: Global,
     checked: &Checked<L>,
@@ -145,6 +149,7 @@ fn serve<L: Lookup, I: Read>(
 }
 
 /// Writes the lines of the input that ranges match by a scheme of filtering, or gives the one that they find by lookup.
+/// Refused if a read or a write fails, the input is at fault, or memory runs out.
 fn match_lines<I: Read, O: Write>(
     alloc: Global,
     plan: &MatchPlan,
@@ -181,7 +186,8 @@ fn valid_tag<L: Lookup>(
     }
 }
 
-/// What is answered for a verdict on an explanation.
+/// What a run came to that judged an explanation: it is right, or it is refused by the verdict. The run failed if `end` says
+/// so.
 fn judged(end: Result<Verdict, ToolFault>) -> Result<Answer, Fault>
     ensures { result ≡ spec.judged end }
 {
@@ -192,8 +198,8 @@ fn judged(end: Result<Verdict, ToolFault>) -> Result<Answer, Fault>
     }
 }
 
-/// Judges the lines of the input as an explanation of a text, by a registry. Of a text that is no valid tag it gives the
-/// refusal, and reads no line.
+/// Judges the lines of the input as an explanation of a text, by a registry; a wrong explanation is refused by its verdict.
+/// If the text is no valid tag, its refusal is given, and no line is read.
 fn verify<L: Lookup, I: Read>(
     alloc: Global,
     checked: &Checked<L>,
@@ -208,7 +214,7 @@ fn verify<L: Lookup, I: Read>(
     }
 }
 
-/// What a run over lines came to that answered them by objects, by whether it refused a line.
+/// What a run came to that answered lines by objects: `refused` says whether it refused a line, and `end` whether it failed.
 fn answered(refused: bool, end: Result<(), ToolFault>) -> Result<Answer, Fault>
     ensures { result ≡ spec.answered refused end }
 {
@@ -218,7 +224,8 @@ fn answered(refused: bool, end: Result<(), ToolFault>) -> Result<Answer, Fault>
     }
 }
 
-/// Writes a JSON object for each line of the input.
+/// Writes a JSON object for each line of the input. Refused if a read or a write fails, the input is at fault, or memory runs
+/// out.
 fn answer_in_json<L: Lookup, I: Read, O: Write>(
     alloc: Global,
     checked: &Checked<L>,
@@ -231,8 +238,8 @@ fn answer_in_json<L: Lookup, I: Read, O: Write>(
     answered(ended.0, ended.1)
 }
 
-/// Does what is left to do of a run, but for the answer that it gives, which is not printed yet. `tallies` is set to what
-/// was refused of lines that were answered.
+/// Does what is left to do of a run, and gives its answer, which is not printed yet, or what was refused or failed. `tallies`
+/// is set to what was refused of lines that were answered.
 pub(crate) fn run<I: Read, O: Write>(
     alloc: Global,
     plan: Plan<'_>,

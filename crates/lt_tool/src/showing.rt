@@ -22,7 +22,7 @@ use lt_words::Tags;
 use std::alloc::Global;
 use std::io::{Read, Write};
 
-/// Whether a text is refused whose block was written, or why not all of that was.
+/// Whether the text of a block is refused, if the block was written; or why not all of the block was.
 fn told(refused: bool, end: Result<(), ToolFault>) -> Result<bool, ToolFault>
     ensures { result ≡ spec.told refused end }
 {
@@ -32,7 +32,7 @@ fn told(refused: bool, end: Result<(), ToolFault>) -> Result<bool, ToolFault>
     }
 }
 
-/// Writes a block that was made in memory, and tells whether its text is `refused`.
+/// Writes a block that was made in memory, and tells whether its text is `refused`. Refused itself if the write fails.
 fn write_block<O: Write>(
     block: &[u8],
     refused: bool,
@@ -43,7 +43,8 @@ fn write_block<O: Write>(
     told(refused, write_text(block, output))
 }
 
-/// Writes what `show` prints of a text as a line of JSON, and tells whether the text is refused.
+/// Writes what `show` prints of a text as a line of JSON, and tells whether the text is refused. `Err` means that a write
+/// failed or memory ran out.
 fn show_object<L: Lookup, O: Write>(
     alloc: Global,
     checked: &Checked<L>,
@@ -69,6 +70,7 @@ fn refused_block(head: Vec<u8>, refusal: &TextRefusal) -> Result<Vec<u8>, OutOfM
 }
 
 /// Writes a block for people, of the bytes `head`, the line of a refusal, and an empty line. Tells that its text is refused.
+/// `Err` means that a write failed or memory ran out.
 fn show_refused<O: Write>(
     head: Vec<u8>,
     refusal: &TextRefusal,
@@ -91,7 +93,8 @@ fn printable_line(alloc: Global, text: &[u8]) -> Result<Vec<u8>, OutOfMemory>
 }
 
 /// Writes the table of a text that is a tag, its explanation, or the line of its refusal, and an empty line. The lines of the
-/// explanation are written as they are made. Tells whether the text is refused.
+/// explanation are written as they are made. Tells whether the text is refused. `Err` means that a write failed or memory ran
+/// out.
 fn show_ended<L: Lookup, O: Write>(
     alloc: Global,
     checked: &Checked<L>,
@@ -107,8 +110,9 @@ fn show_ended<L: Lookup, O: Write>(
     }
 }
 
-/// Writes what `show` prints of a text for people: the table of its subtags, its explanation or the line of its refusal,
-/// and an empty line. Tells whether it is refused. Of a text that is no tag it prints the text in place of the table.
+/// Writes what `show` prints of a text for people: the table of its subtags, its explanation or the line of its refusal, and
+/// an empty line. If the text is no tag, the text stands in place of the table. Tells whether the text is refused. `Err`
+/// means that a write failed or memory ran out.
 fn show_block<L: Lookup, O: Write>(
     alloc: Global,
     checked: &Checked<L>,
@@ -133,7 +137,8 @@ fn show_block<L: Lookup, O: Write>(
     show_ended(alloc, checked, text, table, output)
 }
 
-/// Writes what `show` prints of a text, as a line of JSON if `json`, or else for people, and tells whether it is refused.
+/// Writes what `show` prints of a text, as a line of JSON if `json`, or else for people, and tells whether the text is
+/// refused. `Err` means that a write failed or memory ran out.
 fn show_text<L: Lookup, O: Write>(
     alloc: Global,
     checked: &Checked<L>,
@@ -159,7 +164,7 @@ fn either(one: bool, other: bool) -> bool
 }
 
 /// Writes what `show` prints of texts, one after another, by a registry and its records: as lines of JSON if `json`, or else
-/// for people. It tells whether one of the texts is refused.
+/// for people. It tells whether one of the texts is refused. `Err` means that a write failed or memory ran out.
 fn show_each<L: Lookup, O: Write>(
     alloc: Global,
     checked: &Checked<L>,
@@ -178,7 +183,7 @@ fn show_each<L: Lookup, O: Write>(
     Ok(any)
 }
 
-/// What a run came to that showed texts, of which `any` may be refused.
+/// What a run came to that showed texts: `any` says whether one of them is refused, or why not all were written.
 fn shown(any: Result<bool, ToolFault>) -> Result<Answer, Fault>
     ensures { result ≡ spec.shown any }
 {
@@ -188,7 +193,8 @@ fn shown(any: Result<bool, ToolFault>) -> Result<Answer, Fault>
     }
 }
 
-/// Writes what `show` prints of the tags on its command line, by a registry and its records.
+/// Writes what `show` prints of the tags on its command line, by a registry and its records. `Err` means that a write failed
+/// or memory ran out.
 pub(crate) fn show_texts<L: Lookup, O: Write>(
     alloc: Global,
     checked: &Checked<L>,
@@ -212,7 +218,7 @@ fn refusal_of(fault: RecordsFault) -> RegistryRefusal
     }
 }
 
-/// To show tags by a registry and its records (`both`), or why the registry fails the check.
+/// The plan to show tags by a registry and its records (`both`), or why the registry fails the check.
 fn plan_kept<'a>(alloc: Global, both: (Registry, Jar), tags: &'a Tags) -> Result<Plan<'a>, Fault>
     ensures { PlansBy tags.now (Ok both) result }
 {
@@ -223,7 +229,7 @@ fn plan_kept<'a>(alloc: Global, both: (Registry, Jar), tags: &'a Tags) -> Result
     }
 }
 
-/// To show tags by the registry of a file and its records, or why the registry is refused.
+/// The plan to show tags by the registry of a file and its records, or why the registry is refused.
 pub(crate) fn plan_show<'a, F: Read>(
     alloc: Global,
     tags: &'a Tags,

@@ -30,7 +30,7 @@ impl<F: Read> Read for Source<F> {
 
     ghost remaining = { λ source. bytes_of F.remaining source };
 
-    /// Reads once from the file; nothing where there is none.
+    /// Reads once from the file, or gives no bytes if there is none.
     fn read(&mut self, buf: &mut [u8]) -> io::Result<usize>
         ensures bound { ReadsAtMost result buf.new }
         ensures bytes { ReadConsumes (bytes_of F.remaining self.old) (bytes_of F.remaining self.new) result buf.new }

@@ -24,7 +24,7 @@ use lt_upgrade::{UpgradeFault, upgrade_check};
 use std::alloc::Global;
 use std::io::Read;
 
-/// The line that `classify` prints for a tag: the name of its class, a space, and the tag in conventional case, as
+/// The line that `classify` prints for a tag: the name of its class, a space, and the tag in conventional case, for example
 /// `grandfathered en-GB-oed`.
 fn line_of_tag(alloc: Global, tag: &Tag) -> Result<Vec<u8>, OutOfMemory>
     ensures { IfOk result (λ line. line.items ≡ class_line tag.now) }
@@ -38,7 +38,7 @@ fn line_of_tag(alloc: Global, tag: &Tag) -> Result<Vec<u8>, OutOfMemory>
     Ok(line)
 }
 
-/// What `classify` answers to a text: the line of its tag, or why it is none.
+/// What `classify` answers to a text: the line of its tag, or why the text is no tag.
 pub(crate) fn classify<'a>(alloc: Global, text: &[u8]) -> Result<Plan<'a>, Fault>
     ensures { Classifies text.now result }
 {
@@ -105,8 +105,9 @@ fn equality<L: Lookup>(
     Ok(equivalent(alloc, checked, &tag, &other)?)
 }
 
-/// Whether the first of two texts, to which `own` is answered, is not the one that is refused so: it is a tag, and has a
-/// canonical form unless the refusal is that a text is no tag.
+/// Whether the first of two texts passes, so that `refusal` is that of the second. `own` is what is answered to the first
+/// alone. It passes if it is a tag that has a canonical form; and if `refusal` says that a text is no tag, it passes without
+/// a canonical form too.
 fn is_passed(refusal: &TextRefusal, own: &Result<Vec<u8>, TextRefusal>) -> bool
     ensures { result ≡ spec_of_tags.is_passed refusal.now own.now }
 {
@@ -118,7 +119,7 @@ fn is_passed(refusal: &TextRefusal, own: &Result<Vec<u8>, TextRefusal>) -> bool
     }
 }
 
-/// The fault of two texts that are refused, which says whether that is for the first or for the second.
+/// The fault of two texts, one of which is refused: it says whether that is the first or the second.
 fn pair_fault<L: Lookup>(
     alloc: Global,
     checked: &Checked<L>,
@@ -135,7 +136,7 @@ fn pair_fault<L: Lookup>(
     }
 }
 
-/// What `extlang` answers to a text, by the registry of a file.
+/// What `extlang` answers to a text, by the registry of a file; or why the registry or the text is refused.
 pub(crate) fn extlang<'a, F: Read>(
     alloc: Global,
     text: &[u8],
@@ -149,7 +150,7 @@ pub(crate) fn extlang<'a, F: Read>(
     Ok(Plan::Print(Answer::Text(line)))
 }
 
-/// What `equal` answers to two texts, by the registry of a file.
+/// What `equal` answers to two texts, by the registry of a file; or why the registry or a text is refused.
 pub(crate) fn equal<'a, F: Read>(
     alloc: Global,
     first: &[u8],
@@ -165,7 +166,7 @@ pub(crate) fn equal<'a, F: Read>(
     }
 }
 
-/// To explain a text by the registry of a file; or why that is refused.
+/// The plan to explain a text by the registry of a file; or why the registry is refused.
 pub(crate) fn plan_explain<'a, F: Read>(
     alloc: Global,
     text: &'a [u8],
@@ -177,7 +178,7 @@ pub(crate) fn plan_explain<'a, F: Read>(
     Ok(Plan::Explain(checked, text))
 }
 
-/// To judge lines as an explanation of a text by the registry of a file; or why that is refused.
+/// The plan to judge lines as an explanation of a text by the registry of a file; or why the registry is refused.
 pub(crate) fn plan_verify<'a, F: Read>(
     alloc: Global,
     text: &'a [u8],

@@ -46,7 +46,7 @@ lacks_first rows first others (fault.Usage said) lacks = λ texts given.
     let parts = given_first rows first others texts given in lacks (parts.0 ∷ []) parts.2
 lacks_first rows first others fault.OutOfMemory lacks = tt
 
--- the same where one of the others does
+-- positionals lack a value where one after the first does; `f` is the fault
 pub lacks_other : (rows : List Row) (first : Text) (others : List Text) (f : WordsFault) → LacksValue rows others f → LacksValue rows (first ∷ others) f
 lacks_other rows first others (fault.Help text) lacks = lacks
 lacks_other rows first others (fault.Version text) lacks = lacks
@@ -56,8 +56,8 @@ lacks_other rows first others fault.OutOfMemory lacks = tt
 
 -- ---- columns
 
--- a step through the digits of `all`: where its bytes are digits exactly if those of `rest` are, and `rest` begins
--- with a digit `d`, they are exactly if those of `more` are, which follow the digit
+-- A step through the digits of `all`. If its bytes are digits exactly if those of `rest` are, and `rest` begins with a
+-- digit `d`, they are digits exactly if those of `more` are, which follow `d`.
 pub digits_next : (all rest more : List ℕ) (d : ℕ) → rest ≡ d ∷ more → digit_value d < 10 → (AllDigits 10 all → AllDigits 10 rest) × (AllDigits 10 rest → AllDigits 10 all)
     → (AllDigits 10 all → AllDigits 10 more) × (AllDigits 10 more → AllDigits 10 all)
 digits_next all rest more d is digit same =

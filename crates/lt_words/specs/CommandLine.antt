@@ -15,7 +15,7 @@ positional name = record (new_rule name) { action = Some Set; required = true }
 abbrev pub repeated : Text → Rule
 repeated name = record (new_rule name) { action = Some Append; required = true }
 
--- the same, but that no word need be left
+-- an argument of this name, which takes all words that are left, if any are
 abbrev pub leftover : Text → Rule
 leftover name = record (new_rule name) { action = Some Append }
 

@@ -83,13 +83,13 @@ AreValues (command.Upgrade old new) texts = texts ≡ string_bytes old ∷ strin
 AreValues (command.Show file tags) texts = texts ≡ string_bytes file ∷ []
 AreValues (command.Json file) texts = texts ≡ string_bytes file ∷ []
 
--- whether a byte may be part of a field that is added to rows: of a canonical text, of a fault with its place, or of a
--- name: letters, digits, spaces (32), hyphens (45) and underscores (95)
+-- Whether a byte may be part of a field that is added to rows: a letter, a digit, a space (32), a hyphen (45) or an
+-- underscore (95). Such a field is a canonical text, a fault with its place, or a name.
 abbrev pub is_of_added : ℕ → Bool
 is_of_added byte = is_ascii_alphanumeric byte || (byte == 32) || (byte == 45) || (byte == 95)
 
--- whether a byte may stand between fields: it is ASCII, but no quote (34), line feed (10) or carriage return (13), and no
--- byte of the fields that are added, so that these stay one field each
+-- Whether a byte may stand between fields. It is ASCII, but no quote (34), line feed (10) or carriage return (13). It
+-- is no byte of the fields that are added, so that these stay one field each.
 abbrev pub is_delimiter : ℕ → Bool
 is_delimiter byte = nat_lt byte 128 && not (byte == 34) && not (byte == 10) && not (byte == 13) && not (is_of_added byte)
 

@@ -49,8 +49,8 @@ pub fn escaped(alloc: Global, bytes: &[u8]) -> Result<String, AllocError>
     Ok(said)
 }
 
-/// The message for the word of this number, counted from the program's name, which is 0, that is not UTF-8. `shown` is
-/// the word with its bytes as they are shown.
+/// The message for a word that is not UTF-8. Its number is counted from the program's name, which is 0, and `shown` is the
+/// word with its bytes as they are shown.
 fn word_line(alloc: Global, number: usize, shown: &str) -> Result<String, AllocError>
     ensures { IfOk result (λ text. string_bytes text ≡ spec.word_line number shown.now) }
 {
@@ -60,8 +60,8 @@ fn word_line(alloc: Global, number: usize, shown: &str) -> Result<String, AllocE
     Ok(said)
 }
 
-/// The text of the word of this number, counted from the program's name, which is 0: its bytes, which are UTF-8. Any
-/// other is refused by `Usage`, whose text tells the number and the bytes; `OutOfMemory` comes where memory runs out.
+/// The text of a word, which is its bytes if they are UTF-8. Its number is counted from the program's name, which is 0. Any
+/// other word is refused with `Usage`, whose text tells the number and the bytes; `OutOfMemory` comes where memory runs out.
 pub fn word_text(alloc: Global, number: usize, bytes: &[u8]) -> Result<String, WordsFault>
     ensures text { IfOk result (λ text. string_bytes text ≡ bytes.now) }
     ensures refused { IfErr result (IsNoText number bytes.now) }

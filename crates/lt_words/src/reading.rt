@@ -186,12 +186,11 @@ fn fault_of<D: Display>(alloc: Global, kind: ErrorKind, error: &D) -> WordsFault
     }
 }
 
-/// Reads the words of the command line, of which the first is the program's name: `langtag`, `classify` and
-/// `zh-Hant` name the command `Classify` of `zh-Hant`.
+/// Reads the words of the command line, of which the first is the program's name: `langtag`, `classify` and `zh-Hant` name
+/// the command `Classify` of `zh-Hant`.
 ///
-/// A request for help is answered by `Help` with its text, one for the version by `Version` with that, and any
-/// other words that name no command by `Usage` with a text that says why; `OutOfMemory` comes where memory runs
-/// out.
+/// A request for help is answered by `Help` with its text, and one for the version by `Version` with its text. Any other
+/// words that name no command are answered by `Usage` with a text that says why; `OutOfMemory` comes where memory runs out.
 pub fn read_words(alloc: Global, words: &[String]) -> Result<Command, WordsFault>
     ensures read { IfOk result (Reads (map string_bytes words.now)) }
     ensures refused { IfErr result (IsRefused (map string_bytes words.now)) }

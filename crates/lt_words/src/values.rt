@@ -92,7 +92,7 @@ pub(crate) fn is_flagged(matches: &ArgMatches<'_>, flag: &Argument) -> bool
     }
 }
 
-/// A text without the plus that may begin it, as a number may be written.
+/// A text without the plus sign that may begin it: a number may be written so.
 fn without_plus(text: &[u8]) -> &[u8]
     ensures { result.now ≡ without_leading_plus text.now }
 {
@@ -160,7 +160,8 @@ pub(crate) fn column_of(alloc: Global, text: &str, heading: bool) -> Result<Colu
     Ok(Column::Name(String::from_str(alloc, text)?))
 }
 
-/// Whether a byte may be part of a field that is added to rows, as of `UnknownLanguage 1` or of the name `langtag_fault`.
+/// Whether a byte may be part of a field that is added to rows, for example of `UnknownLanguage 1` or of the name
+/// `langtag_fault`.
 fn is_of_added(byte: u8) -> bool
     ensures { result ≡ spec.is_of_added byte }
 {

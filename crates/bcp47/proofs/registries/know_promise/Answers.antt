@@ -1,5 +1,6 @@
 use Rattle.bcp47.proofs.registries.know_promise.Goals as goal
 
+-- that the table is checked is a clause of `table`, and all that follows from it are clauses of `confluence`
 pub returns : goal.returns
 returns c = record {
   checked = c.table.ensures.checked;

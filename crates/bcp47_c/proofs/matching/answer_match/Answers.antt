@@ -4,6 +4,7 @@ use Rattle.bcp47_c.specs.Outcomes.{ended}
 use Rattle.bcp47_c.proofs.MatchAnswers.{told_by_parts, told_match}
 use Rattle.bcp47_c.proofs.matching.answer_match.Goals as goal
 
+-- the range and the tag match by their parts, which are their only extlang forms, and the status is 0
 pub returns-then-is_matched : goal.returns-then-is_matched
 returns-then-is_matched c =
     let answer = told_by_parts c.args.registry.now c.promise.ensures.checked c.args.scheme c.args.range.now
@@ -13,6 +14,7 @@ returns-then-is_matched c =
     told_match c.args.registry.now c.args.scheme c.args.range.now c.args.text.now c.args.buffer.now
     c.deliver.new.buffer c.is_matched.result c.ended.result c.deliver.result answer said c.deliver.ensures
 
+-- the range and the tag don't match by their parts, which are their only extlang forms, and the status is 6
 pub returns : goal.returns
 returns c =
     let answer = told_by_parts c.args.registry.now c.promise.ensures.checked c.args.scheme c.args.range.now

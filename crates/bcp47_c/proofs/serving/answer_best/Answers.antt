@@ -4,6 +4,7 @@ use Rattle.lt_range.specs.declared.preferences.Preference.{Preference}
 use Rattle.bcp47_c.specs.Outcomes.{outcome}
 use Rattle.bcp47_c.proofs.serving.answer_best.Goals as goal
 
+-- the header has preferences, and the tag that is best by them is said
 pub returns-in-Ok : goal.returns-in-Ok
 returns-in-Ok c =
     let same : c.deref.result.now ≡ c.in-Ok.preferences.items = search rules in

@@ -7,6 +7,7 @@ use Rattle.bcp47_c.proofs.steps.front_steps.Goals as goal
 abbrev none : StepNumbers
 none = record { kind = 0; place = 0; number = 0 }
 
+-- the loop ended since no numbers are left, or at the first numbers that are no step
 pub returns : goal.returns
 returns c =
     let told = c.args.told.now in

@@ -12,6 +12,7 @@ use Rattle.lt_heading.proofs.names.look_up_in_row.Goals as goal
 same_of : (r : Bool) (xs ys : List ℕ) → r ≡ bytes_eq xs ys → (r ≡ true → xs ≡ ys) × (xs ≡ ys → r ≡ true)
 same_of r xs ys is = rw is (bytes_eq-Decides xs ys)
 
+-- the field is the last of the row, so its name is the last that is compared and listed
 pub returns-in-None : goal.returns-in-None
 returns-in-None c =
     let S = c.args.separator in
@@ -33,6 +34,7 @@ returns-in-None c =
       l.1 ∙ ap (λ t. t ++ rest_said (held.count + 1)) (c.in_ok-append_listed.ensures ∙ ap (λ n. string_bytes held.listed ++ listed_after held.count n) c.deref.ensures.value) ∙ found.3,
     )) c.looked_among.ensures
 
+-- a turn compares and lists one name more; the rest begins after the separator
 pub loop-field-preserved : goal.loop-field-preserved
 loop-field-preserved c =
     let S = c.args.separator in

@@ -23,6 +23,7 @@ rest_is g c at = take_rest c.without_return-row.result.now at ∙ ap (drop at) c
 front_is : (g : _) (c : After-append_field g) → c.extend_from_slice.new.self.items ≡ c.args.lines.now.items ++ take c.args.place.start (content_of (take c.args.count c.args.text.now))
 front_is g c = c.in_ok-extend_from_slice.ensures.items ∙ ap (λ (l : List ℕ). c.args.lines.now.items ++ take c.args.place.start l) c.without_return-row.ensures
 
+-- the field has a canonical text, which stands in place of its own, and the fault's field is empty
 pub returns-in_ok-end_answered-in-None-clause-owed : goal.returns-in_ok-end_answered-in-None-clause-owed
 returns-in_ok-end_answered-in-None-clause-owed g c = λ recent.
     let at = goal.at.returns-in_ok-end_answered-in-None-clause-owed g c in
@@ -34,6 +35,7 @@ returns-in_ok-end_answered-in-None-clause-owed g c = λ recent.
     (subst (λ (t : List ℕ). AppendsCanonicalText G.entries (registered_text G.codes t) c.extend_from_slice.new.self.items c.append_field.new.lines.items) (text_is g at.After-without_return-row) made)
     (c.in_ok-end_answered-in-None.ensures ∙ ap (λ (l : List ℕ). c.append_field.new.lines.items ++ row_line c.args.separator l [] line) (rest_is g at.After-without_return-row c.args.place.end))
 
+-- the field is refused: the row stays as it was, and the last field says why
 pub returns-in_ok-end_refused-in-Some-clause-owed : goal.returns-in_ok-end_refused-in-Some-clause-owed
 returns-in_ok-end_refused-in-Some-clause-owed g c = λ recent.
     let at = goal.at.returns-in_ok-end_refused-in-Some-clause-owed g c in
@@ -46,7 +48,7 @@ returns-in_ok-end_refused-in-Some-clause-owed g c = λ recent.
     (subst (λ (t : List ℕ). IsTextRefusal G.entries (registered_text G.codes t) refusal) (text_is g at.After-without_return-row) made.0) made.1
     (subst (λ (l : List ℕ). EndsRefused c.args.separator refusal l line c.append_field.new.lines.items c.end_refused.new.lines.items) (rest_is g at.After-without_return-row c.args.place.start) c.in_ok-end_refused-in-Some.ensures)
 
--- a row that is kept
+-- a row that is kept: `append_kept` was given the text of its field
 pub returns-then-form-clause-owed : goal.returns-then-form-clause-owed
 returns-then-form-clause-owed g c =
     let at = goal.at.returns-then-form-clause-owed g c in

@@ -6,7 +6,7 @@ use Rattle.lt_stream.proofs.PartLemmas.{no_items, some_items}
 use Rattle.lt_lines.proofs.PartLemmas.{nothing_kept}
 use Rattle.lt_lines.proofs.answering.append_line.Goals as goal
 
--- the answer to a line is that to a line that goes on so
+-- nothing was kept, so the bytes are the whole line, and the answer to them is that to the line
 pub returns-then-is_empty-clause-owed : goal.returns-then-is_empty-clause-owed
 returns-then-is_empty-clause-owed g c =
     let kept = c.args.kept.now in
@@ -17,13 +17,14 @@ returns-then-is_empty-clause-owed g c =
       owed = λ last is. rw (nothing_kept c.args.form kept.items last is none) a.owed;
     }) c.append_reply.ensures.owed
 
--- what is kept of the line
+-- nothing was kept of the line, and nothing is
 pub returns-then-is_empty-clause-kept : goal.returns-then-is_empty-clause-kept
 returns-then-is_empty-clause-kept g c =
     let kept = c.args.kept.now in
     let none = no_items kept.items (vec_len kept) kept.ok.0 (sym c.is_empty.ensures ∙ c.if-is_empty.true) in
     on_ok_weaker c.append_reply.result (λ _. keeps_none c.args.form kept.items (take c.args.count c.args.text.now) none) c.append_reply.ensures.recent
 
+-- a front of the line was kept, and now all of it that is to be kept is
 pub returns-clause-kept : goal.returns-clause-kept
 returns-clause-kept g c =
     let part = take c.args.count c.args.text.now in

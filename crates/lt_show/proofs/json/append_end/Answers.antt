@@ -2,6 +2,7 @@ use Rattle.std.proofs.Common.{◌∙◌}
 use Rattle.lt_show.proofs.JsonLemmas.{end_told}
 use Rattle.lt_show.proofs.json.append_end.Goals as goal
 
+-- the three members and the brace, appended one after another, are the end of the object
 pub returns : goal.returns
 returns c =
     end_told c.args.records.now c.args.listing c.as_bytes.result.now c.args.objects.now.items c.append_name.new.texts.items c.append_string.new.texts.items c.append_name-2.new.texts.items c.append_record.new.objects.items

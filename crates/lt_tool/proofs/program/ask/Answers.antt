@@ -2,6 +2,7 @@ use Rattle.std.proofs.Common.{◌≡◌, Ok, Err, true, refl, rules}
 use Rattle.lt_words.specs.Reading.{reads_input_of}
 use Rattle.lt_tool.proofs.program.ask.Goals as goal
 
+-- the command reads the input, and a read of no bytes works
 pub returns-in-Ok : goal.returns-in-Ok
 returns-in-Ok g c =
     let reads : reads_input_of c.args.command.now ≡ true = search rules in
@@ -18,6 +19,7 @@ returns-in-Ok g c =
       refl,
     )
 
+-- the command reads the input, and a read of no bytes fails
 pub returns-in-Err : goal.returns-in-Err
 returns-in-Err g c =
     let reads : reads_input_of c.args.command.now ≡ true = search rules in

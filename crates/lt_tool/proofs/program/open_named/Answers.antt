@@ -1,6 +1,7 @@
 use Rattle.std.proofs.Common.{Err, Ok, refl, rules}
 use Rattle.lt_tool.proofs.program.open_named.Goals as goal
 
+-- the opener gave a file for the path that the name means
 pub returns-in-Ok : goal.returns-in-Ok
 returns-in-Ok g c = record {
   path = c.path_of-path.result.now;
@@ -10,6 +11,7 @@ returns-in-Ok g c = record {
   is_opened = refl;
 }
 
+-- the opener gave an error for that path, and the fault tells it
 pub returns-in-Err : goal.returns-in-Err
 returns-in-Err g c = record {
   path = c.path_of-path.result.now;

@@ -2,11 +2,14 @@ use Rattle.std.proofs.Common.{inl, refl}
 use Rattle.lt_tool.proofs.ResultLemmas.{registry_had, registry_refused}
 use Rattle.lt_tool.proofs.ranges.plan_match.Goals as goal
 
+-- the registry is refused, and no range is read
 pub returns-in_err-checked : goal.returns-in_err-checked
 returns-in_err-checked g c = registry_refused _ _ _ _ c.in_err-checked.ensures c.from_residual.ensures.1
 
+-- the registry is had and all texts are ranges, which the plan holds with the scheme
 pub returns-in-Ok : goal.returns-in-Ok
 returns-in-Ok g c = registry_had _ _ _ _ c.in_ok-checked.ensures (c.in-Ok.read, rw c.deref.ensures.value at c.in-Ok.ensures.ranges, rw c.scheme_of.ensures refl)
 
+-- the registry is had, but one of the texts is refused as a range
 pub returns : goal.returns
 returns g c = registry_had _ _ _ _ c.in_ok-checked.ensures (inl (c.in-Err.refused, rw c.deref.ensures.value at c.in-Err.ensures.refusal, c.fault_of.ensures))

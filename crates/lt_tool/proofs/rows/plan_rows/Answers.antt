@@ -2,6 +2,7 @@ use Rattle.std.proofs.Common.{Err, Ok, refl}
 use Rattle.lt_tool.proofs.ResultLemmas.{is_fault}
 use Rattle.lt_tool.proofs.rows.plan_rows.Goals as goal
 
+-- a file is refused, and nothing of the input is read
 pub returns-in_err-ground : goal.returns-in_err-ground
 returns-in_err-ground g c = record {
   ground = Err c.in_err-ground.field-0.0;
@@ -10,6 +11,7 @@ returns-in_err-ground g c = record {
   goes_on = is_fault _ _ c.from_residual.ensures.1;
 }
 
+-- the files are read, but the column is not found
 pub returns-in_err-place : goal.returns-in_err-place
 returns-in_err-place g c = record {
   ground = Ok c.in_ok-ground.ground;
@@ -18,6 +20,7 @@ returns-in_err-place g c = record {
   goes_on = (Err c.in_err-place.field-0.0, c.in_err-place.ensures, is_fault _ _ c.from_residual-in_err-place.ensures.1);
 }
 
+-- the files are read and the column is found: its number gives the form of the lines
 pub returns : goal.returns
 returns g c = record {
   ground = Ok c.in_ok-ground.ground;

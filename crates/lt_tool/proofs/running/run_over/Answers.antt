@@ -4,6 +4,7 @@ use Rattle.lt_lines.specs.Running.{RunsLines}
 use Rattle.lt_tool.proofs.ResultLemmas.{codes_lent}
 use Rattle.lt_tool.proofs.running.run_over.Goals as goal
 
+-- the lines are answered by the registry and the table of the ground, which the basis only lends
 pub returns : goal.returns
 returns g c = record {
   end = c.run_tallied-end.result;

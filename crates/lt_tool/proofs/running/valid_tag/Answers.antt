@@ -7,11 +7,13 @@ use Rattle.lt_canon.specs.TextAnswers.{IsValidityRefusal}
 use Rattle.lt_canon.proofs.TextRefusals.{validity_refused}
 use Rattle.lt_tool.proofs.running.valid_tag.Goals as goal
 
+-- `validate` finds no fault, which for a tag of these extensions means that it is valid
 pub returns-in-Ok-clause-valid : goal.returns-in-Ok-clause-valid
 returns-in-Ok-clause-valid g c =
     subst (λ l. IsValid (g.L.Lookup.listed l) c.in_ok-tag.tag) c.table.ensures.value
     ((valid_law (g.L.Lookup.listed c.table.result.now) c.in_ok-tag.tag c.extensions.ensures.tag).1 c.in-Ok.ensures.ok)
 
+-- the text is the tag, and its refusal is that of `validate`, as a refusal of a text
 pub returns-in-Err-clause-refusal : goal.returns-in-Err-clause-refusal
 returns-in-Err-clause-refusal g c =
     let a = c.in_ok-tag.ensures {u = tt} in

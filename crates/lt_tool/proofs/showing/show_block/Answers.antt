@@ -2,6 +2,7 @@ use Rattle.lt_tag.specs.Faults.{HasFault, HasTag}
 use Rattle.lt_tool.proofs.ShownLemmas.{block_as, fault_shown, tag_shown}
 use Rattle.lt_tool.proofs.showing.show_block.Goals as goal
 
+-- the text is no tag, which is not for lack of memory: the text and its refusal are shown
 pub returns-in-Err-2 : goal.returns-in-Err-2
 returns-in-Err-2 g c =
     let is : HasFault c.args.text.now c.in-Err.fault.kind c.in-Err.fault.place = record {
@@ -12,6 +13,7 @@ returns-in-Err-2 g c =
     c.args.text.now c.in-Err.fault block refused is (rw c.in_ok-line-in-Err-2.ensures at ends))
     c.show_refused.ensures
 
+-- the text is a tag: its table comes first, and what `show_ended` writes ends the block
 pub returns : goal.returns
 returns g c =
     let a = c.in-Ok.ensures {u = tt} in

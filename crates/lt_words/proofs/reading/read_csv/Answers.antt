@@ -1,6 +1,7 @@
 use Rattle.std.proofs.Common.{[], ◌∷◌, refl, string_bytes}
 use Rattle.lt_words.proofs.reading.read_csv.Goals as goal
 
+-- the registry and the column are the values that are given, and each option is as the matches have it
 pub returns-clause-named : goal.returns-clause-named
 returns-clause-named c = record {
   rows = _;

@@ -7,6 +7,7 @@ use Rattle.clap.specs.declared.parser.matches.ArgMatches.TheViews.{out-ArgMatche
 use Rattle.lt_words.specs.Reading.{delimiter_named}
 use Rattle.lt_words.proofs.values.delimiter_of.Goals as goal
 
+-- the text that is lent
 abbrev now_of : Bor (List ℕ) → List ℕ
 now_of s = s.now
 
@@ -14,17 +15,20 @@ now_of s = s.now
 abbrev of_text : Option Text → Option ℕ
 of_text text = option_map_or delimiter_named text (Some 44)
 
+-- the option is not given, and a comma is what the words name
 pub returns-in_default-clause-given : goal.returns-in_default-clause-given
 returns-in_default-clause-given c =
     let found = (out-ArgMatches c.args.matches.now).found in
     ap of_text (sym (first_value-rows found (codes "C")) ∙ sym c.get_str.ensures ∙ ap (option_map now_of) c.in_default.is)
 
+-- the text of the option names this byte
 pub returns-in-Some-delimiter_named-clause-given : goal.returns-in-Some-delimiter_named-clause-given
 returns-in-Some-delimiter_named-clause-given c =
     let found = (out-ArgMatches c.args.matches.now).found in
     ap of_text (sym (first_value-rows found (codes "C")) ∙ sym c.get_str.ensures ∙ ap (option_map now_of) c.in-Some.is)
     ∙ sym c.delimiter_named.ensures ∙ c.in-Some-delimiter_named.is
 
+-- the text of the option names no delimiter
 pub returns-in_ok-format-in-None-clause-none : goal.returns-in_ok-format-in-None-clause-none
 returns-in_ok-format-in-None-clause-none c =
     let found = (out-ArgMatches c.args.matches.now).found in

@@ -6,6 +6,7 @@ use Rattle.clap.specs.Words.{Text}
 use Rattle.clap.specs.declared.parser.matches.ArgMatches.TheViews.{out-ArgMatches}
 use Rattle.lt_words.proofs.values.is_flagged.Goals as goal
 
+-- the text that is lent
 abbrev now_of : Bor (List ℕ) → List ℕ
 now_of s = s.now
 
@@ -13,11 +14,13 @@ now_of s = s.now
 abbrev of_text : Option Text → Bool
 of_text text = option_map_or (λ t. bytes_eq t (codes "true")) text false
 
+-- the matches have a value for the flag, and it is given if that is `true`
 pub returns-in-Some : goal.returns-in-Some
 returns-in-Some c =
     let found = (out-ArgMatches c.args.matches.now).found in
     c.eq.ensures ∙ sym (ap of_text (sym (first_value-rows found c.args.flag.now.name.now) ∙ sym c.get_str.ensures ∙ ap (option_map now_of) c.in-Some.is))
 
+-- the matches have no value for the flag, so it is not given
 pub returns-in-None : goal.returns-in-None
 returns-in-None c =
     let found = (out-ArgMatches c.args.matches.now).found in

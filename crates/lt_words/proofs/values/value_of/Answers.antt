@@ -6,9 +6,11 @@ use Rattle.clap.specs.declared.parser.matches.ArgMatches.TheViews.{out-ArgMatche
 use Rattle.lt_words.proofs.ValueLemmas.{no_texts}
 use Rattle.lt_words.proofs.values.value_of.Goals as goal
 
+-- the text that is lent
 abbrev now_of : Bor (List ℕ) → List ℕ
 now_of s = s.now
 
+-- the matches have a value, and its copy is given
 pub returns-in_ok-from_str-in-Some-clause-value : goal.returns-in_ok-from_str-in-Some-clause-value
 returns-in_ok-from_str-in-Some-clause-value c =
     let found = (out-ArgMatches c.args.matches.now).found in
@@ -16,6 +18,7 @@ returns-in_ok-from_str-in-Some-clause-value c =
     ∙ ap (λ (text : List ℕ). Some text) (sym c.in_ok-from_str-in-Some.ensures.ok) in
     record { each = ap (λ (o : Option Text). o ∷ []) is }
 
+-- the matches have no value, so no texts are those of the positional
 pub returns-in_ok-format-in-None-clause-lacks : goal.returns-in_ok-format-in-None-clause-lacks
 returns-in_ok-format-in-None-clause-lacks c =
     let found = (out-ArgMatches c.args.matches.now).found in

@@ -3,6 +3,7 @@ use Rattle.bcp47_c.specs.Outcomes.{outcome}
 use Rattle.bcp47_c.specs.Traces.{IsToldFault, trace_said}
 use Rattle.bcp47_c.proofs.opened.Opened.verify.Goals as goal
 
+-- both texts are tags, and what is wrong with the steps is said without a text
 pub returns : goal.returns
 returns c =
     let tags = (c.in-Ok.ensures {u = tt}).tags in

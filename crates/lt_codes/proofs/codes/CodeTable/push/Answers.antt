@@ -19,6 +19,7 @@ place : (c : After-index) → c.index.result.now ≡ get_or c.self.inside.places
 place c = c.index.ensures ∙ get_or_default_zero c.self.inside.places.items c.in-Some.number c.index.result.now
     (omega (arith, number_small c.args.code c.in-Some.number (number c), c.self.invariant.full))
 
+-- no code before has these letters: their place is that of the new code, which is last
 pub invariant_of-self-then-index-eq0 : goal.invariant_of-self-then-index-eq0
 invariant_of-self-then-index-eq0 c =
     let at = (goal.at.invariant_of-self-then-index-eq0 c).After-index in
@@ -27,6 +28,7 @@ invariant_of-self-then-index-eq0 c =
     let last : c.len.result ≡ length (codes ++ code at ∷ []) = c.len.ensures ∙ c.push.new.self.ok.0 ∙ ap length pushed in
     rw (pushed, last) (indexed_new codes c.self.inside.places.items (code at) c.in-Some.number c.self.invariant c.requires (number at) (sym (place at) ∙ c.if-index-eq0.true))
 
+-- a code before has these letters, and their place stays its place
 pub invariant_of-self-else-index-eq0 : goal.invariant_of-self-else-index-eq0
 invariant_of-self-else-index-eq0 c =
     let at = (goal.at.invariant_of-self-else-index-eq0 c).After-index in

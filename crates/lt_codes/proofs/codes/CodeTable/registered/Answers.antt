@@ -6,6 +6,7 @@ use Rattle.lt_codes.proofs.IndexLemmas.{at_place, found_none, place_at}
 use Rattle.lt_codes.proofs.codes.CodeTable.registered.Goals as goal
 use Rattle.lt_codes.proofs.codes.CodeTable.registered.Goals.{Else-place-eq0}
 
+-- the text is no three letters, so no code is this text
 pub returns-in_err-number : goal.returns-in_err-number
 returns-in_err-number c =
     let none : found_in c.args.self.now c.args.text.now ≡ None = rw (← c.self.view_is) (found_none c.self.inside.codes.items c.args.text.now c.self.invariant.each (sym c.in_err-number.ensures.number)) in
@@ -16,11 +17,13 @@ found : (c : Else-place-eq0) → (x : Code) × (found_in c.self.inside.codes.ite
 found c = at_place c.self.inside.codes.items c.args.text.now c.index-place.result.now c.if-place-eq0.false
     (place_at c.self.inside.codes.items c.self.inside.places.items c.args.text.now c.in_ok-number.number c.index-place.result.now c.self.invariant (sym c.in_ok-number.ensures.number) c.index-place.ensures)
 
+-- the place that was read is that of a code, so the index is within the table
 pub index-requires : goal.index-requires
 index-requires c =
     let f = found c in
     omega (arith, slice_get_within c.self.inside.codes.items (c.index-place.result.now - 1) f.0 f.2, c.self.inside.codes.ok.0)
 
+-- the code at the place that was read is the first that is this text
 pub returns : goal.returns
 returns c =
     let f = found (goal.at.returns c).Else-place-eq0 in

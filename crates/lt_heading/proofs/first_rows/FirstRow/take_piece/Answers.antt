@@ -4,6 +4,7 @@ use Rattle.lt_heading.specs.declared.first_rows.FirstRow.{FirstRow}
 use Rattle.lt_heading.proofs.FirstRowLemmas.{begun_of, piece_begins, piece_begun, undecided_of}
 use Rattle.lt_heading.proofs.first_rows.FirstRow.take_piece.Goals as goal
 
+-- the mark is known, so the piece is appended to the text after it
 pub returns-then-self : goal.returns-then-self
 returns-then-self c =
     let S = c.args.separator in
@@ -15,6 +16,7 @@ returns-then-self c =
 tells_not : (P : List ℕ → Type 0) (seen text : List ℕ) (r : Bool) → IsTrue r ↔ P seen → r ≡ false → seen ≡ text → P text → ⊥
 tells_not P seen text r tells not same holds = let bad : true ≡ false = sym (tells.1 (subst P (sym same) holds)) ∙ not in cc
 
+-- the kept bytes tell whether there is a mark, and are split into that and text
 pub returns : goal.returns
 returns c =
     let S = c.args.separator in

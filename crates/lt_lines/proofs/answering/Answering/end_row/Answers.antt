@@ -18,6 +18,7 @@ open_there g c fresh =
     open_is c.args.form c.args.self.now.kept.items (take c.args.count c.args.text.now) c.args.self.now.place c.look_ahead-look.result c.is_open.result
     (subst (λ (l : List ℕ). IsAhead c.args.form l (take c.args.count c.args.text.now) c.look_ahead-look.result) c.deref.ensures.value c.look_ahead-look.ensures) c.is_open.ensures fresh
 
+-- the line feed is within quotes: it is kept with the bytes before it, and no line is answered
 pub returns-then-is_open-clause-taken : goal.returns-then-is_open-clause-taken
 returns-then-is_open-clause-taken g c =
     let T = terms (ground_of g.L.Lookup.listed c.args.basis.now) c.args.form in
@@ -25,6 +26,7 @@ returns-then-is_open-clause-taken g c =
     on_ok_weaker c.go_on.result (λ goes bytes out one room t. taken_within T bytes out (take c.args.count c.args.text.now) c.args.self.now c.go_on.new.self t one
     (sym (is (fresh_place T bytes out c.args.self.now t)) ∙ c.if-is_open.true) goes) c.go_on.ensures.taken
 
+-- the line feed is outside of quotes and ends the line, which is answered
 pub returns-clause-taken : goal.returns-clause-taken
 returns-clause-taken g c =
     let T = terms (ground_of g.L.Lookup.listed c.args.basis.now) c.args.form in

@@ -5,6 +5,7 @@ use Rattle.lt_lines.proofs.EndLemmas.{begun_answered, owed_all}
 use Rattle.lt_lines.proofs.TakenLemmas.{begun_nothing}
 use Rattle.lt_lines.proofs.answering.Answering.finish_closed.Goals as goal
 
+-- memory ran out for the last answer, and nothing more was written
 pub returns-in_err-end_last : goal.returns-in_err-end_last
 returns-in_err-end_last g c =
     let p = err_from_is_err_and c.from_residual.result c.from_residual.ensures.1 in
@@ -15,6 +16,7 @@ returns-in_err-end_last g c =
       stopped = inr (inr (refl, refl), λ bytes out t. rw append-nil (begun_nothing _ bytes out [] bytes _ t (sym (append-nil bytes))));
     })
 
+-- all lines are answered, but a write failed: a front of the answers was written
 pub returns-in_err-write : goal.returns-in_err-write
 returns-in_err-write g c =
     let p = err_from_is_err_and c.from_residual-in_err-write.result c.from_residual-in_err-write.ensures.1 in
@@ -26,6 +28,7 @@ returns-in_err-write g c =
       stopped = inr (inl (w.stopped.0, w.stopped.1), λ bytes out t. begun_answered _ bytes out w.written c.end_last.new.self (c.in_ok-end_last.ensures bytes out t) w.stopped.2);
     })
 
+-- all lines are answered, and all answers are written
 pub returns : goal.returns
 returns g c =
     let w = c.in_ok-write.ensures.writes in

@@ -3,11 +3,13 @@ use Rattle.lt_lines.specs.Answering.{line_of}
 use Rattle.lt_lines.specs.Owed.{long_fault}
 use Rattle.lt_lines.proofs.answering.Answering.stop_long.Goals as goal
 
+-- a write changes neither the counts nor the line feeds, so there is room as before
 pub kept_from-requires : goal.kept_from-requires
 kept_from-requires g c =
     let same = c.in-Ok.ensures.writes.same in
     record { room = rw same.counts c.requires.room; feeds = rw same.feeds c.requires.feeds; refused = rw same.counts c.requires.refused }
 
+-- all answers that wait were written, and the line is the one in which the kept bytes begin
 pub returns-in-Ok : goal.returns-in-Ok
 returns-in-Ok g c =
     let w = c.in-Ok.ensures.writes in
@@ -23,6 +25,7 @@ returns-in-Ok g c =
       );
     }
 
+-- the write failed, and its fault is what ends the run
 pub returns-in-Err : goal.returns-in-Err
 returns-in-Err g c =
     let w = c.in-Err.ensures.writes in
