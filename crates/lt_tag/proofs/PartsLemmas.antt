@@ -21,7 +21,7 @@ use Rattle.lt_tag.proofs.SplitLemmas.{before-append, keywords-append, fields-app
 use Rattle.lt_tag.specs.Lists.{longest_text}
 use Rattle.lt_tag.proofs.ShapeLemmas.{all_weaker, core_all, core_parts}
 
--- the shapes of single subtags
+-- ---- the shapes of single subtags
 
 -- what has 3 to 8 letters or digits can be in an extension
 pub long_extension : (s : List ℕ) → is_long s ≡ true → is_extension_subtag s ≡ true
@@ -45,7 +45,7 @@ core_extension = core_all is_extension_subtag (λ s l. grind (arith, nat_tests, 
 core_no_separator : (core : CoreParts) → IsCore core → list_all (λ (s : List ℕ). not (is_separator s)) (spell_core core) ≡ true
 core_no_separator = core_parts (λ (s : List ℕ). not (is_separator s)) (λ s p. p.no_separator)
 
--- the parts of a u extension
+-- ---- the parts of a `u` extension
 
 -- each subtag of a keyword can be in an extension
 keyword_extension : (k : KeywordParts) → IsKeyword k → list_all is_extension_subtag (spell_keyword k) ≡ true
@@ -96,7 +96,7 @@ pub u_split : (e : ExtensionParts) (subtags front rest attributes : List (List �
 u_split e subtags front rest attributes keywords h s f r a k =
     u_found e.subtags (record { attributes = attributes; keywords = keywords }) h.shaped.subtags h.shaped.some (a ∙ f ∙ ap (before is_key) s) (k ∙ ap keywords_of r ∙ keywords-onward subtags ∙ ap keywords_of s)
 
--- the parts of a core
+-- ---- the parts of a core
 
 -- the core found in a list is shaped and spells the list
 pub core_found : (ss : List (List ℕ)) (core : CoreParts) → core_of_list ss ≡ Some core → IsCore core × (spell_core core ≡ ss)
@@ -109,7 +109,7 @@ pub core_again : (core : CoreParts) → IsCore core → core_of_list (spell_core
 unfolding core_of_list
 core_again core k = rw k.language (reached core k)
 
--- the parts of a t extension
+-- ---- the parts of a `t` extension
 
 -- a test that holds of each subtag of a core holds of each that a source spells, which may be missing
 source_all : (test : List ℕ → Bool) → ((core : CoreParts) → IsCore core → list_all test (spell_core core) ≡ true) → (source : Option CoreParts) → IfSome source IsCore → list_all test (spell_source source) ≡ true

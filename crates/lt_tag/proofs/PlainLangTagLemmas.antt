@@ -16,8 +16,6 @@ use Rattle.lt_tag.proofs.PartsLaws.{core_decided}
 use Rattle.std.proofs.lemmas.Bool.Decides.{nat_tests}
 use Rattle.std.proofs.lemmas.Bool.{not-false}
 
--- growing a core, seen by what may follow it
-
 -- what may follow a core once it has grown by s is computed from what might follow before
 grown_room : (core : CoreParts) (s : List ℕ) → option_map room_of (grown core s) ≡ room_after (room_of core) s
 unfolding grown
