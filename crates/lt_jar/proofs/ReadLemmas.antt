@@ -1,4 +1,5 @@
--- What is computed of a line is right, what is known once the first lines of a text are read, and that a text has records or a fault, and not both.
+-- What is computed of a line is right. What is known once the first lines of a text are read. A text has records or a
+-- fault, and not both.
 use Rattle.std.proofs.Common.{◌≡◌, ◌∙◌, ◌++◌, ◌∷◌, ◌⊎◌, inl, inr, ℕ, List, [], Bool, true, false, Result, Ok, Err, refl, sym, ap, subst, append_assoc, append-nil, map, nat_lt, length, get_or, ◌+◌, ◌<◌, ◌≤◌, arith, MatchResult, length-append}
 use Rattle.std.specs.List.{All, filter}
 use Rattle.std.specs.Str.{IsUtf8, is_utf8}

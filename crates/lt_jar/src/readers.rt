@@ -30,7 +30,8 @@ impl<'a> RecordRef<'a> {
         fields
     }
 
-    /// The name of the field at an index, counted from 0, in the case in which the text has it.
+    /// The name of the field at an index, counted from 0, in the case in which the text has it. There must be a field
+    /// at the index.
     pub fn name(&self, i: usize) -> &'a str
         requires { i < length self.now.fields.now }
         ensures { IfSome (slice_get self.now.fields.now i) (λ field. result.now ≡ field.0) }
@@ -38,8 +39,8 @@ impl<'a> RecordRef<'a> {
         self.fields[i].name()
     }
 
-    /// The body of the field at an index, counted from 0, with its continuation lines joined to it by single
-    /// spaces.
+    /// The body of the field at an index, counted from 0, with its continuation lines joined to it by single spaces.
+    /// There must be a field at the index.
     pub fn body(&self, i: usize) -> &'a str
         requires { i < length self.now.fields.now }
         ensures { IfSome (slice_get self.now.fields.now i) (λ field. result.now ≡ field.1) }
