@@ -82,7 +82,7 @@ pub record IsTextIn (S : Separator) (field quotes text : List ℕ) : Type 0 wher
   pub field_is : field ≡ quotes ++ text ++ quotes
   pub are_quotes : AreQuotes S field quotes
 
--- where the first separator of the rest of a row is, which ends a field; None where there is none
+-- where the first separator that ends a field is in the rest of a row; None where no separator ends a field
 abbrev pub EndsField : Separator → List ℕ → Option ℕ → Type 0
 EndsField S rest end = MatchOption end (IsRowField S rest)
     (λ i. (i < length rest) × IsEnded S (take i rest) × (rest ≡ take i rest ++ separator S ∷ drop (i + 1) rest))
