@@ -81,18 +81,18 @@ Finishes Q contents start now bytes state (Err fault) = IsCutOff Q contents star
 
 -- ---- the steps
 
--- `part` was added to the line of which a front is kept, and of which no more than `longest` bytes are kept
+-- the bytes of `part` were added to the kept front of a line, as many as there is room for: it keeps at most `longest`
 pub record KeepsMore {A : Type 0} (longest : ℕ) (part : List ℕ) (old new : Lined A) : Type 0 where
   pub kept : new.kept.items ≡ old.kept.items ++ take (longest - vec_len old.kept) part
   pub owed : new.owed.items ≡ old.owed.items
   pub same : new.answers ≡ old.answers
 
--- the line of which a front is kept is whole, and was answered
+-- the line whose front is kept is whole, and was answered
 pub record EndsLine {A : Type 0} (Q : A → Answered A) (longest : ℕ) (old new : Lined A) : Type 0 where
   pub emptied : new.kept.items ≡ []
   pub takes : TakesLine Q longest old.kept.items old.owed.items new.owed.items old.answers new.answers
 
--- the line of which a front is kept, if any byte is, was answered as the last
+-- the line whose front is kept, if any byte is, was answered as the last
 abbrev pub EndsLast : {A : Type 0} → (A → Answered A) → ℕ → (old new : Lined A) → Type 0
 EndsLast Q longest old new = ((old.kept.items ≡ []) × (new ≡ old))
     ⊎ ((old.kept.items ≡ [] → ⊥) × EndsLine Q longest old new)

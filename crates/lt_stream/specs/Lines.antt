@@ -64,8 +64,8 @@ pub record IsStoppedByRead {I A : Type 0} (Q : Answered A) (input input' : Devic
   pub failed : HasFailed input input'
   pub owed : IsAnsweredToLastFeed Q text written answers
 
--- the most reads that a run may make were made, the last still gave bytes, and the lines of the text up to its last line
--- feed (10) are answered
+-- the most reads that a run may make were made, the last still gave bytes, and the lines of the text up to its last
+-- line feed (10) are answered
 pub record IsStoppedByTurns {I A : Type 0} (Q : Answered A) (input' : Device I) (reads : ℕ)
     (read text written : List ℕ) (answers : A) : Type 0 where
   pub all_made : reads ≡ most_reads

@@ -13,7 +13,7 @@ use Rattle.lt_stream.specs.declared.faults.ToolFault.TheVariants as faults
 abbrev pub RunFact : Type 0 → Type 0 → Type 1
 RunFact O P = O → O → List ℕ → P → Type 0
 
--- a statement on a run that ends: as `RunFact`, and on its result
+-- a statement on a run that ends: on all that a `RunFact` is on, and on the result of the run
 abbrev pub EndFact : Type 0 → Type 0 → Type 0 → Type 1
 EndFact O P A = O → O → List ℕ → P → Result A ToolFault → Type 0
 
