@@ -118,9 +118,9 @@ impl fmt::Display for Subtag {
 }
 
 impl Subtag {
-    /// The subtag that the bytes spell, whatever the case of their letters: `Hant` and `HANT` give the same. No bytes
-    /// are refused as `Empty`. Bytes of which one is no ASCII letter or digit are refused as `BadByte`, and any
-    /// others above 8 as `TooLong`.
+    /// The subtag that the bytes spell, whatever the case of their letters: `Hant` and `HANT` give the same. A piece
+    /// without bytes is refused as `Empty`. A piece with a byte that is no ASCII letter or digit is refused as
+    /// `BadByte`, and any other of more than 8 bytes as `TooLong`.
     #[tactic(auto, using(crate::proofs::RunLemmas::read_holds, crate::proofs::RunLemmas::read_front))]
     pub fn read(bytes: &[u8]) -> Result<Subtag, SubtagFault>
         ensures { result ≡ subtag_of bytes.now }
