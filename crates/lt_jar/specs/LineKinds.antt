@@ -44,8 +44,8 @@ pub data Line : Type 0 where
   -- none of these
   Bad : Line
 
--- what a line is that begins with this name and goes on with `rest`: the beginning of a field if the name is not empty
--- and a colon (58) is next
+-- What a line is that begins with this name and goes on with `rest`. It begins a field if the name is not empty and a
+-- colon (58) is next; else it is bad.
 abbrev pub start_by : List ℕ → List ℕ → Line
 start_by [] rest = Bad
 start_by (byte ∷ name) [] = Bad

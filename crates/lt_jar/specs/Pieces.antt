@@ -89,8 +89,8 @@ TakesPiece old new piece (Ok None) = TakesAll old new piece
 TakesPiece old new piece (Ok (Some rest)) = TakesRecord old new piece rest.now
 TakesPiece old new piece (Err kind) = StopsAt old new piece kind
 
--- `rest`, bytes without a line feed, was added to the front of a line that the engine keeps, unless that gets too long
--- or memory runs out; `old` is the engine before, `new` after it
+-- The bytes `rest`, without a line feed, were added to the kept front of a line, unless that gets too long or memory
+-- runs out. `old` is the engine before, and `new` the one after it.
 abbrev pub KeepsBytes : Engine → Engine → List ℕ → Result (Unit {0}) JarFaultKind → Type 0
 KeepsBytes old new rest (Ok x) = new.partial.items ≡ old.partial.items ++ rest
 KeepsBytes old new rest (Err kind) =

@@ -104,9 +104,9 @@ impl Draft {
         self.take_short_line(alloc, line, ended)
     }
 
-    /// Takes the next line, which is UTF-8 and not too long, as `take_line` does. Most lines separate records, or begin
-    /// a field that has the name of the field in its place in the record before: then the name is neither looked for
-    /// nor written.
+    /// Takes the next line, which is UTF-8, as `take_line` does, without a look at its length. Most lines separate
+    /// records, or begin a field with the name that the field in its place had in the record before. Then the name is
+    /// neither looked for nor written.
     fn take_short_line(
         &mut self,
         alloc: Global,

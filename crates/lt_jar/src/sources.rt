@@ -158,9 +158,9 @@ impl JarSource {
         }
     }
 
-    /// Takes the end of the text, and tells whether a record ends there. All bytes read must have been handed on,
-    /// such a record must be the 100,000th at most, and the number after that of the line must be within the bound
-    /// that the reads give. Refused if the last line has a fault, or where memory runs out.
+    /// Takes the end of the text, and tells whether a record ends there. All bytes read must have been handed on.
+    /// Such a record must be the 100,000th at most. The number after that of the line must be within the bound that
+    /// the reads give. Refused if the last line has a fault, or where memory runs out.
     fn finish(&mut self, alloc: Global) -> Result<bool, JarFaultKind>
         requires room { line_of_kept self.old + 1 ≤ 1 + 65536 * self.old.turns }
         requires few { HasRoom self.old }

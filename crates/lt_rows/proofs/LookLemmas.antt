@@ -22,8 +22,8 @@ pub closed_row : (S : Separator) (row : List ℕ) → IsFreeOf 34 row → ends_q
 closed_row separators.Tab row free = refl
 closed_row (separators.Delimiter d) row free = closed_of_free d places.Fresh row refl free
 
--- the part of a row from `start` on, where a field begins, ends outside of quotes if it has none (34); the row is the
--- first `count` bytes of a text
+-- A row without quotes (34) from `start` on, where a field begins, ends outside of quotes. The row is the first `count`
+-- bytes of a text.
 pub closed_rest : (d start count : ℕ) (text : List ℕ) → start ≤ count → IsFreeOf 34 (take (count - start) (take (length text - start) (drop start text)))
     → is_quoted (place_at d places.Fresh (drop start (take count text))) ≡ false
 closed_rest d start count text le free = closed_of_free d places.Fresh (drop start (take count text)) refl (subst (IsFreeOf 34) (left_is text count start le) free)

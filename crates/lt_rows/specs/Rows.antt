@@ -43,8 +43,8 @@ pub record Skips (S : Separator) (count : ℕ) (row rest : List ℕ) : Type 0 wh
   pub number : length before ≡ count
   pub row_is : row ≡ separated S before ++ rest
 
--- `field` is the field of a row that has `count` fields before it; `front` is what is before it in the row, with the
--- separators, and `after` what is behind it
+-- `field` is the field of a row that has `count` fields before it. `front` is what is before it in the row, with the
+-- separators, and `after` is what is behind it.
 pub record HasField (S : Separator) (count : ℕ) (row front field after : List ℕ) : Type 0 where
   pub before : List (List ℕ)
   pub each : AllByRecursion (IsEnded S) before

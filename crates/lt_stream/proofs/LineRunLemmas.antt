@@ -24,9 +24,9 @@ has_line Q first longest contents start now bytes state t few = record {
   few = omega (arith, few, few_lines t.lines, ap length t.cut, length-append (whole_lines t.lines) t.last);
 }
 
--- So far the lines of a front of the piece are answered, and `rest` of it is left: what was true of a run before the
--- piece, with any bytes, is true of it with the front added. `before` and `old` are the output and the state before
--- the piece, `now` and `state` those at this turn.
+-- So far the lines of a front of the piece are answered, and `rest` of it is left. What was true of a run before the
+-- piece, whatever it had read, is true of it with the front read too. `before` and `old` are the output and the state
+-- before the piece, `now` and `state` those at this turn.
 pub record PieceTurn {A W : Type 0} (Q : A → Answered A) (longest : ℕ) (contents : W → Option (List ℕ)) (piece rest : List ℕ) (before now : Device W) (old state : Lined A) : Type 0 where
   pub front : List ℕ
   pub split : piece ≡ front ++ rest

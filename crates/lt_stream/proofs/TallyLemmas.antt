@@ -62,8 +62,8 @@ grows lines line tally count same more h = record {
   text = h.text;
 }
 
--- of the tallies, the one at the place of the fault of one line more is right with one more counted, and the others as
--- they are; d is any tally, given for places behind the last
+-- With one line more the tally at the place of its fault is right with one more counted, and the other tallies are
+-- right as they are. d is any tally, given for places behind the last.
 each_grows : (lines : List Refused) (line : Refused) (tallies : List Tally) (place count : ℕ) (d : Tally) → place < length tallies
     → bytes_eq line.fault (get_or tallies place d).fault.items ≡ true → ((k : ℕ) → k < place → bytes_eq line.fault (get_or tallies k d).fault.items ≡ false)
     → IsDistinct bytes_eq (faults_of tallies) → count ≡ (get_or tallies place d).lines + 1

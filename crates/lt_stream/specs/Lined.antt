@@ -72,8 +72,8 @@ pub record IsAll {A W : Type 0} (Q : Answered A) (contents : W → Option (List 
   pub same : failures_of now ≡ failures_of start
   pub answered : Q answers (lines_of bytes) written
 
--- how a run ends after the reader's last byte, by its answer: all answers are written, or a write failed or memory ran
--- out; `start`, `now` and Q as in IsDuring
+-- How a run ends after the reader's last byte, by its answer: all answers are written, or a write failed or memory ran
+-- out. `start`, `now` and Q are as in IsDuring.
 abbrev pub Finishes : {A W : Type 0} → Answered A → (W → Option (List ℕ)) → (start now : Device W) → List ℕ
     → Lined A → Result (Unit {0}) ToolFault → Type 0
 Finishes Q contents start now bytes state (Ok _) = IsAll Q contents start now bytes state.answers

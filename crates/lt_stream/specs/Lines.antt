@@ -22,8 +22,8 @@ pub record HasLine {A : Type 0} (Q : A → Answered A) (answers : A) : Type 0 wh
   pub answered : Q first answers lines bytes
   pub few : length lines + 1 < 2 ^ 64
 
--- bytes were appended that answer each line whose first bytes, at most `longest`, are `front`; `owed` and `owed'` are
--- the answers that wait before and after, `old` and `new` what answers
+-- Bytes were appended that answer each line whose first bytes, at most `longest`, are `front`. `owed` and `owed'` are
+-- the answers that wait before and after, `old` and `new` is what answers.
 pub record TakesLine {A : Type 0} (Q : A → Answered A) (longest : ℕ) (front owed owed' : List ℕ)
     (old new : A) : Type 0 where
   pub part : List ℕ

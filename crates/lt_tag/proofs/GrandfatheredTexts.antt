@@ -30,12 +30,12 @@ next_is list i s x more within read e =
     let here : drop i list ≡ get_or list i s ∷ drop (i + 1) list = drop_more list i s within in
     read ∙ head_is (get_or list i s) x (drop (i + 1) list) more (sym here ∙ rest)
 
--- the pieces ps begin with the first i subtags of a list, and go on with p, the next subtag s, and then with `more`:
--- they begin with the first i + 1
+-- One step more. The pieces ps begin with the first i subtags of a list. Then comes the piece p, which is the next
+-- subtag s, and then `more`. So ps begin with the first i + 1 subtags.
 pub one_more : (ps list : List (List ℕ)) (i : ℕ) (s p : List ℕ) (more : List (List ℕ)) → i < length list → s ≡ get_or list i s → s ≡ p → ps ≡ take i list ++ p ∷ more → ps ≡ take (i + 1) list ++ more
 one_more ps list i s p more within read same e = rw ((take_at_read list i s within).1, append_assoc (take i list), ← read, same) e
 
--- no subtag of the list is left: it equals the pieces ps exactly if no piece is left either, that is, if r
+-- no subtag of the list is left: it equals the pieces ps exactly if no piece is left either, which r tells
 pub at_end : (list ps : List (List ℕ)) (i : ℕ) (rest : Option (Bor (List ℕ))) (r : Bool) → length list ≤ i → ps ≡ take i list ++ pieces_left rest → is_some rest ≡ not r
     → (IsTrue r → list ≡ ps) × (list ≡ ps → IsTrue r)
 at_end list ps i None true n e h = (λ _. rw (e, append-nil (take i list)) (sym (take_all i list n)), λ _. refl)
