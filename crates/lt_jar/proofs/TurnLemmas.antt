@@ -37,7 +37,7 @@ continued-set text (field ∷ fields) i last new at is name body =
     let same = ap (λ (a : List ℕ). let f : Field = (a, lengthened last.1 text) in f) (sym name) ∙ ap (λ (b : List ℕ). let f : Field = (new.0, b) in f) (sym body) in
     rw (with_text-set text (field ∷ fields) i last at is, same) refl
 
--- if the record ends with the fields `new`, the line is a separator, and they are those before it, at least one
+-- if the record ends with the fields `new`, the line is a separator, and `new` are the fields before it, at least one
 abbrev EndsBy : List Field → Line → Taken → Type 0
 EndsBy fields kind (GoesOn new) = Unit {0}
 EndsBy fields kind (Ends new) = (new ≡ fields) × (kind ≡ Separator) × (fields ≢ [])

@@ -54,7 +54,7 @@ abbrev pub LastGave : {R : Type 0} → JarSource → Device R → Type 0
 LastGave s device = 0 < s.turns → 0 < last_given_of device
 
 -- `reads` reads were made, which gave the bytes `read`, on average at most 65,536 each. `old` and `new` are the source
--- of records before and after them, `before` and `after` its device, of whose own reader `remaining` tells what it has
+-- of records before and after them, `before` and `after` its device. `remaining` tells what the device's own reader has
 -- still to give.
 pub record IsRead {R : Type 0} (remaining : R → Option (List ℕ)) (old new : JarSource)
     (before after : Device R) (read : List ℕ) (reads : ℕ) : Type 0 where
@@ -117,9 +117,9 @@ abbrev pub Finished : JarSource → JarSource → Result Bool JarFaultKind → T
 Finished old new (Ok some) = Finishes old new some
 Finished old new (Err kind) = StopsAtLast old.engine new.engine kind × (new.turns ≡ old.turns)
 
--- A record was lent that a separator ends: the bytes that were kept and those that were read are its lines and the
--- bytes that are kept then. `old` and `new` are the source, `before` and `after` its device, and `reads` reads gave
--- the bytes `read`.
+-- A record that a separator ends was lent. The bytes that were kept and those that were read are its lines, and then
+-- the bytes that are kept. `old` and `new` are the source, `before` and `after` its device, and `reads` reads gave the
+-- bytes `read`.
 pub record LendsEnded {R : Type 0} (old new : JarSource)
     (before after : Device R) (read : List ℕ) (reads : ℕ) : Type 0 where
   pub lines : List (List ℕ)

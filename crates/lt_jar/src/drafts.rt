@@ -1,5 +1,5 @@
 //! The record that is being read. A field is written over one of the record before, so that a registry is read without
-//! an allocation for each; what a reader keeps grows to the longest bodies that came.
+//! an allocation for each. What a reader keeps grows to the longest bodies that came.
 ghost use Rattle.std.specs.Prelude.{◌≡◌, ◌≤◌, ◌<◌, [], IfSome, OnOk, get_or, string_bytes, take, vec_len};
 ghost use Rattle.lt_jar.specs.LineKinds as lines;
 ghost use Rattle.lt_jar.specs.Reading as reading;

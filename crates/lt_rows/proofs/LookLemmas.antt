@@ -62,7 +62,7 @@ cut_in_three row a b c start end split first last =
     let whole : end ≡ length (a ++ b) = omega (arith, first, last, length-append a b) in
     (front, rw (long, rest) (take-append_seam b c), rw (whole, through) (drop-append_seam (a ++ b) c))
 
--- where the text of a field is, `place`, by the places `start` and `end` of the field and the length of its quotes
+-- `place` is where the text of a field is, by the places `start` and `end` of the field and the length of its quotes
 pub text_there : (S : Separator) (before : ℕ) (row : List ℕ) (start end : ℕ) (quotes text : List ℕ) (place : TextAt) → IsFieldAt S before row start end
     → IsTextIn S (take (end - start) (drop start row)) quotes text → place.start ≡ start + length quotes → place.end ≡ place.start + length text → HasTextAt S before row place
 text_there S before row start end quotes text place f is first last =

@@ -24,7 +24,7 @@ no_tallies = record { each = tt; once = tt; all = tt; order = refl }
 differs : (a b : List ℕ) → bytes_eq a b ≡ false → bytes_eq b a ≡ false
 differs a b other = nat_list_eq_equiv.symm b a ∙ other
 
--- how many lines a fault refused, of the others and one line more
+-- how many of these lines and one line more a fault refused
 count_more : (fault : List ℕ) (lines : List Refused) (line : Refused) → count_by (is_by fault) (lines ++ line ∷ []) ≡ count_by (is_by fault) lines + cond (is_by fault line) 1 0
 count_more fault lines line =
     sum_by-append (λ (l : Refused). cond (is_by fault l) 1 0) lines (line ∷ [])

@@ -1,4 +1,4 @@
--- What a run over a text takes that may begin with a byte order mark.
+-- What a run takes of a text that may begin with a byte order mark.
 use Rattle.std.proofs.Common.{◌≡◌, ◌≤◌, ◌<◌, ◌+◌, ◌^◌, ◌++◌, ◌∙◌, inl, inr, ℕ, List, [], true, false, Option, Some, None, Result, Ok, Err, length, sym, ap, refl, subst, arith, append_assoc, append-nil, length-append}
 use Rattle.std.proofs.lemmas.List.{nil_from_length}
 use Rattle.lt_jar.specs.Lines.{IsOneLine, lines_of, whole_lines}

@@ -73,8 +73,8 @@ pub record IsStoppedByTurns {I A : Type 0} (Q : Answered A) (input' : Device I) 
   pub last_gave : 0 < last_given_of input'
   pub owed : IsAnsweredToLastFeed Q text written answers
 
--- how the run ended that read these bytes, of which `text` are its lines, by its answer: done, or with a fault; an end
--- by OutOfMemory says nothing more. Names with ' are of the devices after the run.
+-- How the run ended, by its answer: done, or with a fault. It read the bytes `read`, of which `text` are the lines. An
+-- end by OutOfMemory says nothing more. Names with ' are of the devices after the run.
 abbrev pub EndsAs : {I O A : Type 0} → Answered A → (I → Option (List ℕ)) → (input input' : Device I)
     → (output output' : Device O) → ℕ → (read text written : List ℕ) → A → Result (Unit {0}) ToolFault → Type 0
 EndsAs Q remaining input input' output output' reads read text written answers (Ok _) =

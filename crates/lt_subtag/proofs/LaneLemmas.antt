@@ -31,7 +31,8 @@ select_is : (f g h : ℕ → ℕ) (v : List ℕ) → sel_l (map (top 7) (map f v
 select_is f g h [] = refl
 select_is f g h (x ∷ xs) = ap (λ r. cond (top 7 (f x)) (g x) (h x) ∷ r) (select_is f g h xs)
 
--- the same of vectors a, b and c that are f, g and h of each lane of v
+-- the vectors a, b and c are f, g and h of each lane of v: selected lane by lane, it is g where f has its top bit set,
+-- else h
 pub selected : (f g h : ℕ → ℕ) (v : List ℕ) {a b c : List ℕ} → a ≡ map f v → b ≡ map g v → c ≡ map h v
     → sel_l (map (top 7) a) b c ≡ map (λ x. cond (top 7 (f x)) (g x) (h x)) v
 selected f g h v {a} {b} {c} p q r = ap (λ x. sel_l (map (top 7) x) b c) p ∙ ap₂ (λ y z. sel_l (map (top 7) (map f v)) y z) q r ∙ select_is f g h v

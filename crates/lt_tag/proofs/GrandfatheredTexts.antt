@@ -1,5 +1,5 @@
--- Grandfathered lists: the pieces of a text compared with one, the first four subtags of a list, and the texts that
--- have one.
+-- Grandfathered lists: the pieces of a text compared with such a list, the first four subtags of a list, and the texts
+-- that have such a list.
 use Rattle.std.proofs.Common.{◌≡◌, ℕ, ◌≤◌, ◌<◌, ◌+◌, Bool, true, false, not, List, [], ◌∷◌, ◌++◌, length, take, drop, get_or, refl, sym, ap, ◌∙◌, arith, Bor, ◌-◌, zero, suc, map}
 use Rattle.std.specs.Prelude.{Option, Some, None, IsTrue, is_some, nat_le, IfSome, IfNone, slice_get, slice_index_or, sum_by}
 use Rattle.std.proofs.lemmas.List.{append_assoc, append-nil, append_cancel_left, take-append-drop, take_all, drop_more, length-take, get_or-map, length-map, length-append}
@@ -82,7 +82,7 @@ pub literal_found : (o : Option ℕ) (front list : List (List ℕ)) → front �
 literal_found None front list e h = h
 literal_found (Some n) front list e h = from_front list n (rw (← e) h)
 
--- where none is found for `front`, the first four subtags of a list, the list has none
+-- if no number is found for `front`, the first four subtags of a list, the list has none
 pub literal_none : (o : Option ℕ) (front list : List (List ℕ)) → front ≡ take 4 list → IfNone o (IsNotGrandfathered front) → IfNone o (IsNotGrandfathered list)
 literal_none None front list e h = λ n g. h n (rw e (to_front list n g))
 literal_none (Some n) front list e h = h
@@ -140,7 +140,7 @@ begin_listed : list_all (λ (t : List ℕ). begins_listed (length t) (slice_inde
 unfolding grandfathered_texts
 begin_listed = refl
 
--- so does each text that has the list of one of them, by its first byte in lower case
+-- each text that has a grandfathered list passes `begins_listed` by its length and its first byte in lower case
 text_begins : (text : List ℕ) (number : ℕ) → IsGrandfathered (list_of text) number → begins_listed (length text) (to_ascii_lowercase (slice_index_or text 0 0)) ≡ true
 text_begins text number g =
     let same : folded text ≡ known number = match_needed text number g ∙ folded-known number g.first g.last in

@@ -90,7 +90,8 @@ u_found ss p h some a k =
     let spelled : spell_u p ≡ ss = rw (a, k) (keywords-spelled ss) in
     record { shaped = record { attributes = rw a (before_long ss h); keywords = rw k (keywords_shaped ss h); some = rw spelled some }; spelled = spelled }
 
--- the same of the parts that the code makes, which cuts the subtags at the first key into `front` and `rest`
+-- The code cuts the subtags of an extension at the first key, into `front` and `rest`. The attributes and keywords that
+-- it makes of these have their forms and spell the subtags.
 pub u_split : (e : ExtensionParts) (subtags front rest attributes : List (List ℕ)) (keywords : List KeywordParts) → IsExtensionValue e → subtags ≡ e.subtags → front ≡ before is_key subtags → rest ≡ onward is_key subtags
     → attributes ≡ front → keywords ≡ keywords_of rest → IsUnicode e.subtags (record { attributes = attributes; keywords = keywords })
 u_split e subtags front rest attributes keywords h s f r a k =
@@ -184,7 +185,8 @@ t_found ss p h =
     let spelled : spell_t p ≡ ss = rw (source.1, ← h.fields) (fields-spelled ss) in
     record { shaped = record { source = source.0; fields = rw (← h.fields) (fields_shaped ss h.values); some = rw spelled h.some }; spelled = spelled }
 
--- the same of the parts that the code makes, which cuts the subtags at the first separator into `front` and `rest`
+-- The code cuts the subtags of an extension at the first separator, into `front` and `rest`. The source and the fields
+-- that it makes of these have their forms and spell the subtags.
 pub t_split : (e : ExtensionParts) (subtags front rest : List (List ℕ)) (source : Option CoreParts) (fields : List FieldParts) → IsExtensionValue e → subtags ≡ e.subtags → front ≡ before is_separator subtags
     → rest ≡ onward is_separator subtags → source_of_list front ≡ Some source → fields ≡ fields_of rest → list_all has_values fields ≡ true → IsTransform e.subtags (record { source = source; fields = fields })
 t_split e subtags front rest source fields h s f r o k v =
