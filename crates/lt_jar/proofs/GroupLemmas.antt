@@ -1,4 +1,4 @@
--- Lines are groups in one way. How a field of a group grows, what records the groups make, and how many begin with them.
+-- Lines are groups in one way. How a field of a group grows, what records groups make, and how many begin with them.
 use Rattle.std.proofs.Common.{◌≡◌, ◌∙◌, ◌++◌, ◌∷◌, ℕ, List, [], true, refl, sym, ap, append_assoc, append-nil, map, Bool, false, Result, Ok, nat_lt, ◌+◌, ◌&&◌, arith, length, length-append, MatchResult}
 use Rattle.std.specs.List.{filter, flat_map}
 use Rattle.std.proofs.lemmas.List.{length-map, map-append}

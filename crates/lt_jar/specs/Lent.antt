@@ -11,7 +11,7 @@ use Rattle.lt_jar.specs.contracts.readers.JarReader.{the_row}
 use Rattle.lt_jar.specs.contracts.sources.JarSource.{the_row as source_row}
 use Rattle.lt_jar.specs.Sources.{Advances, record_in}
 
--- the answer of a call, with a Boolean, whether a record came, in place of the record
+-- the answer of a call, in which a Boolean in place of the record tells whether one came
 abbrev pub came : Result (Option RecordRef) JarFault → Result Bool JarFault
 came (Ok lent) = Ok (is_some lent)
 came (Err fault) = Err fault

@@ -10,9 +10,9 @@ use crate::faults::{JarFault, JarFaultKind};
 use crate::jars::{Jar, Record};
 use std::alloc::Global;
 
-/// Puts the record that has ended at the end of `records`. A line must have been counted, and fewer than 100,000
-/// records. Refused where memory runs out, with the number of the line that ended the record, which is one below the
-/// number that the engine has counted on to.
+/// Puts the record that has ended at the end of `records`. The engine's line must have a number of at least 1, and
+/// fewer than 100,000 records must have been counted. Refused where memory runs out, with the number of the line that
+/// ended the record, which is one below the engine's.
 fn push_record(
     alloc: Global,
     engine: &mut Engine,

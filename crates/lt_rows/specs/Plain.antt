@@ -10,8 +10,8 @@ abbrev pub IsPlain : Separator → List ℕ → Type 0
 IsPlain separators.Tab row = Unit {0}
 IsPlain (separators.Delimiter delimiter) row = IsFreeOf 10 row × IsFreeOf 34 row
 
--- the first place of a byte in a row from the place `start` on, counted from the row's first byte, or None where it
--- has none
+-- the first place of a byte in a row from the place `start` on, counted from the row's first byte; None where the byte
+-- is not there
 abbrev pub IsNextPlace : ℕ → (start : ℕ) → List ℕ → Option ℕ → Type 0
 IsNextPlace byte start row None = IsFreeOf byte (drop start row)
 IsNextPlace byte start row (Some end) = (start ≤ end) × IsPlaceOf byte (drop start row) (Some (end - start))

@@ -77,7 +77,7 @@ abbrev pub AreQuotes : Separator → List ℕ → List ℕ → Type 0
 AreQuotes separators.Tab field quotes = quotes ≡ []
 AreQuotes (separators.Delimiter delimiter) field quotes = (quotes ≡ 34 ∷ []) ⊎ ((quotes ≡ []) × (IsQuoted field → ⊥))
 
--- the text of a field, and `quotes`, a quote or nothing, which is at both of its ends
+-- the text of a field, and what is at both of its ends: `quotes`, which is a quote or nothing
 pub record IsTextIn (S : Separator) (field quotes text : List ℕ) : Type 0 where
   pub field_is : field ≡ quotes ++ text ++ quotes
   pub are_quotes : AreQuotes S field quotes

@@ -161,8 +161,8 @@ fn text_at(separator: Separator, row: &[u8], start: usize, end: usize) -> TextAt
 }
 
 /// Looks in a row for the field that comes after `before` others, and whether the row ends within quotes. The row is
-/// the first `count` bytes of a text. What `lacks` says must be true of it. If it says that the row lacks carriage
-/// returns, the row must have no line feeds either.
+/// the first `count` bytes of a text, which must have so many. What `lacks` says must be true of it. If it says that
+/// the row lacks carriage returns, the row must have no line feeds either.
 #[inline(always)]
 pub fn look_at(separator: Separator, lacks: Lacks, text: &[u8], count: usize, before: usize) -> Look
     requires count { count ≤ length text.now }

@@ -97,8 +97,8 @@ abbrev pub EndsLast : {A : Type 0} → (A → Answered A) → ℕ → (old new :
 EndsLast Q longest old new = ((old.kept.items ≡ []) × (new ≡ old))
     ⊎ ((old.kept.items ≡ [] → ⊥) × EndsLine Q longest old new)
 
--- some of the answers that wait were written, `part`; or a write failed. `old` and `new` are the state, `before` and
--- `after` the output.
+-- `part`, a front of the answers that wait, was written, and perhaps a write failed then. `old` and `new` are the
+-- state, `before` and `after` the output.
 pub record WritesOwed {A W : Type 0} (contents : W → Option (List ℕ)) (old new : Lined A) (before after : Device W)
     (result : Result (Unit {0}) ToolFault) : Type 0 where
   pub part : List ℕ

@@ -14,7 +14,7 @@ use Rattle.lt_stream.specs.declared.faults.ToolFault.TheVariants as faults
 abbrev pub Answered : Type 0 → Type 1
 Answered A = A → List (List ℕ) → List ℕ → Type 0
 
--- what answers lines has answered fewer than 64 bits can count, with one line more
+-- what answers lines has answered so few that 64 bits count them with one line more
 pub record HasLine {A : Type 0} (Q : A → Answered A) (answers : A) : Type 0 where
   pub first : A
   pub lines : List (List ℕ)

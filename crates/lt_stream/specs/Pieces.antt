@@ -17,8 +17,7 @@ RunFact O P = O → O → List ℕ → P → Type 0
 abbrev pub EndFact : Type 0 → Type 0 → Type 0 → Type 1
 EndFact O P A = O → O → List ℕ → P → Result A ToolFault → Type 0
 
--- `T` is true of a run so far, which after `count` further bytes has read fewer than 2 to the 63, so that 64 bits
--- count them
+-- `T` is true of a run so far. With `count` further bytes it has read fewer than 2^63, so that 64 bits count them.
 pub record HasRoom {O P : Type 0} (T : P → RunFact O P) (count : ℕ) (now : O) (state : P) : Type 0 where
   pub first : P
   pub start : O
