@@ -29,8 +29,8 @@ lines_of-last (byte ∷ next ∷ line) one some =
     let tail = All-tail IsNoEnd byte (next ∷ line) one in
     begins byte (next ∷ line) (All-head IsNoEnd byte (next ∷ line) one) ∙ ap (begin_first byte) (lines_of-last (next ∷ line) tail (omega arith))
 
--- bytes without a line feed (10), at least one, begin the first line, whatever follows them: `front` is what that line
--- has of `more`, and `after` are the lines behind it
+-- Bytes without a line feed (10), at least one, begin the first line, whatever follows them. Of the bytes `more` after
+-- them that line has `front`, and `after` are the lines behind it.
 pub first_goes_on : (byte : ℕ) (line more : List ℕ) → IsOneLine (byte ∷ line)
     → (front : List ℕ) × (after : List (List ℕ)) × (lines_of ((byte ∷ line) ++ more) ≡ ((byte ∷ line) ++ front) ∷ after)
 first_goes_on byte [] more one = by_lines (lines_of more) refl

@@ -1,4 +1,4 @@
--- The groups that lines are, in one way, how a field of one grows, what they make of the records, and how many begin with them.
+-- Lines are groups in one way. How a field of a group grows, what records groups make, and how many begin with them.
 use Rattle.std.proofs.Common.{◌≡◌, ◌∙◌, ◌++◌, ◌∷◌, ℕ, List, [], true, refl, sym, ap, append_assoc, append-nil, map, Bool, false, Result, Ok, nat_lt, ◌+◌, ◌&&◌, arith, length, length-append, MatchResult}
 use Rattle.std.specs.List.{filter, flat_map}
 use Rattle.std.proofs.lemmas.List.{length-map, map-append}
@@ -85,8 +85,8 @@ pub finished-going_of : (ended : List (List Written)) (last : List Written) → 
 finished-going_of ended [] = sym (records_of-append ended ([] ∷ []))
 finished-going_of ended (field ∷ last) = sym (records_of-append ended ((field ∷ last) ∷ []))
 
--- the lines leave what the reading `going` of all but the last of them becomes, if that one makes `said` of the
--- fields; nothing is claimed where `said` is a fault
+-- If the last line makes `said` of the fields of `going`, the reading of the lines before it, then all lines leave what
+-- `going` becomes by that. Nothing is claimed if `said` is a fault.
 abbrev pub Makes : List Line → Going → Result Taken Fault → Type 0
 Makes lines going said = MatchResult said (λ taken. Leaves lines (with_taken going taken)) (λ fault. Unit {0})
 
@@ -172,8 +172,8 @@ first_ended : (group : List Written) (ended : List (List Written)) (lines : List
     → flat_map lines_of_ended (group ∷ ended) ++ lines ≡ lines_of_group group ++ Separator ∷ (flat_map lines_of_ended ended ++ lines)
 first_ended group ended lines = append_assoc (lines_of_ended group) (flat_map lines_of_ended ended) lines ∙ append_assoc (lines_of_group group) (Separator ∷ []) (flat_map lines_of_ended ended ++ lines)
 
--- ended groups in front of lines: no record goes on behind them, as many records begin in them as groups have a field,
--- and all lines fit exactly if those behind them do
+-- Lines behind ended groups begin outside of a record. As many records begin in the groups as groups have a field, and
+-- all lines fit exactly if those behind the groups do.
 pub past_ended : (ended : List (List Written)) (lines : List Line) → (is_inside false (flat_map lines_of_ended ended ++ lines) ≡ is_inside false lines)
     × (begun false (flat_map lines_of_ended ended ++ lines) ≡ length (filter has_field ended) + begun false lines) × (fits false (flat_map lines_of_ended ended ++ lines) ≡ fits false lines)
 past_ended [] lines = (refl, omega arith, refl)

@@ -29,8 +29,8 @@ where_in (x ∷ xs) ys (b ∷ front) y after e =
       | inr behind ↦ inr (behind.0, cc (behind.1, e), behind.2)
     ]
 
--- These whole lines, at the front of a text, have no fault, and each of their records is ended: there are `earlier` of
--- them, and the next line has the number `line`.
+-- These whole lines, at the front of a text, have no fault, and each of their records is ended. There are `earlier`
+-- records, and the next line has the number `line`.
 pub record Behind (lines : List (List ℕ)) (records : List (List Field)) (earlier line : ℕ) : Type 0 where
   pub each : AllByRecursion IsOneLine lines
   pub ended : AreEnded lines records

@@ -74,8 +74,8 @@ content_again (byte ∷ name) rest named some =
 by_content : List ℕ → Line
 by_content text = if list_all is_blank text then Blank else kind_of_content text
 
--- a line that is a name, a colon (58) and a rest, perhaps with a carriage return behind it, begins a field of that
--- name, whose body is the rest, trimmed
+-- A line is a name, a colon (58) and a rest, perhaps with a carriage return behind it. So it begins a field of that
+-- name, whose body is the rest, trimmed.
 pub line_again : (line name rest : List ℕ) → IsNamed name → name ≢ [] → content_of line ≡ name ++ 58 ∷ rest → line_of line ≡ Start name (trim rest)
 unfolding by_content
 line_again line [] rest named some is = absurd (some refl)

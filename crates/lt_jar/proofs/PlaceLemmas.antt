@@ -13,7 +13,7 @@ module _ (byte : ℕ) (xs : List ℕ) (bits : ℕ) (is : bits ≡ mask_l (map (�
   pub none_of_lanes : bits ≡ 0 → prefix_len (λ other. not (is_byte byte other)) xs ≡ length xs
   none_of_lanes none = leading_from_mask_l (is_byte byte) xs (sym is ∙ none)
 
-  -- so many come before it as there are zeros below the lowest bit that is set
+  -- as many elements come before the byte as there are zeros below the lowest bit that is set
   pub first_of_lanes : length xs ≤ 64 → 0 < bits → count_trailing_zeros 64 bits ≡ prefix_len (λ other. not (is_byte byte other)) xs
   first_of_lanes few some = ap (count_trailing_zeros 64) is ∙ trailing_mask_l (is_byte byte) 64 xs few (omega (arith, some, is))
 
@@ -48,7 +48,7 @@ module _ (byte : ℕ) (text : List ℕ) where
         (record { low = omega (arith, more.0.low); high = omega (arith, more.0.high); before = before }, more.1)
   ]
 
-  -- where that list is empty, the byte is at none of the n places from i on
+  -- where the list of the byte's places among the n from i on is empty, the byte is at none of them
   pub none_from : (i n : ℕ) → places_from (is_byte byte) text i n ≡ [] → Nowhere has i (i + n)
   unfolding places_from
   none_from i zero e = λ j low high. absurd (omega (arith, low, high))

@@ -1,4 +1,5 @@
--- What is computed of a line is right, what is known once the first lines of a text are read, and that a text has records or a fault, and not both.
+-- What is computed of a line is right. What is known once the first lines of a text are read. A text has records or a
+-- fault, and not both.
 use Rattle.std.proofs.Common.{◌≡◌, ◌∙◌, ◌++◌, ◌∷◌, ◌⊎◌, inl, inr, ℕ, List, [], Bool, true, false, Result, Ok, Err, refl, sym, ap, subst, append_assoc, append-nil, map, nat_lt, length, get_or, ◌+◌, ◌<◌, ◌≤◌, arith, MatchResult, length-append}
 use Rattle.std.specs.List.{All, filter}
 use Rattle.std.specs.Str.{IsUtf8, is_utf8}
@@ -28,8 +29,8 @@ each_fault P long text leading bad many LeadingContinuation = leading
 each_fault P long text leading bad many BadLine = bad
 each_fault P long text leading bad many TooManyRecords = many
 
--- What is said of a line is right: where it was taken, it has no fault, and the records stay within their limit; where
--- a fault is answered, the line has it, and none of a lower rank.
+-- What is said of a line is right. Where it was taken, it has no fault, and the records stay within their limit. Where
+-- a fault is answered, the line has it, and no fault of a lower rank.
 abbrev Judges : ℕ → List (List ℕ) → List ℕ → Result Taken Fault → Type 0
 Judges earlier before line said = MatchResult said
     (λ taken. ((other : Fault) → IsWrong earlier other before line → ⊥) × (earlier + begun false (nonblank (before ++ line ∷ [])) ≤ most_records))
@@ -38,8 +39,8 @@ Judges earlier before line said = MatchResult said
 -- a line that is UTF-8 and not too long, after lines in which no more records began than may; `count` of those records
 -- have ended
 module _ (earlier : ℕ) (before : List (List ℕ)) (line : List ℕ) (count : ℕ) (short : length line ≤ longest_line) (utf8 : IsUtf8 line) (few : earlier + begun false (nonblank before) ≤ most_records) where
-  -- how many records begin with the line: those of the lines before, and one more if its kind k begins one where a
-  -- record goes on or not, as b says
+  -- How many records begin with the line: those of the lines before, and one more if the line begins one. k is its
+  -- kind, and b tells whether a record goes on before it.
   added : (b : Bool) (k : Line) → is_inside false (nonblank before) ≡ b → line_of line ≡ k → begun false (nonblank (before ++ line ∷ [])) ≡ begun false (nonblank before) + begun b (filter is_nonblank (k ∷ []))
   added b k at so = rw (← at, ← so) (ap (begun false) (nonblank-append before (line ∷ [])) ∙ begun-append false (nonblank before) (nonblank (line ∷ [])))
 
@@ -49,8 +50,8 @@ module _ (earlier : ℕ) (before : List (List ℕ)) (line : List ℕ) (count : �
       → ((other : Fault) → IsWrong earlier other before line → ⊥) × (earlier + begun false (nonblank (before ++ line ∷ [])) ≤ most_records)
   calm k so goes good room = (each_fault (λ other. IsWrong earlier other before line → ⊥) (λ w. omega arith) (λ w. w utf8) (λ w. both_ways _ w.1 (goes (sym (ap is_continuation so) ∙ w.0))) (λ w. good (sym so ∙ w)) (λ w. omega arith), room)
 
-  -- each fault of the line has at least the rank n, where that is so of a continuation without a field and of a bad
-  -- line, and n is at most the greatest rank
+  -- Each fault of the line has at least the rank n, which is at most the greatest rank. This is asked of two faults: a
+  -- continuation without a field, and a bad line.
   least : (n : ℕ) → (IsWrong earlier LeadingContinuation before line → n ≤ 2) → (IsWrong earlier BadLine before line → n ≤ 3) → n ≤ 4 → (other : Fault) → IsWrong earlier other before line → n ≤ rank other
   least n leading bad any = each_fault (λ other. IsWrong earlier other before line → n ≤ rank other) (λ w. absurd (omega arith)) (λ w. absurd (w utf8)) leading bad (λ w. any)
 
@@ -70,8 +71,8 @@ module _ (earlier : ℕ) (before : List (List ℕ)) (line : List ℕ) (count : �
   kind_judges (field ∷ l) (Start name body) at sum so = calm (Start name body) so (λ m. cc) (λ m. cc) (omega (arith, added true (Start name body) at so))
   kind_judges l Bad at sum so = (so, least 3 (λ w. let no = sym (ap is_continuation so) ∙ w.0 in cc) (λ w. omega arith) (omega arith))
 
--- P is true of what `take_line` answers, if it is of each of its cases: a line that is too long, one that is short and
--- UTF-8, one that is short and no UTF-8
+-- P is true of what `take_line` answers if it is true in each case: the line is too long, or short and UTF-8, or short
+-- and not UTF-8
 pub by_test : (ended : ℕ) (fields : List Field) (line : List ℕ) (P : Result Taken Fault → Type 0) → (longest_line < length line → P (Err LineTooLong))
     → (length line ≤ longest_line → IsUtf8 line → P (take_kind ended fields (line_of line))) → (length line ≤ longest_line → (IsUtf8 line → ⊥) → P (Err NotUtf8)) → P (take_line ended fields line)
 by_test ended fields line P long text other = cond_both (nat_lt longest_line (length line)) _ _ P (λ is. long (ltb-true _ _ is)) (λ low. cond_both (is_utf8 line) _ _ P

@@ -19,8 +19,8 @@ use Rattle.lt_jar.specs.declared.faults.JarFaultKind.TheVariants as kinds
 use Rattle.lt_jar.specs.declared.drafts.Progress.TheVariants as progress
 use Rattle.lt_jar.proofs.TurnLemmas.{each-append, last_some, line_ends, lines_of-last_line, lines_of-whole, lines_of-whole_lines, ran_on, rest_some, step_first, steps-err, whole-append, whole_joined}
 
--- a last line that is taken, in a reading where no record has ended: the records at the end of the text are the one
--- record of the fields `new`, or none
+-- A last line is taken, in a reading where no record has ended. The records at the end of the text are the one record
+-- of the fields `new`, or none.
 pub last_taken : (earlier : ℕ) (old new : List Field) (line : List ℕ) (p : Progress) → take_line earlier old line ≡ Ok (taken_in p new)
     → (going : Going) × (on_going earlier (going_on old) line ≡ Ok going) × (finished going ≡ rest_of new)
 last_taken earlier old new line progress.GoesOn said = (record { records = []; fields = new }, step_first earlier old line (Ok (GoesOn new)) said, refl)
@@ -60,8 +60,8 @@ lines_ran earlier lines going few each ran =
     let before : read.before ≡ lines = sym (read.all ∙ append-nil read.before) ∙ lines_of-whole_lines lines each in
     (subst (λ l. Leaves (nonblank l) going) before read.leaves, (records_at_end earlier (whole_lines lines) (length lines) going read).1)
 
--- these whole lines at the front of a text run without a fault and end no record: `fields` are those of the record
--- that goes on, and `rest` comes after the lines
+-- These whole lines at the front of a text run without a fault and end no record. `fields` are those of the record that
+-- goes on, and `rest` comes after the lines.
 pub record Ran (earlier : ℕ) (text : List ℕ) (lines : List (List ℕ)) (rest : List ℕ) (fields : List Field) : Type 0 where
   pub few : earlier ≤ most_records
   pub each : AllByRecursion IsOneLine lines
@@ -143,8 +143,8 @@ reached_told {earlier} {text} {lines = lines} r first =
       clean = λ other at wrong. omega (arith, read.clean other at wrong);
     }
 
--- Of the bytes `all`, which come after `earlier` records and begin in the line `start`, the engine has gone over whole
--- lines, which ended no record, and keeps the front of a line; `rest` is not yet handed on to it.
+-- The bytes `all` come after `earlier` records and begin in the line `start`. Of them the engine has gone over whole
+-- lines, which ended no record, and keeps the front of a line. `rest` is not yet handed on to it.
 pub record Runs (earlier : ℕ) (all rest : List ℕ) (start : ℕ) (engine : Engine) : Type 0 where
   pub lines : List (List ℕ)
   pub ran : Ran earlier all lines (engine.partial.items ++ rest) (fields_in engine)
@@ -166,8 +166,8 @@ last_one : (lines : List (List ℕ)) (last : List ℕ) → AllByRecursion IsOneL
 last_one [] last each = (tt, each.0)
 last_one (line ∷ lines) last each = let rest = last_one lines last each.1 in ((each.0, rest.0), rest.1)
 
--- a record ended in the bytes `all`, which come after `earlier` records and begin in the line `start`; the engine
--- holds its fields, `rest` is left, and the record is no more than the last that a text may have
+-- The bytes `all` come after `earlier` records and begin in the line `start`. In them a record ended, which is no more
+-- than the last that a text may have. The engine holds its fields, and `rest` is left.
 pub record RunsOut (earlier : ℕ) (all rest : List ℕ) (start : ℕ) (engine : Engine) : Type 0 where
   pub lines : List (List ℕ)
   pub cuts : CutsRecord earlier all (fields_in engine) lines rest
@@ -203,8 +203,8 @@ runs_out {earlier} {all = all} {after = after} {now} {new} runs takes =
       some = omega (arith, length-append lines (takes.last ∷ []));
     }
 
--- The line after whole lines, which ended no record, has a fault of this kind, or memory ran out at it, whatever bytes
--- follow, or where the text has ended (`ended`). The engine's line number is that line's.
+-- The line after whole lines, which ended no record, has a fault of this kind, or memory ran out at it. This holds
+-- whatever bytes follow, or where the text has ended (`ended`). The engine's line number is that line's.
 pub record Refused (ended : Type 0) (earlier : ℕ) (all : List ℕ) (start : ℕ) (new : Engine) (kind : JarFaultKind) : Type 0 where
   pub lines : List (List ℕ)
   pub tail : List ℕ
@@ -243,8 +243,8 @@ runs_stops_last {now = now} {kind = kind} runs one stops over =
       line = stops.line ∙ runs.line;
     }
 
--- the bytes `all`, which come after `earlier` records and begin in the line `start`, are the rest of a text that has
--- ended: these are their records, and nothing is wrong with them
+-- The bytes `all` come after `earlier` records and begin in the line `start`. They are the rest of a text that has
+-- ended: these are their records, and nothing is wrong with them.
 pub record RunsEnd (earlier : ℕ) (all : List ℕ) (start : ℕ) (engine : Engine) (records : List (List Field)) : Type 0 where
   pub has : HasRecords all records
   pub sound : IsSound earlier all

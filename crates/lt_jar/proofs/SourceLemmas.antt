@@ -22,8 +22,8 @@ use Rattle.lt_jar.specs.declared.sources.Status.TheVariants as state
 use Rattle.lt_jar.proofs.TurnLemmas.{rest_some}
 use Rattle.lt_jar.proofs.ReadingLemmas.{Refused, Runs, cut_short, fault_told, holds_here, lines_gather, reached_told, runs_alone, runs_end, runs_out, runs_stops, runs_stops_last, runs_taken, said_no_other}
 
--- The turns of a call of `read_record`: since it began, with `old` and the device `before`, all reads gave bytes, and
--- no record ended; `rest` of them is not yet handed on to the engine.
+-- The turns of a call of `read_record`. Since it began, with `old` and the device `before`, all reads gave bytes, and
+-- no record ended. `rest` of the bytes is not yet handed on to the engine.
 pub record SourceTurn {R : Type 0} (remaining : R → Option (List ℕ)) (old now : JarSource) (before after : Device R) (rest : List ℕ) : Type 0 where
   pub read : List ℕ
   pub reads : ℕ

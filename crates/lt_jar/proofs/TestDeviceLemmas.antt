@@ -1,5 +1,5 @@
--- A read of the reader for tests gives a front of what remains of it, and no bytes, where there is room for some, only if
--- nothing remains.
+-- A read of the reader for tests gives a front of what remains of it. Where there is room for bytes, it gives none only
+-- if nothing remains.
 use Rattle.std.proofs.Common.{◌≡◌, ℕ, zero, suc, ◌+◌, ◌-◌, ◌<◌, ◌≤◌, ◌⊎◌, inl, inr, min, Bool, true, false, ◌&&◌, List, [], ◌++◌, length, take, drop, Option, Some, None, refl, sym, ap, ◌∙◌, arith, take_at, length-take-le, take-append-drop, drop-drop, drop_of_length-le}
 use Rattle.std.proofs.lemmas.List.{length-drop, take_all}
 use Rattle.std.specs.Borrow.{Bor}
@@ -8,8 +8,8 @@ use Rattle.std.specs.Option.{unwrap_or}
 use Rattle.std.specs.Io.KnownBytes.{Consumes, IsAtEnd}
 use Rattle.lt_jar.specs.TestDevices.{given_in}
 
--- A read copies n bytes of `rest` over the front of the buffer `old`: they are the front of what is given of `rest` in
--- pieces of this length, and where none came, and there was room, nothing is left to give.
+-- A read copies n bytes of `rest` over the front of the buffer `old`. They are the front of what is given of `rest` in
+-- pieces of this length. Where none came though there was room, nothing is left to give.
 given_in-front : (rest old new : List ℕ) (piece n : ℕ) → n ≡ min (min (length rest) piece) (length old) → new ≡ take n rest ++ drop n old → length new ≡ length old
     → (given_in piece rest ≡ take n new ++ given_in piece (drop n rest)) × (n ≡ 0 → 0 < length new → given_in piece (drop n rest) ≡ [])
 given_in-front rest old new zero n count copied long = let none : n ≡ 0 = omega arith in (rw none refl, λ _ _. refl)
@@ -17,9 +17,9 @@ given_in-front rest old new (suc more) n count copied long =
     let front : take n new ≡ take n rest = ap (take n) copied ∙ take_at (take n rest) (drop n old) n (length-take-le n rest (omega arith)) in
     (sym (take-append-drop n rest) ∙ ap (λ l. l ++ drop n rest) (sym front), λ none room. drop_of_length-le rest (omega arith))
 
--- What remains of a reader, with an end or without one, after a read of n bytes: its place moves by so many. Names
--- with ' are of the reader after the read, `old` and `new` are the buffer before and after it, `left` the bytes behind
--- its place.
+-- What remains of a reader, with an end or without one, after a read of n bytes: its place moves on by n. Names with '
+-- are of the reader after the read. `old` and `new` are the buffer before and after it, and `left` are the bytes from
+-- the place on.
 pub remaining-moves : (endless endless' : Bool) (bytes bytes' left old new : List ℕ) (at at' piece piece' place n : ℕ)
     → endless' ≡ endless → bytes' ≡ bytes → piece' ≡ piece → at' ≡ place + n
     → place ≡ (if endless && nat_le (length bytes) at then 0 else at)

@@ -37,7 +37,7 @@ continued-set text (field ∷ fields) i last new at is name body =
     let same = ap (λ (a : List ℕ). let f : Field = (a, lengthened last.1 text) in f) (sym name) ∙ ap (λ (b : List ℕ). let f : Field = (new.0, b) in f) (sym body) in
     rw (with_text-set text (field ∷ fields) i last at is, same) refl
 
--- if the record ends with the fields `new`, the line is a separator, and they are those before it, at least one
+-- if the record ends with the fields `new`, the line is a separator, and `new` are the fields before it, at least one
 abbrev EndsBy : List Field → Line → Taken → Type 0
 EndsBy fields kind (GoesOn new) = Unit {0}
 EndsBy fields kind (Ends new) = (new ≡ fields) × (kind ≡ Separator) × (fields ≢ [])
@@ -116,8 +116,8 @@ pub ran_on : (earlier : ℕ) (from : Result Going Fault) (lines more : List (Lis
     → steps earlier (going_on fields) more ≡ said → steps earlier from (lines ++ more) ≡ said
 ran_on earlier from lines more fields said ran next = steps-append earlier from lines more ∙ ap (λ r. steps earlier r more) ran ∙ next
 
--- So far the engine has taken these lines of the piece, which ended no record, and `rest` of it is left; `old` is the
--- engine before the piece, `now` the one at this turn.
+-- So far the engine has taken these lines of the piece, which ended no record, and `rest` of it is left. `old` is the
+-- engine before the piece, and `now` the one at this turn.
 pub record PieceTurn (old now : Engine) (piece rest : List ℕ) : Type 0 where
   pub lines : List (List ℕ)
   pub over : GoesOver old now lines
@@ -149,8 +149,8 @@ turn_next {old} {now} new {piece} {rest} line after turn cut one said ended coun
       room = omega (arith, counted, turn.room, long);
     }
 
--- one line more is taken, which ends a record, so that the engine stops there and leaves `after`: `line`, up to the
--- next line feed, after the bytes kept from pieces before
+-- One line more is taken: the bytes kept from pieces before, and then `line`, up to the next line feed. It ends a
+-- record, so that the engine stops there and leaves `after`.
 pub turn_ends : {old now : Engine} (new : Engine) {piece rest : List ℕ} (line after : List ℕ) → PieceTurn old now piece rest → rest ≡ line ++ 10 ∷ after → IsOneLine line
     → take_line now.ended (fields_in now) (now.partial.items ++ line) ≡ Ok (Ends (fields_in new)) → new.ended ≡ now.ended → new.line ≡ now.line + 1 → new.partial.items ≡ []
     → TakesRecord old new piece after
@@ -190,8 +190,8 @@ turn_stops {now = now} new {rest = rest} {kind} turn refused ended counted begun
   begun = begun;
 }
 
--- The first line of what is left, whose line feed is in the piece, is refused where its bytes are: those of `partial`,
--- kept from pieces before, and those of `line`.
+-- The first line of what is left has its line feed in the piece. It is the bytes of `partial`, kept from pieces before,
+-- and those of `line`. If these are refused, the line is.
 pub first_refused : {ended : ℕ} {fields : List Field} {rest : List ℕ} (partial line after more : List ℕ) {kind : JarFaultKind} → IsOneLine partial → IsOneLine line → rest ≡ line ++ 10 ∷ after
     → IsSaid kind (take_line ended fields (partial ++ line)) → RefusesFirst ended fields ((partial ++ rest) ++ more) kind
 first_refused partial line after more begun one cut said = record {

@@ -47,8 +47,8 @@ pub record EndsNoneAbove (text : List ℕ) (number : ℕ) : Type 0 where
   pub gathers : Gathers lines fields
   pub counted : number ≡ length lines + 1
 
--- The text, which comes after `earlier` records, is whole lines without a fault, which end no record, and the front of
--- a line with this number, counted from 1, which is not too long so far.
+-- The text, which comes after `earlier` records, is whole lines without a fault, which end no record, and then the
+-- front of a line. This line has this number, counted from 1, and is not too long so far.
 pub record IsCutShort (earlier : ℕ) (text : List ℕ) (number : ℕ) : Type 0 where
   pub lines : List (List ℕ)
   pub each : AllByRecursion IsOneLine lines
@@ -67,8 +67,8 @@ pub record AreEnded (lines : List (List ℕ)) (records : List (List Field)) : Ty
   pub lines_are : nonblank lines ≡ flat_map lines_of_ended groups
   pub records_are : records ≡ map record_of (filter has_field groups)
 
--- The text, which comes after `earlier` records, is whole lines without a fault and the front of a line with this
--- number, counted from 1, which is not too long so far.
+-- The text, which comes after `earlier` records, is whole lines without a fault and then the front of a line. This line
+-- has this number, counted from 1, and is not too long so far.
 pub record BreaksOff (earlier : ℕ) (text : List ℕ) (number : ℕ) : Type 0 where
   pub ended : List (List ℕ)
   pub records : List (List Field)

@@ -11,7 +11,7 @@ use Rattle.lt_jar.specs.contracts.readers.JarReader.{the_row}
 use Rattle.lt_jar.specs.contracts.sources.JarSource.{the_row as source_row}
 use Rattle.lt_jar.specs.Sources.{Advances, record_in}
 
--- the answer of a call, with a Boolean, whether a record came, in place of the record
+-- the answer of a call, in which a Boolean in place of the record tells whether one came
 abbrev pub came : Result (Option RecordRef) JarFault → Result Bool JarFault
 came (Ok lent) = Ok (is_some lent)
 came (Err fault) = Err fault
@@ -24,8 +24,8 @@ pub record Moves {R : Type 0} (remaining : R → Option (List ℕ)) (old : JarRe
   pub advances : Advances remaining old.source new.source old.device.now new.device.now (came result)
   pub fields : IfOk result (λ lent. IfSome lent (λ r. r.fields.now ≡ record_in new.source))
 
--- once the record of this answer is no longer borrowed, the reader is what the call made of it; R is the type of the
--- device's own reader, which has still to give what `remaining` tells
+-- Once the record of this answer is no longer borrowed, the reader is what the call made of it. R is the type of the
+-- device's own reader, which has still to give what `remaining` tells.
 abbrev pub LendsAs : (R : RattleType) → (R.Denot → Option (List ℕ))
     → MutBor (JarReader R.Denot JarSource) → Result (Option RecordRef) JarFault → Fml
 LendsAs R remaining reader result =

@@ -7,8 +7,8 @@ use Rattle.lt_jar.specs.Lending.{AreEnded, IsSound}
 use Rattle.lt_jar.specs.Sources.{kept_in, lent_by, line_of_kept}
 use Rattle.lt_jar.specs.declared.sources.JarSource.{JarSource}
 
--- since the source s was new, these bytes were read: whole lines without a fault, which are these records, all of them
--- lent, and the bytes that are kept
+-- Since the source s was new, these bytes were read: whole lines without a fault, and then the bytes that are kept. The
+-- lines are those of these records, and all of them were lent.
 pub record HasLent (bytes : List ℕ) (records : List (List Field)) (s : JarSource) : Type 0 where
   pub lines : List (List ℕ)
   pub each : AllByRecursion IsOneLine lines

@@ -1,8 +1,8 @@
 -- How long a line may be, and how many records a text may have.
 use Rattle.std.specs.Prelude.{ℕ}
 
--- the most bytes of a line, counted with a carriage return (13) at its end and without the line feed (10): a text with
--- a longer one is no registry, or lacks its line feeds
+-- The most bytes of a line, counted with a carriage return (13) at its end and without the line feed (10). A text with
+-- a longer one is no registry, or lacks its line feeds.
 abbrev pub longest_line : ℕ
 longest_line = 65536
 

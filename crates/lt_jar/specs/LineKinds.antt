@@ -44,14 +44,14 @@ pub data Line : Type 0 where
   -- none of these
   Bad : Line
 
--- what a line is that begins with this name and goes on with `rest`: the beginning of a field if the name is not empty
--- and a colon (58) is next
+-- What a line is if it begins with this name and goes on with `rest`. It begins a field if the name is not empty and a
+-- colon (58) is next; else it is bad.
 abbrev pub start_by : List ℕ → List ℕ → Line
 start_by [] rest = Bad
 start_by (byte ∷ name) [] = Bad
 start_by (byte ∷ name) (colon ∷ body) = if colon == 58 then Start (byte ∷ name) (trim body) else Bad
 
--- what a line is that is to begin a field: a name, any spaces and tabs, a colon, and a body
+-- what a line is if it has to begin a field: with a name, any spaces and tabs, a colon, and a body
 abbrev pub start_of : List ℕ → Line
 start_of text = let name = name_at_front text in start_by name (trim_start (drop (length name) text))
 
@@ -66,7 +66,7 @@ abbrev pub begins_blank : List ℕ → Bool
 begins_blank [] = false
 begins_blank (byte ∷ rest) = is_blank byte
 
--- what a line is that has more than spaces and tabs
+-- what a line is if it has more than spaces and tabs
 abbrev pub kind_of_content : List ℕ → Line
 kind_of_content text =
     if begins_blank text then Continuation (trim text) else (if separates text then Separator else start_of text)

@@ -22,8 +22,8 @@ content_of line = strip_last 13 line
 abbrev pub IsOneLine : List ℕ → Type 0
 IsOneLine text = All (λ byte. byte ≢ 10) text
 
--- `P` is true of a whole text of which these bytes were read: whatever follows them, or where the text has `ended`, of
--- them
+-- `P` is true of the whole text that begins with these bytes, whatever follows them; or the text has `ended`, and `P`
+-- is true of the bytes
 abbrev pub HoldsOfWhole : (List ℕ → Type 0) → Type 0 → List ℕ → Type 0
 HoldsOfWhole P ended bytes = ((more : List ℕ) → P (bytes ++ more)) ⊎ (ended × P bytes)
 

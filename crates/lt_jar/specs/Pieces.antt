@@ -13,7 +13,7 @@ use Rattle.lt_jar.specs.declared.faults.JarFaultKind.TheVariants as kinds
 use Rattle.lt_jar.specs.declared.drafts.Progress.{Progress}
 use Rattle.lt_jar.specs.declared.engine.Engine.{Engine}
 
--- what is before the first line feed (10) of the text, and what is after it; None where there is none
+-- what is before the first line feed (10) of the text, and what is after it; None for a text without a line feed
 abbrev pub SplitsLine : List ℕ → Option (Bor (List ℕ) × Bor (List ℕ)) → Type 0
 SplitsLine text parts = MatchOption parts (IsOneLine text) (λ p. IsOneLine p.0.now × (text ≡ p.0.now ++ 10 ∷ p.1.now))
 
@@ -82,22 +82,22 @@ pub record StopsAt (old new : Engine) (piece : List ℕ) (kind : JarFaultKind) :
   pub ended : new.ended ≡ old.ended
   pub begun : IsOneLine new.partial.items
 
--- what the engine, before and after it, did with a piece, by its answer: it took all, it came to the end of a record,
--- or to a fault
+-- What the engine did with a piece, by its answer: it took all, or came to the end of a record, or to a fault. `old`
+-- and `new` are the engine before and after it.
 abbrev pub TakesPiece : Engine → Engine → List ℕ → Result (Option (Bor (List ℕ))) JarFaultKind → Type 0
 TakesPiece old new piece (Ok None) = TakesAll old new piece
 TakesPiece old new piece (Ok (Some rest)) = TakesRecord old new piece rest.now
 TakesPiece old new piece (Err kind) = StopsAt old new piece kind
 
--- `rest`, bytes without a line feed, was added to the front of a line that the engine keeps, unless that gets too long
--- or memory runs out; `old` is the engine before, `new` after it
+-- The bytes `rest`, without a line feed, were added to the kept front of a line, unless that gets too long or memory
+-- runs out. `old` is the engine before, and `new` the one after it.
 abbrev pub KeepsBytes : Engine → Engine → List ℕ → Result (Unit {0}) JarFaultKind → Type 0
 KeepsBytes old new rest (Ok x) = new.partial.items ≡ old.partial.items ++ rest
 KeepsBytes old new rest (Err kind) =
     ((kind ≡ kinds.OutOfMemory) ⊎ ((kind ≡ kinds.LineTooLong) × (longest_line < length (old.partial.items ++ rest))))
     × (old.partial.items ++ rest ≢ []) × (new.partial.items ≡ old.partial.items)
 
--- the last line of a text that ends after the kept bytes: they, unless they are empty
+-- the last line of a text that ends after the kept bytes: these bytes, or no line if there are none
 abbrev pub last_line : List ℕ → List (List ℕ)
 last_line [] = []
 last_line (byte ∷ line) = (byte ∷ line) ∷ []
@@ -121,7 +121,8 @@ pub record StopsAtLast (old new : Engine) (kind : JarFaultKind) : Type 0 where
   pub ended : new.ended ≡ old.ended
   pub begun : IsOneLine new.partial.items
 
--- what the engine, before and after it, did with the end of the text, by its answer: it took it in, or came to a fault
+-- What the engine did with the end of the text, by its answer: it took it in, or came to a fault. `old` and `new` are
+-- the engine before and after it.
 abbrev pub FinishesOr : Engine → Engine → Result Bool JarFaultKind → Type 0
 FinishesOr old new (Ok some) = Finishes old new some
 FinishesOr old new (Err kind) = StopsAtLast old new kind

@@ -54,7 +54,7 @@ abbrev pub LastGave : {R : Type 0} → JarSource → Device R → Type 0
 LastGave s device = 0 < s.turns → 0 < last_given_of device
 
 -- `reads` reads were made, which gave the bytes `read`, on average at most 65,536 each. `old` and `new` are the source
--- of records before and after them, `before` and `after` its device, of whose own reader `remaining` tells what it has
+-- of records before and after them, `before` and `after` its device. `remaining` tells what the device's own reader has
 -- still to give.
 pub record IsRead {R : Type 0} (remaining : R → Option (List ℕ)) (old new : JarSource)
     (before after : Device R) (read : List ℕ) (reads : ℕ) : Type 0 where
@@ -64,15 +64,15 @@ pub record IsRead {R : Type 0} (remaining : R → Option (List ℕ)) (old new : 
   pub turns : new.turns ≡ old.turns + reads
   pub bounded : new.turns ≤ most_reads
 
--- what the engine did with the bytes that it had not yet got, by its answer: it came to the end of a record, took all,
--- or came to a fault; the source is given before and after it
+-- What the engine did with the bytes that it had not yet got, by its answer: it came to the end of a record, took all,
+-- or came to a fault. `old` and `new` are the source before and after it.
 abbrev pub TakesUnread : JarSource → JarSource → Result Bool JarFaultKind → Type 0
 TakesUnread old new (Ok true) = TakesRecord old.engine new.engine (unread_in old) (unread_in new)
 TakesUnread old new (Ok false) = TakesAll old.engine new.engine (unread_in old) × (new.start ≡ new.end)
 TakesUnread old new (Err kind) = StopsAt old.engine new.engine (unread_in old) kind
 
--- What one read did, by its answer: it gave the bytes `read`, came to the end, or failed or was one too many, so that
--- no read was made (`reads` is 0). `old` and `new` are the source, `before` and `after` its device.
+-- What one read did, by its answer. It gave the bytes `read`, came to the end, or failed, or it was one too many, so
+-- that no read was made (`reads` is 0). `old` and `new` are the source, `before` and `after` its device.
 abbrev pub FillsAs : {R : Type 0} → (R → Option (List ℕ)) → (old new : JarSource)
     → (before after : Device R) → List ℕ → ℕ → Result Bool JarFaultKind → Type 0
 FillsAs remaining old new before after read reads (Ok true) = (unread_in new ≡ read) × (0 < length read)
@@ -111,15 +111,15 @@ pub record Finishes (old new : JarSource) (some : Bool) : Type 0 where
   pub turns : new.turns ≡ old.turns
   pub status : new.status ≡ state.Ended
 
--- what the end of the text did, by the answer of the source, given before and after it: it ended a record or none, or
--- the last line has a fault
+-- What the end of the text did, by the answer of the source. It ended a record or none, or the last line has a fault.
+-- `old` and `new` are the source before and after it.
 abbrev pub Finished : JarSource → JarSource → Result Bool JarFaultKind → Type 0
 Finished old new (Ok some) = Finishes old new some
 Finished old new (Err kind) = StopsAtLast old.engine new.engine kind × (new.turns ≡ old.turns)
 
--- A record was lent that a separator ends: the bytes that were kept and those that were read are its lines and the
--- bytes that are kept then. `old` and `new` are the source, `before` and `after` its device, and `reads` reads gave
--- the bytes `read`.
+-- A record that a separator ends was lent. The bytes that were kept and those that were read are its lines, and then
+-- the bytes that are kept. `old` and `new` are the source, `before` and `after` its device, and `reads` reads gave the
+-- bytes `read`.
 pub record LendsEnded {R : Type 0} (old new : JarSource)
     (before after : Device R) (read : List ℕ) (reads : ℕ) : Type 0 where
   pub lines : List (List ℕ)
@@ -140,8 +140,8 @@ pub record LendsLast {R : Type 0} (remaining : R → Option (List ℕ)) (old new
   pub end : IsAtEnd (remaining (inner_of after))
   pub status : new.status ≡ state.Ended
 
--- why no record came: a fault of this kind, and the line that was being read; `old` and `new` are the source, `before`
--- and `after` its device, and `reads` reads gave the bytes `read`
+-- Why no record came: a fault of this kind, and the line that was being read. `old` and `new` are the source, `before`
+-- and `after` its device, and `reads` reads gave the bytes `read`.
 pub record Stops {R : Type 0} (remaining : R → Option (List ℕ)) (old new : JarSource)
     (before after : Device R) (read : List ℕ) (reads : ℕ) (kind : JarFaultKind) : Type 0 where
   pub format : (fault : faults.Fault) → fault_in kind ≡ Some fault
@@ -161,8 +161,8 @@ pub record Stops {R : Type 0} (remaining : R → Option (List ℕ)) (old new : J
       × (line_of_kept new + 1 ≡ line_of_kept old + number))
   pub first : kind ≢ kinds.Failed
 
--- how a call on an open source ended, by its answer: with a record, with none, or with a fault; `old` and `new` are
--- the source, `before` and `after` its device, and its `reads` reads gave the bytes `read`
+-- How a call on an open source ended, by its answer: with a record, with none, or with a fault. `old` and `new` are the
+-- source, `before` and `after` its device, and `reads` reads gave the bytes `read`.
 abbrev pub EndsAs : {R : Type 0} → (R → Option (List ℕ)) → (old new : JarSource)
     → (before after : Device R) → List ℕ → ℕ → Result Bool JarFaultKind → Type 0
 EndsAs remaining old new before after read reads (Ok true) =
@@ -188,7 +188,7 @@ abbrev pub without_line : Result Bool JarFault → Result Bool JarFaultKind
 without_line (Ok some) = Ok some
 without_line (Err fault) = Err fault.kind
 
--- What a call did: on an open source, it read on; after the text's end, it gave no record; after a fault, it answered
+-- What a call did. On an open source, it read on. After the text's end, it gave no record. After a fault, it answered
 -- Failed, with the line of that fault. `old` and `new` are the source, `before` and `after` its device.
 pub record Advances {R : Type 0} (remaining : R → Option (List ℕ)) (old new : JarSource)
     (before after : Device R) (result : Result Bool JarFault) : Type 0 where

@@ -44,7 +44,7 @@ IsFaultOf text said =
 abbrev pub IsSaid : {A : Type 0} → JarFaultKind → Result A faults.Fault → Type 0
 IsSaid kind said = (kind ≡ OutOfMemory) ⊎ ((fault : faults.Fault) × (fault_in kind ≡ Some fault) × (said ≡ Err fault))
 
--- what a line did to the record, which has these fields after it, as the contracts have it
+-- what a line did to the record, as the contracts have it; the record has these fields after the line
 abbrev pub taken_in : Progress → List Field → reading.Taken
 taken_in progress.GoesOn fields = reading.GoesOn fields
 taken_in progress.Ends fields = reading.Ends fields

@@ -8,8 +8,9 @@ use std::io::{self, Read, Write};
 
 /// A reader whose calls have a name in clauses. Each reader is one.
 pub trait Reads: Read {
-    /// What a call gave: the reader and the slice before it, the answer, the reader and the slice after it. A `Device` over a
-    /// reader of unknown kind promises by it that its answer is that of one call: by `bytes` alone it might call twice.
+    /// What a call gave: the reader and the slice before it, the answer, the reader and the slice after it. By this a
+    /// `Device` over a reader of unknown kind promises that its answer is that of one call. By `bytes` alone it might
+    /// call twice.
     ghost gives: { Self → List ℕ → Result ℕ Error → Self → List ℕ → Type 0 };
 
     /// Calls `read` once.
@@ -30,8 +31,8 @@ impl<R: Read> Reads for R {
 
 /// A writer whose calls have names in clauses. Each writer is one.
 pub trait Writes: Write {
-    /// What a call of `write` did: the writer before it, the slice, the answer, the writer after it. A `Device` promises by it
-    /// that its answer is that of one call.
+    /// What a call of `write` did: the writer before it, the slice, the answer, the writer after it. By this a
+    /// `Device` promises that its answer is that of one call.
     ghost takes: { Self → List ℕ → Result ℕ Error → Self → Type 0 };
 
     /// What a call of `flush` did: the writer before it, the answer, the writer after it.

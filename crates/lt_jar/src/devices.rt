@@ -105,7 +105,7 @@ impl<W: Writes> Write for Device<W> {
         }
     }
 
-    /// Calls the writer's `flush`. A failure of it is not counted.
+    /// Calls the writer's `flush`. If that fails, the failure is not counted.
     fn flush(&mut self) -> io::Result<()>
         ensures bytes { Keeps (W.contents (inner_of self.old)) (W.contents (inner_of self.new)) }
         ensures passes { W.flushes (inner_of self.old) result (inner_of self.new) }

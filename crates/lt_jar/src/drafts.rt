@@ -1,5 +1,5 @@
 //! The record that is being read. A field is written over one of the record before, so that a registry is read without
-//! an allocation for each; what a reader keeps grows to the longest bodies that came.
+//! an allocation for each. What a reader keeps grows to the longest bodies that came.
 ghost use Rattle.std.specs.Prelude.{◌≡◌, ◌≤◌, ◌<◌, [], IfSome, OnOk, get_or, string_bytes, take, vec_len};
 ghost use Rattle.lt_jar.specs.LineKinds as lines;
 ghost use Rattle.lt_jar.specs.Reading as reading;
@@ -104,9 +104,9 @@ impl Draft {
         self.take_short_line(alloc, line, ended)
     }
 
-    /// Takes the next line, which is UTF-8 and not too long, as `take_line` does. Most lines separate records, or begin
-    /// a field that has the name of the field in its place in the record before: then the name is neither looked for
-    /// nor written.
+    /// Takes the next line, which is UTF-8, as `take_line` does, without a look at its length. Most lines separate
+    /// records, or begin a field with the name that the field in its place had in the record before. Then the name is
+    /// neither looked for nor written.
     fn take_short_line(
         &mut self,
         alloc: Global,
@@ -152,7 +152,8 @@ impl Draft {
     }
 
     /// What the body begins with, if the line begins a field with the name that the field in its place had in the
-    /// record before. None of other lines, and of some that begin such a field in another way.
+    /// record before. None for any other line, and for some that write such a field in another way, for example with
+    /// a space before the colon.
     #[inline(always)]
     fn body_again<'l>(&self, line: &'l str) -> Option<&'l str>
         ensures { IfSome result (λ body. reading.BeginsAgain self.now.count self.now.fields.items line.now body.now) }
@@ -164,8 +165,9 @@ impl Draft {
         }
     }
 
-    /// Takes a line that is of this kind, and tells whether it ends the record. `ended` is how many records have ended
-    /// before this one. Refused if it is a bad line or can't stand here, or where memory runs out.
+    /// Takes a line that is of this kind, and tells whether it ends the record. If it begins a field, the name must
+    /// have only letters, digits and hyphens. `ended` is how many records have ended before this one. Refused if it
+    /// is a bad line or can't stand here, or where memory runs out.
     fn take_kind(
         &mut self,
         alloc: Global,
@@ -197,8 +199,9 @@ impl Draft {
         Ok(Progress::GoesOn)
     }
 
-    /// Begins a field with this name, and a body that begins with `body`. `ended` is how many records have ended before
-    /// this one. Refused if the record is one too many, or where memory runs out.
+    /// Begins a field with this name, which must have only letters, digits and hyphens, and with a body that begins
+    /// with `body`. `ended` is how many records have ended before this one. Refused if the record is one too many, or
+    /// where memory runs out.
     fn start_field(
         &mut self,
         alloc: Global,
@@ -222,8 +225,9 @@ impl Draft {
         self.put_body(body, ended)
     }
 
-    /// Begins a field with `body`, what its body begins with; its name is in its place already. `ended` is how many
-    /// records have ended before this one. Refused if the record is one too many, or where memory runs out.
+    /// Begins a field whose name is in its place already, which must be there. `body` is what its body begins with.
+    /// `ended` is how many records have ended before this one. Refused if the record is one too many, or where memory
+    /// runs out.
     #[inline(always)]
     fn put_body(&mut self, body: &str, ended: usize) -> Result<Progress, JarFaultKind>
         requires { self.old.count < vec_len self.old.fields }

@@ -42,8 +42,8 @@ impl Engine {
     }
 
     /// Takes the end of a line, and tells whether the line ends the record. `last` are its bytes, without the line
-    /// feed, that come after those kept from pieces before. Refused with what is wrong with the line, or where memory
-    /// runs out; then it is not counted.
+    /// feed, that come after those kept from pieces before. The number after that of the line must fit in 64 bits.
+    /// Refused with what is wrong with the line, or where memory runs out. A line that is refused is not counted.
     fn end_line(&mut self, alloc: Global, last: &[u8]) -> Result<Progress, JarFaultKind>
         requires { self.old.line + 1 < 2 ^ 64 }
         ensures taken { IsTaken result (reading.take_line self.old.ended (fields_in self.old)
@@ -63,8 +63,8 @@ impl Engine {
         Ok(progress)
     }
 
-    /// Takes the end of a line as `end_line` does. `last` is UTF-8, and is not checked again if no byte of the line is
-    /// kept.
+    /// Takes the end of a line as `end_line` does, with the same demand on its number. `last` is UTF-8, and is not
+    /// checked again if no byte of the line is kept.
     #[inline(always)]
     fn end_text(&mut self, alloc: Global, last: &str) -> Result<Progress, JarFaultKind>
         requires { self.old.line + 1 < 2 ^ 64 }
@@ -98,7 +98,8 @@ impl Engine {
     }
 
     /// Takes a piece of the text up to the end of a record, and gives what follows that. None if the piece is used up
-    /// and the record goes on. Refused at the first line with a fault, or where memory runs out.
+    /// and the record goes on. The kept bytes must have no line feed, and the number of the line and the length of
+    /// the piece must add up to less than 2^64. Refused at the first line with a fault, or where memory runs out.
     pub(crate) fn take<'p>(
         &mut self,
         alloc: Global,
@@ -119,7 +120,8 @@ impl Engine {
         Ok(None)
     }
 
-    /// Takes a piece of the text that is UTF-8, as `take` does. Its lines are not looked at again for UTF-8.
+    /// Takes a piece of the text that is UTF-8, as `take` does and with the same demands. Its lines are not looked at
+    /// again for UTF-8.
     pub(crate) fn take_text<'p>(
         &mut self,
         alloc: Global,
@@ -140,8 +142,9 @@ impl Engine {
         Ok(None)
     }
 
-    /// Takes the end of the text, and tells whether a record ends there. Refused if the last line, without a line feed,
-    /// has a fault, or where memory runs out.
+    /// Takes the end of the text, and tells whether a record ends there. The kept bytes must have no line feed, and
+    /// the number after that of the line must fit in 64 bits. Refused if the last line, without a line feed, has a
+    /// fault, or where memory runs out.
     pub(crate) fn finish(&mut self, alloc: Global) -> Result<bool, JarFaultKind>
         requires begun { IsOneLine self.old.partial.items }
         requires room { self.old.line + 1 < 2 ^ 64 }
@@ -154,7 +157,7 @@ impl Engine {
         Ok(!self.draft.is_empty())
     }
 
-    /// Begins a record, without fields. It is to be written over those of the record before.
+    /// Begins a record, without fields. Its fields will be written over those of the record before.
     pub(crate) fn begin_record(&mut self)
         ensures fields { fields_in self.new ≡ [] }
         ensures same { (self.new.partial.items ≡ self.old.partial.items) × (self.new.ended ≡ self.old.ended)
@@ -163,7 +166,8 @@ impl Engine {
         self.draft.clear();
     }
 
-    /// Takes out the record that ended, and counts it. Another one begins.
+    /// Takes out the record that ended, and counts it: fewer than 100,000 must have been counted before. Another one
+    /// begins.
     pub(crate) fn take_record(&mut self, alloc: Global) -> Record
         requires { self.old.ended < 100000 }
         ensures record { result ≡ fields_in self.old }
@@ -174,7 +178,8 @@ impl Engine {
         self.draft.take_record(alloc)
     }
 
-    /// Counts the record that ended. Its fields stay, as they are lent until the next call.
+    /// Counts the record that ended: fewer than 100,000 must have been counted before. Its fields stay, as they are
+    /// lent until the next call.
     pub(crate) fn count_record(&mut self)
         requires { self.old.ended < 100000 }
         ensures ended { self.new.ended ≡ self.old.ended + 1 }

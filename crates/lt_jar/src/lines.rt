@@ -9,7 +9,7 @@ ghost use Rattle.lt_jar.specs.Pieces.{SplitsLine};
 use crate::places::first_place;
 use crate::words::are_same;
 
-/// What is before the first line feed and after it, or None if there is none.
+/// What is before the first line feed of a text, and what is after it. None if the text has no line feed.
 #[tactic(auto, using(crate::proofs::CutLemmas::line_front, crate::proofs::CutLemmas::split_at, crate::proofs::CutLemmas::whole_line))]
 pub(crate) fn split_line(text: &[u8]) -> Option<(&[u8], &[u8])>
     ensures { SplitsLine text.now result }
@@ -20,7 +20,8 @@ pub(crate) fn split_line(text: &[u8]) -> Option<(&[u8], &[u8])>
     }
 }
 
-/// What is before the first line feed of a text that is UTF-8 and after it, or None if there is none. Both parts are UTF-8.
+/// What is before the first line feed of a text that is UTF-8, and what is after it. None if the text has no line
+/// feed. Both parts are UTF-8.
 pub(crate) fn split_text(text: &str) -> Option<(&str, &str)>
     ensures { SplitsLine text.now result }
 {
@@ -44,7 +45,7 @@ pub(crate) enum LineKind<'a> {
     Bad,
 }
 
-/// What kind of line this is. The line feed that ends it is no part of it.
+/// What kind of line this is. `line` is without the line feed that ends it.
 pub(crate) fn kind_of(line: &str) -> LineKind<'_>
     ensures { line_in result ≡ lines.line_of line.now }
 {
@@ -158,7 +159,8 @@ fn split_name(text: &str) -> (&str, &str)
 ghost use Rattle.std.specs.Prelude.{drop};
 
 /// What the body begins with, if the line begins a field with just this name, which the field in its place had in the
-/// record before. None of other lines, and of some that begin such a field in another way.
+/// record before. The name must have only letters, digits and hyphens. None for any other line, and for some that
+/// write such a field in another way, for example with a space before the colon.
 pub(crate) fn body_again<'l>(line: &'l str, name: &str) -> Option<&'l str>
     requires { lines.IsNamed name.now }
     ensures { IfSome result (λ body. lines.line_of line.now ≡ lines.Start name.now body.now) }

@@ -9,7 +9,8 @@ use std::simd::prelude::*;
 /// How many bytes of a text are looked at together: a vector of 256 bits.
 pub const TOGETHER: usize = 32;
 
-/// How many of the first 32 bytes of a text come before the first such byte; 32 where it is none of them.
+/// How many of the first 32 bytes of a text come before the first that is `byte`, or 32 if none of them is. The text
+/// must have at least 32.
 #[inline(always)]
 fn count_before(byte: u8, text: &[u8]) -> usize
     requires { 32 ≤ length text.now }
@@ -25,8 +26,8 @@ fn count_before(byte: u8, text: &[u8]) -> usize
     }
 }
 
-/// Where the first such byte is, counted from 0, or None if there is none: 1 for the hyphen of `a-b-c`. It is likely to
-/// be near, so the first 32 bytes are looked at together.
+/// Where a byte is first in a text, counted from 0: the hyphen of `a-b-c` is at 1. None if the text doesn't have it.
+/// It is likely to be near, so the first 32 bytes are looked at together.
 #[inline(always)]
 pub fn first_place(byte: u8, text: &[u8]) -> Option<usize>
     ensures { IsFirstByte (is_byte byte) text.now result }

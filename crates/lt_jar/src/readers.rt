@@ -30,7 +30,8 @@ impl<'a> RecordRef<'a> {
         fields
     }
 
-    /// The name of the field at an index, counted from 0, in the case in which the text has it.
+    /// The name of the field at an index, counted from 0, in the case in which the text has it. There must be a field
+    /// at the index.
     pub fn name(&self, i: usize) -> &'a str
         requires { i < length self.now.fields.now }
         ensures { IfSome (slice_get self.now.fields.now i) (λ field. result.now ≡ field.0) }
@@ -38,8 +39,8 @@ impl<'a> RecordRef<'a> {
         self.fields[i].name()
     }
 
-    /// The body of the field at an index, counted from 0, with its continuation lines joined to it by single
-    /// spaces.
+    /// The body of the field at an index, counted from 0, with its continuation lines joined to it by single spaces.
+    /// There must be a field at the index.
     pub fn body(&self, i: usize) -> &'a str
         requires { i < length self.now.fields.now }
         ensures { IfSome (slice_get self.now.fields.now i) (λ field. result.now ≡ field.1) }
@@ -48,8 +49,8 @@ impl<'a> RecordRef<'a> {
     }
 }
 
-/// Reads a device record by record (RFC 5646, 3.1.1), each into the memory of those before it: what is kept grows to
-/// the most fields, and the longest in each place, that a record had.
+/// Reads a device record by record (RFC 5646, 3.1.1), each into the memory of those before it. What is kept grows to
+/// the most fields that a record had, and to the longest in each place.
 pub struct JarReader<'d, R, S = JarSource> {
     device: &'d mut Device<R>,
     source: S,
@@ -80,13 +81,17 @@ impl<'d, R: Read> JarReader<'d, R, JarSource> {
         })
     }
 
-    /// The next record, which is there until the next call. After the last there is none.
+    /// The next record, which stays until the next call. After the last record the answer is None.
     ///
-    /// A line has at most 65,536 bytes, a text at most 100,000 records. The lowest line at which anything is
-    /// wrong is answered, and there the first of `JarFaultKind`. `Read` comes where a read fails,
-    /// `TooManyTurns` where all 10,000,000 reads were made and the last gave bytes, and `OutOfMemory` where
-    /// memory runs out, each with the line that was being read. After a fault the answer is `Failed`, with that
-    /// fault's line.
+    /// A line has at most 65,536 bytes, a text at most 100,000 records. If anything is wrong, the answer is the
+    /// lowest line at which it is, and of the faults of that line the first in the order of `JarFaultKind`. These
+    /// come with the line that was being read:
+    ///
+    /// - `Read`, if a read fails.
+    /// - `TooManyTurns`, if all 10,000,000 reads were made and the last gave bytes.
+    /// - `OutOfMemory`, if memory runs out.
+    ///
+    /// After a fault the answer is `Failed`, with that fault's line.
     pub fn next<'a>(&'a mut self) -> Result<Option<RecordRef<'a>>, JarFault>
         ensures* ends { sem 𝓛 (LendsAs R.row R.remaining self.entry result) }
     {

@@ -10,8 +10,9 @@ use crate::faults::{JarFault, JarFaultKind};
 use crate::jars::{Jar, Record};
 use std::alloc::Global;
 
-/// Puts the record that has ended at the end of `records`. Refused where memory runs out, with the number of the line
-/// that ended it: the engine counts on to the next line before.
+/// Puts the record that has ended at the end of `records`. The engine's line must have a number of at least 1, and
+/// fewer than 100,000 records must have been counted. Refused where memory runs out, with the number of the line that
+/// ended the record, which is one below the engine's.
 fn push_record(
     alloc: Global,
     engine: &mut Engine,
@@ -33,12 +34,12 @@ fn push_record(
     }
 }
 
-/// Reads a text in the record-jar format (RFC 5646, 3.1.1): its records in order, the header among them. The
-/// texts of two records are parted by a line `%%`.
+/// Reads a text in the record-jar format (RFC 5646, 3.1.1): its records in order, the header among them. The texts of
+/// two records are parted by a line `%%`.
 ///
-/// A line has at most 65,536 bytes, a text at most 100,000 records. The lowest line at which anything is wrong
-/// is answered, and there the first of `JarFaultKind`: a line feed ends a line, and lines are counted from 1.
-/// `OutOfMemory` comes with the line that was being read.
+/// A line has at most 65,536 bytes, a text at most 100,000 records. If anything is wrong, the answer is the lowest
+/// line at which it is, and of the faults of that line the first in the order of `JarFaultKind`. A line feed ends a
+/// line, and lines are counted from 1. `OutOfMemory` comes with the line that was being read.
 pub fn read_jar(alloc: Global, text: &[u8]) -> Result<Jar, JarFault>
     ensures records { IfOk result (HasRecords text.now) }
     ensures within { IfOk result (IsWithin text.now) }

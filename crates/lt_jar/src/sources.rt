@@ -67,8 +67,8 @@ impl JarSource {
         }
     }
 
-    /// Takes the bytes that were read, up to the end of a record, and tells whether one ended: false is that all were
-    /// taken. Refused at the first line with a fault, or where memory runs out.
+    /// Takes the bytes that were read, up to the end of a record, and tells whether one ended. If none did, all bytes
+    /// were taken. Refused at the first line with a fault, or where memory runs out.
     fn take_unread(&mut self, alloc: Global) -> Result<bool, JarFaultKind>
         ensures takes { TakesUnread self.old self.new result }
         ensures same { (self.new.turns ≡ self.old.turns) × (self.new.status ≡ self.old.status) }
@@ -80,7 +80,7 @@ impl JarSource {
         }
     }
 
-    /// Takes the bytes that were read, which are UTF-8, as `take_unread` does.
+    /// Takes the bytes that were read, as `take_unread` does. They must be known to be UTF-8.
     fn take_unread_text(&mut self, alloc: Global) -> Result<bool, JarFaultKind>
         requires { self.old.is_text ≡ true }
         ensures takes { TakesUnread self.old self.new result }
@@ -109,7 +109,8 @@ impl JarSource {
         }
     }
 
-    /// Takes the bytes that were read, which may be no UTF-8, as `take_unread` does.
+    /// Takes the bytes that were read, as `take_unread` does. They must not be known to be UTF-8, and may be
+    /// something else.
     fn take_unread_bytes(&mut self, alloc: Global) -> Result<bool, JarFaultKind>
         requires { self.old.is_text ≡ false }
         ensures takes { TakesUnread self.old self.new result }
@@ -132,8 +133,8 @@ impl JarSource {
         }
     }
 
-    /// Reads once into the buffer, and tells whether bytes came: false is the end of the text. Refused if the read fails or
-    /// is one too many.
+    /// Reads once into the buffer, and tells whether bytes came; if none did, the text has ended. All bytes read
+    /// before must have been handed on. Refused if the read fails or is one too many.
     fn fill<R: Read>(&mut self, device: &mut Device<R>) -> Result<bool, JarFaultKind>
         requires { self.old.start ≡ self.old.end }
         ensures fills { Fills R.remaining self.old self.new device.old device.new result }
@@ -157,8 +158,9 @@ impl JarSource {
         }
     }
 
-    /// Takes the end of the text, and tells whether a record ends there. Refused if the last line has a fault, or where
-    /// memory runs out.
+    /// Takes the end of the text, and tells whether a record ends there. All bytes read must have been handed on.
+    /// Such a record must be the 100,000th at most. The number after that of the line must be within the bound that
+    /// the reads give. Refused if the last line has a fault, or where memory runs out.
     fn finish(&mut self, alloc: Global) -> Result<bool, JarFaultKind>
         requires room { line_of_kept self.old + 1 ≤ 1 + 65536 * self.old.turns }
         requires few { HasRoom self.old }
@@ -173,8 +175,9 @@ impl JarSource {
         Ok(some)
     }
 
-    /// Reads up to the end of a record, and tells whether there is one: false is the end of the text. Refused at the
-    /// first line with a fault, if a read fails or is one too many, or where memory runs out.
+    /// Reads up to the end of a record, and tells whether there is one; if there is none, the text has ended. The
+    /// source must be open. Refused at the first line with a fault, if a read fails or is one too many, or where
+    /// memory runs out.
     fn read_record<R: Read>(
         &mut self,
         alloc: Global,
@@ -195,8 +198,8 @@ impl JarSource {
         }
     }
 
-    /// Moves to the next record, and tells whether there is one: false is the end of the text. After a fault the answer
-    /// is `Failed`, with that fault's line.
+    /// Moves to the next record, and tells whether there is one; if there is none, the text has ended. After a fault
+    /// the answer is `Failed`, with that fault's line.
     pub(crate) fn advance<R: Read>(
         &mut self,
         alloc: Global,
@@ -232,7 +235,7 @@ impl JarSource {
     }
 }
 
-/// The bytes of a buffer from `start` up to `end`.
+/// The bytes of a buffer from `start` up to `end`. Both must be places in the buffer, in this order.
 fn between(buffer: &[u8; PIECE], start: usize, end: usize) -> &[u8]
     requires { (start ≤ end) × (end ≤ 8192) }
     ensures bytes { result.now ≡ take (end - start) (drop start buffer.now) }

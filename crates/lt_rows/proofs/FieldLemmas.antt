@@ -36,8 +36,8 @@ module _ (d : ℕ) where
       rw (ne_eqb byte 34 first) (plain_after byte (All-head (λ (b : ℕ). b ≢ d) byte field free) (All-head (λ (b : ℕ). b ≢ 10) byte (field ++ more) line)) in
       ap is_quoted (ap (λ p. place_at d p field) next ∙ plain_on field more (All-tail (λ (b : ℕ). b ≢ d) byte field free) (All-tail (λ (b : ℕ). b ≢ 10) byte (field ++ more) line))
 
-  -- where no byte `stop` of a rest is outside of quotes, none is in text within quotes, the quote (34) that closes it,
-  -- and that rest, from within the quotes on
+  -- Text within quotes is followed by the quote (34) that closes it, and by a rest. If no byte `stop` of the rest is
+  -- outside of quotes, none of the whole is.
   free_quoted : (stop : ℕ) (body rest : List ℕ) → IsFreeOf 34 body → IsFreeOutside d stop places.Fresh rest → IsFreeOutside d stop places.Quoted (body ++ 34 ∷ rest)
   free_quoted stop [] rest free more = (λ _. refl, more)
   free_quoted stop (byte ∷ body) rest free more = (
@@ -71,8 +71,8 @@ line_end d row (Some i) first line p = (
   p.2,
 )
 
--- where a field ends, of a rest without line feeds that is the first `count` bytes of a text and begins with no quote
--- (34), as `quoted` tells: at the first delimiter
+-- Where the first field ends of a rest that has no line feeds and begins with no quote (34), as `quoted` tells: at the
+-- first delimiter. The rest is the first `count` bytes of a text.
 pub line_end_of : (d : ℕ) (text : List ℕ) (count : ℕ) (quoted : Bool) (end : Option ℕ) → count ≤ length text → IsTrue quoted ↔ ((0 < count) × (get_or text 0 0 ≡ 34)) → quoted ≡ false
     → IsFreeOf 10 (take count text) → IsPlaceOf d (take count text) end → EndsField (separators.Delimiter d) (take count text) end
 line_end_of d text count quoted end within tells is line p = line_end d (take count text) end (first count tells) line p

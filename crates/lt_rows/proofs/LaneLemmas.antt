@@ -88,7 +88,7 @@ module _ (byte start : ℕ) (row : List ℕ) (bits : ℕ) (are : AreBitsFrom byt
         let here : get_or left (end - start) 0 ≡ byte = get_or-drop start row (end - start) 0 ∙ ap (λ n. get_or row n 0) there ∙ lowest_there.2 in
         (lowest_there.0, (inside, free_to, split_there byte left (end - start) inside here))
 
-    -- the bits without that one, `rest`, tell where the byte is behind that place
+    -- the bits without the lowest, `rest`, tell where the byte is behind the place of the lowest
     pub others_set : (rest : ℕ) → bit_at rest end ≡ 0 → ((k : ℕ) → k < 64 → k ≢ end → bit_at rest k ≡ bit_at bits k)
         → ((k : ℕ) → bit_at rest k ≡ 1 → bit_at bits k ≡ 1) → AreBitsFrom byte (end + 1) row rest
     others_set rest gone kept more = record {
@@ -152,12 +152,14 @@ module _ (byte at : ℕ) (text : List ℕ) (inside : at ≤ length text) where
   abbrev is_it : ℕ → Bool
   is_it other = other == byte
 
-  -- `count` of them are in those, and `more` in the rest: together they are all
+  -- the byte is `count` times in the counted bytes and `more` times in the rest: together that is how often it is in
+  -- the text
   pub count_rest : (count more : ℕ) → count ≡ count_by is_it (take at text) → more ≡ count_by is_it (take (length text - at) (drop at text)) → count + more ≡ count_by is_it text
   count_rest count more front rest =
       omega (arith, front, rest ∙ ap (count_by is_it) (take_rest text at), sum_by-append (λ other. cond (is_it other) 1 0) (take at text) (drop at text), ap (count_by is_it) (take-append-drop at text))
 
-  -- `count` of them are in those, and `more` in the next 64 bytes: together they are all in the first `at` + 64
+  -- the byte is `count` times in the counted bytes and `more` times in the next 64: together that is how often it is in
+  -- the first `at` + 64
   pub count_block : (count more : ℕ) → 64 ≤ length text - at → count ≡ count_by is_it (take at text)
       → more ≡ count_by is_it (take 64 (take (length text - at) (drop at text))) → (more ≤ 64) × (count + more ≡ count_by is_it (take (at + 64) text))
   count_block count more room front block =

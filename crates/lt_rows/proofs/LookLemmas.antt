@@ -22,8 +22,8 @@ pub closed_row : (S : Separator) (row : List ℕ) → IsFreeOf 34 row → ends_q
 closed_row separators.Tab row free = refl
 closed_row (separators.Delimiter d) row free = closed_of_free d places.Fresh row refl free
 
--- the part of a row from `start` on, where a field begins, ends outside of quotes if it has none (34); the row is the
--- first `count` bytes of a text
+-- A row without quotes (34) from `start` on, where a field begins, ends outside of quotes. The row is the first `count`
+-- bytes of a text.
 pub closed_rest : (d start count : ℕ) (text : List ℕ) → start ≤ count → IsFreeOf 34 (take (count - start) (take (length text - start) (drop start text)))
     → is_quoted (place_at d places.Fresh (drop start (take count text))) ≡ false
 closed_rest d start count text le free = closed_of_free d places.Fresh (drop start (take count text)) refl (subst (IsFreeOf 34) (left_is text count start le) free)
@@ -62,7 +62,7 @@ cut_in_three row a b c start end split first last =
     let whole : end ≡ length (a ++ b) = omega (arith, first, last, length-append a b) in
     (front, rw (long, rest) (take-append_seam b c), rw (whole, through) (drop-append_seam (a ++ b) c))
 
--- where the text of a field is, `place`, by the places `start` and `end` of the field and the length of its quotes
+-- `place` is where the text of a field is, by the places `start` and `end` of the field and the length of its quotes
 pub text_there : (S : Separator) (before : ℕ) (row : List ℕ) (start end : ℕ) (quotes text : List ℕ) (place : TextAt) → IsFieldAt S before row start end
     → IsTextIn S (take (end - start) (drop start row)) quotes text → place.start ≡ start + length quotes → place.end ≡ place.start + length text → HasTextAt S before row place
 text_there S before row start end quotes text place f is first last =

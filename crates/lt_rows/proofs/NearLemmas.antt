@@ -15,7 +15,7 @@ split_there byte text i below is =
 
 -- lemmas on the first `count` bytes of a text, searched in `near`, a front that has them all and may have more
 module _ (count : ℕ) (text near : List ℕ) (is : IsNear count text near) where
-  -- its first `count` bytes are those of the text
+  -- the first `count` bytes of `near` are those of the text
   front_is : take count near ≡ take count text
   front_is = ap (take count) is.3 ∙ take-take count is.0 text is.1
 
@@ -27,7 +27,7 @@ module _ (count : ℕ) (text near : List ℕ) (is : IsNear count text near) wher
   pub row_long : length (take count text) ≡ count
   row_long = length-take-le count text (omega (arith, is.1, is.2))
 
-  -- each of them is in `near`, at the same place
+  -- each of the first `count` bytes is in `near`, at the same place
   pub byte_is : (i : ℕ) → i < count → get_or (take count text) i 0 ≡ get_or near i 0
   byte_is i below = ap (λ l. get_or l i 0) (sym front_is) ∙ get_or-take count near i 0 below
 
@@ -39,7 +39,7 @@ module _ (count : ℕ) (text near : List ℕ) (is : IsNear count text near) wher
       (λ k inside e. none k (omega arith) (omega (arith, inside, short))
       (eq-eqb (get_or near k 0) byte (sym (byte_is k (omega (arith, inside, short, le))) ∙ sym (get_or-take stop (take count text) k 0 (omega (arith, inside, short))) ∙ e)))
 
-  -- where that place is not among them, it is nowhere among them
+  -- where the place `stop` is not among the first `count`, the byte is nowhere among them
   none_at_all : (byte stop : ℕ) → count ≤ stop → Nowhere (Passes (is_byte byte) near) 0 stop → IsFreeOf byte (take count text)
   none_at_all byte stop le none =
       subst (IsFreeOf byte) (take-take count count text (omega arith)) (none_to byte count (omega arith) (λ k low high. none k low (omega (arith, high, le))))

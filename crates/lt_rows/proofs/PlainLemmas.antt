@@ -67,7 +67,7 @@ module _ (byte count start : ℕ) (text near : List ℕ) (is : IsNear count text
       (λ k inside e. none (start + k) (omega arith) (omega (arith, inside, short))
       (eq-eqb (get_or near (start + k) 0) byte (sym (byte_there k (omega (arith, inside, short, below))) ∙ sym (get_or-take (stop - start) left k 0 (omega (arith, inside, short))) ∙ e)))
 
-  -- where it is not up to the end of the row, all that is left is free of it
+  -- where the byte is nowhere up to the end of the row, all that is left is free of it
   none_left : (stop : ℕ) → count ≤ stop → Nowhere has start stop → IsFreeOf byte left
   none_left stop far none =
       let whole : take (count - start) left ≡ left = ap (λ n. take (n - start) left) (sym (row_long count text near is)) ∙ take_rest row start in
@@ -97,7 +97,7 @@ module _ (byte count start : ℕ) (text near : List ℕ) (is : IsNear count text
   pub next_none : places_from (is_byte byte) near start (length near - start) ≡ [] → IsNextPlace byte start row None
   next_none e = none_left (start + (length near - start)) (omega (arith, is.1, is.2, ap length is.3, length-take-le is.0 text is.2)) (none_from byte near start (length near - start) e)
 
--- the list of places without its first is that from the place behind it on
+-- the list of a byte's places without the first is the list of its places behind the first
 pub places_on : (byte start end : ℕ) (near rest : List ℕ) → places_from (is_byte byte) near start (length near - start) ≡ end ∷ rest
     → rest ≡ places_from (is_byte byte) near (end + 1) (length near - (end + 1))
 places_on byte start end near rest e =

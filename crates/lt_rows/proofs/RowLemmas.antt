@@ -24,7 +24,7 @@ module _ (delimiter : ℕ) where
   place_after_feed places.Plain closed = refl
   place_after_feed places.Quoted closed = let bad : true ≡ false = closed in cc
 
-  -- the place after a byte that is outside of quotes and no quote is outside of quotes
+  -- behind a byte that is outside of quotes and is no quote, the place is outside of quotes too
   pub outside_closed : (byte : ℕ) → is_quoted (place_outside delimiter byte) ≡ false
   outside_closed byte = elim ((byte == 10) || (byte == delimiter)) as (λ t. is_quoted (if t then places.Fresh else places.Plain) ≡ false) [ true ↦ refl | false ↦ refl ]
 

@@ -1,4 +1,4 @@
--- A text that is looked through from one such byte to the next.
+-- A text that is looked through from one place of a byte to the next.
 use Rattle.std.proofs.Common.{◌≡◌, ◌≤◌, ◌+◌, ◌-◌, ◌++◌, [], ◌∷◌, ◌∙◌, ℕ, true, false, List, length, sym, ap, arith, subst, take, drop, append_assoc, length-append, take-append-drop}
 use Rattle.std.proofs.Math.Seq.{take-append_seam}
 use Rattle.std.proofs.lemmas.List.{length-take-le, take_rest}

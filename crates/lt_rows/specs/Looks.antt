@@ -13,7 +13,7 @@ use Rattle.lt_rows.specs.declared.looks.Lacks.{Lacks}
 use Rattle.lt_rows.specs.declared.looks.Look.{Look}
 use Rattle.lt_rows.specs.declared.looks.TextAt.{TextAt}
 
--- whether a row ends within quotes; one of TSV never does, as it has none
+-- whether a row ends within quotes; a row of TSV never does, as TSV has no quotes
 abbrev pub ends_quoted : Separator → List ℕ → Bool
 ends_quoted separators.Tab row = false
 ends_quoted (separators.Delimiter delimiter) row = is_quoted (place_at delimiter places.Fresh row)
@@ -56,7 +56,7 @@ IsFound S before row founds.Return = HasReturn S row
 IsFound S before row founds.Fewer = (HasReturn S row → ⊥) × HasFewer S before row
 IsFound S before row (founds.Text place) = (HasReturn S row → ⊥) × HasTextAt S before row place
 
--- what a look at a row for the field after `before` others found is true of it
+-- what a look at a row, for the field after `before` others, found is true of the row
 pub record IsLookAt (S : Separator) (before : ℕ) (row : List ℕ) (look : Look) : Type 0 where
   pub ends : look.is_open ≡ ends_quoted S row
   pub found : IsFound S before row look.found

@@ -43,8 +43,8 @@ pub record Skips (S : Separator) (count : ℕ) (row rest : List ℕ) : Type 0 wh
   pub number : length before ≡ count
   pub row_is : row ≡ separated S before ++ rest
 
--- `field` is the field of a row that has `count` fields before it; `front` is what is before it in the row, with the
--- separators, and `after` what is behind it
+-- `field` is the field of a row that has `count` fields before it. `front` is what is before it in the row, with the
+-- separators, and `after` is what is behind it.
 pub record HasField (S : Separator) (count : ℕ) (row front field after : List ℕ) : Type 0 where
   pub before : List (List ℕ)
   pub each : AllByRecursion (IsEnded S) before
@@ -77,12 +77,12 @@ abbrev pub AreQuotes : Separator → List ℕ → List ℕ → Type 0
 AreQuotes separators.Tab field quotes = quotes ≡ []
 AreQuotes (separators.Delimiter delimiter) field quotes = (quotes ≡ 34 ∷ []) ⊎ ((quotes ≡ []) × (IsQuoted field → ⊥))
 
--- the text of a field, and `quotes`, a quote or nothing, which is at both of its ends
+-- the text of a field, and what is at both of its ends: `quotes`, which is a quote or nothing
 pub record IsTextIn (S : Separator) (field quotes text : List ℕ) : Type 0 where
   pub field_is : field ≡ quotes ++ text ++ quotes
   pub are_quotes : AreQuotes S field quotes
 
--- where the first separator of the rest of a row is, which ends a field; None where there is none
+-- where the first separator that ends a field is in the rest of a row; None where no separator ends a field
 abbrev pub EndsField : Separator → List ℕ → Option ℕ → Type 0
 EndsField S rest end = MatchOption end (IsRowField S rest)
     (λ i. (i < length rest) × IsEnded S (take i rest) × (rest ≡ take i rest ++ separator S ∷ drop (i + 1) rest))

@@ -7,12 +7,12 @@ use Rattle.std.specs.List.{All}
 abbrev pub IsFreeOf : ℕ → List ℕ → Type 0
 IsFreeOf byte bytes = All (λ other. other ≢ byte) bytes
 
--- what is before the first place of the byte, and what is after it; None where there is none
+-- what is before the first place of the byte, and what is after it; None where the byte is not there
 abbrev pub SplitsAt : ℕ → List ℕ → Option (Bor (List ℕ) × Bor (List ℕ)) → Type 0
 SplitsAt byte bytes parts = MatchOption parts (IsFreeOf byte bytes)
     (λ p. IsFreeOf byte p.0.now × (bytes ≡ p.0.now ++ byte ∷ p.1.now))
 
--- the first place of the byte, counted from 0; None where there is none
+-- the first place of the byte, counted from 0; None where the byte is not there
 abbrev pub IsPlaceOf : ℕ → List ℕ → Option ℕ → Type 0
 IsPlaceOf byte bytes place = MatchOption place (IsFreeOf byte bytes)
     (λ i. (i < length bytes) × IsFreeOf byte (take i bytes) × (bytes ≡ take i bytes ++ byte ∷ drop (i + 1) bytes))

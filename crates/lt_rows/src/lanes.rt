@@ -10,7 +10,7 @@ use std::simd::prelude::*;
 /// How many bytes are looked at together: a vector of 512 bits, for each byte of which a `u64` has a bit.
 pub(crate) const LANES: usize = 64;
 
-/// Where a byte is among the first 64 of a text: bit k is set where it is at place k.
+/// Where a byte is among the first 64 of a text, which must have so many: bit k is set where it is at place k.
 #[inline(always)]
 fn bits_of(byte: u8, text: &[u8]) -> u64
     requires { 64 ≤ length text.now }
@@ -21,7 +21,7 @@ fn bits_of(byte: u8, text: &[u8]) -> u64
         .to_bitmask()
 }
 
-/// How many of the first 64 bytes of a text are equal to `byte`.
+/// How many of the first 64 bytes of a text, which must have so many, are equal to `byte`.
 #[inline(always)]
 fn count_in_lanes(byte: u8, text: &[u8]) -> usize
     requires { 64 ≤ length text.now }
@@ -33,7 +33,7 @@ fn count_in_lanes(byte: u8, text: &[u8]) -> usize
         .count_ones() as usize
 }
 
-/// The lowest `count` of the bits, with the others cleared.
+/// The lowest `count` of the bits, with the others cleared. `count` must be less than 64.
 #[inline(always)]
 fn bits_below(bits: u64, count: usize) -> u64
     requires { count < 64 }
@@ -43,6 +43,7 @@ fn bits_below(bits: u64, count: usize) -> u64
 }
 
 /// Where a byte is in a row: bit k is set where it is at place k. The row is the first `count` bytes of `text`.
+/// `count` must be less than 64, and the text must have at least 64 bytes.
 #[inline(always)]
 pub(crate) fn bits_in(byte: u8, text: &[u8], count: usize) -> u64
     requires { (count < 64) × (64 ≤ length text.now) }

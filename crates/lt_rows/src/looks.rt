@@ -60,7 +60,8 @@ fn is_free_of(byte: u8, text: &[u8]) -> bool
     }
 }
 
-/// Whether a text doesn't have this byte. Its first `front` bytes are known to be free of it, and are not looked at.
+/// Whether a text doesn't have this byte. Its first `front` bytes must be known to be free of it, and are not looked
+/// at.
 fn is_free_from(byte: u8, text: &[u8], front: usize) -> bool
     requires { (front ≤ length text.now) × IsFreeOf byte (take front text.now) }
     ensures { IsTrue result ↔ IsFreeOf byte text.now }
@@ -79,8 +80,9 @@ pub fn lacks_of(text: &[u8]) -> Lacks
     }
 }
 
-/// Whether the first `count` bytes of a text are a record of CSV without line feeds and carriage returns. If `lacks` says
-/// that there are no carriage returns, there are no line feeds either, and nothing is looked at.
+/// Whether the first `count` bytes of a text, which must have so many, are a record of CSV without line feeds and
+/// carriage returns. What `lacks` says must be true of them. If it says that they lack carriage returns, they must
+/// have no line feeds either, and are not looked at.
 #[inline(always)]
 fn is_plain_line(separator: Separator, lacks: Lacks, text: &[u8], count: usize) -> bool
     requires count { count ≤ length text.now }
@@ -93,8 +95,8 @@ fn is_plain_line(separator: Separator, lacks: Lacks, text: &[u8], count: usize) 
     }
 }
 
-/// Whether each separator in a row parts fields, as far as that is known: always of tabs, and of a delimiter if the row has
-/// no line feeds by `is_line` and no quotes by `lacks`.
+/// Whether each separator in a row parts fields, as far as that is known. Each tab does. Each delimiter does if the
+/// row has no line feeds by `is_line` and no quotes by `lacks`.
 fn is_plain(separator: Separator, is_line: bool, lacks: Lacks) -> bool
     ensures { (row : List ℕ) → LacksIn row lacks → (IsTrue is_line → IsFreeOf 10 row) → IsTrue result → IsPlain separator row }
 {
@@ -104,7 +106,8 @@ fn is_plain(separator: Separator, is_line: bool, lacks: Lacks) -> bool
     }
 }
 
-/// Whether the first `count` bytes of a text end within quotes. A field begins at `start`, before which no quote is open.
+/// Whether the first `count` bytes of a text end within quotes, if they are read from `start` on, as from where a
+/// field begins. The text must have so many bytes, and `start` must be at most `count`.
 #[tactic(auto, using(crate::proofs::LookLemmas::closed_rest, crate::proofs::LookLemmas::rest_slice))]
 #[inline(always)]
 fn is_open_from(delimiter: u8, text: &[u8], count: usize, start: usize) -> bool
@@ -117,7 +120,8 @@ fn is_open_from(delimiter: u8, text: &[u8], count: usize, start: usize) -> bool
     }
 }
 
-/// Whether a row ends within quotes. The row is the first `count` bytes of `text`, and one of its fields begins at `start`.
+/// Whether a row ends within quotes. The row is the first `count` bytes of `text`, and one of its fields begins at
+/// `start`, which must be at most `count`. What `lacks` says must be true of the row.
 #[tactic(auto, using(crate::proofs::LookLemmas::closed_row))]
 #[inline(always)]
 fn is_open(separator: Separator, lacks: Lacks, text: &[u8], count: usize, start: usize) -> bool
@@ -141,7 +145,8 @@ fn is_open(separator: Separator, lacks: Lacks, text: &[u8], count: usize, start:
     }
 }
 
-/// Where the text is of a field that goes from `start` to `end` of a row: between its quotes if it has them.
+/// Where the text of a field is: between its quotes, if it has them. The field goes from `start` to `end` of a row,
+/// which must be places in it, in this order.
 #[inline(always)]
 fn text_at(separator: Separator, row: &[u8], start: usize, end: usize) -> TextAt
     requires { (start ≤ end) × (end ≤ length row.now) }
@@ -155,8 +160,9 @@ fn text_at(separator: Separator, row: &[u8], start: usize, end: usize) -> TextAt
     }
 }
 
-/// Looks in a row for the field that comes after `before` others, and whether the row ends within quotes. The row is the
-/// first `count` bytes of a text; one that lacks carriage returns by `lacks` has no line feeds either.
+/// Looks in a row for the field that comes after `before` others, and whether the row ends within quotes. The row is
+/// the first `count` bytes of a text, which must have so many. What `lacks` says must be true of it. If it says that
+/// the row lacks carriage returns, the row must have no line feeds either.
 #[inline(always)]
 pub fn look_at(separator: Separator, lacks: Lacks, text: &[u8], count: usize, before: usize) -> Look
     requires count { count ≤ length text.now }

@@ -11,8 +11,8 @@ use crate::short_rows::short_field_at;
 use lt_jar::TOGETHER;
 use memchr::{Memchr, memchr_iter};
 
-/// The first `count` bytes of a text, and up to 32 after them, so that a search that looks at 32 bytes together can do
-/// so up to the last of them.
+/// The first `count` bytes of a text, which must have so many, and up to 32 bytes after them. So a search that looks
+/// at 32 bytes together can do so up to the last of the `count`.
 #[inline(always)]
 fn with_more(text: &[u8], count: usize) -> &[u8]
     requires { count ≤ length text.now }
@@ -21,8 +21,7 @@ fn with_more(text: &[u8], count: usize) -> &[u8]
     &text[..text.len().min(count.saturating_add(TOGETHER))]
 }
 
-/// The next place that `places`, the places of a byte, gives; or None if that is not one of the first `count`, or there
-/// is no more.
+/// The next of the places of a byte. None if it is not below `count`, or no place is left.
 #[inline(always)]
 fn next_within(places: &mut Memchr<'_>, count: usize) -> Option<usize>
     ensures within { IfSome result (λ end. end < count) }
@@ -37,8 +36,8 @@ fn next_within(places: &mut Memchr<'_>, count: usize) -> Option<usize>
     }
 }
 
-/// Where the field that comes after `before` others begins and ends, or None if there are fewer, of a row in which each
-/// separator parts fields. The row is the first `count` bytes of `text`.
+/// Where the field of a row that comes after `before` others begins and ends. None if the row has no such field. The
+/// row is the first `count` bytes of `text`, and each separator in it must part fields.
 #[inline(always)]
 pub(crate) fn plain_field_at(
     separator: Separator,

@@ -59,7 +59,8 @@ fn outside(delimiter: u8, byte: u8) -> Place
     }
 }
 
-/// The place after a text of CSV that begins at `place`. `delimiter` is what parts fields. It goes from quote to quote.
+/// The place after a text of CSV that begins at `place`. `delimiter` is what parts fields. The text is read from
+/// quote to quote.
 #[tactic(auto, using(crate::proofs::RowLemmas::place_past_quote))]
 pub fn after_text(delimiter: u8, place: Place, text: &[u8]) -> Place
     ensures { result ≡ place_at delimiter place text.now }
@@ -73,8 +74,8 @@ pub fn after_text(delimiter: u8, place: Place, text: &[u8]) -> Place
     now.after_front(delimiter, rest)
 }
 
-/// What is before the first `stop` outside of quotes and what is after it, or None if there is none. `delimiter` is what
-/// parts fields. It goes from one `stop` to the next.
+/// What is before the first `stop` outside of quotes, and what is after it. None if no `stop` is outside of quotes.
+/// `delimiter` is what parts fields. The text is read from one `stop` to the next.
 pub(crate) fn split_outside(delimiter: u8, stop: u8, text: &[u8]) -> Option<(&[u8], &[u8])>
     ensures { SplitsOutside delimiter stop text.now result }
 {

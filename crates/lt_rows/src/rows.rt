@@ -52,7 +52,7 @@ impl Separator {
     }
 }
 
-/// Whether a quote is the first of the first `count` bytes of a text.
+/// Whether a quote is the first of the first `count` bytes of a text, which must have so many.
 #[inline(always)]
 fn begins_quoted(text: &[u8], count: usize) -> bool
     requires { count ≤ length text.now }
@@ -61,7 +61,7 @@ fn begins_quoted(text: &[u8], count: usize) -> bool
     count > 0 && text[0] == b'"'
 }
 
-/// Where the first delimiter outside of quotes is in the rest of a row, or None if there is none.
+/// Where the first delimiter outside of quotes is in the rest of a row. None if no delimiter is outside of quotes.
 fn end_outside(delimiter: u8, rest: &[u8]) -> Option<usize>
     ensures { EndsField (separators.Delimiter delimiter) rest.now result }
 {
@@ -71,8 +71,9 @@ fn end_outside(delimiter: u8, rest: &[u8]) -> Option<usize>
     }
 }
 
-/// Where the first delimiter outside of quotes is among the first `count` bytes of a text, or None if there is none. The
-/// text begins with a quote: it is likely that no quote is doubled in its field, so the next quote is looked for first.
+/// Where the first delimiter outside of quotes is among the first `count` bytes of a text. None if no delimiter is
+/// outside of quotes. The text must have so many bytes, at least one, and begin with a quote. It is likely that no
+/// quote is doubled in its field, so the next quote is looked for first.
 #[inline(always)]
 fn quoted_end(delimiter: u8, text: &[u8], count: usize) -> Option<usize>
     requires count { (0 < count) × (count ≤ length text.now) }

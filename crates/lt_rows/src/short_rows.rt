@@ -6,8 +6,9 @@ ghost use Rattle.lt_rows.specs.Rows.{HasFewer, IsFieldAt};
 use crate::lanes::{bits_in, take_lowest};
 use crate::rows::Separator;
 
-/// Where the field that comes after `before` others begins and ends, or None if there are fewer, of a row in which each
-/// separator parts fields. The row is the first `count` bytes of `text`, of which 64 are looked at together.
+/// Where the field of a row that comes after `before` others begins and ends. None if the row has no such field. The
+/// row is the first `count` bytes of `text`, and each separator in it must part fields. `count` must be less than 64,
+/// and the text must have at least 64 bytes, which are looked at together.
 #[inline(always)]
 pub(crate) fn short_field_at(
     separator: Separator,

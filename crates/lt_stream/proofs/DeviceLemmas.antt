@@ -15,8 +15,8 @@ use Rattle.lt_stream.specs.declared.faults.ToolFault.TheVariants as faults
 pub failed_from : {T : Type 0} (start before after : Device T) → failures_of before ≡ failures_of start → HasFailed before after → HasFailed start after
 failed_from start before after same failed = subst (λ (n : ℕ). (n < failures_of after) ⊎ (failures_of after ≡ greatest_count)) same failed
 
--- the first `at` bytes of a text were appended, from a to b, and n bytes more, from b to c: from a to c the first `at`
--- + n are
+-- From a to b the first `at` bytes of a text were appended, and from b to c the next n. So from a to c the first `at` +
+-- n bytes were.
 pub appends_more : (a b c : Option (List ℕ)) (text : List ℕ) (at n : ℕ) → Appends a b (take at text)
     → Appends b c (take n (take (length text - at) (drop at text))) → Appends a c (take (at + n) text)
 appends_more a b c text at n first second =

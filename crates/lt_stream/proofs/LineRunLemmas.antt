@@ -13,7 +13,7 @@ use Rattle.lt_stream.specs.declared.faults.ToolFault.TheVariants as faults
 use Rattle.lt_stream.specs.declared.lines.Lined.{Lined}
 use Rattle.lt_stream.proofs.LinedLemmas.{during_fails, during_feed, during_lacks, during_part, during_written, few_lines}
 
--- a run whose lines are answered may answer one more: they are no more than the bytes that were read
+-- a run may answer one line more: the lines that it answered are no more than the bytes that were read
 pub has_line : {A W : Type 0} (Q : A → Answered A) (first : A) (longest : ℕ) (contents : W → Option (List ℕ)) (start now : Device W) (bytes : List ℕ) (state : Lined A) → IsDuring (Q first) longest contents start now bytes state
     → length bytes + 1 < 2 ^ 64 → HasLine Q state.answers
 has_line Q first longest contents start now bytes state t few = record {
@@ -24,9 +24,9 @@ has_line Q first longest contents start now bytes state t few = record {
   few = omega (arith, few, few_lines t.lines, ap length t.cut, length-append (whole_lines t.lines) t.last);
 }
 
--- So far the lines of a front of the piece are answered, and `rest` of it is left: what was true of a run before the
--- piece, with any bytes, is true of it with the front added. `before` and `old` are the output and the state before
--- the piece, `now` and `state` those at this turn.
+-- So far the lines of a front of the piece are answered, and `rest` of it is left. What was true of a run before the
+-- piece, whatever it had read, is true of it with the front read too. `before` and `old` are the output and the state
+-- before the piece, `now` and `state` those at this turn.
 pub record PieceTurn {A W : Type 0} (Q : A → Answered A) (longest : ℕ) (contents : W → Option (List ℕ)) (piece rest : List ℕ) (before now : Device W) (old state : Lined A) : Type 0 where
   pub front : List ℕ
   pub split : piece ≡ front ++ rest
@@ -105,9 +105,9 @@ between Q longest contents start now text state t =
       owed = record { lines = d.lines; last = d.last; cut = d.cut; each_one = d.each_one; last_one = d.last_one; answered = answered };
     }
 
--- how a run ends that read these bytes, of which `text` are its lines; names with ' are of the devices after it
+-- How a run ends. It read these bytes, of which `text` are the lines. Names with ' are of the devices after it.
 module _ {A I W : Type 0} (Q : Answered A) (remaining : I → Option (List ℕ)) (contents : W → Option (List ℕ)) (input input' : Device I) (output output' : Device W) (state : Lined A) (reads : ℕ) (read text : List ℕ) where
-  -- the ways in which it ends
+  -- the ways in which a run ends
   abbrev pub Ways : Result (Unit {0}) ToolFault → Type 0
   Ways r =
       IsFinished (λ _ end. Finishes Q contents output output' text state end) remaining input input' read r
@@ -116,7 +116,7 @@ module _ {A I W : Type 0} (Q : Answered A) (remaining : I → Option (List ℕ))
       ⊎ (IsStoppedByTurns (λ _. IsBetween Q contents output output' text state.answers) input input' reads read r
       ⊎ IsWithoutMemory (λ _. IsBetween Q contents output output' text state.answers) input input' read r)))
 
-  -- what is said of what it wrote
+  -- what is said of what a run wrote
   pub record Ended (r : Result (Unit {0}) ToolFault) : Type 0 where
     pub written : List ℕ
     pub appends : Appends (contents (inner_of output)) (contents (inner_of output')) written
@@ -155,7 +155,7 @@ module _ {A I W : Type 0} (Q : Answered A) (remaining : I → Option (List ℕ))
     ended_memory : IsWithoutMemory (λ _. IsBetween Q contents output output' text state.answers) input input' read r → Ended r
     ended_memory s = ended_between s.taken (rw s.fault tt) (λ lt. absurd (omega (arith, lt, s.same)))
 
-  -- each way in which it ends says that
+  -- in whichever way a run ends, this is true of what it wrote
   pub ended : (r : Result (Unit {0}) ToolFault) → Ways r → Ended r
   ended (Ok u) (inl f) =
       let a = f.finished in

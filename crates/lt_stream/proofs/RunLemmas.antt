@@ -12,8 +12,8 @@ use Rattle.lt_stream.specs.declared.faults.ToolFault.TheVariants as faults
 use Rattle.lt_stream.proofs.DeviceLemmas.{failed_from}
 use Rattle.lt_stream.proofs.ReadLemmas.{ReadsPiece, read_more}
 
--- so far `turn` reads gave these bytes, and T is true of what took them; the run begins with the output `start` and
--- goes on with `now`, and no read has failed
+-- So far `turn` reads gave these bytes, no read has failed, and T is true of what took the bytes. The run begins with
+-- the output `start` and goes on with `now`.
 pub record RunTurn {I O P : Type 0} (T : RunFact O P) (remaining : I → Option (List ℕ)) (input input' : Device I)
     (start now : O) (state : P) (turn : ℕ) : Type 0 where
   pub read : List ℕ

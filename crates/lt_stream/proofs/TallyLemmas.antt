@@ -24,7 +24,7 @@ no_tallies = record { each = tt; once = tt; all = tt; order = refl }
 differs : (a b : List ℕ) → bytes_eq a b ≡ false → bytes_eq b a ≡ false
 differs a b other = nat_list_eq_equiv.symm b a ∙ other
 
--- how many lines a fault refused, of the others and one line more
+-- how many of these lines and one line more a fault refused
 count_more : (fault : List ℕ) (lines : List Refused) (line : Refused) → count_by (is_by fault) (lines ++ line ∷ []) ≡ count_by (is_by fault) lines + cond (is_by fault line) 1 0
 count_more fault lines line =
     sum_by-append (λ (l : Refused). cond (is_by fault l) 1 0) lines (line ∷ [])
@@ -62,8 +62,8 @@ grows lines line tally count same more h = record {
   text = h.text;
 }
 
--- of the tallies, the one at the place of the fault of one line more is right with one more counted, and the others as
--- they are; d is any tally, given for places behind the last
+-- With one line more the tally at the place of its fault is right with one more counted, and the other tallies are
+-- right as they are. d is any tally, given for places behind the last.
 each_grows : (lines : List Refused) (line : Refused) (tallies : List Tally) (place count : ℕ) (d : Tally) → place < length tallies
     → bytes_eq line.fault (get_or tallies place d).fault.items ≡ true → ((k : ℕ) → k < place → bytes_eq line.fault (get_or tallies k d).fault.items ≡ false)
     → IsDistinct bytes_eq (faults_of tallies) → count ≡ (get_or tallies place d).lines + 1

@@ -1,4 +1,4 @@
--- What a run over a text takes that may begin with a byte order mark.
+-- What a run takes of a text that may begin with a byte order mark.
 use Rattle.std.proofs.Common.{◌≡◌, ◌≤◌, ◌<◌, ◌+◌, ◌^◌, ◌++◌, ◌∙◌, inl, inr, ℕ, List, [], true, false, Option, Some, None, Result, Ok, Err, length, sym, ap, refl, subst, arith, append_assoc, append-nil, length-append}
 use Rattle.std.proofs.lemmas.List.{nil_from_length}
 use Rattle.lt_jar.specs.Lines.{IsOneLine, lines_of, whole_lines}
@@ -158,8 +158,8 @@ module _ {A W : Type 0} (Q : A → Answered A) (longest : ℕ) (contents : W →
         inl (record { mark = s.0; text = s.1; split = s.2; narrow = λ _. lacks; cut = rw lacks (during_lacks Q first.lined.answers longest contents start now [] s.1 old.lined w.taken.during) })
   ]
 
-  -- the first bytes with a piece, `bytes`, are known to be a mark or none, and the text after that is taken; `mid` is the
-  -- state in which they are kept
+  -- The first bytes with a piece, `bytes`, can't become a mark any more, and what follows the mark, or all of them, is
+  -- taken as text. `mid` is the state in which they are kept.
   pub waiting_begins : (piece : List ℕ) (before after : Device W) (old mid new : Text A) (r : Result (Option (Unit {0})) ToolFault) → old.is_begun ≡ false → mid.front.items ≡ old.front.items ++ piece → mid.lined ≡ old.lined
       → (MayBeMark (old.front.items ++ piece) → ⊥) → (IsWide (old.front.items ++ piece) → ⊥) → Begins Q longest contents mid new before after r → TextTakes piece before after old new r
   waiting_begins piece before after old mid new (Ok None) waits added same none narrow b = λ first start read t. elim t [

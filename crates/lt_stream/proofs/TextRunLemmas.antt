@@ -1,4 +1,4 @@
--- How a run over a text ends that may begin with a byte order mark.
+-- How a run ends over a text that may begin with a byte order mark.
 use Rattle.std.proofs.Common.{◌≡◌, ◌<◌, ◌⊎◌, ◌++◌, ◌∙◌, inl, inr, ℕ, List, [], Option, Result, Ok, Err, sym, ap, refl, arith, append-nil}
 use Rattle.std.proofs.KnownBytes.{Appends-nil}
 use Rattle.lt_jar.specs.Devices.{failures_of, inner_of}

@@ -9,8 +9,8 @@ use Rattle.lt_stream.specs.declared.faults.ToolFault.{ToolFault}
 use Rattle.lt_stream.specs.declared.faults.ToolFault.TheVariants as faults
 use Rattle.lt_stream.specs.declared.texts.Text.{Text}
 
--- the mark of these bytes is passed over, if they have one, whatever follows them, and the text after it is taken as
--- lines; `start` is the output at the beginning of the run, `now` the output here, and Q tells what is answered
+-- The mark of these bytes is passed over, if they have one, whatever follows them, and the text after it is taken as
+-- lines. `start` is the output at the beginning of the run, and `now` the output here. Q tells what is answered.
 pub record IsPast {A W : Type 0} (Q : Answered A) (longest : ℕ) (contents : W → Option (List ℕ))
     (start now : Device W) (bytes : List ℕ) (state : Text A) : Type 0 where
   pub begun : state.is_begun ≡ true
@@ -75,8 +75,8 @@ abbrev pub FinishesText : {A W : Type 0} → Answered A → (W → Option (List 
 FinishesText Q contents start now bytes state (Ok _) = IsAllAfter Q contents start now bytes state.lined.answers
 FinishesText Q contents start now bytes state (Err fault) = IsCutAfter Q contents start now bytes fault
 
--- the first bytes were split into a mark, which is passed over, and a text, which was taken as lines; `before` and
--- `after` are the output, `old` and `new` the state
+-- The first bytes were split into a mark, which is passed over, and a text, which was taken as lines. `before` and
+-- `after` are the output, `old` and `new` the state.
 pub record Begins {A W : Type 0} (Q : A → Answered A) (longest : ℕ) (contents : W → Option (List ℕ))
     (old new : Text A) (before after : Device W) (result : Result (Option (Unit {0})) ToolFault) : Type 0 where
   pub mark : List ℕ

@@ -18,8 +18,8 @@ tool_name_of faults.Utf16 = codes "Utf16"
 abbrev pub line_said : ℕ → List ℕ
 line_said line = codes " line " ++ decimal line
 
--- what is printed after the name of a fault: the line in which the record of CSV begins, or the row of TSV, that is at
--- fault
+-- what is printed after the name of a fault: the line in which the record of CSV at fault begins, or the line of the
+-- row of TSV at fault, or nothing
 abbrev pub place_said : ToolFault → List ℕ
 place_said (faults.BadCsv line) = line_said line
 place_said (faults.BadTsv line) = line_said line

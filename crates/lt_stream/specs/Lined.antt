@@ -72,8 +72,8 @@ pub record IsAll {A W : Type 0} (Q : Answered A) (contents : W → Option (List 
   pub same : failures_of now ≡ failures_of start
   pub answered : Q answers (lines_of bytes) written
 
--- how a run ends after the reader's last byte, by its answer: all answers are written, or a write failed or memory ran
--- out; `start`, `now` and Q as in IsDuring
+-- How a run ends after the reader's last byte, by its answer: all answers are written, or a write failed or memory ran
+-- out. `start`, `now` and Q are as in IsDuring.
 abbrev pub Finishes : {A W : Type 0} → Answered A → (W → Option (List ℕ)) → (start now : Device W) → List ℕ
     → Lined A → Result (Unit {0}) ToolFault → Type 0
 Finishes Q contents start now bytes state (Ok _) = IsAll Q contents start now bytes state.answers
@@ -81,24 +81,24 @@ Finishes Q contents start now bytes state (Err fault) = IsCutOff Q contents star
 
 -- ---- the steps
 
--- `part` was added to the line of which a front is kept, and of which no more than `longest` bytes are kept
+-- the bytes of `part` were added to the kept front of a line, as many as there is room for: it keeps at most `longest`
 pub record KeepsMore {A : Type 0} (longest : ℕ) (part : List ℕ) (old new : Lined A) : Type 0 where
   pub kept : new.kept.items ≡ old.kept.items ++ take (longest - vec_len old.kept) part
   pub owed : new.owed.items ≡ old.owed.items
   pub same : new.answers ≡ old.answers
 
--- the line of which a front is kept is whole, and was answered
+-- the line whose front is kept is whole, and was answered
 pub record EndsLine {A : Type 0} (Q : A → Answered A) (longest : ℕ) (old new : Lined A) : Type 0 where
   pub emptied : new.kept.items ≡ []
   pub takes : TakesLine Q longest old.kept.items old.owed.items new.owed.items old.answers new.answers
 
--- the line of which a front is kept, if any byte is, was answered as the last
+-- the line whose front is kept, if any byte is, was answered as the last
 abbrev pub EndsLast : {A : Type 0} → (A → Answered A) → ℕ → (old new : Lined A) → Type 0
 EndsLast Q longest old new = ((old.kept.items ≡ []) × (new ≡ old))
     ⊎ ((old.kept.items ≡ [] → ⊥) × EndsLine Q longest old new)
 
--- some of the answers that wait were written, `part`; or a write failed. `old` and `new` are the state, `before` and
--- `after` the output.
+-- `part`, a front of the answers that wait, was written, and perhaps a write failed then. `old` and `new` are the
+-- state, `before` and `after` the output.
 pub record WritesOwed {A W : Type 0} (contents : W → Option (List ℕ)) (old new : Lined A) (before after : Device W)
     (result : Result (Unit {0}) ToolFault) : Type 0 where
   pub part : List ℕ

@@ -14,7 +14,7 @@ use Rattle.lt_stream.specs.declared.faults.ToolFault.TheVariants as faults
 abbrev pub Answered : Type 0 → Type 1
 Answered A = A → List (List ℕ) → List ℕ → Type 0
 
--- what answers lines has answered fewer than 64 bits can count, with one line more
+-- what answers lines has answered so few that 64 bits count them with one line more
 pub record HasLine {A : Type 0} (Q : A → Answered A) (answers : A) : Type 0 where
   pub first : A
   pub lines : List (List ℕ)
@@ -22,8 +22,8 @@ pub record HasLine {A : Type 0} (Q : A → Answered A) (answers : A) : Type 0 wh
   pub answered : Q first answers lines bytes
   pub few : length lines + 1 < 2 ^ 64
 
--- bytes were appended that answer each line whose first bytes, at most `longest`, are `front`; `owed` and `owed'` are
--- the answers that wait before and after, `old` and `new` what answers
+-- Bytes were appended that answer each line whose first bytes, at most `longest`, are `front`. `owed` and `owed'` are
+-- the answers that wait before and after, `old` and `new` is what answers.
 pub record TakesLine {A : Type 0} (Q : A → Answered A) (longest : ℕ) (front owed owed' : List ℕ)
     (old new : A) : Type 0 where
   pub part : List ℕ
@@ -64,8 +64,8 @@ pub record IsStoppedByRead {I A : Type 0} (Q : Answered A) (input input' : Devic
   pub failed : HasFailed input input'
   pub owed : IsAnsweredToLastFeed Q text written answers
 
--- the most reads that a run may make were made, the last still gave bytes, and the lines of the text up to its last line
--- feed (10) are answered
+-- the most reads that a run may make were made, the last still gave bytes, and the lines of the text up to its last
+-- line feed (10) are answered
 pub record IsStoppedByTurns {I A : Type 0} (Q : Answered A) (input' : Device I) (reads : ℕ)
     (read text written : List ℕ) (answers : A) : Type 0 where
   pub all_made : reads ≡ most_reads
@@ -73,8 +73,8 @@ pub record IsStoppedByTurns {I A : Type 0} (Q : Answered A) (input' : Device I) 
   pub last_gave : 0 < last_given_of input'
   pub owed : IsAnsweredToLastFeed Q text written answers
 
--- how the run ended that read these bytes, of which `text` are its lines, by its answer: done, or with a fault; an end
--- by OutOfMemory says nothing more. Names with ' are of the devices after the run.
+-- How the run ended, by its answer: done, or with a fault. It read the bytes `read`, of which `text` are the lines. An
+-- end by OutOfMemory says nothing more. Names with ' are of the devices after the run.
 abbrev pub EndsAs : {I O A : Type 0} → Answered A → (I → Option (List ℕ)) → (input input' : Device I)
     → (output output' : Device O) → ℕ → (read text written : List ℕ) → A → Result (Unit {0}) ToolFault → Type 0
 EndsAs Q remaining input input' output output' reads read text written answers (Ok _) =

@@ -13,12 +13,11 @@ use Rattle.lt_stream.specs.declared.faults.ToolFault.TheVariants as faults
 abbrev pub RunFact : Type 0 → Type 0 → Type 1
 RunFact O P = O → O → List ℕ → P → Type 0
 
--- a statement on a run that ends: as `RunFact`, and on its result
+-- a statement on a run that ends: on all that a `RunFact` is on, and on the result of the run
 abbrev pub EndFact : Type 0 → Type 0 → Type 0 → Type 1
 EndFact O P A = O → O → List ℕ → P → Result A ToolFault → Type 0
 
--- `T` is true of a run so far, which after `count` further bytes has read fewer than 2 to the 63, so that 64 bits
--- count them
+-- `T` is true of a run so far. With `count` further bytes it has read fewer than 2^63, so that 64 bits count them.
 pub record HasRoom {O P : Type 0} (T : P → RunFact O P) (count : ℕ) (now : O) (state : P) : Type 0 where
   pub first : P
   pub start : O
@@ -26,8 +25,8 @@ pub record HasRoom {O P : Type 0} (T : P → RunFact O P) (count : ℕ) (now : O
   pub taken : T first start now read state
   pub few : length read + count < 2 ^ 63
 
--- if `T` is true before a piece, it is true after it too, or `S` is true of the run that the piece ends; `before` and
--- `after` are the output, `old` and `new` the state of what takes the pieces
+-- If `T` is true before a piece, it is true after it too, or `S` is true of the run that the piece ends. `before` and
+-- `after` are the output, `old` and `new` the state of what takes the pieces.
 abbrev pub TakesPiece : {O P A : Type 0} → (P → RunFact O P) → (P → EndFact O P A) → List ℕ → (before after : O)
     → (old new : P)
     → Result (Option A) ToolFault → Type 0
@@ -40,8 +39,8 @@ TakesPiece {O = O} {P = P} T S piece before after old new (Err fault) =
     (first : P) (start : O) (read : List ℕ) → T first start before read old
     → S first start after (read ++ piece) new (Err fault)
 
--- if `T` is true after the reader's last byte, `F` is true of the run that ends there; `before` and `after` are the
--- output, `old` and `new` the state of what takes the pieces
+-- If `T` is true after the reader's last byte, `F` is true of the run that ends there. `before` and `after` are the
+-- output, `old` and `new` the state of what takes the pieces.
 abbrev pub FinishesPieces : {O P A : Type 0} → (P → RunFact O P) → (P → EndFact O P A) → (before after : O)
     → (old new : P)
     → Result A ToolFault → Type 0
@@ -85,9 +84,9 @@ pub record IsWithoutMemory {I A : Type 0} (T : List ℕ → Type 0) (input input
   pub same : failures_of input' ≡ failures_of input
   pub taken : T read
 
--- A run over the pieces of a reader's bytes, and the way in which it ended: `T` is true while it goes on, `S` where a
--- piece ends it, `F` where the reader has no more. `input` and `input'` are the reader's device, `start` and `now` the
--- output.
+-- A run over the pieces of a reader's bytes, and the way in which it ended. `T` is true while it goes on, `S` where a
+-- piece ends it, and `F` where the reader has no more. `input` and `input'` are the reader's device, `start` and `now`
+-- the output.
 pub record RunsPieces {I O P A : Type 0} (T : RunFact O P) (S F : EndFact O P A) (remaining : I → Option (List ℕ))
     (input input' : Device I) (start now : O) (state : P) (result : Result A ToolFault) : Type 0 where
   pub read : List ℕ

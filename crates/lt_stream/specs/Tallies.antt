@@ -30,7 +30,7 @@ pub record IsTally (lines : List Refused) (tally : Tally) : Type 0 where
 abbrev pub faults_of : List Tally → List (List ℕ)
 faults_of tallies = map (λ tally. tally.fault.items) tallies
 
--- these names, and after them one more where it is none of them
+-- these names, and after them one more if it is not among them
 abbrev pub with_name : (names : List (List ℕ)) → (name : List ℕ) → List (List ℕ)
 with_name names name = if is_member bytes_eq names name then names else names ++ name ∷ []
 

@@ -14,8 +14,8 @@ use Rattle.lt_stream.specs.declared.faults.ToolFault.TheVariants as faults
 abbrev pub IsRefusedFront : List ℕ → ToolFault → Type 0
 IsRefusedFront bytes fault = ((fault ≡ faults.Utf16) × IsWide bytes) ⊎ (fault ≡ faults.OutOfMemory)
 
--- how the run ended that read these bytes, of which `text` follows the mark: as one over the lines of the text, or by a
--- mark of UTF-16, and then nothing was written
+-- How the run ended. It read these bytes, of which `text` follows the mark. It ended as a run over the lines of `text`
+-- does, or by a mark of UTF-16, and then nothing was written.
 abbrev pub EndsAfterMark : {I O A : Type 0} → Answered A → (I → Option (List ℕ)) → (input input' : Device I)
     → (output output' : Device O) → ℕ → (read text written : List ℕ) → A → Result (Unit {0}) ToolFault → Type 0
 EndsAfterMark Q remaining input input' output output' reads read text written answers (Err faults.Utf16) =

@@ -9,8 +9,8 @@ use itoa::Buffer;
 use lt_jar::Device;
 use std::io::Write;
 
-/// Writes a text, up to the first write that fails or takes none of some bytes: then the answer is `Write`, and
-/// a front of the text was written.
+/// Writes a text. If a write fails or takes none of some bytes, the answer is `Write`, and a front of the text was
+/// written.
 pub fn write_text<W: Write>(text: &[u8], output: &mut Device<W>) -> Result<(), ToolFault>
     ensures { WritesText W.contents text.now output.old output.new result }
 {
@@ -25,7 +25,7 @@ pub fn write_text<W: Write>(text: &[u8], output: &mut Device<W>) -> Result<(), T
     Ok(())
 }
 
-/// Writes the number of the line of a fault, as ` line 3`.
+/// Writes the number of the line of a fault, for example ` line 3`. Refused as [`write_text`] is.
 fn write_line<W: Write>(line: u64, output: &mut Device<W>) -> Result<(), ToolFault>
     ensures { WritesText W.contents (line_said line) output.old output.new result }
 {
@@ -33,7 +33,7 @@ fn write_line<W: Write>(line: u64, output: &mut Device<W>) -> Result<(), ToolFau
     write_text(Buffer::new().format(line).as_bytes(), output)
 }
 
-/// Writes what is said of a fault after its name: its line, or nothing if it has none.
+/// Writes what is said of a fault after its name: its line, or nothing if it has none. Refused as [`write_text`] is.
 fn write_place<W: Write>(fault: ToolFault, output: &mut Device<W>) -> Result<(), ToolFault>
     ensures { WritesText W.contents (place_said fault) output.old output.new result }
 {
@@ -43,7 +43,8 @@ fn write_place<W: Write>(fault: ToolFault, output: &mut Device<W>) -> Result<(),
     }
 }
 
-/// Writes the line that says what ended a run, as `! Read` or `! BadCsv line 3`, as [`write_text`] writes a text.
+/// Writes the line that says what ended a run, for example `! Read` or `! BadCsv line 3`. Refused as [`write_text`]
+/// is.
 pub fn write_fault<W: Write>(fault: ToolFault, output: &mut Device<W>) -> Result<(), ToolFault>
     ensures { WritesText W.contents (fault_said fault) output.old output.new result }
 {

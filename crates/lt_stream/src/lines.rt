@@ -28,7 +28,8 @@ pub trait Lines {
         ensures { result ≡ longest };
 
     /// Answers a line, of which `line` is the front that is kept: appends the answer to `owed`, where answers wait to
-    /// be written. Refused where memory runs out.
+    /// be written. The lines answered must be so few that 64 bits count them with this one. Refused where memory runs
+    /// out.
     fn take_line(
         &mut self,
         alloc: Global,
@@ -72,8 +73,8 @@ impl<A: Lines> Lined<A> {
         Ok(())
     }
 
-    /// Answers the line of which the front is kept, and keeps nothing of it. The answer waits to be written. Refused
-    /// where memory runs out.
+    /// Answers the line whose front is kept. Nothing of it is kept then, and the answer waits to be written. The
+    /// lines answered must be so few that 64 bits count them with this one. Refused where memory runs out.
     fn end_line(&mut self, alloc: Global) -> Result<(), OutOfMemory>
         requires { HasLine A.answered self.old.answers }
         ensures { OnOk result (spec.EndsLine A.answered A.longest self.old self.new) }
@@ -83,7 +84,7 @@ impl<A: Lines> Lined<A> {
         Ok(())
     }
 
-    /// Writes the answers that wait, and none waits then. Refused if a write fails.
+    /// Writes the answers that wait, so that none waits then. Refused if a write fails.
     fn write<W: Write>(&mut self, output: &mut Device<W>) -> Result<(), ToolFault>
         ensures writes { spec.WritesOwed W.contents self.old self.new output.old output.new result }
         ensures emptied { OnOk result (self.new.owed.items ≡ []) }
@@ -104,7 +105,8 @@ impl<A: Lines> Lined<A> {
         self.write(output)
     }
 
-    /// Answers a last line that has no line feed, if there is one. Refused where memory runs out.
+    /// Answers a last line that has no line feed, if there is one. The lines answered must be so few that 64 bits
+    /// count them with this one. Refused where memory runs out.
     fn end_last(&mut self, alloc: Global) -> Result<(), OutOfMemory>
         requires { HasLine A.answered self.old.answers }
         ensures { OnOk result (spec.EndsLast A.answered A.longest self.old self.new) }
@@ -166,13 +168,15 @@ impl<A: Lines, W: Write> Pieces<Device<W>> for Lined<A> {
     }
 }
 
-/// Answers the lines of a reader, in their order, and gives back what answered them.
+/// Answers the lines of a reader, in their order, and gives back what answered them. `answers` must have answered
+/// nothing before, and must keep at least one byte of a line.
 ///
-/// A line feed ends a line, and what follows the last one is a line if it is anything. The answers to the lines of the
-/// bytes that were read are written before the next read. Of a line that goes on no more is kept than the answers need.
+/// A line feed ends a line, and what follows the last one is a line if it is anything. The answers to the lines of
+/// the bytes that were read are written before the next read. Of a line that goes on no more is kept than the answers
+/// need.
 ///
 /// - `Read`, if a read fails: the answer to each line whose line feed was read has been written.
-/// - `TooManyTurns`, if all 10,000,000 reads were made and the last gave bytes: the same has been written.
+/// - `TooManyTurns`, if all 10,000,000 reads were made and the last gave bytes: the same answers have been written.
 /// - `Write`, if a write fails or takes none of some bytes, and `OutOfMemory`: a front of the answers was written.
 pub fn run_lines<A: Lines + Drop, R: Read, W: Write>(
     alloc: Global,

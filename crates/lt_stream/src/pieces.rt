@@ -23,13 +23,14 @@ pub trait Pieces<O> {
     /// that were read, and of this now.
     ghost taken: { Self → O → O → List ℕ → Self → Type 0 };
 
-    /// What holds of the same and of the answer where a piece ends the run.
+    /// What holds where a piece ends the run: of the values that `taken` relates, and of the answer.
     ghost stopped: { Self → O → O → List ℕ → Self → Result Self.Answer ToolFault → Type 0 };
 
-    /// What holds of them where the reader has ended.
+    /// What holds where the reader has ended: of the values that `taken` relates, and of the answer.
     ghost finished: { Self → O → O → List ℕ → Self → Result Self.Answer ToolFault → Type 0 };
 
-    /// Takes the next bytes. An answer, or a fault, ends the run; with None it goes on.
+    /// Takes the next bytes. An answer, or a fault, ends the run; with None it goes on. The run must have read less
+    /// than 2^63 bytes, these bytes counted too.
     fn take_piece(
         &mut self,
         alloc: Global,
@@ -39,14 +40,14 @@ pub trait Pieces<O> {
         requires { HasRoom taken (length piece.now) output.old self.old }
         ensures { TakesPiece taken stopped piece.now output.old output.new self.old self.new result };
 
-    /// Takes the end of the reader, and gives the answer, or a fault.
+    /// Takes the end of the reader, and gives the answer, or a fault. The run must have read less than 2^63 bytes.
     fn finish(&mut self, alloc: Global, output: &mut O) -> Result<Self::Answer, ToolFault>
         requires { HasRoom taken 0 output.old self.old }
         ensures { FinishesPieces taken finished output.old output.new self.old self.new result };
 }
 
-/// Reads a reader, and hands its bytes to `pieces` until that has an answer, or to the end of the reader. It gives the
-/// answer.
+/// Reads a reader, and hands its bytes to `pieces` until that has an answer, or to the end of the reader. It gives
+/// the answer. What `taken` says must hold before the first read.
 ///
 /// - `Read`, if a read fails.
 /// - `TooManyTurns`, if all 10,000,000 reads were made and the last gave bytes.

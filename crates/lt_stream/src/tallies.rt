@@ -64,7 +64,7 @@ impl Tallies {
         &self.faults
     }
 
-    /// The place of the tally of a fault, or None if it refused no line so far.
+    /// The place of the tally of a fault. None if the fault refused no line so far.
     fn place_of(&self, fault: &[u8]) -> Option<usize>
         ensures { result ≡ position (λ tally. bytes_eq fault.now tally.fault.items) self.now }
     {

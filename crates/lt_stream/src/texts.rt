@@ -42,7 +42,9 @@ struct Text<A> {
 }
 
 impl<A: Lines> Text<A> {
-    /// Passes over the byte order mark of the first bytes, if there is one, and takes what follows it as lines.
+    /// Passes over the byte order mark of the first bytes, if there is one, and takes what follows it as lines. The
+    /// run must have read less than 2^63 bytes, the first bytes counted too. Only a fault ends the run here: a failed
+    /// write, or lack of memory.
     fn begin<W: Write>(
         &mut self,
         alloc: Global,
@@ -94,8 +96,8 @@ impl<A: Lines, W: Write> Pieces<Device<W>> for Text<A> {
     }
 }
 
-/// Answers the lines of a text, as [`run_lines`](crate::run_lines) does, but that a byte order mark of UTF-8 at its
-/// beginning is passed over, and that one of UTF-16 is refused.
+/// Answers the lines of a text as [`run_lines`](crate::run_lines) does. A byte order mark of UTF-8 at its beginning
+/// is passed over, and one of UTF-16 is refused.
 ///
 /// - `Utf16`, if the text begins with a byte order mark of UTF-16: nothing has been written.
 /// - Every fault of [`run_lines`](crate::run_lines).

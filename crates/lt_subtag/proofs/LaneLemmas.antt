@@ -31,7 +31,8 @@ select_is : (f g h : ℕ → ℕ) (v : List ℕ) → sel_l (map (top 7) (map f v
 select_is f g h [] = refl
 select_is f g h (x ∷ xs) = ap (λ r. cond (top 7 (f x)) (g x) (h x) ∷ r) (select_is f g h xs)
 
--- the same of vectors a, b and c that are f, g and h of each lane of v
+-- the vectors a, b and c are f, g and h of each lane of v: selected lane by lane, it is g where f has its top bit set,
+-- else h
 pub selected : (f g h : ℕ → ℕ) (v : List ℕ) {a b c : List ℕ} → a ≡ map f v → b ≡ map g v → c ≡ map h v
     → sel_l (map (top 7) a) b c ≡ map (λ x. cond (top 7 (f x)) (g x) (h x)) v
 selected f g h v {a} {b} {c} p q r = ap (λ x. sel_l (map (top 7) x) b c) p ∙ ap₂ (λ y z. sel_l (map (top 7) (map f v)) y z) q r ∙ select_is f g h v
@@ -40,8 +41,8 @@ selected f g h v {a} {b} {c} p q r = ap (λ x. sel_l (map (top 7) x) b c) p ∙ 
 pub bytes_of : (i n : ℕ) (d : List ℕ) → ((k : ℕ) → Fits w8 (get_or d k 0)) → Each1 (λ x. x < 256) (chunk i n d)
 bytes_of i n d fits = below_from_Fits w8 (chunk i n d) (chunk-fits w8 i n d fits)
 
--- r, found in the mask of a load (the n bytes of d from i on), is how many of its bytes pass q before one fails; the
--- lanes z are f of the bytes, and the top bit of f is set exactly where q fails
+-- A load is the n bytes of d from index i on. Its mask is made of the lanes z, which are f of the bytes: the top bit of
+-- a lane is set exactly where its byte fails q. r, found in the mask, is how many bytes pass q before one fails.
 pub front_of : (q : ℕ → Bool) (d : List ℕ) (i n r : ℕ) (z : List ℕ) → i + n ≤ length d → n ≤ 64 → ((k : ℕ) → Fits w8 (get_or d k 0))
     → r ≡ first_set (mask_l (map (top 7) z) % 2 ^ 64) n → (f : ℕ → ℕ) → z ≡ map f (chunk i n d)
     → agree_below (λ x. not (top 7 (f x))) q 256 ≡ true → r ≡ prefix_len q (chunk i n d)

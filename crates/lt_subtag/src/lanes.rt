@@ -19,7 +19,7 @@ fn first_set(mask: u64, lanes: usize) -> usize
     }
 }
 
-/// The bytes, at most eight, and zeros after them up to eight.
+/// The bytes, of which there must be at most eight, and zeros after them up to eight.
 #[inline(always)]
 fn pad(bytes: &[u8]) -> [u8; 8]
     requires { length bytes.now ≤ 8 }
@@ -30,7 +30,8 @@ fn pad(bytes: &[u8]) -> [u8; 8]
     letters
 }
 
-/// How many of the first eight bytes are letters and digits, up to the first that is neither.
+/// How many of the first eight bytes of a text, which must have so many, are letters and digits, up to the first that
+/// is neither.
 #[inline(always)]
 fn run_of_8(text: &[u8]) -> usize
     requires { 8 ≤ length text.now }
@@ -44,7 +45,7 @@ fn run_of_8(text: &[u8]) -> usize
     first_set((no_letter & no_digit).to_bitmask(), 8)
 }
 
-/// The first eight bytes with their letters in lower case.
+/// The first eight bytes of a text, which must have so many, with their letters in lower case.
 #[inline(always)]
 fn fold_8(text: &[u8]) -> [u8; 8]
     requires { 8 ≤ length text.now }
@@ -56,8 +57,8 @@ fn fold_8(text: &[u8]) -> [u8; 8]
     no_capital.select(v, v | u8x8::splat(0x20)).to_array()
 }
 
-/// At most eight bytes with their letters in lower case, and zeros after them up to eight. None if one is neither a
-/// letter nor a digit.
+/// The bytes with their letters in lower case, and zeros after them up to eight. There must be at most eight bytes.
+/// None if one is neither a letter nor a digit.
 #[inline(always)]
 pub(crate) fn fold(bytes: &[u8]) -> Option<[u8; 8]>
     requires { length bytes.now ≤ 8 }

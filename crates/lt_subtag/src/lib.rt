@@ -118,9 +118,9 @@ impl fmt::Display for Subtag {
 }
 
 impl Subtag {
-    /// The subtag that the bytes spell, whatever the case of their letters: `Hant` and `HANT` give the same.
-    /// Refused as `Empty` where there is no byte, else as `BadByte` where one is no ASCII letter or digit, else
-    /// as `TooLong` above 8 bytes.
+    /// The subtag that the bytes spell, whatever the case of their letters: `Hant` and `HANT` give the same. A piece
+    /// without bytes is refused as `Empty`. A piece with a byte that is no ASCII letter or digit is refused as
+    /// `BadByte`, and any other of more than 8 bytes as `TooLong`.
     #[tactic(auto, using(crate::proofs::RunLemmas::read_holds, crate::proofs::RunLemmas::read_front))]
     pub fn read(bytes: &[u8]) -> Result<Subtag, SubtagFault>
         ensures { result ≡ subtag_of bytes.now }
@@ -287,7 +287,7 @@ fn is_numeric(bytes: &[u8]) -> bool
     bytes.iter().all(|byte| byte.is_ascii_digit())
 }
 
-/// The fault of a piece of more than 8 bytes: `BadByte` if one is no letter or digit, else `TooLong`.
+/// The fault of a piece, which must have more than 8 bytes: `BadByte` if one is no letter or digit, else `TooLong`.
 fn long_fault(bytes: &[u8]) -> SubtagFault
     requires { 8 < length bytes.now }
     ensures { Err result ≡ subtag_of bytes.now }
@@ -299,7 +299,8 @@ fn long_fault(bytes: &[u8]) -> SubtagFault
     }
 }
 
-/// At most 8 bytes, with the letters among the first `capitals` of them in upper case and the others as they are.
+/// Bytes, of which there must be at most 8, with the letters among the first `capitals` in upper case and the others
+/// as they are. `capitals` must be at most the number of bytes.
 fn capitalised(bytes: &[u8], capitals: usize) -> ArrayVec<u8, 8>
     requires short { length bytes.now ≤ 8 }
     requires within { capitals ≤ length bytes.now }

@@ -133,8 +133,6 @@ pub one_fault : (text : List ℕ) (kind other : TagFaultKind) (place elsewhere :
 one_fault text kind other place elsewhere f g =
     one_cause text kind other place elsewhere (cause text kind place f.fault f.memory_aside) (cause text other elsewhere g.fault g.memory_aside)
 
--- ---- each text has a tag or a fault
-
 -- the text has a tag or a fault
 abbrev pub HasTagOrFault : List ℕ → Type 0
 HasTagOrFault text = ((form : TagForm) × HasTag text form) ⊎ ((kind : TagFaultKind) × (place : ℕ) × HasFault text kind place)

@@ -1,5 +1,5 @@
--- Grandfathered lists: the pieces of a text compared with one, the first four subtags of a list, and the texts that
--- have one.
+-- Grandfathered lists: the pieces of a text compared with such a list, the first four subtags of a list, and the texts
+-- that have such a list.
 use Rattle.std.proofs.Common.{◌≡◌, ℕ, ◌≤◌, ◌<◌, ◌+◌, Bool, true, false, not, List, [], ◌∷◌, ◌++◌, length, take, drop, get_or, refl, sym, ap, ◌∙◌, arith, Bor, ◌-◌, zero, suc, map}
 use Rattle.std.specs.Prelude.{Option, Some, None, IsTrue, is_some, nat_le, IfSome, IfNone, slice_get, slice_index_or, sum_by}
 use Rattle.std.proofs.lemmas.List.{append_assoc, append-nil, append_cancel_left, take-append-drop, take_all, drop_more, length-take, get_or-map, length-map, length-append}
@@ -30,12 +30,12 @@ next_is list i s x more within read e =
     let here : drop i list ≡ get_or list i s ∷ drop (i + 1) list = drop_more list i s within in
     read ∙ head_is (get_or list i s) x (drop (i + 1) list) more (sym here ∙ rest)
 
--- the pieces ps begin with the first i subtags of a list, and go on with p, the next subtag s, and then with `more`:
--- they begin with the first i + 1
+-- One step more. The pieces ps begin with the first i subtags of a list. Then comes the piece p, which is the next
+-- subtag s, and then `more`. So ps begin with the first i + 1 subtags.
 pub one_more : (ps list : List (List ℕ)) (i : ℕ) (s p : List ℕ) (more : List (List ℕ)) → i < length list → s ≡ get_or list i s → s ≡ p → ps ≡ take i list ++ p ∷ more → ps ≡ take (i + 1) list ++ more
 one_more ps list i s p more within read same e = rw ((take_at_read list i s within).1, append_assoc (take i list), ← read, same) e
 
--- no subtag of the list is left: it equals the pieces ps exactly if no piece is left either, that is, if r
+-- no subtag of the list is left: it equals the pieces ps exactly if no piece is left either, which r tells
 pub at_end : (list ps : List (List ℕ)) (i : ℕ) (rest : Option (Bor (List ℕ))) (r : Bool) → length list ≤ i → ps ≡ take i list ++ pieces_left rest → is_some rest ≡ not r
     → (IsTrue r → list ≡ ps) × (list ≡ ps → IsTrue r)
 at_end list ps i None true n e h = (λ _. rw (e, append-nil (take i list)) (sym (take_all i list n)), λ _. refl)
@@ -82,7 +82,7 @@ pub literal_found : (o : Option ℕ) (front list : List (List ℕ)) → front �
 literal_found None front list e h = h
 literal_found (Some n) front list e h = from_front list n (rw (← e) h)
 
--- where none is found for `front`, the first four subtags of a list, the list has none
+-- if no number is found for `front`, the first four subtags of a list, the list has none
 pub literal_none : (o : Option ℕ) (front list : List (List ℕ)) → front ≡ take 4 list → IfNone o (IsNotGrandfathered front) → IfNone o (IsNotGrandfathered list)
 literal_none None front list e h = λ n g. h n (rw e (to_front list n g))
 literal_none (Some n) front list e h = h
@@ -140,7 +140,7 @@ begin_listed : list_all (λ (t : List ℕ). begins_listed (length t) (slice_inde
 unfolding grandfathered_texts
 begin_listed = refl
 
--- so does each text that has the list of one of them, by its first byte in lower case
+-- each text that has a grandfathered list passes `begins_listed` by its length and its first byte in lower case
 text_begins : (text : List ℕ) (number : ℕ) → IsGrandfathered (list_of text) number → begins_listed (length text) (to_ascii_lowercase (slice_index_or text 0 0)) ≡ true
 text_begins text number g =
     let same : folded text ≡ known number = match_needed text number g ∙ folded-known number g.first g.last in

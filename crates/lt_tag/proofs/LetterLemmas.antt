@@ -31,7 +31,8 @@ pub join_pieces : (text : List ℕ) → join_with_byte 45 (pieces text) ≡ text
 join_pieces [] = refl
 join_pieces (b ∷ bs) = grind (arith, nat_tests, some_pieces bs, join_pieces bs, join_empty (pieces bs), join_onto b (pieces bs))
 
--- a byte put on the first piece before all are made lower case is as one put on it, in lower case, after
+-- to put a byte on the first piece, and then make all lower case, is to put it in lower case on the pieces in lower
+-- case
 folded_onto : (b : ℕ) (ps : List (List ℕ)) → map folded (onto_first b ps) ≡ onto_first (to_ascii_lowercase b) (map folded ps)
 folded_onto b [] = refl
 folded_onto b (p ∷ ps) = refl

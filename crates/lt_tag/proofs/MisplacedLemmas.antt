@@ -142,8 +142,8 @@ few_closed core es ss n some =
 
 -- ---- what is known of a text while its subtags are read from left to right
 
--- The first pieces of a text, as many as `place` says and one at least, are the subtags `done`, of which `draft` is the
--- draft; the pieces `left` are still to be read.
+-- The first pieces of a text, as many as `place` says and one at least, are the subtags `done`. The pieces `left` are
+-- still to be read. `draft` is the draft of the subtags so far.
 pub record HasRead (text : List ℕ) (place : ℕ) (left : List (List ℕ)) (draft : Draft) : Type 0 where
   pub done : List (List ℕ)
   pub count : length done ≡ place

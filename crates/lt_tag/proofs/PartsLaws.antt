@@ -67,8 +67,8 @@ u_backward p h =
 pub u_decided : (ss : List (List ℕ)) (p : UForm) → (unicode_of ss ≡ Some p) ↔ IsUnicode ss p
 u_decided ss p = (u_forward ss p, λ k. ap unicode_of (sym k.spelled) ∙ u_backward p k.shaped)
 
--- o is the source that the subtags before the first separator give: if o and the fields make the parts p, and the
--- fields have values, p is found in the subtags
+-- o is the source that is found in the subtags before the first separator. If p has this source and the fields of the
+-- subtags, which have values, the parts p are found in the subtags.
 t_at : (ss : List (List ℕ)) (p : TForm) (o : Option (Option CoreParts)) → source_of_list (before is_separator ss) ≡ o → option_map (with_fields (fields_of ss)) o ≡ Some p → list_all has_values (fields_of ss) ≡ true → 0 < length ss
     → IsFound ss p
 t_at ss p None e h v n = cc

@@ -21,7 +21,7 @@ use Rattle.lt_tag.proofs.SplitLemmas.{before-append, keywords-append, fields-app
 use Rattle.lt_tag.specs.Lists.{longest_text}
 use Rattle.lt_tag.proofs.ShapeLemmas.{all_weaker, core_all, core_parts}
 
--- the shapes of single subtags
+-- ---- the shapes of single subtags
 
 -- what has 3 to 8 letters or digits can be in an extension
 pub long_extension : (s : List ℕ) → is_long s ≡ true → is_extension_subtag s ≡ true
@@ -45,7 +45,7 @@ core_extension = core_all is_extension_subtag (λ s l. grind (arith, nat_tests, 
 core_no_separator : (core : CoreParts) → IsCore core → list_all (λ (s : List ℕ). not (is_separator s)) (spell_core core) ≡ true
 core_no_separator = core_parts (λ (s : List ℕ). not (is_separator s)) (λ s p. p.no_separator)
 
--- the parts of a u extension
+-- ---- the parts of a `u` extension
 
 -- each subtag of a keyword can be in an extension
 keyword_extension : (k : KeywordParts) → IsKeyword k → list_all is_extension_subtag (spell_keyword k) ≡ true
@@ -90,13 +90,14 @@ u_found ss p h some a k =
     let spelled : spell_u p ≡ ss = rw (a, k) (keywords-spelled ss) in
     record { shaped = record { attributes = rw a (before_long ss h); keywords = rw k (keywords_shaped ss h); some = rw spelled some }; spelled = spelled }
 
--- the same of the parts that the code makes, which cuts the subtags at the first key into `front` and `rest`
+-- The code cuts the subtags of an extension at the first key, into `front` and `rest`. The attributes and keywords that
+-- it makes of these have their forms and spell the subtags.
 pub u_split : (e : ExtensionParts) (subtags front rest attributes : List (List ℕ)) (keywords : List KeywordParts) → IsExtensionValue e → subtags ≡ e.subtags → front ≡ before is_key subtags → rest ≡ onward is_key subtags
     → attributes ≡ front → keywords ≡ keywords_of rest → IsUnicode e.subtags (record { attributes = attributes; keywords = keywords })
 u_split e subtags front rest attributes keywords h s f r a k =
     u_found e.subtags (record { attributes = attributes; keywords = keywords }) h.shaped.subtags h.shaped.some (a ∙ f ∙ ap (before is_key) s) (k ∙ ap keywords_of r ∙ keywords-onward subtags ∙ ap keywords_of s)
 
--- the parts of a core
+-- ---- the parts of a core
 
 -- the core found in a list is shaped and spells the list
 pub core_found : (ss : List (List ℕ)) (core : CoreParts) → core_of_list ss ≡ Some core → IsCore core × (spell_core core ≡ ss)
@@ -109,7 +110,7 @@ pub core_again : (core : CoreParts) → IsCore core → core_of_list (spell_core
 unfolding core_of_list
 core_again core k = rw k.language (reached core k)
 
--- the parts of a t extension
+-- ---- the parts of a `t` extension
 
 -- a test that holds of each subtag of a core holds of each that a source spells, which may be missing
 source_all : (test : List ℕ → Bool) → ((core : CoreParts) → IsCore core → list_all test (spell_core core) ≡ true) → (source : Option CoreParts) → IfSome source IsCore → list_all test (spell_source source) ≡ true
@@ -184,7 +185,8 @@ t_found ss p h =
     let spelled : spell_t p ≡ ss = rw (source.1, ← h.fields) (fields-spelled ss) in
     record { shaped = record { source = source.0; fields = rw (← h.fields) (fields_shaped ss h.values); some = rw spelled h.some }; spelled = spelled }
 
--- the same of the parts that the code makes, which cuts the subtags at the first separator into `front` and `rest`
+-- The code cuts the subtags of an extension at the first separator, into `front` and `rest`. The source and the fields
+-- that it makes of these have their forms and spell the subtags.
 pub t_split : (e : ExtensionParts) (subtags front rest : List (List ℕ)) (source : Option CoreParts) (fields : List FieldParts) → IsExtensionValue e → subtags ≡ e.subtags → front ≡ before is_separator subtags
     → rest ≡ onward is_separator subtags → source_of_list front ≡ Some source → fields ≡ fields_of rest → list_all has_values fields ≡ true → IsTransform e.subtags (record { source = source; fields = fields })
 t_split e subtags front rest source fields h s f r o k v =

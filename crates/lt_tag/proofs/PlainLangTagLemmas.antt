@@ -16,8 +16,6 @@ use Rattle.lt_tag.proofs.PartsLaws.{core_decided}
 use Rattle.std.proofs.lemmas.Bool.Decides.{nat_tests}
 use Rattle.std.proofs.lemmas.Bool.{not-false}
 
--- growing a core, seen by what may follow it
-
 -- what may follow a core once it has grown by s is computed from what might follow before
 grown_room : (core : CoreParts) (s : List ℕ) → option_map room_of (grown core s) ≡ room_after (room_of core) s
 unfolding grown
@@ -78,8 +76,8 @@ core_from_source : (subtags : List (List ℕ)) (core : CoreParts) → source_of_
 core_from_source [] core h = cc
 core_from_source (s ∷ ss) core h = grind (arith, nat_tests)
 
--- all subtags may follow: they are a langtag exactly if they are not grandfathered; `number` is the grandfathered
--- tag's, if there is one, and b whether there is none
+-- All subtags may follow. So they are a langtag exactly if they are not those of a grandfathered tag. `number` is that
+-- tag's number, if there is such a tag, and b tells that there is none.
 pub ends_plain : (subtags others : List (List ℕ)) (i : ℕ) (room : Room) → HasRoom subtags others i room → length others ≤ i → (number : Option ℕ) → IfSome number (λ n. IsGrandfathered subtags n) → IfNone number (IsNotGrandfathered subtags) → (b : Bool) → is_some number ≡ not b → IsTrue b ↔ IsPlainLangTag subtags
 ends_plain subtags others i room h n None some none b e =
     let k = (core_decided subtags h.core).0 (core_from_source subtags h.core (source_end subtags others i h.core h.so_far n)) in

@@ -100,7 +100,7 @@ variant_part s h =
 
 -- a test that holds of each subtag that has 2 to 8 letters or digits and is no separator
 module _ (test : List ℕ → Bool) (holds : (s : List ℕ) → IsPart s → test s ≡ true) where
-  -- it holds of subtags of a shape that makes them such
+  -- it holds of each subtag of a shape whose subtags have 2 to 8 letters or digits and are no separators
   all_of : (shape : List ℕ → Bool) → ((s : List ℕ) → shape s ≡ true → IsPart s) → (ss : List (List ℕ)) → list_all shape ss ≡ true → list_all test ss ≡ true
   all_of shape part ss h = all_weaker shape test (λ s k. holds s (part s k)) ss h
 

@@ -52,7 +52,7 @@ then_second Less s e = unequal (ap is_eq e)
 then_second Equal s e = e
 then_second Greater s e = unequal (ap is_eq e)
 
--- an order that tells any two apart does so too where one may be missing
+-- an order that tells any two values apart does so also where either may be missing
 options_apart : {A : Type 0} {R : A → A → Ordering} → IsAntisymmetric R → IsAntisymmetric (option_cmp R)
 options_apart same None None e = refl
 options_apart same None (Some y) e = unequal (ap is_eq e)
@@ -110,8 +110,8 @@ tags_apart (Grandfathered m) (Grandfathered n) e = ap Grandfathered (nat_cmp-IsA
 pub the_same : {A : Type 0} {R : A → A → Ordering} → IsAntisymmetric R → (x y : A) → eq_by_cmp R x y ≡ true → x ≡ y
 the_same {R = R} apart x y e = apart x y ((Equal-is (R x y)).0 e)
 
--- where the order R is total and tells any two apart, b, whether x and y are equal by it, is true exactly if they are
--- the same
+-- The order R is total and tells any two apart. b tells whether x and y are equal by it, and is true exactly if they
+-- are the same.
 pub same_exactly : {A : Type 0} {R : A → A → Ordering} → IsTotalOrder R
     → IsAntisymmetric R → (x y : A) (b : Bool) → b ≡ eq_by_cmp R x y → IsTrue b ↔ (x ≡ y)
 same_exactly {R = R} total apart x y b e = (

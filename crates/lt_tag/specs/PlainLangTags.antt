@@ -19,7 +19,8 @@ pub record IsPlainLangTag (list : List (List ℕ)) : Type 0 where
 abbrev pub extlangs_left : CoreParts → ℕ
 extlangs_left core = if nat_le (length core.language) 3 then 3 - length core.extlangs else 0
 
--- what may follow a core
+-- the first kind of subtag that may still follow a core; the kinds after it, in the order extlangs, script, region,
+-- variants (RFC 5646, 2.1), may follow too. Extlangs stands for a script as well, and then perhaps no extlang is left
 abbrev pub room_of : CoreParts → Room
 room_of core =
     if takes_script core then rooms.Extlangs (extlangs_left core)

@@ -51,9 +51,8 @@ fn append_core(list: &mut Vec<Subtag>, core: &Core) -> Result<(), OutOfMemory>
     append(list, core.variants())
 }
 
-/// The `u` extension that parts spell (RFC 6067, 2.1): attributes, then each key and its types. The parts have
-/// their forms, there is at least one, and there are at most 1,024 subtags. The only refusal is running out of
-/// memory.
+/// The `u` extension that parts spell (RFC 6067, 2.1): attributes, then each key and its types. The parts must have
+/// their forms, and must spell 1 to 1,024 subtags. The only refusal is running out of memory.
 pub fn join_u(alloc: Global, parts: &UParts) -> Result<Extension, OutOfMemory>
     requires shaped { IsU parts.now }
     requires few { length (spell_u parts.now) ≤ longest_text }
@@ -65,9 +64,8 @@ pub fn join_u(alloc: Global, parts: &UParts) -> Result<Extension, OutOfMemory>
     Ok(Extension::of_parts(b'u', subtags))
 }
 
-/// The `t` extension that parts spell (RFC 6497, 2.2): the source, then each separator and its values. The
-/// parts have their forms, there is at least one, and there are at most 1,024 subtags. The only refusal is
-/// running out of memory.
+/// The `t` extension that parts spell (RFC 6497, 2.2): the source, then each separator and its values. The parts must
+/// have their forms, and must spell 1 to 1,024 subtags. The only refusal is running out of memory.
 pub fn join_t(alloc: Global, parts: &TParts) -> Result<Extension, OutOfMemory>
     requires shaped { IsT parts.now }
     requires few { length (spell_t parts.now) ≤ longest_text }

@@ -17,7 +17,8 @@ enum Room {
 }
 
 impl Room {
-    /// What may follow a subtag, where `self` is what may come at its place. None if the subtag itself may not.
+    /// What may follow a subtag, where `self` is what may come at its place. None if the subtag itself may not come
+    /// there.
     fn after(self, subtag: &Subtag) -> Option<Room>
         ensures { result ≡ room_after self subtag.now }
     {
@@ -33,8 +34,8 @@ impl Room {
     }
 }
 
-/// Whether these are the subtags of a langtag without extensions and private use (RFC 5646, 2.1), as those of
-/// `zh-Hant` are. A list of one of the 26 grandfathered tags is none. It takes a list of any length, and no
+/// Whether these are the subtags of a langtag without extensions and private use (RFC 5646, 2.1), for example those
+/// of `zh-Hant`. The subtags of one of the 26 grandfathered tags are not. It takes a list of any length, and no
 /// memory.
 pub fn is_plain_langtag(subtags: &[Subtag]) -> bool
     ensures { IsTrue result ↔ IsPlainLangTag subtags.now }

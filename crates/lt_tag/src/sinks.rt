@@ -17,12 +17,13 @@ pub(crate) trait Sink {
     /// The bytes that it is known to hold; of a formatter none are known.
     ghost held: { Self → List ℕ };
 
-    /// Takes bytes, after those before. What it held it holds still, also where it refuses them.
+    /// Takes bytes, after those before. The sink still holds what it held, also if it refuses the bytes.
     fn add(&mut self, bytes: &[u8]) -> Result<(), Self::Refusal>
         ensures took { OnOk result (took self.old bytes.now self.new) }
         ensures kept { IsKept (held self.old) (held self.new) };
 
-    /// Takes the first `count` of nine bytes, as `add` does. Nine bytes are room for a hyphen and a subtag.
+    /// Takes the first `count` of nine bytes, as `add` does. `count` must be at most 9. Nine bytes are room for a hyphen
+    /// and a subtag.
     fn add_front(&mut self, bytes: &[u8; 9], count: usize) -> Result<(), Self::Refusal>
         requires { count ≤ 9 }
         ensures took { OnOk result (took self.old (take count bytes.now) self.new) }
@@ -58,6 +59,7 @@ impl<W: fmt::Write> Sink for fmt::Formatter<W> {
 
     ghost held = { λ _. [] };
 
+    /// Refuses bytes that are not UTF-8, and those that its writer refuses.
     fn add(&mut self, bytes: &[u8]) -> fmt::Result {
         let text = str::from_utf8(bytes).map_err(|_| fmt::Error)?;
         self.write_str(text)

@@ -101,8 +101,8 @@ fn read_keywords(alloc: Global, subtags: &[Subtag]) -> Result<Vec<Keyword>, OutO
     Ok(keywords)
 }
 
-/// The fields among the subtags of a `t` extension: each separator, with the subtags up to the next separator as
-/// its values. What is before the first separator is left out. Refused with `BadTransform` if a field has no
+/// The fields among the subtags of a `t` extension: each separator, with the subtags up to the next separator as its
+/// values. What is before the first separator is left out. It is refused with `BadTransform` if a field has no
 /// values, or a value that doesn't have 3 to 8 letters or digits, and with `OutOfMemory`.
 #[tactic(auto, using(crate::proofs::SplitLemmas::length_onward))]
 fn read_fields(alloc: Global, subtags: &[Subtag]) -> Result<Vec<Field>, TransformFault>
@@ -126,8 +126,8 @@ fn read_fields(alloc: Global, subtags: &[Subtag]) -> Result<Vec<Field>, Transfor
     Ok(fields)
 }
 
-/// The source that subtags spell, or None without a subtag. Refused with `BadTransform` if they aren't those of a
-/// core, and with `OutOfMemory`.
+/// The source that subtags spell, or None without a subtag. There must be at most 1,024 subtags. It is refused with
+/// `BadTransform` if they aren't those of a core, and with `OutOfMemory`.
 fn read_source(alloc: Global, subtags: &[Subtag]) -> Result<Option<Core>, TransformFault>
     requires { length subtags.now ≤ longest_text }
     ensures source { IfOk result (λ source. source_of_list subtags.now ≡ Some source) }
@@ -148,10 +148,10 @@ fn read_source(alloc: Global, subtags: &[Subtag]) -> Result<Option<Core>, Transf
     Ok(Some(core))
 }
 
-/// The parts that spell a `u` extension (RFC 6067, 2.1). There is one such value for each `u` extension: its
-/// keys are the subtags of 2, its attributes what is before the first key, and what is between a key and the
-/// next are the types of the key. So `u-attr-co-trad` has the attribute `attr` and the keyword `co-trad`. The
-/// only refusal is running out of memory.
+/// The parts that spell a `u` extension (RFC 6067, 2.1), which must have the singleton `u`. There is one such value
+/// for each `u` extension. Its keys are the subtags of two characters. Its attributes are the subtags before the
+/// first key, and the types of a key are the subtags up to the next key. So `u-attr-co-trad` has the attribute `attr`
+/// and the keyword `co-trad`. The only refusal is running out of memory.
 pub fn split_u(alloc: Global, extension: &Extension) -> Result<UParts, OutOfMemory>
     requires { extension.now.singleton ≡ unicode }
     ensures parts { IfOk result (λ parts. IsUnicode extension.now.subtags parts) }
@@ -165,10 +165,10 @@ pub fn split_u(alloc: Global, extension: &Extension) -> Result<UParts, OutOfMemo
     })
 }
 
-/// The parts that spell a `t` extension (RFC 6497, 2.2): a source, fields, or a source and fields after it. So
-/// `t-he-m0-true` has the source `he` and the field `m0-true`. There is at most one such value. `BadTransform`
-/// comes exactly where there is none; the tag is well-formed all the same. A separator may occur twice. The
-/// other refusal is running out of memory.
+/// The parts that spell a `t` extension (RFC 6497, 2.2), which must have the singleton `t`: a source, fields, or a
+/// source and fields after it. So `t-he-m0-true` has the source `he` and the field `m0-true`. A separator may occur
+/// twice. There is at most one such value. If there is none, the extension is refused with `BadTransform`, though its
+/// tag is well-formed. The other refusal is running out of memory.
 #[tactic(auto, using(crate::proofs::PartsLemmas::length_before))]
 pub fn split_t(alloc: Global, extension: &Extension) -> Result<TParts, TransformFault>
     requires { extension.now.singleton ≡ transform }

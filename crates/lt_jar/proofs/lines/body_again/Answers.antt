@@ -4,6 +4,7 @@ use Rattle.lt_jar.specs.LineKinds.{Start, trim}
 use Rattle.lt_jar.proofs.NameLemmas.{line_again, again_split}
 use Rattle.lt_jar.proofs.lines.body_again.Goals as goal
 
+-- a colon is before the body, and no character is cut behind an ASCII byte
 pub range_from-requires : goal.range_from-requires
 range_from-requires c =
     let text = c.content-text.result.now in
@@ -13,6 +14,7 @@ range_from-requires c =
     let colon : get_or text n 0 ≡ 58 = subst (λ (l : List ℕ). get_or l n 0 ≡ 58) same c.if-bytes-length-ne58.false in
     λ _. IsCharBoundary-after_ascii text n c.content-text.utf8 below (omega (arith, colon))
 
+-- the line is the name, a colon and what follows it, so it begins a field of that name
 pub returns-then-are_same : goal.returns-then-are_same
 returns-then-are_same c =
     let text = c.content-text.result.now in

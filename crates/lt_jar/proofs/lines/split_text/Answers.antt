@@ -4,12 +4,14 @@ use Rattle.lt_jar.specs.Lines.{IsOneLine}
 use Rattle.lt_jar.proofs.CutLemmas.{IsFirstFeed, cut_at, feed_at}
 use Rattle.lt_jar.proofs.lines.split_text.Goals as goal
 
+-- the byte at this index is a line feed, and no character is cut behind an ASCII byte
 pub range_from-requires : goal.range_from-requires
 range_from-requires c =
     let text = c.args.text.now in
     let at = feed_at text c.in-Some.i (subst (IsFirstFeed c.in-Some.i) c.as_bytes.ensures.value (c.in-Some.ensures {u = tt})) in
     λ _. IsCharBoundary-after_ascii text c.in-Some.i c.utf8.text at.0 (omega (arith, at.1))
 
+-- the text is what is before its first line feed, the line feed, and what is after it
 pub returns-in-Some : goal.returns-in-Some
 returns-in-Some c =
     let text = c.args.text.now in

@@ -4,6 +4,7 @@ use Rattle.lt_jar.specs.LineKinds.{is_blank}
 use Rattle.lt_jar.proofs.TrimLemmas.{trim_spaced}
 use Rattle.lt_jar.proofs.lines.trim.Goals as goal
 
+-- the first byte is a space, and no character is cut behind an ASCII byte
 pub range_from-requires : goal.range_from-requires
 range_from-requires c =
     let text = c.args.text.now in
@@ -12,6 +13,7 @@ range_from-requires c =
     let space : get_or text 0 0 ≡ 32 = subst (λ (l : List ℕ). get_or l 0 0 ≡ 32) same c.if-bytes-eq32.true in
     λ _. IsCharBoundary-after_ascii text 0 c.utf8.text (omega (arith, some)) (omega (arith, space))
 
+-- behind one space the text neither begins nor ends with a space or a tab, so nothing else is trimmed
 pub returns-then-not-is_blank-2 : goal.returns-then-not-is_blank-2
 returns-then-not-is_blank-2 c =
     let text = c.args.text.now in

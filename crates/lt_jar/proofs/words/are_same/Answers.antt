@@ -4,6 +4,7 @@ use Rattle.std.proofs.lemmas.Bool.{eqb-true, eq-eqb}
 use Rattle.lt_jar.proofs.WordLemmas.{same_by_fours, same_by_eights}
 use Rattle.lt_jar.proofs.words.are_same.Goals as goal
 
+-- two texts of 4 to 7 bytes are the same exactly if their first four and their last four are
 pub returns-then-four_at : goal.returns-then-four_at
 returns-then-four_at c =
     let xs = c.args.one.now in
@@ -16,6 +17,7 @@ returns-then-four_at c =
       λ e. eq-eqb _ _ (c.four_at-then-four_at.ensures ∙ ap (λ l. from_le_bytes w32 (take 4 (drop (n - 4) l))) e ∙ sym c.four_at-then-four_at-2.ensures),
     )
 
+-- two texts of 8 to 16 bytes are the same exactly if their first eight and their last eight are
 pub returns-then-eight_at : goal.returns-then-eight_at
 returns-then-eight_at c =
     let xs = c.args.one.now in

@@ -4,6 +4,7 @@ use Rattle.std.specs.Int.{bit_at}
 use Rattle.lt_rows.proofs.LaneLemmas.{bit_of}
 use Rattle.lt_rows.proofs.lanes.bits_of.Goals as goal
 
+-- bit k of the mask is the answer of the comparison at place k
 pub returns : goal.returns
 returns c k below =
     let text = c.args.text.now in

@@ -3,6 +3,7 @@ use Rattle.std.proofs.lemmas.Simd.{bitmask_splat, ones-mask_l}
 use Rattle.std.specs.Prelude.{count_ones}
 use Rattle.lt_rows.proofs.lanes.count_in_lanes.Goals as goal
 
+-- the mask has one bit set for each of the 64 bytes that is equal to `byte`
 pub returns : goal.returns
 returns c =
     let text = c.args.text.now in

@@ -4,19 +4,23 @@ use Rattle.std.proofs.lemmas.Nat.Bits.{bit_at-trailing_zeros, bit_at_and, bit_at
 use Rattle.lt_rows.proofs.LaneLemmas.{lowest_next, lowest_there, none_set, others_set}
 use Rattle.lt_rows.proofs.lanes.take_lowest.Goals as goal
 
+-- no bit is set, so the byte is nowhere in what is left of the row
 pub returns-then-all-eq0-clause-next : goal.returns-then-all-eq0-clause-next
 returns-then-all-eq0-clause-next c = λ byte start row are. none_set byte start row c.args.bits.now are (omega (arith, c.if-all-eq0.true))
 
+-- the lowest bit that is set is at the byte's next place
 pub returns-clause-next : goal.returns-clause-next
 returns-clause-next c = λ byte start row are.
     let h = bit_at-trailing_zeros w64 c.args.bits.now (omega (arith, c.if-all-eq0.false)) (omega arith) in
     lowest_next byte start row c.args.bits.now are _ h.1 h.2
 
+-- a bit is set only at a place of the row
 pub returns-clause-inside : goal.returns-clause-inside
 returns-clause-inside c = λ byte start row are.
     let h = bit_at-trailing_zeros w64 c.args.bits.now (omega (arith, c.if-all-eq0.false)) (omega arith) in
     (lowest_there byte start row c.args.bits.now are _ h.1 h.2).1
 
+-- the other bits are those of the places behind the lowest
 pub returns-clause-rest : goal.returns-clause-rest
 returns-clause-rest c = λ byte start row are.
     let bits = c.args.bits.now in

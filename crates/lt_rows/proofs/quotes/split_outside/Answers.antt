@@ -3,14 +3,14 @@ use Rattle.lt_rows.specs.Quotes.{is_quoted, place_after}
 use Rattle.lt_rows.proofs.StopLemmas.{free_past, free_to_end, inside_past, place_past, split_there}
 use Rattle.lt_rows.proofs.quotes.split_outside.Goals as goal
 
--- src/quotes.rt:87:13
+-- this `stop` is outside of quotes, and all before it are within
 pub returns-then-not-is_quoted : goal.returns-then-not-is_quoted
 returns-then-not-is_quoted c =
     split_there c.args.delimiter c.args.stop c.args.text.now c.loop-front.passed c.in-Some.front.now c.in-Some.after.now c.loop-front.invariant.inside c.in-Some.ensures.1
     c.loop-front.place c.loop-front.invariant.place c.loop-front.invariant.free c.in-Some.ensures.0
     (ap is_quoted (sym c.after_text-place.ensures) ∙ sym c.is_quoted.ensures ∙ c.if-not-is_quoted.true)
 
--- src/quotes.rt:83:5
+-- this `stop` is within quotes, and is passed
 pub loop-front-preserved : goal.loop-front-preserved
 loop-front-preserved c =
     let quoted = ap is_quoted (sym c.after_text-place.ensures) ∙ sym c.is_quoted.ensures ∙ c.if-not-is_quoted.false in
@@ -23,6 +23,6 @@ loop-front-preserved c =
           c.loop-front.place c.loop-front.invariant.place c.loop-front.invariant.free c.in-Some.ensures.0 quoted;
     }
 
--- src/quotes.rt:77:1
+-- no `stop` is left, so all are within quotes
 pub returns : goal.returns
 returns c = free_to_end c.args.delimiter c.args.stop c.args.text.now c.loop-front.passed c.loop-front.invariant.free c.in_default.ensures

@@ -6,6 +6,7 @@ use Rattle.lt_rows.proofs.RowLemmas.{skips_none}
 use Rattle.lt_rows.proofs.short_rows.short_field_at.Goals as goal
 use Rattle.lt_rows.proofs.short_rows.short_field_at.Goals.{After-loop-field}
 
+-- before the loop no field is skipped, and the bits are those of all separators of the row
 pub loop-field-init : goal.loop-field-init
 loop-field-init c = (
   omega arith,
@@ -13,17 +14,20 @@ loop-field-init c = (
   subst (λ (byte : ℕ). AreBitsFrom byte 0 (take c.args.count c.args.text.now) c.bits_in-bits.result) c.byte.ensures c.bits_in-bits.ensures,
 )
 
+-- the place of a separator is in the row, which has less than 64 bytes
 pub overflow_add-start : goal.overflow_add-start
 overflow_add-start c =
     let i = c.loop-field.invariant in
     omega (arith, c.in-Some.ensures.inside _ _ _ i.2, length-take-le c.args.count c.args.text.now (omega (arith, c.requires.near.0, c.requires.near.1)), c.requires.near.0)
 
+-- no separator is left, and one field more was to be skipped, so the row has too few
 pub returns-in-None : goal.returns-in-None
 returns-in-None c =
     let i = c.loop-field.invariant in
     no_more c.args.separator c.loop-field._field c.loop-field.start (take c.args.count c.args.text.now) c.requires.plain i.1 c.args.before (omega (arith, c.loop-field-test.true))
     (c.in-None.ensures.next _ _ _ i.2)
 
+-- a turn skips one field more, up to the next separator
 pub loop-field-preserved : goal.loop-field-preserved
 loop-field-preserved c =
     let i = c.loop-field.invariant in
@@ -38,12 +42,14 @@ skipped c =
     let all : c.loop-field._field ≡ c.args.before = omega (arith, c.loop-field.auto._field-end, c.loop-field-test.false) in
     subst (λ (n : ℕ). Skips c.args.separator n row (drop c.loop-field.start row)) all c.loop-field.invariant.1
 
+-- the field ends at the next separator
 pub returns-in-Some-take_lowest : goal.returns-in-Some-take_lowest
 returns-in-Some-take_lowest c =
     let i = c.loop-field.invariant in
     field_up_to c.args.separator c.args.before c.loop-field.start (take c.args.count c.args.text.now) c.requires.plain (skipped (goal.at.returns-in-Some-take_lowest c).After-loop-field)
     c.in-Some-take_lowest.end (omega (arith, i.0, length-take-le c.args.count c.args.text.now (omega (arith, c.requires.near.0, c.requires.near.1)))) (c.in-Some-take_lowest.ensures.next _ _ _ i.2)
 
+-- no separator is left, so the field goes to the end of the row
 pub returns-in-None-take_lowest : goal.returns-in-None-take_lowest
 returns-in-None-take_lowest c =
     let i = c.loop-field.invariant in

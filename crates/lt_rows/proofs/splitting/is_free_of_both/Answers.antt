@@ -3,6 +3,7 @@ use Rattle.std.proofs.lemmas.Bool.Decides.{leb_tells}
 use Rattle.lt_rows.proofs.NearLemmas.{either_near, neither_before, neither_near}
 use Rattle.lt_rows.proofs.splitting.is_free_of_both.Goals as goal
 
+-- one of the two was found first at this place, so both are absent exactly if it is behind the first `count`
 pub returns-in-Some : goal.returns-in-Some
 returns-in-Some c =
     let near = c.near.result.now in
@@ -17,5 +18,6 @@ returns-in-Some c =
       ],
     )
 
+-- neither was found, so neither is among the first `count`
 pub returns-in-None : goal.returns-in-None
 returns-in-None c = (λ _. neither_near c.args.count c.args.text.now c.near.result.now c.near.ensures c.args.one c.args.other c.in-None.ensures, λ _. refl)

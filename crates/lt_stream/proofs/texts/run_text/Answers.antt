@@ -3,6 +3,7 @@ use Rattle.lt_stream.proofs.LinedLemmas.{taken_none}
 use Rattle.lt_stream.proofs.TextRunLemmas.{runs_text}
 use Rattle.lt_stream.proofs.texts.run_text.Goals as goal
 
+-- before the run no byte waits, and no bytes may become a mark
 pub run_pieces-end-requires : goal.run_pieces-end-requires
 run_pieces-end-requires g c = inr (record {
   begun = refl;
@@ -12,5 +13,6 @@ run_pieces-end-requires g c = inr (record {
   taken = taken_none g.A.Lines.answered c.new-2.result.answers _ _ _ c.new-2.result c.requires.some c.new-2.ensures.kept c.new-2.ensures.owed (rw c.new-2.ensures.answers c.requires.first);
 })
 
+-- a run over the pieces of a text is a run over its lines
 pub returns : goal.returns
 returns g c = rw (c.into_answers.ensures, ← c.new-2.ensures.answers) (runs_text _ _ _ _ _ _ _ _ _ _ c.run_pieces-end.ensures)

@@ -5,6 +5,7 @@ use lib.Lanes.{chunk}
 use Rattle.lt_subtag.proofs.LaneLemmas.{joined, front_of}
 use Rattle.lt_subtag.proofs.lanes.run_of_8.Goals as goal
 
+-- a bit of the mask is set exactly where a byte is neither a letter nor a digit, and the lowest ends the front
 pub returns : goal.returns
 returns c =
     let v = chunk 0 8 c.args.text.now in

@@ -1,5 +1,6 @@
 use Rattle.lt_tag.proofs.PartsLaws.{u_decided}
 use Rattle.lt_tag.proofs.parts_laws.unicode_is_decided.Goals as goal
 
+-- parts that are found spell the subtags, and all parts with their forms are found in what they spell
 pub returns : goal.returns
 returns c = u_decided

@@ -7,11 +7,13 @@ use Rattle.lt_jar.specs.LineKinds.{line_of}
 use Rattle.lt_jar.specs.Faults as faults
 use Rattle.lt_jar.proofs.drafts.Draft.take_line.Goals as goal
 
+-- the line is short and UTF-8, so what it does to the record depends on its kind alone
 pub returns-in-Ok : goal.returns-in-Ok
 returns-in-Ok c =
     let kind = ap line_of c.in-Ok.ensures.cases.0 in
     rw (le-ltb longest_line (length c.args.line.now) (omega arith), is_utf8-from_IsUtf8 c.args.line.now c.in-Ok.ensures.cases.1, ← kind) c.take_short_line.ensures
 
+-- the line is short and not UTF-8, and that is its fault
 pub returns-in-Err : goal.returns-in-Err
 returns-in-Err c =
     let line = c.args.line.now in

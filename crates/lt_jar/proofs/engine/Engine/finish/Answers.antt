@@ -9,6 +9,7 @@ use Rattle.lt_jar.proofs.TurnLemmas.{last_some}
 use Rattle.lt_jar.proofs.ReadingLemmas.{last_taken}
 use Rattle.lt_jar.proofs.engine.Engine.finish.Goals as goal
 
+-- no bytes are kept, so no line is left, and the fields so far are the last record, if there are any
 pub returns-then-is_empty : goal.returns-then-is_empty
 returns-then-is_empty c =
     let old = c.args.self.now in
@@ -24,6 +25,7 @@ returns-then-is_empty c =
       empty = none;
     }
 
+-- the kept bytes are the last line, which is refused
 pub returns-in_err-end_line : goal.returns-in_err-end_line
 returns-in_err-end_line c =
     let p = err_from_is_err_and c.from_residual.result c.from_residual.ensures.1 in
@@ -38,6 +40,7 @@ returns-in_err-end_line c =
       begun = counted.1;
     })
 
+-- the kept bytes are the last line, and the fields after it are the last record, if there are any
 pub returns : goal.returns
 returns c =
     let old = c.args.self.now in

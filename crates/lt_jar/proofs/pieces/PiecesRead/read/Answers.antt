@@ -4,6 +4,7 @@ use Rattle.lt_jar.specs.TestDevices.{next_place}
 use Rattle.lt_jar.proofs.TestDeviceLemmas.{part-from, remaining-moves}
 use Rattle.lt_jar.proofs.pieces.PiecesRead.read.Goals as goal
 
+-- the bytes given are a front of what remained, and the rest of it remains
 pub returns-clause-bytes : goal.returns-clause-bytes
 returns-clause-bytes c =
     let reader = c.args.self.now in

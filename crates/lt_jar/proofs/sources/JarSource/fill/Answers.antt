@@ -3,6 +3,7 @@ use Rattle.std.specs.Str.{is_utf8}
 use Rattle.lt_jar.proofs.SourceLemmas.{found_text}
 use Rattle.lt_jar.proofs.sources.JarSource.fill.Goals as goal
 
+-- `is_text` is true only if the check accepted the bytes that the read gave
 pub invariant_of-self-in-Ok-clause-text : goal.invariant_of-self-in-Ok-clause-text
 invariant_of-self-in-Ok-clause-text g c =
     let count = c.in-Ok.count in

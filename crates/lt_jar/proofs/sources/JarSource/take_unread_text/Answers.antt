@@ -4,11 +4,13 @@ use Rattle.std.proofs.lemmas.Str.{IsUtf8-from_is_utf8, is_utf8-from_IsUtf8}
 use Rattle.lt_jar.proofs.SourceLemmas.{unread_rest}
 use Rattle.lt_jar.proofs.sources.JarSource.take_unread_text.Goals as goal
 
+-- `is_text` is true only of bytes that were found to be UTF-8
 pub from_utf8_unchecked-text-requires : goal.from_utf8_unchecked-text-requires
 from_utf8_unchecked-text-requires c =
     let piece = c.between-piece in
     IsUtf8-from_is_utf8 piece.result.now (ap is_utf8 piece.ensures.bytes ∙ c.args.self.now.text c.requires)
 
+-- the rest that the engine leaves is UTF-8 by its type
 pub invariant_of-self-clause-text : goal.invariant_of-self-clause-text
 invariant_of-self-clause-text c =
     let old = c.args.self.now in
@@ -18,6 +20,7 @@ invariant_of-self-clause-text c =
     λ is. ap is_utf8 (unread_rest old.buffer old.start old.end takes.front rest old.placed.0 piece.room takes.split)
     ∙ is_utf8-from_IsUtf8 rest (subst IsUtf8 c.as_bytes.ensures.value c.as_bytes.ensures.utf8)
 
+-- the rest that the engine leaves is at the end of the bytes read, so it begins its own length before that end
 pub returns-in-Ok-Some-clause-takes : goal.returns-in-Ok-Some-clause-takes
 returns-in-Ok-Some-clause-takes c =
     let old = c.args.self.now in

@@ -3,7 +3,7 @@ use Rattle.std.specs.Ordering.{nat_cmp}
 use Rattle.lt_subtag.proofs.NumberLemmas.{subtag_few, numbers_ordered}
 use Rattle.lt_subtag.proofs.comparing.SubtagOrd.cmp.Goals as goal
 
--- src/comparing.rt:48:5
+-- the order of subtags is that of their numbers
 pub returns : goal.returns
 returns c =
     c.cmp.ensures ∙ ap₂ nat_cmp c.number.ensures.number c.number-2.ensures.number

@@ -2,7 +2,7 @@ use Rattle.std.proofs.Common.{nat_eq, ap₂, ◌∙◌}
 use Rattle.lt_subtag.proofs.NumberLemmas.{subtag_few, numbers_equal}
 use Rattle.lt_subtag.proofs.comparing.SubtagPartialEq.eq.Goals as goal
 
--- src/comparing.rt:19:5
+-- subtags are equal exactly if their numbers are
 pub returns : goal.returns
 returns c =
     ap₂ nat_eq c.number.ensures.number c.number-2.ensures.number

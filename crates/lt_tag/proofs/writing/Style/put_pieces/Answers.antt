@@ -6,6 +6,7 @@ use Rattle.lt_tag.specs.Rest.{pieces_left}
 use Rattle.lt_tag.proofs.PrintingLemmas.{prints_append, prints_as, kept_trans}
 use Rattle.lt_tag.proofs.writing.Style.put_pieces.Goals as goal
 
+-- a turn prints one piece more, and the pieces behind its hyphen are left
 pub loop-others-preserved : goal.loop-others-preserved
 loop-others-preserved g c =
     let before = c.loop-others.invariant.put in
@@ -20,6 +21,7 @@ loop-others-preserved g c =
       kept = kept_trans _ _ _ c.loop-others.invariant.kept c.put.ensures.kept;
     }
 
+-- no hyphen is left, so this piece is the last
 pub returns-in-None-clause-put : goal.returns-in-None-clause-put
 returns-in-None-clause-put g c =
     let before = c.loop-others.invariant.put in

@@ -17,13 +17,14 @@ spelled : (form : TagForm) (number : ℕ) → Some number ≡ number_of form →
 unfolding grandfathered_list
 spelled form number e = grind (arith, nat_tests)
 
+-- the pieces of the text of a grandfathered tag are printed
 pub returns-in-Some-clause-put : goal.returns-in-Some-clause-put
 returns-in-Some-clause-put g c =
     IfOk-weaker c.put_pieces.result _ _
     (λ u last. prints_as (ap pieces c.text_of.ensures ∙ spelled c.args.tag.now c.in-Some.number (sym c.in-Some.is ∙ c.grandfathered.ensures.value)) last)
     c.put_pieces.ensures.put
 
--- another spells its parts
+-- any other tag spells its core, its extensions and its private use, of which some may be missing
 parts_spelled : (form : TagForm) → IsTagValue form → ((number : ℕ) → number_of form ≡ Some number → ⊥)
     → spell_source (core_of form) ++ (spell_extensions (extensions_of form) ++ spell_private (private_of form)) ≡ spell form
 parts_spelled (LangTag core extensions private) value other = refl
@@ -31,6 +32,7 @@ parts_spelled (PrivateUse []) value other = absurd (omega (arith, value.tag.some
 parts_spelled (PrivateUse (s ∷ ss)) value other = refl
 parts_spelled (Grandfathered number) value other = absurd (other number refl)
 
+-- any other tag is printed part by part
 pub returns-clause-put : goal.returns-clause-put
 returns-clause-put g c =
     IfOk-weaker c.put_private.result _ _
