@@ -1,5 +1,6 @@
 -- What one canonical core says of an end holds with each: the lists and the texts of ends.
-use Rattle.std.proofs.Common.{◌≡◌, ◌≢◌, ℕ, ◌≤◌, ◌<◌, ◌+◌, ◌==◌, Bool, true, not, List, [], ◌∷◌, ◌++◌, length, map, refl, sym, ap, ◌∙◌, subst, arith, inr}
+use Rattle.std.proofs.Common.{◌≡◌, ◌≢◌, ℕ, ◌≤◌, ◌<◌, ◌+◌, ◌==◌, Bool, true, not, List, [], ◌∷◌, ◌++◌, length, map, refl}
+use Rattle.std.proofs.Common.{sym, ap, ◌∙◌, subst, arith, inr}
 use Rattle.std.specs.List.{AllByRecursion, join_with_byte, list_all, onto_first}
 use Rattle.std.proofs.lemmas.Bool.{and_parts, ne_eqb, not-true}
 use Rattle.std.proofs.lemmas.List.{append-nil, append_assoc, append_cancel_left, map-append}
@@ -63,12 +64,14 @@ no_single list = list_all (λ (s : List ℕ). not (length s == 1)) list
 
 -- in conventional case the first one-character subtag, `s`, and those after it, `ss`, stay as they are (RFC 5646,
 -- 2.1.1)
-shown_append : (xs : List (List ℕ)) (s : List ℕ) (ss : List (List ℕ)) → no_single xs ≡ true → (length s == 1) ≡ true → shown_after (xs ++ s ∷ ss) ≡ shown_after xs ++ s ∷ ss
+shown_append : (xs : List (List ℕ)) (s : List ℕ) (ss : List (List ℕ)) → no_single xs ≡ true → (length s == 1) ≡ true
+    → shown_after (xs ++ s ∷ ss) ≡ shown_after xs ++ s ∷ ss
 shown_append [] s ss h e = rw e refl
 shown_append (x ∷ xs) s ss h e = grind (arith, nat_tests, shown_append xs s ss)
 
 -- two lists, each of one subtag or more, joined by hyphens (45): the text of the one, a hyphen, and that of the other
-pub join_append : (x : List ℕ) (xs : List (List ℕ)) (s : List ℕ) (ss : List (List ℕ)) → join_with_byte 45 (x ∷ xs ++ s ∷ ss) ≡ join_with_byte 45 (x ∷ xs) ++ 45 ∷ join_with_byte 45 (s ∷ ss)
+pub join_append : (x : List ℕ) (xs : List (List ℕ)) (s : List ℕ) (ss : List (List ℕ))
+    → join_with_byte 45 (x ∷ xs ++ s ∷ ss) ≡ join_with_byte 45 (x ∷ xs) ++ 45 ∷ join_with_byte 45 (s ∷ ss)
 join_append x [] s ss = refl
 join_append x (y ∷ xs) s ss = rw (join_append y xs s ss) (simp append_assoc)
 
@@ -82,7 +85,8 @@ text_append x xs s ss h e =
 
 -- subtags without a mark, `xs`, are those before the first marked one, if `rest`, which follows, begins with one or is
 -- empty
-cut_first : (mark : List ℕ → Bool) (xs rest : List (List ℕ)) → list_all (λ (s : List ℕ). not (mark s)) xs ≡ true → before mark rest ≡ [] → before mark (xs ++ rest) ≡ xs
+cut_first : (mark : List ℕ → Bool) (xs rest : List (List ℕ)) → list_all (λ (s : List ℕ). not (mark s)) xs ≡ true
+    → before mark rest ≡ [] → before mark (xs ++ rest) ≡ xs
 cut_first mark xs rest h first = before-append mark xs rest h ∙ ap (λ (l : List (List ℕ)). xs ++ l) first ∙ append-nil xs
 
 -- ---- extensions and private use
@@ -116,7 +120,8 @@ abbrev pub list_after : {end : List ℕ} → IsEnd end → List (List ℕ)
 list_after E = folded (E.singleton ∷ []) ∷ list_of E.rest
 
 -- the list of a text that is a core, `front`, and an end: the subtags of the core, and the list of the end
-pub whole_list : (front end : List ℕ) (c : CoreParts) (E : IsEnd end) → HasTag front (core_alone c) → list_of (front ++ end) ≡ spell_core c ++ list_after E
+pub whole_list : (front end : List ℕ) (c : CoreParts) (E : IsEnd end) → HasTag front (core_alone c)
+    → list_of (front ++ end) ≡ spell_core c ++ list_after E
 whole_list front end c E read =
     ap (λ (l : List ℕ). list_of (front ++ l)) E.whole ∙ list_append front (E.singleton ∷ 45 ∷ E.rest)
     ∙ rw (list_single E.singleton E.rest E.single, core_list front c read) refl
@@ -126,8 +131,15 @@ whole_list front end c E read =
 pub has_end : (t : TagForm) (c : CoreParts) (s : ℕ) (ss : List (List ℕ)) → IsTag t → IsCore c → spell t ≡ spell_core c ++ (s ∷ []) ∷ ss
     → (es : List ExtensionParts) × (ps : List (List ℕ)) × (t ≡ LangTag c es ps) × (spell_rest es ps ≡ (s ∷ []) ∷ ss)
 has_end (LangTag d es ps) c s ss T k e =
-    let core : spell_core d ≡ spell_core c = sym (cut_first is_single (spell_core d) (spell_rest es ps) (core_no_single d T.0.shaped_core) (rest_single es ps)) ∙ ap (before is_single) e ∙ cut_first is_single (spell_core c) ((s ∷ []) ∷ ss) (core_no_single c k) refl in
-    (es, ps, ap (λ (x : CoreParts). LangTag x es ps) (one_core d c T.0.shaped_core k core), append_cancel_left (spell_core d) _ _ (e ∙ ap (λ (l : List (List ℕ)). l ++ (s ∷ []) ∷ ss) (sym core)))
+    let core : spell_core d ≡ spell_core c =
+    sym (cut_first is_single (spell_core d) (spell_rest es ps) (core_no_single d T.0.shaped_core)
+    (rest_single es ps)) ∙ ap (before is_single) e
+    ∙ cut_first is_single (spell_core c) ((s ∷ []) ∷ ss) (core_no_single c k) refl in (
+      es,
+      ps,
+      ap (λ (x : CoreParts). LangTag x es ps) (one_core d c T.0.shaped_core k core),
+      append_cancel_left (spell_core d) _ _ (e ∙ ap (λ (l : List (List ℕ)). l ++ (s ∷ []) ∷ ss) (sym core)),
+    )
 has_end (PrivateUse ps) c s ss T k e =
     let first : x_subtag ≡ c.language = head_is x_subtag c.language ps _ e in
     absurd (omega (arith, (language_long c.language k.language).long, ap length first))
@@ -137,7 +149,8 @@ has_end (Grandfathered n) c s ss T k e =
     absurd (not_grandfathered c (x ∷ []) [] (inr (omega arith)) n (record { first = T.0; last = T.1; same = sym same }))
 
 -- extensions and private use that spell a subtag are some
-has_some : (es : List ExtensionParts) (ps : List (List ℕ)) (s : List ℕ) (ss : List (List ℕ)) → spell_rest es ps ≡ s ∷ ss → 0 < length es + length ps
+has_some : (es : List ExtensionParts) (ps : List (List ℕ)) (s : List ℕ) (ss : List (List ℕ)) → spell_rest es ps ≡ s ∷ ss
+    → 0 < length es + length ps
 has_some [] [] s ss e = cc
 has_some es ps s ss e = omega arith
 
@@ -162,14 +175,18 @@ module _ (R : List EntryParts) (C : IsChecked R) where
 
   -- if the end of a tag's steps repeats no variant, the sources within its extensions repeat none; `d` is the tag's
   -- core
-  sources_of : (d : CoreParts) (es : List ExtensionParts) (ps : List (List ℕ)) → RepeatsNoVariant (lang_end R C d es ps) → AllByRecursion HasDistinctSource (extensions_end R C es)
-  sources_of d [] ps D = subst (AllByRecursion HasDistinctSource) (star_rests ((extensions_end_formed R C).reached []) (λ fs s. extensions_step_from R [] fs s refl)) tt
+  sources_of : (d : CoreParts) (es : List ExtensionParts) (ps : List (List ℕ)) → RepeatsNoVariant (lang_end R C d es ps)
+      → AllByRecursion HasDistinctSource (extensions_end R C es)
+  sources_of d [] ps D = subst (AllByRecursion HasDistinctSource)
+      (star_rests ((extensions_end_formed R C).reached []) (λ fs s. extensions_step_from R [] fs s refl)) tt
   sources_of d (e ∷ es) ps D = D.1
 
   -- a text has one canonical text
   pub one_text : (text x y : List ℕ) → IsCanonicalTextOf R text x → IsCanonicalTextOf R text y → x ≡ y
   one_text text x y a b =
-      a.written ∙ ap (λ (t : TagForm). conventional (spell t)) (sym (form_is_end R C a.tag a.form a.is_form) ∙ ap (tag_end R C) (one_tag_of_text text a.tag b.tag a.read b.read) ∙ form_is_end R C b.tag b.form b.is_form) ∙ sym b.written
+      a.written ∙ ap (λ (t : TagForm). conventional (spell t)) (sym (form_is_end R C a.tag a.form a.is_form)
+      ∙ ap (tag_end R C) (one_tag_of_text text a.tag b.tag a.read b.read) ∙ form_is_end R C b.tag b.form b.is_form)
+      ∙ sym b.written
 
   -- These extensions and this private use, one or more in all, can follow each canonical core in a valid tag. No source
   -- within the extensions repeats a variant, neither as it is nor at the end of their steps.
@@ -181,8 +198,10 @@ module _ (R : List EntryParts) (C : IsChecked R) where
 
   -- the canonical text of a canonical core with an end that spells such extensions and private use: `rest` is the text
   -- of what these are in canonical form
-  pub text_with : (front end rest : List ℕ) (F : IsCanonicalCore R front) (es : List ExtensionParts) (ps : List (List ℕ)) → CanFollow es ps → list_of (front ++ end) ≡ spell_core F.core ++ spell_rest es ps
-      → join_with_byte 45 (spell_rest (extensions_end R C es) ps) ≡ rest → length (front ++ end) ≤ longest_text → IsCanonicalTextOf R (front ++ end) (conventional (list_of front) ++ 45 ∷ rest)
+  pub text_with : (front end rest : List ℕ) (F : IsCanonicalCore R front) (es : List ExtensionParts) (ps : List
+      (List ℕ)) → CanFollow es ps → list_of (front ++ end) ≡ spell_core F.core ++ spell_rest es ps
+      → join_with_byte 45 (spell_rest (extensions_end R C es) ps) ≡ rest → length (front ++ end) ≤ longest_text
+      → IsCanonicalTextOf R (front ++ end) (conventional (list_of front) ++ 45 ∷ rest)
   text_with front end rest F es ps V whole after short =
       let c = F.core in
       let fs = extensions_end R C es in
@@ -195,23 +214,37 @@ module _ (R : List EntryParts) (C : IsChecked R) where
         read = record { short = short; tag = proper.tag.tag; spelled = sym whole };
         form = LangTag c fs ps;
         is_form = langtag_canonical R C c c es fs ps (record { proper = proper; distinct = (F.canonical.valid.distinct.0, V.distinct) })
-            (record { normal = record { reached = done; at_rest = core_rests c F.canonical }; distinct = F.canonical.valid.distinct.0 }) normal V.sources V.some;
+            (record {
+              normal = record { reached = done; at_rest = core_rests c F.canonical };
+              distinct = F.canonical.valid.distinct.0;
+            }) normal V.sources V.some;
         written = rw (core_list front c F.read, ← after) (sym text);
       }
 
   -- what follows one canonical core with an end, in its canonical text, follows each with the same end
   pub ends_shared : EndsAreShared R
   ends_shared front end canonical F E a =
-      let H = has_end a.tag F.core _ (list_of E.rest) a.read.tag F.read.tag.0.shaped_core (a.read.spelled ∙ whole_list front end F.core E F.read) in
+      let H = has_end a.tag F.core _ (list_of E.rest) a.read.tag F.read.tag.0.shaped_core (a.read.spelled
+      ∙ whole_list front end F.core E F.read) in
       let is = subst (λ (t : TagForm). IsCanonicalFormOf R t a.form) H.2 a.is_form in
       let V : CanFollow H.0 H.1 = record {
         parts = λ c k.
             let P = proper_parts R F.core H.0 H.1 is.valid.proper in
-            record { core = k; values = P.values; count = P.count; private = P.private; private_count = P.private_count; extensions = P.extensions; singletons = P.singletons };
+            record {
+              core = k;
+              values = P.values;
+              count = P.count;
+              private = P.private;
+              private_count = P.private_count;
+              extensions = P.extensions;
+              singletons = P.singletons;
+            };
         distinct = is.valid.distinct.1;
-        sources = sources_of (core_end R C F.core) H.0 H.1 (subst RepeatsNoVariant (sym (form_is_end R C _ a.form is)) is.canonical.valid.distinct);
+        sources = sources_of (core_end R C F.core) H.0 H.1 (subst RepeatsNoVariant (sym (form_is_end R C _ a.form is))
+            is.canonical.valid.distinct);
         some = has_some H.0 H.1 _ (list_of E.rest) H.3;
       } in
       let shared : IsEndText R end (45 ∷ join_with_byte 45 (spell_rest (extensions_end R C H.0) H.1)) =
-      λ other G. text_with other end _ G H.0 H.1 V (whole_list other end G.core E G.read ∙ ap (λ (l : List (List ℕ)). spell_core G.core ++ l) (sym H.3)) refl in
+      λ other G. text_with other end _ G H.0 H.1 V (whole_list other end G.core E G.read
+      ∙ ap (λ (l : List (List ℕ)). spell_core G.core ++ l) (sym H.3)) refl in
       record { rest = _; whole = one_text (front ++ end) _ _ a (shared front F a.read.short); shared = shared }

@@ -18,28 +18,34 @@ all_then [] k h i = (i, tt)
 all_then (j ∷ ks) k h i = (h.0, all_then ks k h.1 i)
 
 -- a key adds a subtag to keywords as the key of a further one
-pub added_key : (s : List ℕ) (old new : List KeywordParts) → is_key s ≡ true → new ≡ old ++ record { key = s; types = [] } ∷ [] → AddsSubtag s old new
+pub added_key : (s : List ℕ) (old new : List KeywordParts) → is_key s ≡ true
+    → new ≡ old ++ record { key = s; types = [] } ∷ [] → AddsSubtag s old new
 added_key s old new key grown = record {
   spelled = ap (flat_map spell_keyword) grown ∙ flat_map-append spell_keyword old _;
   shaped = λ h. subst (AllByRecursion IsKeyword) (sym grown) (all_then old _ h (record { key = key; types = refl }));
 }
 
 -- a type adds a subtag to keywords in the last one, which is `k` before and `l` after
-pub added_type : (s : List ℕ) (old new before : List KeywordParts) (k l : KeywordParts) → is_long s ≡ true → old ≡ before ++ k ∷ [] → l ≡ record { key = k.key; types = k.types ++ s ∷ [] } → new ≡ before ++ l ∷ []
+pub added_type : (s : List ℕ) (old new before : List KeywordParts) (k l : KeywordParts) → is_long s ≡ true
+    → old ≡ before ++ k ∷ [] → l ≡ record { key = k.key; types = k.types ++ s ∷ [] } → new ≡ before ++ l ∷ []
     → AddsSubtag s old new
 added_type s old new before k l long was is grown = record {
   spelled =
       ap (flat_map spell_keyword) (grown ∙ ap (λ (x : KeywordParts). before ++ x ∷ []) is) ∙ flat_map-append spell_keyword before _
-      ∙ (simp append_assoc) ∙ ap (λ (x : List (List ℕ)). x ++ s ∷ []) (sym (ap (flat_map spell_keyword) was ∙ flat_map-append spell_keyword before _));
+      ∙ (simp append_assoc)
+      ∙ ap (λ (x : List (List ℕ)). x ++ s ∷ []) (sym (ap (flat_map spell_keyword) was
+      ∙ flat_map-append spell_keyword before _));
   shaped = λ h.
       let there = subst (AllByRecursion IsKeyword) was h in
       let last = all_middle IsKeyword before k [] there in
       subst (AllByRecursion IsKeyword) (sym (grown ∙ ap (λ (x : KeywordParts). before ++ x ∷ []) is))
-      (all_replaced IsKeyword before k _ [] there (record { key = last.key; types = list_all-append is_long k.types _ last.types (and_from _ _ long refl) }));
+      (all_replaced IsKeyword before k _ [] there
+      (record { key = last.key; types = list_all-append is_long k.types _ last.types (and_from _ _ long refl) }));
 }
 
 -- keywords that spell subtags are what these are read as in a `u` extension without attributes
-pub keywords_read : (ss : List (List ℕ)) (ks : List KeywordParts) → 0 < length ss → flat_map spell_keyword ks ≡ ss → AllByRecursion IsKeyword ks → IsUnicode ss (of_keywords ks)
+pub keywords_read : (ss : List (List ℕ)) (ks : List KeywordParts) → 0 < length ss → flat_map spell_keyword ks ≡ ss
+    → AllByRecursion IsKeyword ks → IsUnicode ss (of_keywords ks)
 keywords_read ss ks some spelled h = record {
   shaped = record { attributes = refl; keywords = h; some = rw spelled some };
   spelled = spelled;

@@ -1,5 +1,6 @@
 -- The lanes of a short text.
-use Rattle.std.proofs.Common.{◌≡◌, ◌≤◌, ◌<◌, ◌+◌, ◌*◌, ◌++◌, ℕ, Bool, true, false, not, cond, eqb, ltb, zero, suc, List, [], ◌∷◌, map, length, take, replicate, refl, ap, ap₂, ◌∙◌, arith}
+use Rattle.std.proofs.Common.{◌≡◌, ◌≤◌, ◌<◌, ◌+◌, ◌*◌, ◌++◌, ℕ, Bool, true, false, not, cond, eqb, ltb, zero, suc, List}
+use Rattle.std.proofs.Common.{[], ◌∷◌, map, length, take, replicate, refl, ap, ap₂, ◌∙◌, arith}
 use Rattle.std.proofs.lemmas.Bool.{lt-ltb, eqb-true, eq-eqb, le-ltb}
 use Rattle.std.specs.List.{range_with_len}
 use lib.Lanes.{sel_l, top, mask_l, zip2}
@@ -40,7 +41,8 @@ same_lanes (x ∷ xs) [] long none = absurd (omega (arith, long))
 same_lanes (x ∷ xs) (y ∷ ys) long none =
     let b : Bool = eqb x y in
     let head : (b : Bool) → cond (not b) 1 0 + 2 * mask_l (zip2 (λ a b. not (eqb a b)) xs ys) ≡ 0 → b ≡ true =
-    λ b e. (elim b as (λ v. cond (not v) 1 0 + 2 * mask_l (zip2 (λ a b. not (eqb a b)) xs ys) ≡ 0 → v ≡ true) [ true ↦ λ _. refl | false ↦ λ h. absurd (omega (arith, h)) ]) e in
+    λ b e. (elim b as (λ v. cond (not v) 1 0 + 2 * mask_l (zip2 (λ a b. not (eqb a b)) xs ys) ≡ 0 → v ≡ true)
+    [ true ↦ λ _. refl | false ↦ λ h. absurd (omega (arith, h)) ]) e in
     let same = head (eqb x y) none in
     ap₂ (λ z zs. z ∷ zs) (eqb-true x y same) (same_lanes xs ys (omega arith) (omega (arith, none)))
 

@@ -1,5 +1,6 @@
 -- The answers that are owed, from parts in their normal forms, and the extlang form of a canonical tag.
-use Rattle.std.proofs.Common.{◌≡◌, ℕ, ◌+◌, ◌<◌, inl, inr, List, [], ◌∷◌, Option, Some, None, refl, sym, ap, ◌∙◌, subst, length, arith, Bool, ◌↔◌, IsTrue, ◌≤◌, Err, IfErr, true}
+use Rattle.std.proofs.Common.{◌≡◌, ℕ, ◌+◌, ◌<◌, inl, inr, List, [], ◌∷◌, Option, Some, None, refl, sym, ap, ◌∙◌, subst}
+use Rattle.std.proofs.Common.{length, arith, Bool, ◌↔◌, IsTrue, ◌≤◌, Err, IfErr, true}
 use Rattle.std.specs.Prelude.{Result, unwrap_or}
 use Rattle.std.specs.List.{AllByRecursion}
 use Rattle.lt_tag.specs.Parts.{CoreParts, ExtensionParts, TForm, TagForm, LangTag}
@@ -14,7 +15,9 @@ use Rattle.lt_rewrite.proofs.PartLists.{some_long}
 use Rattle.lt_check.specs.Conditions.{IsChecked, IsValidCoreAlone}
 use Rattle.lt_canon.specs.Answers.{IsCanonicalFormOf, RefusesOnlyRepeats}
 use Rattle.lt_canon.specs.Settled.{IsDistinctForm, IsReplacedWhole, IsCanonicalAnswer, IsCoreRefusal, IsSettledTag, IsSettledValue}
-use Rattle.lt_canon.proofs.TagForm.{core_end, cores_formed, extensions_end_formed, parts_end, parts_reached, replaced, tag_reached, end_form, core_spells_none, cores_proper, extensions_step_to, step_of_change, lang_end}
+use Rattle.lt_canon.proofs.TagForm.{core_end, cores_formed, extensions_end_formed, parts_end, parts_reached, replaced}
+use Rattle.lt_canon.proofs.TagForm.{tag_reached, end_form, core_spells_none, cores_proper, extensions_step_to}
+use Rattle.lt_canon.proofs.TagForm.{step_of_change, lang_end}
 use Rattle.lt_rewrite.specs.TagSteps.{on_core, IsReached, IsCanonical, CanBeReplacedWhole}
 use Rattle.lt_rewrite.proofs.CoreSteps.{by_extlang, by_language}
 use Rattle.lt_rewrite.proofs.CoreForms.{one_end_one_form}
@@ -52,7 +55,8 @@ use Rattle.lt_canon.specs.ExtlangForm.{prefix_of, behind, extlang_form, IsExtlan
 use Rattle.lt_canon.specs.ExtlangLaws.{ExtlangFormsLeadBack}
 use Rattle.lt_canon.specs.Texts.{IsTextRefusal, RefusesTextOnlyRepeats}
 use Rattle.lt_tag.specs.Texts.{text_of}
-use Rattle.lt_canon.proofs.RepeatedVariants.{core_repeats, end_canonical, equivalence_is_equality, form_is_end, reached_canonical, same_form_text}
+use Rattle.lt_canon.proofs.RepeatedVariants.{core_repeats, end_canonical, equivalence_is_equality, form_is_end}
+use Rattle.lt_canon.proofs.RepeatedVariants.{reached_canonical, same_form_text}
 
 -- where equivalence of tags is equality of canonical forms, it is equality of the forms' texts
 pub text_equality : (R : List EntryParts) → EquivalenceIsEquality R → EquivalenceIsEqualText R
@@ -67,7 +71,9 @@ equal_texts_tell R C = text_equality R (equivalence_is_equality R C)
 
 -- `answer` is whether the canonical forms `c` of `t` and `d` of `u` compare as equal: it tells whether the tags are
 -- equivalent, and whether the texts of the forms are equal
-pub equivalence_answer : (R : List EntryParts) → EquivalenceIsEquality R → (t u c d : TagForm) (answer : Bool) → IsCanonicalFormOf R t c → IsCanonicalFormOf R u d → answer ≡ eq_by_cmp tag_cmp c d → IsEquivalenceAnswer R t u answer
+pub equivalence_answer : (R : List EntryParts) → EquivalenceIsEquality R → (t u c d : TagForm) (answer : Bool)
+    → IsCanonicalFormOf R t c → IsCanonicalFormOf R u d → answer ≡ eq_by_cmp tag_cmp c d
+    → IsEquivalenceAnswer R t u answer
 equivalence_answer R E t u c d answer h k e =
     let same : IsTrue answer ↔ (c ≡ d) = same_exactly tag_total tags_apart c d answer e in
     let S = same_form_text R t u c d h k in
@@ -97,7 +103,8 @@ module _ (R : List EntryParts) (C : IsChecked R) where
   -- a canonical text, unless it is too long to be read, is its own canonical text, and has no other
   pub text_twice_is_once : CanonicalTextTwiceIsOnce R
   text_twice_is_once text canonical x short =
-      let read : HasTag canonical x.form = rw x.written (read_again x.form x.is_form.canonical.valid.proper.tag.tag (rw x.written at short)) in
+      let read : HasTag canonical x.form = rw x.written (read_again x.form x.is_form.canonical.valid.proper.tag.tag
+      (rw x.written at short)) in
       let own = own_form x.form x.is_form.canonical in (
         record { tag = x.form; read = read; form = x.form; is_form = own; written = x.written },
         (λ other y.
@@ -115,58 +122,72 @@ coreless_settled R t s h e = grind arith
 
 -- the three contracts of a refusal are one: an invalid tag has this first fault, and of a valid one the named variant
 -- is repeated
-pub refused : (R : List EntryParts) (t : TagForm) (refusal : Refusal) → NamesFault R t refusal → RefusesOnlyRepeats R t refusal → NamesRepeat R t refusal → IsRefusedWith R t refusal
+pub refused : (R : List EntryParts) (t : TagForm) (refusal : Refusal) → NamesFault R t refusal
+    → RefusesOnlyRepeats R t refusal → NamesRepeat R t refusal → IsRefusedWith R t refusal
 refused R t refusal h k n = grind arith
 
 -- the first tag `t` has a canonical form `c`, and the second, `u`, is refused: that is the refusal of the pair
-pub second_refused : (R : List EntryParts) (t u c : TagForm) (refusal : Refusal) → IsCanonicalFormOf R t c → IsRefusedWith R u refusal → IsSecondRefusal R t u refusal
+pub second_refused : (R : List EntryParts) (t u c : TagForm) (refusal : Refusal) → IsCanonicalFormOf R t c
+    → IsRefusedWith R u refusal → IsSecondRefusal R t u refusal
 second_refused R t u c refusal h k = record { first = c; first_form = h; refused = k }
 
 -- a valid tag is refused only if steps can repeat a variant of it
-pub repeats_answered : (R : List EntryParts) (t : TagForm) (r : Result TagForm Refusal) → IsCanonicalAnswer R t r → IfErr r (RefusesOnlyRepeats R t)
+pub repeats_answered : (R : List EntryParts) (t : TagForm) (r : Result TagForm Refusal) → IsCanonicalAnswer R t r
+    → IfErr r (RefusesOnlyRepeats R t)
 repeats_answered R t (Err (refusals.Invalid fault)) h = λ V. (valid_law R t V.proper.tag).0 V fault.kind fault.place h.there
 repeats_answered R t (Err (refusals.ReplacementRepeats v)) h = (h.valid, h.repeats)
 repeats_answered R t _ h = tt
 
 -- a text is refused only if it is no tag, or not valid, or steps can repeat a variant of it
-pub text_repeats_answered : (R : List EntryParts) (text : List ℕ) (refusal : TextRefusal) → IsTextRefusal R text refusal → RefusesTextOnlyRepeats R text refusal
+pub text_repeats_answered : (R : List EntryParts) (text : List ℕ) (refusal : TextRefusal) → IsTextRefusal R text refusal
+    → RefusesTextOnlyRepeats R text refusal
 text_repeats_answered R text (text_refusals.NotATag fault) h = λ tag t. fault_excludes_tag text fault.kind fault.place tag h t
-text_repeats_answered R text (text_refusals.Invalid fault) h = (h.tag, h.read, λ V. (valid_law R h.tag V.proper.tag).0 V fault.kind fault.place h.holds.there)
+text_repeats_answered R text (text_refusals.Invalid fault) h =
+    (h.tag, h.read, λ V. (valid_law R h.tag V.proper.tag).0 V fault.kind fault.place h.holds.there)
 text_repeats_answered R text (text_refusals.ReplacementRepeats v) h = (h.tag, h.read, h.holds.valid, h.holds.repeats)
 text_repeats_answered R text text_refusals.OutOfMemory h = tt
 
 -- each `t` extension of a proper tag has the parts of one, as the call that puts extensions into normal form requires
-pub transforms_have_parts : (R : List EntryParts) (es : List ExtensionParts) → AllByRecursion (IsProperExtension R) es → AllByRecursion (λ (e : ExtensionParts). e.singleton ≡ transform → (p : TForm) × IsTransform e.subtags p) es
+pub transforms_have_parts : (R : List EntryParts) (es : List ExtensionParts) → AllByRecursion (IsProperExtension R) es
+    → AllByRecursion (λ (e : ExtensionParts). e.singleton ≡ transform → (p : TForm) × IsTransform e.subtags p) es
 transforms_have_parts R es P =
-    AllByRecursion-weaker (IsProperExtension R) (λ (e : ExtensionParts). e.singleton ≡ transform → (p : TForm) × IsTransform e.subtags p) (λ e h s. let m = h s in (m.0, m.1)) es P
+    AllByRecursion-weaker (IsProperExtension R) (λ (e : ExtensionParts). e.singleton ≡ transform → (p : TForm)
+    × IsTransform e.subtags p) (λ e h s. let m = h s in (m.0, m.1)) es P
 
 module _ (R : List EntryParts) (C : IsChecked R) where
   -- the core normal form `d` of the core of a proper langtag spells no grandfathered tag
-  pub form_spells_none : (c d : CoreParts) (es : List ExtensionParts) (ps : List (List ℕ)) → IsProper R (LangTag c es ps) → IsCoreNormalForm R c d → IsNotGrandfathered (spell_core d)
+  pub form_spells_none : (c d : CoreParts) (es : List ExtensionParts) (ps : List (List ℕ))
+      → IsProper R (LangTag c es ps) → IsCoreNormalForm R c d → IsNotGrandfathered (spell_core d)
   form_spells_none c d es ps P n = core_spells_none R C d (proper_parts R d es ps (cores_proper R C n.reached es ps P)).core
 
   -- the core normal form `d` of the core `s` of a whole record's value `t` spells no grandfathered tag
-  pub value_spells_none : (t : TagForm) (c s d : CoreParts) → IsValidCoreAlone R t → Some c ≡ core_of t → s ≡ c → IsCoreNormalForm R s d → IsNotGrandfathered (spell_core d)
+  pub value_spells_none : (t : TagForm) (c s d : CoreParts) → IsValidCoreAlone R t → Some c ≡ core_of t → s ≡ c
+      → IsCoreNormalForm R s d → IsNotGrandfathered (spell_core d)
   value_spells_none t c s d v h e n =
       let is : t ≡ core_alone s = grind arith in
       form_spells_none s d [] [] (rw is at v.valid.proper) n
 
   -- a refusal of the core of a valid langtag, for a repeat or for memory, is the answer for the langtag
-  pub core_refused : (c : CoreParts) (es : List ExtensionParts) (ps : List (List ℕ)) (refusal : Refusal) → IsValid R (LangTag c es ps) → IsCoreRefusal R c refusal → IsCanonicalAnswer R (LangTag c es ps) (Err refusal)
+  pub core_refused : (c : CoreParts) (es : List ExtensionParts) (ps : List (List ℕ)) (refusal : Refusal)
+      → IsValid R (LangTag c es ps) → IsCoreRefusal R c refusal → IsCanonicalAnswer R (LangTag c es ps) (Err refusal)
   core_refused c es ps refusal V h = grind (arith, core_repeats R C)
 
   -- `fs`, the extensions `es` in normal form, are few enough for a tag, since steps from a proper tag lead to proper
   -- ones
-  pub form_count : (c d : CoreParts) (es fs : List ExtensionParts) (ps : List (List ℕ)) → IsProper R (LangTag c es ps) → IsCoreNormalForm R c d → IsNormalForm (ExtensionsStep R) es fs → length fs ≤ longest_text
+  pub form_count : (c d : CoreParts) (es fs : List ExtensionParts) (ps : List (List ℕ)) → IsProper R (LangTag c es ps)
+      → IsCoreNormalForm R c d → IsNormalForm (ExtensionsStep R) es fs → length fs ≤ longest_text
   form_count c d es fs ps P n m = (star_proper (end_form R C) (parts_reached R C n.reached m.reached ps P) P).tag.counts.1
 
   -- where there are extensions or private use, there are some when the extensions are in normal form, `fs`
-  pub form_some : (es fs : List ExtensionParts) (ps : List (List ℕ)) → IsNormalForm (ExtensionsStep R) es fs → 0 < length es + length ps → 0 < length fs + length ps
-  form_some es fs ps m h = star_keeps (λ l. 0 < length l + length ps) (λ a b s _. omega (arith, some_long b (extensions_step_to R a b s))) m.reached h
+  pub form_some : (es fs : List ExtensionParts) (ps : List (List ℕ)) → IsNormalForm (ExtensionsStep R) es fs
+      → 0 < length es + length ps → 0 < length fs + length ps
+  form_some es fs ps m h = star_keeps (λ l. 0 < length l + length ps)
+      (λ a b s _. omega (arith, some_long b (extensions_step_to R a b s))) m.reached h
 
   -- the value `u` of a valid tag that can be replaced whole: `r`, which is `u` with its core in core normal form, is
   -- the canonical form of the tag
-  pub value_canonical : (t u r : TagForm) → CanBeReplacedWhole t → IsValid R t → whole_value R t ≡ Some u → IsSettledValue R u r → IsCanonicalFormOf R t r
+  pub value_canonical : (t u r : TagForm) → CanBeReplacedWhole t → IsValid R t → whole_value R t ≡ Some u
+      → IsSettledValue R u r → IsCanonicalFormOf R t r
   value_canonical t u r h V e s =
       let w = replaced R C t r (inl (record { value = u; plain = h; has = e; settled = s })) in
       reached_canonical R C t r V (w.reached V.proper) (λ a b. w.at_rest (λ n. let none = n h in cc) a b.change) (w.distinct V.distinct)
@@ -174,8 +195,14 @@ module _ (R : List EntryParts) (C : IsChecked R) where
   -- `s` is the tag `t` with its parts in their normal forms, without repeats: it is `parts_end` of `t`, and repeats no
   -- variant
   settled_end : (t s : TagForm) → IsSettledTag R t s → (s ≡ parts_end R C t) × RepeatsNoVariant s
-  settled_end (LangTag c es ps) s k =
-      (rw (normal_is_form (cores_formed R C) c k.core k.form.normal, normal_is_form (extensions_end_formed R C) es k.extensions k.normal) k.is, rw k.is (k.form.distinct, k.distinct))
+  settled_end (LangTag c es ps) s k = (
+    rw (
+      normal_is_form (cores_formed R C) c k.core k.form.normal,
+      normal_is_form (extensions_end_formed R C) es
+          k.extensions k.normal,
+    ) k.is,
+    rw k.is (k.form.distinct, k.distinct),
+  )
   settled_end _ s k = (k, rw k tt)
 
   -- `s` is the tag `t` with its parts in their normal forms, and `r` is `s` with its value taken, if it has one: `r` is
@@ -184,9 +211,13 @@ module _ (R : List EntryParts) (C : IsChecked R) where
   settled_canonical t s r V k w = let e = settled_end t s k in end_canonical R C t r V (rw e.0 at e.1) (rw e.0 at w)
 
   -- the canonical form of a langtag with extensions or private use: its core and its extensions in normal form
-  pub langtag_canonical : (c d : CoreParts) (es fs : List ExtensionParts) (ps : List (List ℕ)) → IsValid R (LangTag c es ps) → IsDistinctForm R c d → IsNormalForm (ExtensionsStep R) es fs → AllByRecursion HasDistinctSource fs → 0 < length es + length ps → IsCanonicalFormOf R (LangTag c es ps) (LangTag d fs ps)
+  pub langtag_canonical : (c d : CoreParts) (es fs : List ExtensionParts) (ps : List (List ℕ))
+      → IsValid R (LangTag c es ps) → IsDistinctForm R c d → IsNormalForm (ExtensionsStep R) es fs
+      → AllByRecursion HasDistinctSource fs → 0 < length es + length ps
+      → IsCanonicalFormOf R (LangTag c es ps) (LangTag d fs ps)
   langtag_canonical c d es fs ps V n m k h =
-      settled_canonical (LangTag c es ps) (LangTag d fs ps) (LangTag d fs ps) V (record { core = d; extensions = fs; is = refl; form = n; normal = m; distinct = k })
+      settled_canonical (LangTag c es ps) (LangTag d fs ps) (LangTag d fs ps) V
+      (record { core = d; extensions = fs; is = refl; form = n; normal = m; distinct = k })
       (inr (record { none = λ p. absurd (omega (arith, form_some es fs ps m h, ap length p.0, ap length p.1)); same = refl }))
 
 -- the core of a language, extlangs, a script, a region and variants
@@ -222,25 +253,33 @@ module _ (R : List EntryParts) (C : IsChecked R) where
       by (x ∷ []) e =
           let d' : CoreParts = core (replacement R x) [] d.script d.region d.variants in
           let s : CoreStep R d d' = by_extlang R d x e in
-          absurd (K.at_rest (LangTag d' (extensions_of c) (private_of c)) (step_of_change R C c (LangTag d' (extensions_of c) (private_of c)) (on_core d d' (extensions_of c) (private_of c) (langtag_of c d h) refl s) K.valid.proper))
-      by (x ∷ y ∷ r) e = absurd (subst (ExtlangsFit R d.language) e (subst (IsProper R) (langtag_of c d h) K.valid.proper).parts.core.extlangs)
+          absurd (K.at_rest (LangTag d' (extensions_of c) (private_of c))
+          (step_of_change R C c (LangTag d' (extensions_of c) (private_of c))
+          (on_core d d' (extensions_of c) (private_of c) (langtag_of c d h) refl s) K.valid.proper))
+      by (x ∷ y ∷ r) e = absurd
+          (subst (ExtlangsFit R d.language) e
+          (subst (IsProper R) (langtag_of c d h) K.valid.proper).parts.core.extlangs)
 
   -- a proper langtag with the Prefix put in front of its language is proper
-  front_proper : (d : CoreParts) (es : List ExtensionParts) (ps : List (List ℕ)) (p : List ℕ) → IsProper R (LangTag d es ps) → IsFittingPrefix R d.language p → IsProper R (LangTag (behind (Some p) d) es ps)
+  front_proper : (d : CoreParts) (es : List ExtensionParts) (ps : List (List ℕ)) (p : List ℕ)
+      → IsProper R (LangTag d es ps) → IsFittingPrefix R d.language p → IsProper R (LangTag (behind (Some p) d) es ps)
   front_proper d es ps p P f =
       let parts = proper_parts R d es ps P in
       let shaped : IsCore (behind (Some p) d) = grind arith in
       let proper : IsProperCore R (behind (Some p) d) = grind (arith, bytes_eq-Decides) in
-      let value : IsProperValue R (behind (Some p) d) = record { value = record { shaped = shaped; variants = parts.core.value.variants }; proper = proper } in
+      let value : IsProperValue R (behind (Some p) d) = record
+      { value = record { shaped = shaped; variants = parts.core.value.variants }; proper = proper } in
       proper_langtag R (behind (Some p) d) es ps (core_spells_none R C (behind (Some p) d) value) assumption
 
   -- a core without extlangs has the same core normal form with the Prefix `p` of its language put in front
-  front_end : (d : CoreParts) (p : List ℕ) → d.extlangs ≡ [] → IsFittingPrefix R d.language p → core_end R C (behind (Some p) d) ≡ core_end R C d
+  front_end : (d : CoreParts) (p : List ℕ) → d.extlangs ≡ [] → IsFittingPrefix R d.language p
+      → core_end R C (behind (Some p) d) ≡ core_end R C d
   front_end d p none f =
       let l : List ℕ = d.language in
       let x = f.entry in
       let at : List ℕ → CoreParts = λ u. core u [] d.script d.region d.variants in
-      let back : unwrap_or (one_of x.at.value) x.fits.subtag ≡ replacement R l = ap (unwrap_or (one_of x.at.value)) x.same ∙ sym (replacement_at R l x.at x.found) in
+      let back : unwrap_or (one_of x.at.value) x.fits.subtag ≡ replacement R l =
+      ap (unwrap_or (one_of x.at.value)) x.same ∙ sym (replacement_at R l x.at x.found) in
       let Q : List ℕ → Type 0 = λ u. EndsIn (preferred_value R kinds.Language) u x.fits.end in
       (cores_formed R C).kept (behind (Some p) d) (at (replacement R l)) (by_extlang R (behind (Some p) d) l refl)
       ∙ one_end_one_form R C.passes.core_conditions (preferred_value R kinds.Language) at (λ s t e. by_language R (at s) t refl e)
@@ -249,17 +288,21 @@ module _ (R : List EntryParts) (C : IsChecked R) where
 
   -- with the Prefix `o` that is found, if there is one, in front, a canonical langtag is valid, and steps lead back
   -- from it
-  lead_back_at : (d : CoreParts) (es : List ExtensionParts) (ps : List (List ℕ)) → IsCanonical R (LangTag d es ps) → (o : Option (List ℕ)) → prefix_of (prefixes R kinds.Extlang d.language) ≡ o → IsValid R (LangTag (behind o d) es ps) × IsReached R (LangTag (behind o d) es ps) (LangTag d es ps)
+  lead_back_at : (d : CoreParts) (es : List ExtensionParts) (ps : List (List ℕ)) → IsCanonical R (LangTag d es ps)
+      → (o : Option (List ℕ)) → prefix_of (prefixes R kinds.Extlang d.language) ≡ o
+      → IsValid R (LangTag (behind o d) es ps) × IsReached R (LangTag (behind o d) es ps) (LangTag d es ps)
   lead_back_at d es ps K None h = (K.valid, done)
   lead_back_at d es ps K (Some p) h =
       let f = fitting_prefix d.language p h in
       let Q = front_proper d es ps p K.valid.proper f in
-      let ends = ap (λ y. lang_end R C y es ps) (front_end d p (no_extlang (LangTag d es ps) d K refl) f) ∙ rest_is_end (end_form R C) (LangTag d es ps) K.valid.proper K.at_rest in
+      let ends = ap (λ y. lang_end R C y es ps) (front_end d p (no_extlang (LangTag d es ps) d K refl) f)
+      ∙ rest_is_end (end_form R C) (LangTag d es ps) K.valid.proper K.at_rest in
       (record { proper = Q; distinct = K.valid.distinct }, rw ends at (tag_reached R C (LangTag (behind (Some p) d) es ps) Q))
 
   -- each canonical tag is reached from its extlang form, which is valid
   pub forms_lead_back : ExtlangFormsLeadBack R
-  forms_lead_back (LangTag d es ps) K = let r = lead_back_at d es ps K (prefix_of (prefixes R kinds.Extlang d.language)) refl in record { valid = r.0; reached = r.1 }
+  forms_lead_back (LangTag d es ps) K = let r = lead_back_at d es ps K (prefix_of (prefixes R kinds.Extlang d.language))
+      refl in record { valid = r.0; reached = r.1 }
   forms_lead_back _ K = record { valid = K.valid; reached = done }
 
 -- a tag without a core is its own extlang form
@@ -267,11 +310,14 @@ pub coreless_extlang : (R : List EntryParts) (c : TagForm) → core_of c ≡ Non
 coreless_extlang R c h = grind arith
 
 -- the extlang form of a langtag, by the Prefix `o` that is found for its language
-pub extlang_form_is : (R : List EntryParts) (c : TagForm) (d : CoreParts) (o : Option (List ℕ)) → core_of c ≡ Some d → prefix_of (prefixes R kinds.Extlang d.language) ≡ o → extlang_form R c ≡ LangTag (behind o d) (extensions_of c) (private_of c)
+pub extlang_form_is : (R : List EntryParts) (c : TagForm) (d : CoreParts) (o : Option (List ℕ)) → core_of c ≡ Some d
+    → prefix_of (prefixes R kinds.Extlang d.language) ≡ o
+    → extlang_form R c ≡ LangTag (behind o d) (extensions_of c) (private_of c)
 extlang_form_is R c d o h k = ap (extlang_form R) (langtag_of c d h) ∙ ap (λ x. LangTag (behind x d) (extensions_of c) (private_of c)) k
 
 -- a langtag whose language has no Prefix that can be in front is its own extlang form too
-pub prefixless_extlang : (R : List EntryParts) (c : TagForm) (d : CoreParts) → Some d ≡ core_of c → None ≡ prefix_of (prefixes R kinds.Extlang d.language) → c ≡ extlang_form R c
+pub prefixless_extlang : (R : List EntryParts) (c : TagForm) (d : CoreParts) → Some d ≡ core_of c
+    → None ≡ prefix_of (prefixes R kinds.Extlang d.language) → c ≡ extlang_form R c
 prefixless_extlang R c d h k = langtag_of c d (sym h) ∙ sym (extlang_form_is R c d None (sym h) (sym k))
 
 module _ (R : List EntryParts) (C : IsChecked R) where
@@ -279,11 +325,13 @@ module _ (R : List EntryParts) (C : IsChecked R) where
   pub extlang_answer : (t c form : TagForm) → IsCanonicalFormOf R t c → form ≡ extlang_form R c → IsExtlangFormOf R t form
   extlang_answer t c form h e =
       let L = forms_lead_back R C c h.canonical in
-      let back : IsCanonicalFormOf R (extlang_form R c) c = reached_canonical R C (extlang_form R c) c L.valid L.reached h.canonical.at_rest h.canonical.valid.distinct in
+      let back : IsCanonicalFormOf R (extlang_form R c) c = reached_canonical R C (extlang_form R c) c L.valid L.reached
+      h.canonical.at_rest h.canonical.valid.distinct in
       subst (IsExtlangFormOf R t) (sym e) (record { canonical = c; canonical_form = h; is = refl; valid = L.valid; back = back })
 
   -- a canonical core with the Prefix in front spells no grandfathered tag
-  pub front_spells_none : (c : TagForm) (d : CoreParts) (p : List ℕ) → IsCanonical R c → core_of c ≡ Some d → prefix_of (prefixes R kinds.Extlang d.language) ≡ Some p → IsNotGrandfathered (spell_core (behind (Some p) d))
+  pub front_spells_none : (c : TagForm) (d : CoreParts) (p : List ℕ) → IsCanonical R c → core_of c ≡ Some d
+      → prefix_of (prefixes R kinds.Extlang d.language) ≡ Some p → IsNotGrandfathered (spell_core (behind (Some p) d))
   front_spells_none c d p K h k =
       let P = subst (IsProper R) (extlang_form_is R c d (Some p) h k) (forms_lead_back R C c K).valid.proper in
       core_spells_none R C (behind (Some p) d) (proper_parts R (behind (Some p) d) (extensions_of c) (private_of c) P).core

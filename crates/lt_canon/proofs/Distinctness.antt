@@ -1,5 +1,6 @@
 -- The leftmost variant that occurs a second time: if variants are not distinct, there is one, and only one.
-use Rattle.std.proofs.Common.{◌≡◌, ℕ, zero, suc, ◌+◌, ◌<◌, ◌⊎◌, inl, inr, true, List, [], ◌∷◌, ◌++◌, length, take, drop, get_or, sym, ap, ◌∙◌, subst, append_assoc, arith}
+use Rattle.std.proofs.Common.{◌≡◌, ℕ, zero, suc, ◌+◌, ◌<◌, ◌⊎◌, inl, inr, true, List, [], ◌∷◌, ◌++◌, length, take, drop}
+use Rattle.std.proofs.Common.{get_or, sym, ap, ◌∙◌, subst, append_assoc, arith}
 use Rattle.std.proofs.lemmas.Bool.{cases_Bool}
 use Rattle.std.proofs.lemmas.List.{get_or_default}
 use Rattle.std.proofs.Math.Seq.{take-length}
@@ -12,7 +13,8 @@ use Rattle.lt_registry.proofs.DistinctTests.{distinct_further}
 use Rattle.lt_canon.specs.Answers.{IsSecondOccurrence}
 
 -- the variant `v` at index `i` is among those before it, which are distinct: it is the first to occur again
-pub second_here : (vs : List (List ℕ)) (i : ℕ) (v : List ℕ) → i < length vs → v ≡ get_or vs i v → stands_in (take i vs) v ≡ true → Distinct (take i vs) → IsSecondOccurrence vs v
+pub second_here : (vs : List (List ℕ)) (i : ℕ) (v : List ℕ) → i < length vs → v ≡ get_or vs i v
+    → stands_in (take i vs) v ≡ true → Distinct (take i vs) → IsSecondOccurrence vs v
 second_here vs i v l e h d =
     let s = stands_at (take i vs) v h in
     record {
@@ -25,7 +27,8 @@ second_here vs i v l e h d =
 
 -- where the variants before index `i` are distinct, all are, or one is the first to occur again; `n` are still to be
 -- compared
-second_from : (vs : List (List ℕ)) (n i : ℕ) → i + n ≡ length vs → Distinct (take i vs) → Distinct vs ⊎ ((v : List ℕ) × IsSecondOccurrence vs v)
+second_from : (vs : List (List ℕ)) (n i : ℕ) → i + n ≡ length vs → Distinct (take i vs) → Distinct vs
+    ⊎ ((v : List ℕ) × IsSecondOccurrence vs v)
 second_from vs zero i e d = inl (subst Distinct (ap (λ k. take k vs) (omega arith) ∙ take-length vs) d)
 second_from vs (suc n) i e d =
     let v : List ℕ = get_or vs i [] in
@@ -42,7 +45,8 @@ distinct_or_second vs = second_from vs (length vs) 0 (omega arith) tt
 
 -- `a` and `b` are fronts of one list, followed there by `v` and `w`; `P` is true of both fronts, and of no list that
 -- begins with a front and what follows it: then `v` is `w`
-one_next : {A : Type 0} (P : List A → Type 0) (a : List A) (v : A) (r b : List A) (w : A) (s : List A) → P a → P b → ((t : List A) → P (a ++ v ∷ t) → ⊥) → ((t : List A) → P (b ++ w ∷ t) → ⊥) → a ++ v ∷ r ≡ b ++ w ∷ s → v ≡ w
+one_next : {A : Type 0} (P : List A → Type 0) (a : List A) (v : A) (r b : List A) (w : A) (s : List A) → P a → P b
+    → ((t : List A) → P (a ++ v ∷ t) → ⊥) → ((t : List A) → P (b ++ w ∷ t) → ⊥) → a ++ v ∷ r ≡ b ++ w ∷ s → v ≡ w
 one_next P [] v r [] w s p q f g e = cc
 one_next P [] v r (y ∷ b) w s p q f g e = let k : y ≡ v = cc in absurd (f b (subst (λ z. P (z ∷ b)) k q))
 one_next P (x ∷ a) v r [] w s p q f g e = let k : x ≡ w = cc in absurd (g a (subst (λ z. P (z ∷ a)) k p))
@@ -57,8 +61,10 @@ again before v between t = distinct_at _ before v between t (append_assoc before
 -- only one variant is the first to occur again
 pub one_second : (vs : List (List ℕ)) (v w : List ℕ) → IsSecondOccurrence vs v → IsSecondOccurrence vs w → v ≡ w
 one_second vs v w h k =
-    one_next Distinct (h.before ++ v ∷ h.between) v h.after (k.before ++ w ∷ k.between) w k.after h.first k.first (again h.before v h.between) (again k.before w k.between)
-    (append_assoc h.before (v ∷ h.between) (v ∷ h.after) ∙ sym h.there ∙ k.there ∙ sym (append_assoc k.before (w ∷ k.between) (w ∷ k.after)))
+    one_next Distinct (h.before ++ v ∷ h.between) v h.after (k.before ++ w ∷ k.between) w k.after h.first k.first
+    (again h.before v h.between) (again k.before w k.between)
+    (append_assoc h.before (v ∷ h.between) (v ∷ h.after) ∙ sym h.there ∙ k.there
+    ∙ sym (append_assoc k.before (w ∷ k.between) (w ∷ k.after)))
 
 -- where a variant occurs again, the variants are not distinct
 pub second_repeats : (vs : List (List ℕ)) (v : List ℕ) → IsSecondOccurrence vs v → Distinct vs → ⊥

@@ -11,11 +11,13 @@ pub record IsEndForm {A : Type 0} (P : A → Type 0) (Step : A → A → Type 0)
   pub reached : (a : A) → P a → Star Step a (end_form a)
 
 -- steps that begin where `P` is true end where `P` is true
-pub star_proper : {A : Type 0} {P : A → Type 0} {Step : A → A → Type 0} {f : A → A} → IsEndForm P Step f → {a b : A} → Star Step a b → P a → P b
+pub star_proper : {A : Type 0} {P : A → Type 0} {Step : A → A → Type 0} {f : A → A} → IsEndForm P Step f → {a b : A}
+    → Star Step a b → P a → P b
 star_proper {P = P} F r p = star_keeps P (λ a b s _. F.to a b s) r p
 
 -- what is equivalent has one end form
-pub equivalent_end : {A : Type 0} {P : A → Type 0} {Step : A → A → Type 0} {f : A → A} → IsEndForm P Step f → {a b : A} → Equivalent Step a b → f a ≡ f b
+pub equivalent_end : {A : Type 0} {P : A → Type 0} {Step : A → A → Type 0} {f : A → A} → IsEndForm P Step f → {a b : A}
+    → Equivalent Step a b → f a ≡ f b
 equivalent_end F same = refl
 equivalent_end F (forth {a = a} {b = b} s r) = F.kept a b s ∙ equivalent_end F r
 equivalent_end F (back {a = a} {b = b} s r) = sym (F.kept b a s) ∙ equivalent_end F r
@@ -38,7 +40,8 @@ star_equivalent done = same
 star_equivalent (then s r) = forth s (star_equivalent r)
 
 -- what steps lead to has the end form of what they lead from
-pub star_end : {A : Type 0} {P : A → Type 0} {Step : A → A → Type 0} {f : A → A} → IsEndForm P Step f → {a b : A} → Star Step a b → f a ≡ f b
+pub star_end : {A : Type 0} {P : A → Type 0} {Step : A → A → Type 0} {f : A → A} → IsEndForm P Step f → {a b : A}
+    → Star Step a b → f a ≡ f b
 star_end F r = equivalent_end F (star_equivalent r)
 
 -- steps from one `a` of which `P` is true come together again, since all lead to the end of `a`
@@ -48,18 +51,23 @@ confluent {A} {P} {Step} {f} F a b c p r t =
     (f b, F.reached b (star_proper F r p), subst (λ x. Star Step c x) (sym e) (F.reached c (star_proper F t p)))
 
 -- what no step leads from is its own end form
-pub rest_is_end : {A : Type 0} {P : A → Type 0} {Step : A → A → Type 0} {f : A → A} → IsEndForm P Step f → (a : A) → P a → Rests Step a → f a ≡ a
+pub rest_is_end : {A : Type 0} {P : A → Type 0} {Step : A → A → Type 0} {f : A → A} → IsEndForm P Step f → (a : A) → P a
+    → Rests Step a → f a ≡ a
 rest_is_end F a p h = sym (star_rests (F.reached a p) h)
 
 -- what steps from `a` lead to, and no step leads from, is the end form of `a`
-pub reached_is_end : {A : Type 0} {P : A → Type 0} {Step : A → A → Type 0} {f : A → A} → IsEndForm P Step f → (a b : A) → P a → Star Step a b → Rests Step b → f a ≡ b
+pub reached_is_end : {A : Type 0} {P : A → Type 0} {Step : A → A → Type 0} {f : A → A} → IsEndForm P Step f → (a b : A)
+    → P a → Star Step a b → Rests Step b → f a ≡ b
 reached_is_end F a b p r h = star_end F r ∙ rest_is_end F b (star_proper F r p) h
 
 -- what has equal end forms is equivalent
-pub end_equivalent : {A : Type 0} {P : A → Type 0} {Step : A → A → Type 0} {f : A → A} → IsEndForm P Step f → (a b : A) → P a → P b → f a ≡ f b → Equivalent Step a b
+pub end_equivalent : {A : Type 0} {P : A → Type 0} {Step : A → A → Type 0} {f : A → A} → IsEndForm P Step f → (a b : A)
+    → P a → P b → f a ≡ f b → Equivalent Step a b
 end_equivalent {A} {P} {Step} {f} F a b p q e =
-    equivalent_trans (subst (λ x. Equivalent Step a x) e (star_equivalent (F.reached a p))) (equivalent_sym (star_equivalent (F.reached b q)))
+    equivalent_trans (subst (λ x. Equivalent Step a x) e (star_equivalent (F.reached a p)))
+    (equivalent_sym (star_equivalent (F.reached b q)))
 
 -- of what is equivalent, at most one is at rest
-pub rest_unique : {A : Type 0} {P : A → Type 0} {Step : A → A → Type 0} {f : A → A} → IsEndForm P Step f → (a b : A) → P a → P b → Equivalent Step a b → Rests Step a → Rests Step b → a ≡ b
+pub rest_unique : {A : Type 0} {P : A → Type 0} {Step : A → A → Type 0} {f : A → A} → IsEndForm P Step f → (a b : A)
+    → P a → P b → Equivalent Step a b → Rests Step a → Rests Step b → a ≡ b
 rest_unique F a b p q e h k = sym (rest_is_end F a p h) ∙ equivalent_end F e ∙ rest_is_end F b q k

@@ -53,13 +53,16 @@ pub none_rests : (R : List EntryParts) → Rests (ExtensionsStep R) []
 none_rests R fs s = extensions_step_from R [] fs s refl
 
 -- no change leads from a tag whose core, if it has one, and extensions are at rest, and that has no value to take
-pub at_end : (R : List EntryParts) (t : TagForm) → ((c : CoreParts) → core_of t ≡ Some c → Rests (CoreStep R) c) → Rests (ExtensionsStep R) (extensions_of t) → (CanBeReplacedWhole t → whole_value R t ≡ None) → NoChange R t
+pub at_end : (R : List EntryParts) (t : TagForm) → ((c : CoreParts) → core_of t ≡ Some c → Rests (CoreStep R) c)
+    → Rests (ExtensionsStep R) (extensions_of t) → (CanBeReplacedWhole t → whole_value R t ≡ None) → NoChange R t
 at_end R t k m w u (on_core c d es ps from _ s) = k c (ap core_of from) d s
 at_end R t k m w u (on_extensions c es fs ps from _ s) = m fs (subst (λ x. ExtensionsStep R x fs) (sym (ap extensions_of from)) s)
 at_end R t k m w u (on_whole is_plain has) = let none = w is_plain in cc
 
 -- no change leads from a langtag whose core `d` and extensions are at rest, and that has no value to take
-pub lang_at_end : (R : List EntryParts) (d : CoreParts) (es : List ExtensionParts) (ps : List (List ℕ)) → Rests (CoreStep R) d → Rests (ExtensionsStep R) es → (CanBeReplacedWhole (LangTag d es ps) → whole_value R (LangTag d es ps) ≡ None) → NoChange R (LangTag d es ps)
+pub lang_at_end : (R : List EntryParts) (d : CoreParts) (es : List ExtensionParts) (ps : List (List ℕ))
+    → Rests (CoreStep R) d → Rests (ExtensionsStep R) es
+    → (CanBeReplacedWhole (LangTag d es ps) → whole_value R (LangTag d es ps) ≡ None) → NoChange R (LangTag d es ps)
 lang_at_end R d es ps k m w = at_end R (LangTag d es ps) (λ c e. let same : d ≡ c = cc in subst (Rests (CoreStep R)) same k) m w
 
 -- in a checked registry the chain of values of each entry ends (C3)
@@ -127,7 +130,8 @@ module _ (R : List EntryParts) (C : IsChecked R) where
 
   -- the end form of a langtag with extensions: its core `d`, which is in core normal form, and its extensions in normal
   -- form
-  pub lang_end_some : (d : CoreParts) (es : List ExtensionParts) (ps : List (List ℕ)) → es ≢ [] → lang_end d es ps ≡ LangTag d (extensions_end es) ps
+  pub lang_end_some : (d : CoreParts) (es : List ExtensionParts) (ps : List (List ℕ)) → es ≢ []
+      → lang_end d es ps ≡ LangTag d (extensions_end es) ps
   lang_end_some d es ps h = grind arith
 
   -- `core_end c` is the core normal form of `c`
@@ -136,13 +140,15 @@ module _ (R : List EntryParts) (C : IsChecked R) where
 
   -- where `c` is the value of a whole record and `d` its core normal form, `d` repeats no variant, and no record of `d`
   -- as a whole tag has a value (C10)
-  resting : (t : TagForm) (c d : CoreParts) → whole_value R t ≡ Some (core_alone c) → IsCoreNormalForm R c d → Distinct d.variants × All (λ (f : EntryParts). f.name ≡ names.Whole (core_alone d) → tag_of f.value ≡ None) R
+  resting : (t : TagForm) (c d : CoreParts) → whole_value R t ≡ Some (core_alone c) → IsCoreNormalForm R c d
+      → Distinct d.variants × All (λ (f : EntryParts). f.name ≡ names.Whole (core_alone d) → tag_of f.value ≡ None) R
   resting t c d e n =
       let w = valued_whole R t (core_alone c) e in
       whole_has R t (core_alone c) (HasRestingWhole R) (C.passes.resting_whole) w t (core_alone c) w.named w.gives c d refl n
 
   -- where `c` is the value of a whole record, no value is found for its core normal form `d` as a whole tag
-  pub value_rests : (t : TagForm) (c d : CoreParts) → whole_value R t ≡ Some (core_alone c) → IsCoreNormalForm R c d → whole_value R (core_alone d) ≡ None
+  pub value_rests : (t : TagForm) (c d : CoreParts) → whole_value R t ≡ Some (core_alone c) → IsCoreNormalForm R c d
+      → whole_value R (core_alone d) ≡ None
   value_rests t c d e n = no_value R (core_alone d) (resting t c d e n).1
 
   -- where `c` is the value of a whole record, its end form is its core normal form
@@ -150,11 +156,14 @@ module _ (R : List EntryParts) (C : IsChecked R) where
   value_end_is t c e = ap (or_value (core_alone (core_end c)) value_end) (value_rests t c (core_end c) e (core_normal c))
 
   -- a core `c` alone that is replaced by `q` has the end form of `q`: its core normal form comes to that of `q` (C11)
-  plain_kept : (c q : CoreParts) → whole_value R (core_alone c) ≡ Some (core_alone q) → whole_end (core_alone (core_end c)) ≡ core_alone (core_end q)
+  plain_kept : (c q : CoreParts) → whole_value R (core_alone c) ≡ Some (core_alone q)
+      → whole_end (core_alone (core_end c)) ≡ core_alone (core_end q)
   plain_kept c q e = elim (cases_Bool (same_core (core_end c) c)) [
-    | inl t ↦ ap (or_value (core_alone (core_end c)) value_end) (ap (λ d. whole_value R (core_alone d)) ((same_core-Decides (core_end c) c).0 t) ∙ e)
+    | inl t ↦ ap (or_value (core_alone (core_end c)) value_end)
+        (ap (λ d. whole_value R (core_alone d)) ((same_core-Decides (core_end c) c).0 t) ∙ e)
     | inr f ↦ let w = valued_whole R (core_alone c) (core_alone q) e in
-        elim (whole_has R (core_alone c) (core_alone q) (HasAgreeingWhole R) C.passes.agreeing_whole w (core_alone c) (core_alone q) w.named w.gives c (core_end c) q (core_end q) refl refl (core_normal c)
+        elim (whole_has R (core_alone c) (core_alone q) (HasAgreeingWhole R) C.passes.agreeing_whole w (core_alone c)
+        (core_alone q) w.named w.gives c (core_end c) q (core_end q) refl refl (core_normal c)
         (λ h. let t : same_core (core_end c) c ≡ true = (same_core-Decides (core_end c) c).1 h in cc) (core_normal q)) [
           | inl s ↦ ap (λ d. whole_end (core_alone d)) s ∙ value_end_is (core_alone c) q e
           | inr k ↦ ap (or_value (core_alone (core_end c)) value_end) k.1 ∙ ap core_alone (normal_is_form cores_formed k.0 (core_end q) k.2)
@@ -162,7 +171,8 @@ module _ (R : List EntryParts) (C : IsChecked R) where
   ]
 
   -- a tag that is replaced whole by `q` has the end form of `q`
-  whole_kept_at : (t : TagForm) (q : CoreParts) → CanBeReplacedWhole t → whole_value R t ≡ Some (core_alone q) → tag_end t ≡ tag_end (core_alone q)
+  whole_kept_at : (t : TagForm) (q : CoreParts) → CanBeReplacedWhole t → whole_value R t ≡ Some (core_alone q)
+      → tag_end t ≡ tag_end (core_alone q)
   whole_kept_at (Grandfathered n) q h e = ap (or_value (Grandfathered n) value_end) e ∙ sym (value_end_is (Grandfathered n) q e)
   whole_kept_at (LangTag c es ps) q h e =
       let k : whole_value R (core_alone c) ≡ Some (core_alone q) = rw (h.0, h.1) at e in
@@ -171,29 +181,37 @@ module _ (R : List EntryParts) (C : IsChecked R) where
 
   -- each change of a tag keeps its end form
   change_kept : (t u : TagForm) → TagChange R t u → tag_end t ≡ tag_end u
-  change_kept t u (on_core c d es ps from to s) = ap tag_end from ∙ ap (λ x. lang_end x es ps) (cores_formed.kept c d s) ∙ sym (ap tag_end to)
+  change_kept t u (on_core c d es ps from to s) = ap tag_end from ∙ ap (λ x. lang_end x es ps) (cores_formed.kept c d s)
+      ∙ sym (ap tag_end to)
   change_kept t u (on_extensions c es fs ps from to s) =
-      ap tag_end from ∙ lang_end_some (core_end c) es ps (extensions_step_from R es fs s) ∙ ap (λ l. LangTag (core_end c) l ps) (extensions_end_formed.kept es fs s)
+      ap tag_end from ∙ lang_end_some (core_end c) es ps (extensions_step_from R es fs s)
+      ∙ ap (λ l. LangTag (core_end c) l ps) (extensions_end_formed.kept es fs s)
       ∙ sym (lang_end_some (core_end c) fs ps (extensions_step_to R es fs s)) ∙ sym (ap tag_end to)
-  change_kept t u (on_whole is_plain has) = let v = value_plain R C t u has in whole_kept_at t v.core is_plain (has ∙ ap Some v.is) ∙ sym (ap tag_end v.is)
+  change_kept t u (on_whole is_plain has) = let v = value_plain R C t u has in
+      whole_kept_at t v.core is_plain (has ∙ ap Some v.is) ∙ sym (ap tag_end v.is)
 
   -- each proper tag reaches its end form
 
   -- core steps from `c` to `d` lead from a proper langtag of `c` to that of `d`
-  pub cores_reached : {c d : CoreParts} → Star (CoreStep R) c d → (es : List ExtensionParts) (ps : List (List ℕ)) → IsProper R (LangTag c es ps) → IsReached R (LangTag c es ps) (LangTag d es ps)
+  pub cores_reached : {c d : CoreParts} → Star (CoreStep R) c d → (es : List ExtensionParts) (ps : List (List ℕ))
+      → IsProper R (LangTag c es ps) → IsReached R (LangTag c es ps) (LangTag d es ps)
   cores_reached r es ps P =
       star_map_while (λ x. IsProper R (LangTag x es ps)) (λ x. LangTag x es ps) (λ x y s p. steps_keep.core x y es ps s p)
       (λ x y s p q. step_of_change (LangTag x es ps) (LangTag y es ps) (on_core x y es ps refl refl s) p) r P
 
   -- core steps from `c` to `d` lead from a proper langtag of `c` to a proper one of `d`
-  pub cores_proper : {c d : CoreParts} → Star (CoreStep R) c d → (es : List ExtensionParts) (ps : List (List ℕ)) → IsProper R (LangTag c es ps) → IsProper R (LangTag d es ps)
+  pub cores_proper : {c d : CoreParts} → Star (CoreStep R) c d → (es : List ExtensionParts) (ps : List (List ℕ))
+      → IsProper R (LangTag c es ps) → IsProper R (LangTag d es ps)
   cores_proper r es ps P = star_keeps (λ x. IsProper R (LangTag x es ps)) (λ x y s p. steps_keep.core x y es ps s p) r P
 
   -- steps on its core, from `c` to `d`, and then on its extensions, from `es` to `fs`, lead from a proper langtag to
   -- the one of these parts
-  pub parts_reached : {c d : CoreParts} {es fs : List ExtensionParts} → Star (CoreStep R) c d → Star (ExtensionsStep R) es fs → (ps : List (List ℕ)) → IsProper R (LangTag c es ps) → IsReached R (LangTag c es ps) (LangTag d fs ps)
+  pub parts_reached : {c d : CoreParts} {es fs : List ExtensionParts} → Star (CoreStep R) c d
+      → Star (ExtensionsStep R) es fs → (ps : List (List ℕ)) → IsProper R (LangTag c es ps)
+      → IsReached R (LangTag c es ps) (LangTag d fs ps)
   parts_reached {c} {d} {es} {fs} r s ps P =
-      star_trans (cores_reached r es ps P) (star_map_while (λ x. IsProper R (LangTag d x ps)) (λ x. LangTag d x ps) (λ x y k p. steps_keep.extensions d x y ps k p)
+      star_trans (cores_reached r es ps P) (star_map_while (λ x. IsProper R (LangTag d x ps)) (λ x. LangTag d x ps)
+      (λ x y k p. steps_keep.extensions d x y ps k p)
       (λ x y k p q. step_of_change (LangTag d x ps) (LangTag d y ps) (on_extensions d x y ps refl refl k) p) s (cores_proper r es ps P))
 
   -- what follows if `r` is `s` with its value taken, the core in core normal form, or `s` itself if it has no value
@@ -209,7 +227,8 @@ module _ (R : List EntryParts) (C : IsChecked R) where
       let u = v.settled in
       let k : whole_value R s ≡ Some (core_alone u.core) = v.has ∙ ap Some u.from in
       rw u.to (record {
-        reached = λ P. let first : TagStep R s (core_alone u.core) = step_of_change s (core_alone u.core) (on_whole v.plain k) P in (then) first (cores_reached u.normal.reached [] [] first.to);
+        reached = λ P. let first : TagStep R s (core_alone u.core) = step_of_change s (core_alone u.core)
+            (on_whole v.plain k) P in (then) first (cores_reached u.normal.reached [] [] first.to);
         at_rest = λ _. lang_at_end R u.form [] [] u.normal.at_rest (none_rests R) (λ _. value_rests s u.core u.form k u.normal);
         distinct = λ _. ((resting s u.core u.form k u.normal).0, tt);
       })
@@ -227,7 +246,8 @@ module _ (R : List EntryParts) (C : IsChecked R) where
 
   -- no change but the replacement by its value, if it has one, leads from a tag with its parts in their normal forms
   parts_end_rests : (t : TagForm) → (CanBeReplacedWhole (parts_end t) → whole_value R (parts_end t) ≡ None) → NoChange R (parts_end t)
-  parts_end_rests (LangTag c es ps) w = lang_at_end R (core_end c) (extensions_end es) ps (cores_formed.rests c) (extensions_end_formed.rests es) w
+  parts_end_rests (LangTag c es ps) w = lang_at_end R (core_end c) (extensions_end es) ps (cores_formed.rests c)
+      (extensions_end_formed.rests es) w
   parts_end_rests t w = at_end R t (λ c e. cc) (none_rests R) w
 
   -- a proper tag reaches `r`, which is the tag with its parts in their normal forms and then its value taken
@@ -242,17 +262,36 @@ module _ (R : List EntryParts) (C : IsChecked R) where
 
   -- `o` is the value of a tag `t` that can be replaced whole, or None: the value with its core in core normal form, or
   -- else the tag, is what comes of `t`
-  whole_replaced : (t : TagForm) → CanBeReplacedWhole t → (o : Option TagForm) → whole_value R t ≡ o → IsReplacedWhole R t (or_value t value_end o)
+  whole_replaced : (t : TagForm) → CanBeReplacedWhole t → (o : Option TagForm) → whole_value R t ≡ o
+      → IsReplacedWhole R t (or_value t value_end o)
   whole_replaced t h None e = inr (record { none = λ _. e; same = refl })
   whole_replaced t h (Some u) e =
       let v = value_plain R C t u e in
-      inl (record { value = u; plain = h; has = e; settled = record { core = v.core; form = core_end v.core; from = v.is; to = ap value_end v.is; normal = core_normal v.core } })
+      inl (record {
+        value = u;
+        plain = h;
+        has = e;
+        settled = record {
+          core = v.core;
+          form = core_end v.core;
+          from = v.is;
+          to = ap value_end v.is;
+          normal = core_normal v.core;
+        };
+      })
 
   -- the end form is the tag with its parts in their normal forms, and then its value taken
   pub end_replaced : (t : TagForm) → IsReplacedWhole R (parts_end t) (tag_end t)
-  end_replaced (LangTag c [] []) = rw (rest_is_form extensions_end_formed [] (none_rests R)) (whole_replaced (core_alone (core_end c)) (refl, refl) (whole_value R (core_alone (core_end c))) refl)
-  end_replaced (LangTag c [] (p ∷ ps)) = rw (rest_is_form extensions_end_formed [] (none_rests R)) (inr (record { none = λ h. let none = h.1 in cc; same = refl }))
-  end_replaced (LangTag c (e ∷ es) ps) = inr (record { none = λ h. absurd (star_keeps (λ (l : List ExtensionParts). l ≢ []) (λ a b s _. extensions_step_to R a b s) (extensions_end_formed.reached (e ∷ es)) (λ k. cc) h.0); same = refl })
+  end_replaced (LangTag c [] []) = rw (rest_is_form extensions_end_formed [] (none_rests R))
+      (whole_replaced (core_alone (core_end c)) (refl, refl) (whole_value R (core_alone (core_end c))) refl)
+  end_replaced (LangTag c [] (p ∷ ps)) = rw (rest_is_form extensions_end_formed [] (none_rests R))
+      (inr (record { none = λ h. let none = h.1 in cc; same = refl }))
+  end_replaced (LangTag c (e ∷ es) ps) =
+      inr (record {
+        none = λ h. absurd (star_keeps (λ (l : List ExtensionParts). l ≢ []) (λ a b s _. extensions_step_to R a b s)
+            (extensions_end_formed.reached (e ∷ es)) (λ k. cc) h.0);
+        same = refl;
+      })
   end_replaced (PrivateUse ps) = inr (record { none = λ h. absurd h; same = refl })
   end_replaced (Grandfathered n) = whole_replaced (Grandfathered n) tt (whole_value R (Grandfathered n)) refl
 
@@ -266,7 +305,12 @@ module _ (R : List EntryParts) (C : IsChecked R) where
 
 -- the end forms of tags, by a checked registry, as the law states them
 pub has_end_forms : (R : List EntryParts) → IsChecked R → HasEndForms R
-has_end_forms R C = record { end = tag_end R C; kept = λ t u s. change_kept R C t u s.change; reached = tag_reached R C; at_rest = λ t. settled_rests R C t (tag_end R C t) (end_replaced R C t) }
+has_end_forms R C = record {
+  end = tag_end R C;
+  kept = λ t u s. change_kept R C t u s.change;
+  reached = tag_reached R C;
+  at_rest = λ t. settled_rests R C t (tag_end R C t) (end_replaced R C t);
+}
 
 -- two tags that steps reach from one proper tag reach a common third
 pub steps_confluent : (R : List EntryParts) → IsChecked R → StepsAreConfluent R

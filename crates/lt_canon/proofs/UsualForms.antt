@@ -1,5 +1,6 @@
 -- Langtags whose subtags stay as they are, which are their own canonical forms.
-use Rattle.std.proofs.Common.{◌≡◌, ℕ, inr, List, [], ◌∷◌, ◌++◌, Some, None, refl, sym, ap, ◌∙◌, subst, false, arith, Bool, Err, Ok, All, rules}
+use Rattle.std.proofs.Common.{◌≡◌, ℕ, inr, List, [], ◌∷◌, ◌++◌, Some, None, refl, sym, ap, ◌∙◌, subst, false, arith}
+use Rattle.std.proofs.Common.{Bool, Err, Ok, All, rules}
 use Rattle.std.specs.Prelude.{MatchResult, Result}
 use Rattle.lt_tag.specs.Parts.{CoreParts, TagForm}
 use Rattle.lt_registry.specs.Parts.{EntryParts}
@@ -42,7 +43,8 @@ use Rattle.lt_canon.proofs.CanonicalForms.{settled_canonical}
 
 -- on a core without extlangs and variants the short test `core_valued` finds the fault that `core_check` finds, or none
 -- as that does
-usual_told : (R : List EntryParts) (c : CoreParts) → IsUsual c → (r : Result Bool ValidFault) → core_valued R c ≡ r → MatchResult r (λ _. core_check R false 0 c ≡ Ok tt) (λ fault. core_check R false 0 c ≡ Err fault)
+usual_told : (R : List EntryParts) (c : CoreParts) → IsUsual c → (r : Result Bool ValidFault) → core_valued R c ≡ r
+    → MatchResult r (λ _. core_check R false 0 c ≡ Ok tt) (λ fault. core_check R false 0 c ≡ Err fault)
 unfolding core_valued core_check variants_check
 usual_told R c u (Ok b) h = grind arith
 usual_told R c u (Err fault) h = grind arith
@@ -51,7 +53,9 @@ module _ (R : List EntryParts) (t : TagForm) (c : CoreParts) (u : IsUsual c) (k 
   -- a fault of the short test is the first fault of the tag `t`, which is the core `c` alone
   pub usual_refused : (fault : ValidFault) → core_valued R c ≡ Err fault → IsFirstFault R t fault.kind fault.place
   usual_refused fault h =
-      first_same (Counted false (HasFault R t)) (HasFault R t) fault.kind fault.place (record { there = λ kind place f. f.0; back = λ kind place f. (f, λ e. cc) }) (tag_core_first R false t c fault (sym (ap core_of k)) (usual_told R c u (Err fault) h))
+      first_same (Counted false (HasFault R t)) (HasFault R t) fault.kind fault.place
+      (record { there = λ kind place f. f.0; back = λ kind place f. (f, λ e. cc) })
+      (tag_core_first R false t c fault (sym (ap core_of k)) (usual_told R c u (Err fault) h))
 
   -- a core alone of which `core_check` finds no fault has none as a tag
   no_fault : core_check R false 0 c ≡ Ok tt → HasNoFault R (core_alone c)
@@ -66,8 +70,18 @@ module _ (R : List EntryParts) (t : TagForm) (c : CoreParts) (u : IsUsual c) (k 
   unfolding core_valued
   usual_settled v h =
       let rest : AtRest R c = grind arith in
-      let form : IsDistinctForm R c c = record { normal = record { reached = done; at_rest = λ d s. rests R c d rest s }; distinct = (rw k at (usual_valid false v h)).distinct.0 } in
-      let settled : IsSettledTag R (core_alone c) t = record { core = c; extensions = []; is = k; form = form; normal = record { reached = done; at_rest = none_rests R }; distinct = tt } in
+      let form : IsDistinctForm R c c = record {
+        normal = record { reached = done; at_rest = λ d s. rests R c d rest s };
+        distinct = (rw k at (usual_valid false v h)).distinct.0;
+      } in
+      let settled : IsSettledTag R (core_alone c) t = record {
+        core = c;
+        extensions = [];
+        is = k;
+        form = form;
+        normal = record { reached = done; at_rest = none_rests R };
+        distinct = tt;
+      } in
       subst (λ a. IsSettledTag R a t) (sym k) settled
 
 -- ---- no subtag has a value
@@ -87,7 +101,8 @@ module _ (R : List EntryParts) (text : List ℕ) (c : CoreParts) (stay : StaysAs
   -- no whole record of a core of a text that stays has a value
   no_value : (e : EntryParts) → whole R (core_alone c) ≡ Some e → tag_of e.value ≡ None
   no_value e h =
-      let other = (find_has (λ (e : EntryParts). replaces_plain_of c.language e ≡ false) (λ (e : EntryParts). is_whole (core_alone c) e.name) R e replaces_none h).0 in
+      let other = (find_has (λ (e : EntryParts). replaces_plain_of c.language e ≡ false)
+      (λ (e : EntryParts). is_whole (core_alone c) e.name) R e replaces_none h).0 in
       let name = found_name R (core_alone c) e h in
       grind (arith, bytes_eq-Decides)
 
@@ -95,20 +110,26 @@ module _ (R : List EntryParts) (text : List ℕ) (c : CoreParts) (stay : StaysAs
   pub stays_canonical : IsChecked R → IsCanonicalFormOf R (core_alone c) (core_alone c)
   stays_canonical C =
       let usual : IsUsual c = record { extlangs = stay.extlangs; variants = stay.variants } in
-      let value : IsTagValue (core_alone c) = record { tag = stay.read.tag; counts = (rw stay.variants (omega arith), omega arith, tt, omega arith) } in
-      settled_canonical R C (core_alone c) (core_alone c) (core_alone c) (usual_valid R (core_alone c) c usual refl false value valued) (usual_settled R (core_alone c) c usual refl value valued)
+      let value : IsTagValue (core_alone c) = record
+      { tag = stay.read.tag; counts = (rw stay.variants (omega arith), omega arith, tt, omega arith) } in
+      settled_canonical R C (core_alone c) (core_alone c) (core_alone c)
+      (usual_valid R (core_alone c) c usual refl false value valued)
+      (usual_settled R (core_alone c) c usual refl value valued)
       (inr (record { none = λ _. grind (arith, no_value); same = refl }))
 
 -- the text of the canonical form of the tag that `text` is read as was appended to `old`, so its canonical text was
-pub appended : (R : List EntryParts) (text : List ℕ) (tag form : TagForm) (old new : List ℕ) → HasTag text tag → IsCanonicalFormOf R tag form
+pub appended : (R : List EntryParts) (text : List ℕ) (tag form : TagForm) (old new : List ℕ) → HasTag text tag
+    → IsCanonicalFormOf R tag form
     → new ≡ old ++ conventional (spell form) → AppendsCanonicalText R text old new
 appended R text tag form old new read is grown = search rules
 
 -- of a text that stays as it is, the canonical text is the text in conventional case; `old` and `new` are the bytes
 -- before and after it is appended
-pub stays_appended : (R : List EntryParts) → IsChecked R → (text old new : List ℕ) → IsStaying R text → new ≡ old ++ conventional (list_of text) → AppendsCanonicalText R text old new
+pub stays_appended : (R : List EntryParts) → IsChecked R → (text old new : List ℕ) → IsStaying R text
+    → new ≡ old ++ conventional (list_of text) → AppendsCanonicalText R text old new
 stays_appended R C text old new stay grown =
-    appended R text (core_alone stay.0) (core_alone stay.0) old new stay.1.read (stays_canonical R text stay.0 stay.1 C) (grown ∙ ap (λ l. old ++ conventional l) (sym stay.1.read.spelled))
+    appended R text (core_alone stay.0) (core_alone stay.0) old new stay.1.read (stays_canonical R text stay.0 stay.1 C)
+    (grown ∙ ap (λ l. old ++ conventional l) (sym stay.1.read.spelled))
 
 -- ---- traces
 

@@ -18,7 +18,8 @@ pub can_settle : (R : List EntryParts) (t : TagForm) → HasProperParts R t → 
 can_settle R (LangTag c es ps) h = record {
   singletons = h.singletons;
   transforms =
-      all_both (IsProperExtension R) (IsProperExtension R) (λ (e : ExtensionParts). e.singleton ≡ transform → (p : TForm) × IsTransform e.subtags p)
+      all_both (IsProperExtension R) (IsProperExtension R) (λ (e : ExtensionParts). e.singleton ≡ transform
+      → (p : TForm) × IsTransform e.subtags p)
       (λ e a b q. let p = a q in (p.0, p.1)) es h.extensions h.extensions;
 }
 can_settle R (PrivateUse ps) h = record { singletons = tt; transforms = tt }

@@ -32,19 +32,22 @@ whole_name t (names.Whole u) h = ap names.Whole (same_tag_is u t h)
 
 -- the record that a look-up of a whole tag finds has that tag as its name
 pub found_name : (R : List EntryParts) (t : TagForm) (e : EntryParts) → whole R t ≡ Some e → e.name ≡ names.Whole t
-found_name R t e h = whole_name t e.name (find_has (λ (e : EntryParts). Unit {0}) (λ (e : EntryParts). is_whole t e.name) R e (λ k d n. tt) h).1
+found_name R t e h = whole_name t e.name
+    (find_has (λ (e : EntryParts). Unit {0}) (λ (e : EntryParts). is_whole t e.name) R e (λ k d n. tt) h).1
 
 -- where the value `u` is found for a tag, there is a whole record of the tag with this value
 pub valued_whole : (R : List EntryParts) (t u : TagForm) → whole_value R t ≡ Some u → ValuedWhole R t u
 valued_whole R t u e =
-    option_and_then_some (λ (e : EntryParts). tag_of e.value) (whole R t) u e (λ f o g. record { at = f; found = o; named = found_name R t f o; gives = g })
+    option_and_then_some (λ (e : EntryParts). tag_of e.value) (whole R t) u e
+    (λ f o g. record { at = f; found = o; named = found_name R t f o; gives = g })
 
 -- what is true of each record is true of the whole record `w` behind a value
 pub whole_has : (R : List EntryParts) (t u : TagForm) (P : EntryParts → Type 0) → All P R → (w : ValuedWhole R t u) → P w.at
 whole_has R t u P h w = (find_has P (λ (e : EntryParts). is_whole t e.name) R w.at h w.found).0
 
 -- where no record of a tag has a value, none is found for it
-pub no_value : (R : List EntryParts) (t : TagForm) → All (λ (e : EntryParts). e.name ≡ names.Whole t → tag_of e.value ≡ None) R → whole_value R t ≡ None
+pub no_value : (R : List EntryParts) (t : TagForm)
+    → All (λ (e : EntryParts). e.name ≡ names.Whole t → tag_of e.value ≡ None) R → whole_value R t ≡ None
 no_value R t h =
     let never : (u : TagForm) → whole_value R t ≡ Some u → ⊥ = λ u e. (
     let w = valued_whole R t u e in

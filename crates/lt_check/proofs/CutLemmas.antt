@@ -1,5 +1,7 @@
 -- A text that is cut into subtags that stay is read as their langtag, and shown in conventional case.
-use Rattle.std.proofs.Common.{◌≡◌, ◌≤◌, ℕ, ◌==◌, ◌++◌, ◌&&◌, Bool, true, false, List, [], ◌∷◌, length, map, take, Option, Some, None, option_map, inl, inr, refl, sym, ap, ◌∙◌, arith, ◌-◌, eqb, ◌||◌, not, find, is_none, IfSome, subst, All}
+use Rattle.std.proofs.Common.{◌≡◌, ◌≤◌, ℕ, ◌==◌, ◌++◌, ◌&&◌, Bool, true, false, List, [], ◌∷◌, length, map, take}
+use Rattle.std.proofs.Common.{Option, Some, None, option_map, inl, inr, refl, sym, ap, ◌∙◌, arith, ◌-◌, eqb, ◌||◌, not}
+use Rattle.std.proofs.Common.{find, is_none, IfSome, subst, All}
 use Rattle.std.specs.Option.{option_map_or}
 use Rattle.std.proofs.lemmas.Bool.{agree_below_at, eqb-true}
 use Rattle.std.proofs.lemmas.Bool.Decides.{nat_tests}
@@ -61,12 +63,19 @@ stays_form R forms k s h =
 -- a letter with bit 32 set is that letter in lower case
 lower_is : (b : ℕ) → is_ascii_lowercase (to_ascii_lowercase b) ≡ true → lower b ≡ to_ascii_lowercase b
 lower_is b h =
-    eqb-true _ _ (rw h at (agree_below_at (λ x. not (is_ascii_lowercase (to_ascii_lowercase x)) || eqb (lower x) (to_ascii_lowercase x)) (λ _. true) 128 b refl (grind (arith, nat_tests))))
+    eqb-true _ _
+    (rw h at (agree_below_at
+    (λ x. not (is_ascii_lowercase (to_ascii_lowercase x)) || eqb (lower x) (to_ascii_lowercase x)) (λ _. true) 128 b
+    refl (grind (arith, nat_tests))))
 
 -- a letter with bit 32 cleared is that letter in upper case
 upper_is : (b : ℕ) → is_ascii_lowercase (to_ascii_lowercase b) ≡ true → to_ascii_uppercase (to_ascii_lowercase b) ≡ upper_byte b
 upper_is b h =
-    eqb-true _ _ (rw h at (agree_below_at (λ x. not (is_ascii_lowercase (to_ascii_lowercase x)) || eqb (to_ascii_uppercase (to_ascii_lowercase x)) (upper_byte x)) (λ _. true) 128 b refl (grind (arith, nat_tests))))
+    eqb-true _ _
+    (rw h at (agree_below_at
+    (λ x. not (is_ascii_lowercase (to_ascii_lowercase x))
+    || eqb (to_ascii_uppercase (to_ascii_lowercase x)) (upper_byte x)) (λ _. true) 128 b refl
+    (grind (arith, nat_tests))))
 
 -- letters with bit 32 set are these letters in lower case
 lowered_is : (s : List ℕ) → is_alphabetic (folded s) ≡ true → lowered s ≡ folded s
@@ -99,7 +108,8 @@ joined l s r = grind (arith, append-nil {A = ℕ})
 
 -- a text that is, letter case aside, the subtags of a core alone with hyphens (45) between them is read as that core
 -- alone
-text_read : (text : List ℕ) (c : CoreParts) → IsTag (core_alone c) → folded text ≡ join_with_byte 45 (spell (core_alone c)) → spell (core_alone c) ≡ list_of text
+text_read : (text : List ℕ) (c : CoreParts) → IsTag (core_alone c)
+    → folded text ≡ join_with_byte 45 (spell (core_alone c)) → spell (core_alone c) ≡ list_of text
 text_read text c tag e =
     let again = tag_again (core_alone c) tag in
     let shown = conventional (spell (core_alone c)) in
@@ -119,7 +129,8 @@ plain_tag : (l : List ℕ) (s r : Option (List ℕ)) → IsCore (plain l s r) �
 unfolding grandfathered_list
 plain_tag l s r k =
     let other : IsNotGrandfathered (spell_core (plain l s r)) = λ number g.
-    let none = list_all-at (λ (t : List ℕ). not (is_plain (core_of_list (pieces t)))) grandfathered_texts (number - 1) none_plain (omega (arith, table_length, g.first, g.last)) in
+    let none = list_all-at (λ (t : List ℕ). not (is_plain (core_of_list (pieces t)))) grandfathered_texts (number - 1)
+    none_plain (omega (arith, table_length, g.first, g.last)) in
     let is = ap core_of_list (sym g.same) ∙ core_again (plain l s r) k in
     let bad : not true ≡ true = rw is at none in
     cc in
@@ -142,7 +153,9 @@ region_long s h = elim (region_is s h) [ inl p ↦ omega (arith, p.1) | inr p �
 
 -- a language put into lower case, and a script and a region in their cases, are their langtag's text in conventional
 -- case
-cased : (l : List ℕ) (s r : Option (List ℕ)) → is_language (folded l) ≡ true → option_map_or is_script (option_map folded s) true ≡ true → option_map_or is_region (option_map folded r) true ≡ true
+cased : (l : List ℕ) (s r : Option (List ℕ)) → is_language (folded l) ≡ true
+    → option_map_or is_script (option_map folded s) true ≡ true → option_map_or is_region (option_map folded r) true
+    ≡ true
     → lowered l ++ shown_parts s r ≡ conventional (spell (core_alone (plain (folded l) (option_map folded s) (option_map folded r))))
 cased l s r h f g =
     let long = language_long (folded l) h in
@@ -154,12 +167,14 @@ language_few : (F l : List ℕ) → flagged F kinds.Language l ≡ true → leng
 language_few F l h = grind arith
 
 -- the text of a language, a script and a region in lower case is that of each in lower case
-folded_parts : (l : List ℕ) (s r : Option (List ℕ)) → folded (l ++ (hyphened s ++ hyphened r)) ≡ folded l ++ (hyphened (option_map folded s) ++ hyphened (option_map folded r))
+folded_parts : (l : List ℕ) (s r : Option (List ℕ)) → folded (l ++ (hyphened s ++ hyphened r))
+    ≡ folded l ++ (hyphened (option_map folded s) ++ hyphened (option_map folded r))
 folded_parts l s r = grind (arith, map-append {A = ℕ} {B = ℕ})
 
 -- pieces that in lower case are a language, a script and a region are such parts as they stand: `p`, `q` and `o`
 uncased : (ps : List (List ℕ)) (l : List ℕ) (s r : Option (List ℕ)) → map folded ps ≡ spell (core_alone (plain l s r))
-    → (p : List ℕ) × (q : Option (List ℕ)) × (o : Option (List ℕ)) × (ps ≡ spell (core_alone (plain p q o))) × (folded p ≡ l) × (option_map folded q ≡ s) × (option_map folded o ≡ r)
+    → (p : List ℕ) × (q : Option (List ℕ)) × (o : Option (List ℕ)) × (ps ≡ spell (core_alone (plain p q o)))
+    × (folded p ≡ l) × (option_map folded q ≡ s) × (option_map folded o ≡ r)
 uncased (p ∷ []) l None None e = (p, None, None, refl, cc, refl, refl)
 uncased (p ∷ o ∷ []) l None (Some r) e = (p, None, Some o, refl, cc, refl, ap Some (cc))
 uncased (p ∷ q ∷ []) l (Some s) None e = (p, Some q, None, refl, cc, ap Some (cc), refl)
@@ -206,7 +221,14 @@ module _ (R : List EntryParts) (F : List ℕ) (flags : AreFlags R F) where
     pub shown_stays : StaysAs R text core_shown
     shown_stays = record {
       read = record {
-        short = omega (arith, ap length t.text_is, length-append t.language t.rest, language_few F t.language t.language_set, length-map t.language to_ascii_lowercase, t.parts.few);
+        short = omega (
+          arith,
+          ap length t.text_is,
+          length-append t.language t.rest,
+          language_few F t.language t.language_set,
+          length-map t.language to_ascii_lowercase,
+          t.parts.few,
+        );
         tag = shown_tag;
         spelled = text_read text core_shown shown_tag same_letters;
       };
@@ -220,7 +242,9 @@ module _ (R : List EntryParts) (F : List ℕ) (flags : AreFlags R F) where
 
     -- what is shown of a text is the text in conventional case
     pub shown_cased : take p.count p.bytes ≡ conventional (list_of text)
-    shown_cased = t.shown_is ∙ cased t.language t.parts.script t.parts.region core_shaped.language core_shaped.script core_shaped.region ∙ ap conventional shown_stays.read.spelled
+    shown_cased = t.shown_is
+        ∙ cased t.language t.parts.script t.parts.region core_shaped.language core_shaped.script core_shaped.region
+        ∙ ap conventional shown_stays.read.spelled
 
   -- a language of at most three letters that stays has a flag
   language_flagged : (s : List ℕ) → length (folded s) ≤ 3 → stays R kinds.Language (folded s) ≡ true → flagged F kinds.Language s ≡ true
@@ -245,19 +269,29 @@ module _ (R : List EntryParts) (F : List ℕ) (flags : AreFlags R F) where
 
   -- a script or a region that stays, if there is one, has a flag: `s` as it is written, `c` in lower case; `each` is
   -- the lemma on subtags of its kind
-  part_stays : (k : Kind) → ((s : List ℕ) → stays R k (folded s) ≡ true → flagged F k s ≡ true) → (s c : Option (List ℕ)) → option_map folded s ≡ c → IfSome c (λ s. stays R k s ≡ true) → part_flagged F k s ≡ true
+  part_stays : (k : Kind) → ((s : List ℕ) → stays R k (folded s) ≡ true → flagged F k s ≡ true)
+      → (s c : Option (List ℕ)) → option_map folded s ≡ c → IfSome c (λ s. stays R k s ≡ true)
+      → part_flagged F k s ≡ true
   part_stays k each s c e h = grind (arith, each)
 
   -- of a text whose subtags all stay something is shown
   pub stays_shown : (text : List ℕ) (c : CoreParts) → StaysAs R text c → taken.shown_text F text ≡ None → ⊥
   stays_shown text c h none =
-      let core : c ≡ plain c.language c.script c.region = λ k. record { language = c.language; extlangs = h.extlangs k; script = c.script; region = c.region; variants = h.variants k } in
+      let core : c ≡ plain c.language c.script c.region = λ k. record {
+        language = c.language;
+        extlangs = h.extlangs k;
+        script = c.script;
+        region = c.region;
+        variants = h.variants k;
+      } in
       let t = uncased (pieces text) c.language c.script c.region (sym h.read.spelled ∙ ap (λ (d : CoreParts). spell (core_alone d)) core) in
-      let text_is : text ≡ t.0 ++ (hyphened t.1 ++ hyphened t.2) = sym (join_pieces text) ∙ ap (join_with_byte 45) t.3 ∙ joined t.0 t.1 t.2 in
+      let text_is : text ≡ t.0 ++ (hyphened t.1 ++ hyphened t.2) = sym (join_pieces text) ∙ ap (join_with_byte 45) t.3
+      ∙ joined t.0 t.1 t.2 in
       let stay = subst (λ (m : List ℕ). stays R kinds.Language m ≡ true) (sym t.4) h.language in
       let form = stays_form R flags.forms kinds.Language (folded t.0) stay in
       let few : length (folded t.0) ≤ 3 = omega (arith, ap length t.4, h.short) in
       let some = cut_shown F t.0 t.1 t.2 (language_letters (folded t.0) form) (language_flagged t.0 few stay)
-      (part_stays kinds.Script script_flagged t.1 c.script t.5 h.script) (part_stays kinds.Region region_flagged t.2 c.region t.6 h.region) in
+      (part_stays kinds.Script script_flagged t.1 c.script t.5 h.script)
+      (part_stays kinds.Region region_flagged t.2 c.region t.6 h.region) in
       let bad = rw (← text_is, none) at some in
       cc

@@ -15,11 +15,13 @@ pub Decides-true : (b : Bool) → Decides b (b ≡ true)
 Decides-true b = ((λ h. h), (λ h. h))
 
 -- if the test `q` decides the property `P` of each element, `q` of all elements decides `P` of all
-pub Decides-all : {A : Type 0} (P : A → Type 0) (q : A → Bool) → ((a : A) → Decides (q a) (P a)) → (xs : List A) → Decides (list_all q xs) (All P xs)
+pub Decides-all : {A : Type 0} (P : A → Type 0) (q : A → Bool) → ((a : A) → Decides (q a) (P a)) → (xs : List A)
+    → Decides (list_all q xs) (All P xs)
 Decides-all P q d xs = Decides-by_and q P (list_all q) d refl (λ _ _. refl) xs
 
 -- if the test `q` decides the property `P` of each element, `q` of all elements decides `P` of all, stated by recursion
-pub Decides-each : {A : Type 0} (P : A → Type 0) (q : A → Bool) → ((a : A) → Decides (q a) (P a)) → (xs : List A) → Decides (list_all q xs) (AllByRecursion P xs)
+pub Decides-each : {A : Type 0} (P : A → Type 0) (q : A → Bool) → ((a : A) → Decides (q a) (P a)) → (xs : List A)
+    → Decides (list_all q xs) (AllByRecursion P xs)
 Decides-each P q d [] = ((λ h. tt), (λ f. refl))
 Decides-each P q d (x ∷ xs) = Decides-and (q x) (list_all q xs) (d x) (Decides-each P q d xs)
 

@@ -1,6 +1,8 @@
 -- Two subtags of one kind have one place exactly if they are the same, letter case aside. How writing one flag changes
 -- what the flags tell.
-use Rattle.std.proofs.Common.{◌≡◌, ◌≤◌, ◌<◌, ℕ, ◌+◌, ◌-◌, ◌*◌, ◌/◌, ◌%◌, ◌==◌, ◌&&◌, eqb, Bool, true, false, cond, List, [], ◌∷◌, length, map, get_or, Option, Some, None, IfSome, inl, inr, refl, sym, subst, ap, ◌∙◌, arith, bytes_eq, ◌^◌, not, set, replicate, bit_and, bit_or, w64, is_some}
+use Rattle.std.proofs.Common.{◌≡◌, ◌≤◌, ◌<◌, ℕ, ◌+◌, ◌-◌, ◌*◌, ◌/◌, ◌%◌, ◌==◌, ◌&&◌, eqb, Bool, true, false, cond, List}
+use Rattle.std.proofs.Common.{[], ◌∷◌, length, map, get_or, Option, Some, None, IfSome, inl, inr, refl, sym, subst, ap}
+use Rattle.std.proofs.Common.{◌∙◌, arith, bytes_eq, ◌^◌, not, set, replicate, bit_and, bit_or, w64, is_some}
 use Rattle.std.specs.Prelude.{nat_lt}
 use Rattle.std.specs.List.{list_all}
 use Rattle.std.specs.Option.{option_map_or}
@@ -59,7 +61,8 @@ same_byte true b t e h = grind (arith, nat_tests)
 same_byte false b t e h = grind (arith, nat_tests)
 
 -- bytes `s` with the numbers of `t`, which are letters in lower case or digits, are `t`, letter case aside
-same_bytes : (lettered : Bool) (s t : List ℕ) → map (number lettered) s ≡ map (number lettered) t → list_all (is_numbered lettered) t ≡ true → folded s ≡ t
+same_bytes : (lettered : Bool) (s t : List ℕ) → map (number lettered) s ≡ map (number lettered) t
+    → list_all (is_numbered lettered) t ≡ true → folded s ≡ t
 same_bytes lettered [] [] e h = refl
 same_bytes lettered (a ∷ s) (b ∷ t) e h = grind (arith, same_byte, same_bytes lettered s t)
 same_bytes lettered _ _ e h = cc
@@ -69,7 +72,12 @@ decode : ℕ → Kind × Bool × List ℕ
 decode n =
     cond (nat_lt n 729) (kinds.Language, true, n / 27 ∷ n % 27 ∷ [])
     (cond (nat_lt n 20412) (kinds.Language, true, (n - 729) / 729 ∷ (n - 729) / 27 % 27 ∷ (n - 729) % 27 ∷ [])
-    (cond (nat_lt n 551853) (kinds.Script, true, (n - 20412) / 19683 ∷ (n - 20412) / 729 % 27 ∷ (n - 20412) / 27 % 27 ∷ (n - 20412) % 27 ∷ [])
+    (cond (nat_lt n 551853) (
+      kinds.Script,
+      true,
+      (n - 20412) / 19683 ∷ (n - 20412) / 729 % 27 ∷ (n - 20412) / 27 % 27
+          ∷ (n - 20412) % 27 ∷ [],
+    )
     (cond (nat_lt n 552582) (kinds.Region, true, (n - 551853) / 27 ∷ (n - 551853) % 27 ∷ [])
     (kinds.Region, false, (n - 552582) / 121 ∷ (n - 552582) / 11 % 11 ∷ (n - 552582) % 11 ∷ []))))
 
@@ -79,14 +87,16 @@ unfolding decode
 three x y z h k l = grind (arith, nat_tests)
 
 -- the place of a script, by the numbers of its letters, tells these numbers
-four : (x y z w : ℕ) → x ≤ 26 → y ≤ 26 → z ≤ 26 → w ≤ 26 → decode (20412 + ((x * 27 + y) * 27 + z) * 27 + w) ≡ (kinds.Script, true, x ∷ y ∷ z ∷ w ∷ [])
+four : (x y z w : ℕ) → x ≤ 26 → y ≤ 26 → z ≤ 26 → w ≤ 26 → decode (20412 + ((x * 27 + y) * 27 + z) * 27 + w)
+    ≡ (kinds.Script, true, x ∷ y ∷ z ∷ w ∷ [])
 unfolding decode
 four x y z w h k l m = grind (arith, nat_tests)
 
 -- `n` is the place of the subtag `s` of kind `k`: it tells the kind and the numbers of the bytes, and is the same in
 -- lower case
 data IsPlace (k : Kind) (s : List ℕ) (n : ℕ) : Type 0 where
-  known : (lettered : Bool) → decode n ≡ (k, lettered, map (number lettered) s) → (has_form k s ≡ true → list_all (is_numbered lettered) s ≡ true) → place k (folded s) ≡ Some n → IsPlace k s n
+  known : (lettered : Bool) → decode n ≡ (k, lettered, map (number lettered) s)
+      → (has_form k s ≡ true → list_all (is_numbered lettered) s ≡ true) → place k (folded s) ≡ Some n → IsPlace k s n
 
 -- a language is of letters in lower case
 language_shaped : (s : List ℕ) → is_language s ≡ true → list_all (is_numbered true) s ≡ true
@@ -104,9 +114,11 @@ unfolding number is_numbered decode
 is_place kinds.Language (a ∷ b ∷ []) =
     known true (grind (arith, nat_tests)) (language_shaped _) (grind (arith, letter_folded))
 is_place kinds.Language (a ∷ b ∷ c ∷ []) =
-    known true (three (letter a) (letter b) (letter c) (letter_few a) (letter_few b) (letter_few c)) (language_shaped _) (grind (arith, letter_folded))
+    known true (three (letter a) (letter b) (letter c) (letter_few a) (letter_few b) (letter_few c)) (language_shaped _)
+    (grind (arith, letter_folded))
 is_place kinds.Script (a ∷ b ∷ c ∷ d ∷ []) =
-    known true (four (letter a) (letter b) (letter c) (letter d) (letter_few a) (letter_few b) (letter_few c) (letter_few d)) (λ h. (script_is _ h).0) (grind (arith, letter_folded))
+    known true (four (letter a) (letter b) (letter c) (letter d) (letter_few a) (letter_few b) (letter_few c)
+    (letter_few d)) (λ h. (script_is _ h).0) (grind (arith, letter_folded))
 is_place kinds.Region (a ∷ b ∷ []) =
     known true (grind (arith, nat_tests)) (region_shaped _) (grind (arith, letter_folded))
 is_place kinds.Region (a ∷ b ∷ c ∷ []) =
@@ -119,7 +131,8 @@ placed k s n h = subst (λ o. IfSome o (IsPlace k s)) h (is_place k s)
 
 -- `t` of kind `j` has the form of its kind and the place of `s` of kind `k`: the kinds are one, and `s` in lower case
 -- is `t`
-alike : (j k : Kind) (t s : List ℕ) (n : ℕ) → has_form j t ≡ true → place j t ≡ Some n → place k s ≡ Some n → (same_kind j k && bytes_eq t (folded s)) ≡ true
+alike : (j k : Kind) (t s : List ℕ) (n : ℕ) → has_form j t ≡ true → place j t ≡ Some n → place k s ≡ Some n
+    → (same_kind j k && bytes_eq t (folded s)) ≡ true
 alike j k t s n form g h = let p = placed j t n g in let q = placed k s n h in grind (arith, same_bytes, same_kind_itself, bytes_eq-Decides)
 
 -- `s` in lower case is `t`, and the kinds are one: then `t` has the place of `s`
@@ -143,12 +156,29 @@ abbrev mask : ℕ → ℕ
 mask m = 1 * 2 ^ (m % 64) % 2 ^ 64
 
 -- with the bit of place `m` set, the flag of `m` is set and the others are as they were
-pub set_flag : (words : List ℕ) (m : ℕ) → m / 64 < length words → (n : ℕ) → flag (set words (m / 64) (bit_or (get_or words (m / 64) 0) (mask m))) n ≡ cond (n == m) true (flag words n)
-set_flag words m within n = grind (arith, nat_tests, get_or-set_same {A = ℕ}, get_or-set_other {A = ℕ}, bit_at_set_same w64, bit_at_set_other w64)
+pub set_flag : (words : List ℕ) (m : ℕ) → m / 64 < length words → (n : ℕ)
+    → flag (set words (m / 64) (bit_or (get_or words (m / 64) 0) (mask m))) n ≡ cond (n == m) true (flag words n)
+set_flag words m within n = grind (
+  arith,
+  nat_tests,
+  get_or-set_same {A = ℕ},
+  get_or-set_other {A = ℕ},
+  bit_at_set_same w64,
+  bit_at_set_other w64,
+)
 
 -- with the bit of place `m` cleared, the flag of `m` is clear and the others are as they were
-pub clear_flag : (words : List ℕ) (m : ℕ) → m / 64 < length words → (n : ℕ) → flag (set words (m / 64) (bit_and (get_or words (m / 64) 0) (bit_not w64 (mask m)))) n ≡ cond (n == m) false (flag words n)
-clear_flag words m within n = grind (arith, nat_tests, get_or-set_same {A = ℕ}, get_or-set_other {A = ℕ}, bit_at_clear_same w64, bit_at_clear_other w64)
+pub clear_flag : (words : List ℕ) (m : ℕ) → m / 64 < length words → (n : ℕ)
+    → flag (set words (m / 64) (bit_and (get_or words (m / 64) 0) (bit_not w64 (mask m)))) n
+    ≡ cond (n == m) false (flag words n)
+clear_flag words m within n = grind (
+  arith,
+  nat_tests,
+  get_or-set_same {A = ℕ},
+  get_or-set_other {A = ℕ},
+  bit_at_clear_same w64,
+  bit_at_clear_other w64,
+)
 
 -- ---- what flags tell
 
@@ -162,12 +192,14 @@ tell_none words count none z e k s n h =
 
 -- the record `e` of the subtag `t` of kind `j` is put in front: the answer to this subtag is then `b`, whether `e` has
 -- no value, and the answers to others are what they were
-pub first_named : (e : EntryParts) (es : List EntryParts) (j : Kind) (t : List ℕ) (b : Bool) → e.kind ≡ j → e.name ≡ names.Single t → is_some e.value ≡ not b → (k : Kind) (s : List ℕ)
+pub first_named : (e : EntryParts) (es : List EntryParts) (j : Kind) (t : List ℕ) (b : Bool) → e.kind ≡ j
+    → e.name ≡ names.Single t → is_some e.value ≡ not b → (k : Kind) (s : List ℕ)
     → has_no_value (e ∷ es) k s ≡ with_subtag j t b (has_no_value es) k s
 first_named e es j t b i h v k s = grind arith
 
 -- a record in front that names no single subtag changes no answer
-pub first_unnamed : (e : EntryParts) (es : List EntryParts) → ((t : List ℕ) → e.name ≡ names.Single t → ⊥) → (k : Kind) (s : List ℕ) → has_no_value (e ∷ es) k s ≡ has_no_value es k s
+pub first_unnamed : (e : EntryParts) (es : List EntryParts) → ((t : List ℕ) → e.name ≡ names.Single t → ⊥)
+    → (k : Kind) (s : List ℕ) → has_no_value (e ∷ es) k s ≡ has_no_value es k s
 first_unnamed e es h k s = grind arith
 
 -- ---- a record is put after those that replace tags

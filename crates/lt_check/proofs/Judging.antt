@@ -1,5 +1,6 @@
 -- The conditions in their order, and which of them a look at one record after another decides.
-use Rattle.std.proofs.Common.{◌≡◌, ℕ, zero, suc, ◌≤◌, ◌<◌, ◌+◌, eqb, true, List, Option, Some, None, Result, Ok, Err, IfOk, All, ap, inl, inr, refl, sym, subst, ◌∙◌, false, arith, rules}
+use Rattle.std.proofs.Common.{◌≡◌, ℕ, zero, suc, ◌≤◌, ◌<◌, ◌+◌, eqb, true, List, Option, Some, None, Result, Ok, Err}
+use Rattle.std.proofs.Common.{IfOk, All, ap, inl, inr, refl, sym, subst, ◌∙◌, false, arith, rules}
 use Rattle.std.specs.Prelude.{slice_index_or}
 use Rattle.std.proofs.lemmas.Bool.{eqb-true, agree_below_at}
 use Rattle.std.proofs.lemmas.List.Elements.{All-contains}
@@ -15,7 +16,8 @@ use Rattle.lt_check.specs.declared.rejections.Finding.{Finding}
 use Rattle.lt_check.specs.declared.checking.TheConstants.{IN_ORDER}
 
 -- each condition but C1, C8, C10 and C11 is decided by a look at one record after another
-pub by_record : (k : Condition) → (k ≡ conditions.OwnName → ⊥) → (k ≡ conditions.FittingGrandfathered → ⊥) → (k ≡ conditions.RestingWhole → ⊥) → (k ≡ conditions.AgreeingWhole → ⊥) → is_by_record k ≡ true
+pub by_record : (k : Condition) → (k ≡ conditions.OwnName → ⊥) → (k ≡ conditions.FittingGrandfathered → ⊥)
+    → (k ≡ conditions.RestingWhole → ⊥) → (k ≡ conditions.AgreeingWhole → ⊥) → is_by_record k ≡ true
 by_record _ a b c d = grind arith
 
 -- the rank below which all conditions are judged, when the first `i` in order are
@@ -25,7 +27,9 @@ rank_at (suc i) = next_of (slice_index_or IN_ORDER i conditions.OwnName)
 
 -- when the first `i` conditions in order are judged, the next one has the rank `rank_at i`
 ranked : (i : ℕ) → i < 11 → rank_of (slice_index_or IN_ORDER i conditions.OwnName) ≡ rank_at i
-ranked i h = eqb-true _ _ (agree_below_at (λ i. eqb (rank_of (slice_index_or IN_ORDER i conditions.OwnName)) (rank_at i)) (λ _. true) 11 i refl h)
+ranked i h = eqb-true _ _
+    (agree_below_at (λ i. eqb (rank_of (slice_index_or IN_ORDER i conditions.OwnName)) (rank_at i)) (λ _. true) 11 i
+    refl h)
 
 -- when all eleven in order are judged and met, the registry passes the check
 pub all_below : (R : List EntryParts) (i : ℕ) → 11 ≤ i → i ≤ 11 → MeetsBelow (rank_at i) R → Passes R
@@ -50,12 +54,15 @@ all_below R i m l h =
     }
 
 -- where the conditions with ranks below that of `k` are met, and `k` is, those with ranks below the next are met
-pub below_more : (R : List EntryParts) (k : Condition) (n : ℕ) → n ≡ rank_of k + 1 → MeetsBelow (rank_of k) R → All (Meets k R) R → MeetsBelow n R
+pub below_more : (R : List EntryParts) (k : Condition) (n : ℕ) → n ≡ rank_of k + 1 → MeetsBelow (rank_of k) R
+    → All (Meets k R) R → MeetsBelow n R
 below_more R _ n e M a _ l = search (rules, arith)
 
 -- if the conditions before `k` are met, and `r` is the lowest record that fails `k`, if there is one, then `r` is the
 -- verdict on all conditions up to `k`; C10 is judged along with C11
-pub judged : {E : Type 0} (R : List EntryParts) (k : Condition) → MeetsBelow (rank_of k) R → (k ≡ conditions.RestingWhole → ⊥) → (r : Result (Option Finding) E) → IfOk r (IsLowestFault R k) → IfOk r (IsVerdictBelow (next_of k) R)
+pub judged : {E : Type 0} (R : List EntryParts) (k : Condition) → MeetsBelow (rank_of k) R
+    → (k ≡ conditions.RestingWhole → ⊥) → (r : Result (Option Finding) E) → IfOk r (IsLowestFault R k)
+    → IfOk r (IsVerdictBelow (next_of k) R)
 judged R k M n (Err x) a = tt
 judged R k M n (Ok None) a = below_more R k (next_of k) (grind arith) M a
 judged R k M n (Ok (Some f)) (e, a) =
@@ -63,7 +70,8 @@ judged R k M n (Ok (Some f)) (e, a) =
 
 -- if all records meet C10 and the conditions before it, and `o` is the lowest record that fails C11, if there is one,
 -- then `o` is the verdict on all conditions up to C11
-pub judged_whole : (R : List EntryParts) → MeetsBelow 10 R → All (Meets conditions.RestingWhole R) R → (o : Option Finding) → IsLowestFault R conditions.AgreeingWhole o → IsVerdictBelow 12 R o
+pub judged_whole : (R : List EntryParts) → MeetsBelow 10 R → All (Meets conditions.RestingWhole R) R
+    → (o : Option Finding) → IsLowestFault R conditions.AgreeingWhole o → IsVerdictBelow 12 R o
 judged_whole R M a o = judged {E = Unit {0}} R conditions.AgreeingWhole (below_more R conditions.RestingWhole 11 refl M a) (λ e. cc) (Ok o)
 
 -- a registry that passes the check meets each condition
@@ -81,11 +89,15 @@ pub none_that_passes : (R : List EntryParts) (k : Condition) (n : ℕ) → IsAtF
 none_that_passes R k n f P = f.fails (All-contains (Meets k R) R f.entry (meets R P k) f.there)
 
 -- a condition that is decided by a look at one record after another is one of C2 to C7, C9 and C12
-pub not_by_record : (k : Condition) → is_by_record k ≡ true → (k ≡ conditions.RegisteredValue → ⊥) → (k ≡ conditions.EndingChain → ⊥) → (k ≡ conditions.FittingExtlang → ⊥) → (k ≡ conditions.FittingVariantValue → ⊥) → (k ≡ conditions.FinalPrefixes → ⊥) → (k ≡ conditions.LangtagPrefixes → ⊥) → (k ≡ conditions.ValidWhole → ⊥) → (k ≡ conditions.NoRangeValue → ⊥) → ⊥
+pub not_by_record : (k : Condition) → is_by_record k ≡ true → (k ≡ conditions.RegisteredValue → ⊥)
+    → (k ≡ conditions.EndingChain → ⊥) → (k ≡ conditions.FittingExtlang → ⊥) → (k ≡ conditions.FittingVariantValue → ⊥)
+    → (k ≡ conditions.FinalPrefixes → ⊥) → (k ≡ conditions.LangtagPrefixes → ⊥) → (k ≡ conditions.ValidWhole → ⊥)
+    → (k ≡ conditions.NoRangeValue → ⊥) → ⊥
 not_by_record _ h a z b c d p e f = grind arith
 
 -- where the first `i` conditions in order are judged and met, those with ranks below that of the next are met
-pub lower_at : (R : List EntryParts) (i : ℕ) → i < 11 → MeetsBelow (rank_at i) R → MeetsBelow (rank_of (slice_index_or IN_ORDER i conditions.OwnName)) R
+pub lower_at : (R : List EntryParts) (i : ℕ) → i < 11 → MeetsBelow (rank_at i) R
+    → MeetsBelow (rank_of (slice_index_or IN_ORDER i conditions.OwnName)) R
 lower_at R i n h other l = h other (omega (arith, ranked i n, l))
 
 -- a bare record meets each condition that a look at one record after another decides
@@ -114,7 +126,8 @@ bare_meets R e b =
     no_variant kind = elim b.kind [ inl l ↦ cc (l, kind) | inr o ↦ elim o [ inl l ↦ cc (l, kind) | inr l ↦ cc (l, kind) ] ]
 
 -- a record that meets each condition which a look at one record after another decides meets the one that is asked for
-pub meets_by_record : (R : List EntryParts) (e : EntryParts) → MeetsByRecord R e → (condition : Condition) → is_by_record condition ≡ true → Meets condition R e
+pub meets_by_record : (R : List EntryParts) (e : EntryParts) → MeetsByRecord R e → (condition : Condition)
+    → is_by_record condition ≡ true → Meets condition R e
 meets_by_record R e m conditions.RegisteredValue is = m.fitting_value.registered_value
 meets_by_record R e m conditions.EndingChain is = m.fitting_value.ending_chain
 meets_by_record R e m conditions.FittingExtlang is = m.fitting_value.fitting_extlang

@@ -1,5 +1,7 @@
 -- Whether a record has its name alone: what a look-up of the name finds, and which ranges are before.
-use Rattle.std.proofs.Common.{◌≡◌, ◌↔◌, ◌⊎◌, inl, inr, ℕ, zero, suc, ◌+◌, ◌<◌, ◌≤◌, Bool, true, false, ◌==◌, if◌then◌else◌, cond, ◌&&◌, List, [], ◌∷◌, length, Option, Some, None, refl, sym, ap, ◌∙◌, subst, arith, IsTrue, Contains, Result, Ok, Err, IfOk, OnOk, find}
+use Rattle.std.proofs.Common.{◌≡◌, ◌↔◌, ◌⊎◌, inl, inr, ℕ, zero, suc, ◌+◌, ◌<◌, ◌≤◌, Bool, true, false, ◌==◌}
+use Rattle.std.proofs.Common.{if◌then◌else◌, cond, ◌&&◌, List, [], ◌∷◌, length, Option, Some, None, refl, sym, ap, ◌∙◌}
+use Rattle.std.proofs.Common.{subst, arith, IsTrue, Contains, Result, Ok, Err, IfOk, OnOk, find}
 use Rattle.std.specs.Prelude.{slice_index_or}
 use Rattle.std.specs.Bool.{Decides}
 use Rattle.std.proofs.lemmas.Bool.{cases_Bool, eq-eqb}
@@ -20,18 +22,29 @@ use Rattle.lt_rewrite.specs.Conditions.{Clash, HasOwnName}
 use Rattle.lt_rewrite.proofs.Entries.{find_has, same_kind_is, same_kind_itself}
 use Rattle.lt_check.specs.Flags.{flag}
 use Rattle.lt_check.specs.Places.{place}
-use Rattle.lt_check.specs.NameChecks.{kind_number, range_name, range_at, range_of, AreMarked, IsMarked, IsNew, MarksMore, SeesRange, WasClear}
+use Rattle.lt_check.specs.NameChecks.{kind_number, range_name, range_at, range_of, AreMarked, IsMarked, IsNew}
+use Rattle.lt_check.specs.NameChecks.{MarksMore, SeesRange, WasClear}
 use Rattle.lt_check.specs.declared.range_names.RangeName.{RangeName}
 use Rattle.lt_check.proofs.CheckedRegistry.{whole_name}
 use Rattle.lt_check.proofs.Deciding.{same_tag_itself}
 use Rattle.lt_check.proofs.FirstFaults.{IsAt, contains_at, lower_before, before_lower, below_or_not}
 
 -- where the record `g` at index `k` passes the test `q`, a search by it finds a record `f` whose number is no higher
-pub least : (q : EntryParts → Bool) (R : List EntryParts) → NumbersRise R → (g : EntryParts) (k : ℕ) → k < length R → slice_index_or R k g ≡ g → q g ≡ true → (f : EntryParts) × (find q R ≡ Some f) × (f.number ≤ g.number)
+pub least : (q : EntryParts → Bool) (R : List EntryParts) → NumbersRise R → (g : EntryParts) (k : ℕ) → k < length R
+    → slice_index_or R k g ≡ g → q g ≡ true → (f : EntryParts) × (find q R ≡ Some f) × (f.number ≤ g.number)
 least q [] h g k n at t = absurd (omega (arith, n))
-least q (e ∷ es) h g zero n at t = (e, ap (λ b. cond b (Some e) (find q es)) (ap q at ∙ t), (let same = ap (λ (x : EntryParts). x.number) at in omega (arith, same)))
+least q (e ∷ es) h g zero n at t = (
+  e,
+  ap (λ b. cond b (Some e) (find q es)) (ap q at ∙ t),
+  (let same = ap (λ (x : EntryParts). x.number) at in omega (arith, same)),
+)
 least q (e ∷ es) h g (suc k) n at t = elim (cases_Bool (q e)) [
-  | inl y ↦ (e, ap (λ b. cond b (Some e) (find q es)) y, (let low = All-from_recursion (λ (x : EntryParts). e.number < x.number) es h.0 k g (omega (arith, n)) in grind arith))
+  | inl y ↦ (
+    e,
+    ap (λ b. cond b (Some e) (find q es)) y,
+    (let low = All-from_recursion (λ (x : EntryParts). e.number < x.number) es h.0 k g (omega (arith, n)) in
+        grind arith),
+  )
   | inr y ↦ (let l = least q es h.1 g k (omega (arith, n)) at t in (l.0, ap (λ b. cond b (Some e) (find q es)) y ∙ l.1, l.2))
 ]
 
@@ -41,40 +54,57 @@ Finds found e = (other : EntryParts) × (found ≡ Some other) × (other.number 
 
 -- `q` is the test of records that clash with `e`, and the look-up gives the first of them, `found`: it is `e` exactly
 -- if `e` has its name alone
-looked_up : (R : List EntryParts) → NumbersRise R → (q : EntryParts → Bool) (e : EntryParts) → Contains R e → ((f : EntryParts) → Decides (q f) (Clash f e)) → (found : Option EntryParts) → ((f : EntryParts) → find q R ≡ Some f → found ≡ Some f) → Finds found e ↔ HasOwnName R e
+looked_up : (R : List EntryParts) → NumbersRise R → (q : EntryParts → Bool) (e : EntryParts) → Contains R e
+    → ((f : EntryParts) → Decides (q f) (Clash f e)) → (found : Option EntryParts)
+    → ((f : EntryParts) → find q R ≡ Some f → found ≡ Some f) → Finds found e ↔ HasOwnName R e
 looked_up R rising q e c clashes found gives =
     let l = least q R rising e c.0 c.1 c.2 ((clashes e).1 (inl (refl, refl))) in
     let has = find_has (Contains R) q R l.0 (All-contains_itself R) l.1 in
     let given = gives l.0 l.1 in (
       (λ h f there low clash. let m = least q R rising f there.0 there.1 there.2 ((clashes f).1 clash) in grind arith),
-      (λ own. (l.0, given, (let not_lower : l.0.number < e.number → ⊥ = λ low. own l.0 has.0 low ((clashes l.0).0 has.1) in omega (arith, l.2, not_lower)))),
+      (λ own. (
+        l.0,
+        given,
+        (let not_lower : l.0.number < e.number → ⊥ = λ low. own l.0 has.0 low ((clashes l.0).0 has.1) in
+            omega (arith, l.2, not_lower)),
+      )),
     )
 
 -- a record clashes with that of a single subtag `s` exactly if it is of the same kind and names `s`
-single_clash : (s : List ℕ) (e f : EntryParts) → e.name ≡ names.Single s → Decides (same_kind f.kind e.kind && is_named s f.name) (Clash f e)
+single_clash : (s : List ℕ) (e f : EntryParts) → e.name ≡ names.Single s
+    → Decides (same_kind f.kind e.kind && is_named s f.name) (Clash f e)
 single_clash s e f n = (
   (λ t. inl (grind (arith, same_kind_is), grind (arith, bytes_eq-Decides))),
   (λ c. grind (arith, same_kind_itself, bytes_eq-Decides)),
 )
 
 -- a look-up of a record's subtag finds the record exactly if it has its name alone
-pub single_own : (R : List EntryParts) → NumbersRise R → (e : EntryParts) → Contains R e → (s : List ℕ) → e.name ≡ names.Single s → Finds (entry R e.kind s) e ↔ HasOwnName R e
+pub single_own : (R : List EntryParts) → NumbersRise R → (e : EntryParts) → Contains R e → (s : List ℕ)
+    → e.name ≡ names.Single s → Finds (entry R e.kind s) e ↔ HasOwnName R e
 single_own R rising e c s n =
-    looked_up R rising _ e c (λ f. single_clash s e f n) (entry R e.kind s) (λ f o. ap (λ p. option_or p (find (λ (e' : EntryParts). same_kind e'.kind e.kind && holds s e'.name) R)) o)
+    looked_up R rising _ e c (λ f. single_clash s e f n) (entry R e.kind s)
+    (λ f o. ap (λ p. option_or p (find (λ (e' : EntryParts). same_kind e'.kind e.kind && holds s e'.name) R)) o)
 
 -- a look-up of a record's whole tag finds the record exactly if it has its name alone
-pub whole_own : (R : List EntryParts) → NumbersRise R → (e : EntryParts) → Contains R e → (t : TagForm) → e.name ≡ names.Whole t → Finds (whole R t) e ↔ HasOwnName R e
+pub whole_own : (R : List EntryParts) → NumbersRise R → (e : EntryParts) → Contains R e → (t : TagForm)
+    → e.name ≡ names.Whole t → Finds (whole R t) e ↔ HasOwnName R e
 whole_own R rising e c t n =
     looked_up R rising (λ (f : EntryParts). is_whole t f.name) e c (λ f. (
       (λ h. inr (t, whole_name t f.name h, n)),
-      (λ c. elim c [ inl a ↦ ap (is_whole t) (a.1 ∙ n) ∙ same_tag_itself t | inr a ↦ ap (is_whole t) (a.1 ∙ sym a.2 ∙ n) ∙ same_tag_itself t ]),
+      (λ c. elim c [
+        | inl a ↦ ap (is_whole t) (a.1 ∙ n) ∙ same_tag_itself t
+        | inr a ↦ ap (is_whole t) (a.1 ∙ sym a.2 ∙ n)
+            ∙ same_tag_itself t
+      ]),
     )) (whole R t) (λ f o. o)
 
 -- ---- names that are ranges
 
 -- the kind of a number
 abbrev kind_of : ℕ → Kind
-kind_of n = slice_index_or (kinds.Language ∷ kinds.Extlang ∷ kinds.Script ∷ kinds.Region ∷ kinds.Variant ∷ kinds.Grandfathered ∷ []) n kinds.Redundant
+kind_of n = slice_index_or
+    (kinds.Language ∷ kinds.Extlang ∷ kinds.Script ∷ kinds.Region ∷ kinds.Variant ∷ kinds.Grandfathered ∷ []) n
+    kinds.Redundant
 
 -- the number of a kind tells the kind
 kind_back : (k : Kind) → kind_of (kind_number k) ≡ k
@@ -101,7 +131,8 @@ range_clash e f r h c = grind arith
 -- whether the name of the record `e` of `R` is new, where `seen` are the ranges of the records before it
 module _ (R : List EntryParts) (seen : List RangeName) (e : EntryParts) where
   -- of a name that is no range: `b`, which tells whether the look-up finds the record, tells whether the name is new
-  pub own_new : range_of e ≡ None → (found : Option EntryParts) → Finds found e ↔ HasOwnName R e → (b : Bool) → IsTrue b ↔ Finds found e → IsTrue b ↔ IsNew R seen e
+  pub own_new : range_of e ≡ None → (found : Option EntryParts) → Finds found e ↔ HasOwnName R e → (b : Bool) → IsTrue b
+      ↔ Finds found e → IsTrue b ↔ IsNew R seen e
   own_new o found g b h = rw o (Decides-like b g.0 g.1 h)
 
   -- of a name that is no range, which the record is known to have alone: `b` is true, as the name is new
@@ -109,11 +140,14 @@ module _ (R : List EntryParts) (seen : List RangeName) (e : EntryParts) where
   is_own_new o own b is = rw o ((λ _. own), (λ _. is))
 
   -- of a range `r`: the answer `a` to whether it was added to those seen tells whether the name is new
-  pub range_new : {E : Type 0} (r : RangeName) → range_of e ≡ Some r → (a : Result Bool E) → IfOk a (λ new. IsTrue new ↔ (Contains seen r → ⊥)) → IfOk a (λ new. IsTrue new ↔ IsNew R seen e)
+  pub range_new : {E : Type 0} (r : RangeName) → range_of e ≡ Some r → (a : Result Bool E)
+      → IfOk a (λ new. IsTrue new ↔ (Contains seen r → ⊥)) → IfOk a (λ new. IsTrue new ↔ IsNew R seen e)
   range_new r n a h = rw n h
 
   -- after the record's range `r` was added to those seen, they are `new`
-  pub range_sees : {E : Type 0} (r : RangeName) → range_of e ≡ Some r → (new : List RangeName) (a : Result Bool E) → OnOk a ((name : RangeName) → Contains new name ↔ (Contains seen name ⊎ (r ≡ name))) → IfOk a (λ _. SeesRange e seen new)
+  pub range_sees : {E : Type 0} (r : RangeName) → range_of e ≡ Some r → (new : List RangeName) (a : Result Bool E)
+      → OnOk a ((name : RangeName) → Contains new name ↔ (Contains seen name ⊎ (r ≡ name)))
+      → IfOk a (λ _. SeesRange e seen new)
   range_sees r n new (Ok b) h = rw n h
   range_sees r n new (Err x) h = tt
 
@@ -123,7 +157,8 @@ Seen R i seen = (r : RangeName) → Contains seen r ↔ ((k : ℕ) × (f : Entry
 
 -- the range `o` that the record names, if it names one, was added to `old`, which made `new`: a range is in `new`
 -- exactly if it was in `old` or is that of the record
-sees : (e : EntryParts) (old new : List RangeName) (o : Option RangeName) → range_of e ≡ o → SeesRange e old new → (r : RangeName) → Contains new r ↔ (Contains old r ⊎ (range_of e ≡ Some r))
+sees : (e : EntryParts) (old new : List RangeName) (o : Option RangeName) → range_of e ≡ o → SeesRange e old new
+    → (r : RangeName) → Contains new r ↔ (Contains old r ⊎ (range_of e ≡ Some r))
 sees e old new None n h r = rw (rw n at h) ((λ c. inl c), (λ k. elim k [ inl c ↦ c | inr s ↦ absurd (cc) ]))
 sees e old new (Some q) n h r =
     let adds = (rw n at h) r in
@@ -131,18 +166,21 @@ sees e old new (Some q) n h r =
 
 module _ (R : List EntryParts) (i : ℕ) (e : EntryParts) (a : IsAt R i e) where
   -- a record at index `i` has its range alone exactly if it is not among those of the records before it
-  range_own : NumbersRise R → (seen : List RangeName) → Seen R i seen → (r : RangeName) → range_of e ≡ Some r → (Contains seen r → ⊥) ↔ HasOwnName R e
+  range_own : NumbersRise R → (seen : List RangeName) → Seen R i seen → (r : RangeName) → range_of e ≡ Some r
+      → (Contains seen r → ⊥) ↔ HasOwnName R e
   range_own rising seen S r o = (
     (λ new f c l clash.
         let at : IsAt R c.0 f = record { within = c.1; there = c.2 } in
         new ((S r).1 (c.0, f, lower_before R rising i c.0 e f a at l, at, range_clash e f r o clash))),
     (λ own there.
         let s = (S r).0 there in
-        own s.1 (contains_at R s.0 s.1 s.3) (before_lower R rising i s.0 e s.1 a s.3 s.2) (inl (ranges_same s.1.kind e.kind s.1.name e.name r s.4 o))),
+        own s.1 (contains_at R s.0 s.1 s.3) (before_lower R rising i s.0 e s.1 a s.3 s.2)
+        (inl (ranges_same s.1.kind e.kind s.1.name e.name r s.4 o))),
   )
 
   -- where `seen` are the ranges before index `i`, a name is new exactly if the record at index `i` has it alone
-  pub new_own : NumbersRise R → (seen : List RangeName) → Seen R i seen → (o : Option RangeName) → range_of e ≡ o → IsNew R seen e ↔ HasOwnName R e
+  pub new_own : NumbersRise R → (seen : List RangeName) → Seen R i seen → (o : Option RangeName) → range_of e ≡ o
+      → IsNew R seen e ↔ HasOwnName R e
   new_own rising seen S None o = rw o ((λ h. h), (λ h. h))
   new_own rising seen S (Some r) o = rw o (range_own rising seen S r o)
 
@@ -156,18 +194,21 @@ module _ (R : List EntryParts) (i : ℕ) (e : EntryParts) (a : IsAt R i e) where
     ]),
     (λ p. (sees e old new (range_of e) refl h r).1 (elim (below_or_not p.0 i) [
       | inl l ↦ inl ((S r).1 (p.0, p.1, l, p.3, p.4))
-      | inr m ↦ inr (let s : p.0 ≡ i = omega (arith, p.2, m) in let one = get_or_default R i e p.1 a.within in let x = p.3.there in let y = a.there in cc)
+      | inr m ↦ inr (let s : p.0 ≡ i = omega (arith, p.2, m) in let one = get_or_default R i e p.1 a.within in
+          let x = p.3.there in let y = a.there in cc)
     ])),
   )
 
 -- ---- flags of the subtags that were seen
 
 -- `words` is `old` with the flag of one place set: that flag is set
-pub flag_set : (words old : List ℕ) (place n : ℕ) → ((m : ℕ) → flag words m ≡ (if m == place then true else flag old m)) → n ≡ place → flag words n ≡ true
+pub flag_set : (words old : List ℕ) (place n : ℕ) → ((m : ℕ) → flag words m ≡ (if m == place then true else flag old m))
+    → n ≡ place → flag words n ≡ true
 flag_set words old place n put is = put n ∙ rw (eq-eqb n place is) refl
 
 -- `words` is `old` with the flag of one place set: each flag that was set is set still
-pub flag_kept : (words old : List ℕ) (place n : ℕ) → ((m : ℕ) → flag words m ≡ (if m == place then true else flag old m)) → flag old n ≡ true → flag words n ≡ true
+pub flag_kept : (words old : List ℕ) (place n : ℕ)
+    → ((m : ℕ) → flag words m ≡ (if m == place then true else flag old m)) → flag old n ≡ true → flag words n ≡ true
 flag_kept words old place n put set = put n ∙ either (n == place)
   where
     either : (b : Bool) → (if b then true else flag old n) ≡ true
@@ -175,7 +216,8 @@ flag_kept words old place n put set = put n ∙ either (n == place)
     either false = set
 
 -- the subtags of the records before it are marked, and a record's own flag was clear: so it has its name alone
-pub clear_own : (R : List EntryParts) (e : EntryParts) (s words : List ℕ) → e.name ≡ names.Single s → AreMarked R e words → WasClear words e.kind s → HasOwnName R e
+pub clear_own : (R : List EntryParts) (e : EntryParts) (s words : List ℕ) → e.name ≡ names.Single s
+    → AreMarked R e words → WasClear words e.kind s → HasOwnName R e
 clear_own R e s words single marked w f there low clash = elim clash [
   | inl both ↦
       let set = marked f there low s w.number (both.1 ∙ single) (ap (λ k. place k s) both.0 ∙ w.is_place) in
@@ -188,14 +230,16 @@ abbrev pub MarkedBefore : List EntryParts → ℕ → List ℕ → Type 0
 MarkedBefore R i words = (k : ℕ) (f : EntryParts) → k < i → IsAt R k f → IsMarked words f
 
 -- where the subtags of the records before index `i` are marked, those of the records with lower numbers are
-pub marked_at : (R : List EntryParts) → NumbersRise R → (i : ℕ) (e : EntryParts) (words : List ℕ) → IsAt R i e → MarkedBefore R i words → AreMarked R e words
+pub marked_at : (R : List EntryParts) → NumbersRise R → (i : ℕ) (e : EntryParts) (words : List ℕ) → IsAt R i e
+    → MarkedBefore R i words → AreMarked R e words
 marked_at R rising i e words a before f there low =
     let at : IsAt R there.0 f = record { within = there.1; there = there.2 } in
     before there.0 f (lower_before R rising i there.0 e f a at low) at
 
 -- where the subtags of the records before index `i` are marked, and then that of the record there, those before the
 -- next index are
-pub marked_next : (R : List EntryParts) (i : ℕ) (e : EntryParts) (old new : List ℕ) → IsAt R i e → MarkedBefore R i old → MarksMore e old new → MarkedBefore R (i + 1) new
+pub marked_next : (R : List EntryParts) (i : ℕ) (e : EntryParts) (old new : List ℕ) → IsAt R i e → MarkedBefore R i old
+    → MarksMore e old new → MarkedBefore R (i + 1) new
 marked_next R i e old new a before more k f low at = elim (below_or_not k i) [
   | inl l ↦ λ s n single is. more.kept n (before k f l at s n single is)
   | inr m ↦

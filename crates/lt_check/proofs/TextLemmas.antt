@@ -1,6 +1,7 @@
 -- A text that is a language, alone or with a script, a region or both, each with a flag in the table F: so it stays as
 -- it is. What is shown of it is its text in conventional case: a count of bytes, and these with zeros after them.
-use Rattle.std.proofs.Common.{◌≡◌, ◌≤◌, ℕ, ◌+◌, ◌==◌, ◌++◌, ◌&&◌, Bool, true, false, cond, List, [], ◌∷◌, length, map, take, Option, Some, None, option_map, is_some, inl, inr, refl, sym, ap, ◌∙◌, arith}
+use Rattle.std.proofs.Common.{◌≡◌, ◌≤◌, ℕ, ◌+◌, ◌==◌, ◌++◌, ◌&&◌, Bool, true, false, cond, List, [], ◌∷◌, length, map}
+use Rattle.std.proofs.Common.{take, Option, Some, None, option_map, is_some, inl, inr, refl, sym, ap, ◌∙◌, arith}
 use Rattle.std.specs.Option.{option_map_or}
 use Rattle.std.proofs.Math.Seq.{take-append-add}
 use Rattle.std.proofs.lemmas.Bool.{and_parts, cases_Bool}
@@ -62,7 +63,8 @@ pub record IsShownAfter (F rest : List ℕ) (p : AfterLanguage) : Type 0 where
 
 -- `rest` is cut into the script `s` and the region `r` if `hyphens`, the test of the hyphens, is true; `more` are the
 -- zeros after what is shown, and `holds` is the whole test
-after_cut : (F rest : List ℕ) (p : AfterLanguage) (s r : Option (List ℕ)) (more : List ℕ) (hyphens holds : Bool) → length rest ≤ 9 → holds ≡ (hyphens && (part_flagged F kinds.Script s && part_flagged F kinds.Region r))
+after_cut : (F rest : List ℕ) (p : AfterLanguage) (s r : Option (List ℕ)) (more : List ℕ) (hyphens holds : Bool)
+    → length rest ≤ 9 → holds ≡ (hyphens && (part_flagged F kinds.Script s && part_flagged F kinds.Region r))
     → after_if holds (length (shown_parts s r)) (shown_parts s r ++ more) ≡ Some p → (hyphens ≡ true → rest ≡ hyphened s ++ hyphened r)
     → ((xs : List ℕ) → take (length (shown_parts s r)) (nine_before (shown_parts s r ++ more) xs) ≡ shown_parts s r) → IsShownAfter F rest p
 after_cut F rest p s r more hyphens false few t h cut is = cc
@@ -78,15 +80,21 @@ shown_after : (F rest : List ℕ) (p : AfterLanguage) → after_language F rest 
 shown_after F [] p h =
     after_cut F [] p None None (0 ∷ 0 ∷ 0 ∷ 0 ∷ 0 ∷ 0 ∷ 0 ∷ 0 ∷ 0 ∷ []) true _ (omega arith) refl h (λ t. refl) (λ xs. refl)
 shown_after F (x ∷ a ∷ b ∷ []) p h =
-    after_cut F _ p None (Some (a ∷ b ∷ [])) (0 ∷ 0 ∷ 0 ∷ 0 ∷ 0 ∷ 0 ∷ []) (x == 45) _ (omega arith) refl h (λ t. grind (arith, nat_tests)) (λ xs. refl)
+    after_cut F _ p None (Some (a ∷ b ∷ [])) (0 ∷ 0 ∷ 0 ∷ 0 ∷ 0 ∷ 0 ∷ []) (x == 45) _ (omega arith) refl h
+    (λ t. grind (arith, nat_tests)) (λ xs. refl)
 shown_after F (x ∷ a ∷ b ∷ c ∷ []) p h =
-    after_cut F _ p None (Some (a ∷ b ∷ c ∷ [])) (0 ∷ 0 ∷ 0 ∷ 0 ∷ 0 ∷ []) (x == 45) _ (omega arith) refl h (λ t. grind (arith, nat_tests)) (λ xs. refl)
+    after_cut F _ p None (Some (a ∷ b ∷ c ∷ [])) (0 ∷ 0 ∷ 0 ∷ 0 ∷ 0 ∷ []) (x == 45) _ (omega arith) refl h
+    (λ t. grind (arith, nat_tests)) (λ xs. refl)
 shown_after F (x ∷ a ∷ b ∷ c ∷ d ∷ []) p h =
-    after_cut F _ p (Some (a ∷ b ∷ c ∷ d ∷ [])) None (0 ∷ 0 ∷ 0 ∷ 0 ∷ []) (x == 45) ((x == 45) && flag F (script_4 a b c d)) (omega arith) (grind arith) h (λ t. grind (arith, nat_tests)) (λ xs. refl)
+    after_cut F _ p (Some (a ∷ b ∷ c ∷ d ∷ [])) None (0 ∷ 0 ∷ 0 ∷ 0 ∷ []) (x == 45)
+    ((x == 45) && flag F (script_4 a b c d)) (omega arith) (grind arith) h (λ t. grind (arith, nat_tests))
+    (λ xs. refl)
 shown_after F (x ∷ a ∷ b ∷ c ∷ d ∷ y ∷ e ∷ f ∷ []) p h =
-    after_cut F _ p (Some (a ∷ b ∷ c ∷ d ∷ [])) (Some (e ∷ f ∷ [])) (0 ∷ []) ((x == 45) && (y == 45)) _ (omega arith) refl h (λ t. grind (arith, nat_tests)) (λ xs. refl)
+    after_cut F _ p (Some (a ∷ b ∷ c ∷ d ∷ [])) (Some (e ∷ f ∷ [])) (0 ∷ []) ((x == 45) && (y == 45)) _ (omega arith)
+    refl h (λ t. grind (arith, nat_tests)) (λ xs. refl)
 shown_after F (x ∷ a ∷ b ∷ c ∷ d ∷ y ∷ e ∷ f ∷ g ∷ []) p h =
-    after_cut F _ p (Some (a ∷ b ∷ c ∷ d ∷ [])) (Some (e ∷ f ∷ g ∷ [])) [] ((x == 45) && (y == 45)) _ (omega arith) refl h (λ t. grind (arith, nat_tests)) (λ xs. refl)
+    after_cut F _ p (Some (a ∷ b ∷ c ∷ d ∷ [])) (Some (e ∷ f ∷ g ∷ [])) [] ((x == 45) && (y == 45)) _ (omega arith) refl
+    h (λ t. grind (arith, nat_tests)) (λ xs. refl)
 shown_after F _ p h = cc
 
 -- nine bytes are the first nine of themselves, and nothing after them
@@ -111,7 +119,8 @@ with_language l more after = record { count = length (lowered l) + after.count; 
 
 -- where `p` is shown of the language `l` and `rest`, each subtag has a flag; `set` is the flag of `l`, and `o` is what
 -- is shown of `rest`
-language_shown : (F l rest more : List ℕ) (p : Shown) (set : Bool) (o : Option AfterLanguage) → flagged F kinds.Language l ≡ set → after_language F rest ≡ o
+language_shown : (F l rest more : List ℕ) (p : Shown) (set : Bool) (o : Option AfterLanguage)
+    → flagged F kinds.Language l ≡ set → after_language F rest ≡ o
     → cond set (option_map (with_language l more) o) None ≡ Some p → IsShown F (l ++ rest) p
 language_shown F l rest more p true (Some after) e q h =
     let is : with_language l more after ≡ p = cc in
@@ -123,7 +132,8 @@ language_shown F l rest more p true (Some after) e q h =
       parts = t;
       text_is = refl;
       language_set = e;
-      shown_is = rw (← is) (take-append-add (lowered l) (nine_before after.bytes more) after.count ∙ ap (λ (xs : List ℕ). lowered l ++ xs) (t.shown_is more));
+      shown_is = rw (← is) (take-append-add (lowered l) (nine_before after.bytes more) after.count
+          ∙ ap (λ (xs : List ℕ). lowered l ++ xs) (t.shown_is more));
     }
 language_shown F l rest more p _ _ e q h = cc
 
@@ -140,7 +150,8 @@ shown_cut F _ p h = cc
 -- ---- what is cut so is shown
 
 -- of a script, a region, both or neither, with flags, something is shown
-after_some : (F : List ℕ) (s r : Option (List ℕ)) → part_flagged F kinds.Script s ≡ true → part_flagged F kinds.Region r ≡ true → is_some (after_language F (hyphened s ++ hyphened r)) ≡ true
+after_some : (F : List ℕ) (s r : Option (List ℕ)) → part_flagged F kinds.Script s ≡ true
+    → part_flagged F kinds.Region r ≡ true → is_some (after_language F (hyphened s ++ hyphened r)) ≡ true
 after_some F s r f g = grind arith
 
 -- the third letter of three is no hyphen, so a language of three letters is not taken for one of two
@@ -148,6 +159,7 @@ no_hyphen : (a b c : ℕ) → is_alphabetic (folded (a ∷ b ∷ c ∷ [])) ≡ 
 no_hyphen a b c h = grind (arith, nat_tests)
 
 -- of a language, alone or with a script, a region or both, that have flags, something is shown
-pub cut_shown : (F l : List ℕ) (s r : Option (List ℕ)) → is_alphabetic (folded l) ≡ true → flagged F kinds.Language l ≡ true → part_flagged F kinds.Script s ≡ true → part_flagged F kinds.Region r ≡ true
+pub cut_shown : (F l : List ℕ) (s r : Option (List ℕ)) → is_alphabetic (folded l) ≡ true
+    → flagged F kinds.Language l ≡ true → part_flagged F kinds.Script s ≡ true → part_flagged F kinds.Region r ≡ true
     → is_some (taken.shown_text F (l ++ (hyphened s ++ hyphened r))) ≡ true
 cut_shown F l s r h e f g = grind (arith, no_hyphen, after_some F)

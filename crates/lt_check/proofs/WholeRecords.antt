@@ -1,5 +1,6 @@
 -- What holds of whole records where the conditions that are judged before hold of all records.
-use Rattle.std.proofs.Common.{◌≡◌, ◌<◌, inl, inr, List, Some, None, refl, sym, ap, ◌∙◌, subst, arith, ◌≢◌, Bool, true, false, not, Bor, is_some, [], ◌∷◌, Option, Result, Ok, Err, is_ok, OnOk, IfErr, length}
+use Rattle.std.proofs.Common.{◌≡◌, ◌<◌, inl, inr, List, Some, None, refl, sym, ap, ◌∙◌, subst, arith, ◌≢◌, Bool, true}
+use Rattle.std.proofs.Common.{false, not, Bor, is_some, [], ◌∷◌, Option, Result, Ok, Err, is_ok, OnOk, IfErr, length}
 use Rattle.std.specs.Prelude.{Contains, slice_index_or}
 use Rattle.std.specs.Option.{option_and_then, option_copied}
 use Rattle.std.proofs.lemmas.List.Elements.{All-contains, All-contains_itself}
@@ -53,21 +54,26 @@ pub one_form : (R : List EntryParts) → MeetsBelow 10 R → (c a b : CoreParts)
 one_form R M c a b x y = let o = one_normal_form R (core_below R M) c in o.1.alone a x ∙ sym (o.1.alone b y)
 
 -- no core that steps reach from a proper core spells a grandfathered tag
-pub form_spells_none : (R : List EntryParts) → MeetsBelow 10 R → (c d : CoreParts) → IsProperCore R c → Star (CoreStep R) c d → IsCore d → IsNotGrandfathered (spell_core d)
+pub form_spells_none : (R : List EntryParts) → MeetsBelow 10 R → (c d : CoreParts) → IsProperCore R c
+    → Star (CoreStep R) c d → IsCore d → IsNotGrandfathered (spell_core d)
 form_spells_none R M c d P s shaped =
-    proper_not_grandfathered R (M conditions.FittingGrandfathered (omega arith)) d shaped (star_keeps (IsProperCore R) (λ a b one k. step_proper R (core_below R M) a b k one) s P)
+    proper_not_grandfathered R (M conditions.FittingGrandfathered (omega arith)) d shaped
+    (star_keeps (IsProperCore R) (λ a b one k. step_proper R (core_below R M) a b k one) s P)
 
 -- the core of a valid tag that is a core alone is proper
 plain_proper : (R : List EntryParts) (t : TagForm) (c : CoreParts) → t ≡ core_alone c → IsValidCoreAlone R t → IsProperCore R c
 plain_proper R t c e V = let parts : HasProperParts R (core_alone c) = subst (HasProperParts R) e V.valid.proper.parts in parts.core
 
 -- the value of a whole record, where it is a core alone, is proper
-pub value_proper : (R : List EntryParts) → MeetsBelow 10 R → (e : EntryParts) → Contains R e → (t u : TagForm) → e.name ≡ names.Whole t → tag_of e.value ≡ Some u → (c : CoreParts) → u ≡ core_alone c → IsProperCore R c
+pub value_proper : (R : List EntryParts) → MeetsBelow 10 R → (e : EntryParts) → Contains R e → (t u : TagForm)
+    → e.name ≡ names.Whole t → tag_of e.value ≡ Some u → (c : CoreParts) → u ≡ core_alone c → IsProperCore R c
 value_proper R M e there t u n v c p =
     plain_proper R u c p (All-contains (HasValidWhole R) R e (M conditions.ValidWhole (omega arith)) there t u n v).0
 
 -- the tag of a whole record with a value is proper, where it is a core alone
-pub tag_proper : (R : List EntryParts) → MeetsBelow 10 R → IsRegistry R → (e : EntryParts) → Contains R e → (t u : TagForm) → e.name ≡ names.Whole t → tag_of e.value ≡ Some u → (c : CoreParts) → t ≡ core_alone c → IsProperCore R c
+pub tag_proper : (R : List EntryParts) → MeetsBelow 10 R → IsRegistry R → (e : EntryParts) → Contains R e
+    → (t u : TagForm) → e.name ≡ names.Whole t → tag_of e.value ≡ Some u → (c : CoreParts) → t ≡ core_alone c
+    → IsProperCore R c
 tag_proper R M I e there t u n v c p =
     let form : IsEntry e = All-contains IsEntry R e I.forms there in
     let fits = subst (λ m. FitsName e.kind m) n form.name in
@@ -80,10 +86,13 @@ tag_proper R M I e there t u n v c p =
     ]
 
 -- a value that is found for a tag is proper
-pub found_proper : (R : List EntryParts) → MeetsBelow 10 R → (t : TagForm) (q : CoreParts) → whole_value R t ≡ Some (core_alone q) → IsProperCore R q
+pub found_proper : (R : List EntryParts) → MeetsBelow 10 R → (t : TagForm) (q : CoreParts)
+    → whole_value R t ≡ Some (core_alone q) → IsProperCore R q
 found_proper R M t q e =
     let w = valued_whole R t (core_alone q) e in
-    plain_proper R (core_alone q) q refl (whole_has R t (core_alone q) (HasValidWhole R) (M conditions.ValidWhole (omega arith)) w t (core_alone q) w.named w.gives).0
+    plain_proper R (core_alone q) q refl
+    (whole_has R t (core_alone q) (HasValidWhole R) (M conditions.ValidWhole (omega arith)) w t (core_alone q)
+    w.named w.gives).0
 
 -- where no value is found for a tag, no record of the tag has one: only one record has this name
 pub none_has_value : (R : List EntryParts) → MeetsBelow 10 R → IsRegistry R → (t : TagForm) → whole_value R t ≡ None → HasNoValue R t
@@ -92,9 +101,11 @@ none_has_value R M I t v k d lt n =
     let at = get_or_default R k g d lt in
     let l = least (λ (f : EntryParts). is_whole t f.name) R I.rising g k lt at (ap (is_whole t) n ∙ same_tag_itself t) in
     let there = (find_has (Contains R) (λ (f : EntryParts). is_whole t f.name) R l.0 (All-contains_itself R) l.1).0 in
-    let own : l.0.number < g.number → ⊥ = λ low. M conditions.OwnName (omega arith) k d lt l.0 there low (inr (t, found_name R t l.0 l.1, n)) in
+    let own : l.0.number < g.number → ⊥ = λ low. M conditions.OwnName (omega arith) k d lt l.0 there low
+    (inr (t, found_name R t l.0 l.1, n)) in
     let same = one_numbered R I.rising l.0 g there (k, lt, at) (omega (arith, l.2, own)) in
-    let none : option_and_then (λ (e : EntryParts). tag_of e.value) (Some l.0) ≡ None = ap (option_and_then (λ (e : EntryParts). tag_of e.value)) (sym l.1) ∙ v in
+    let none : option_and_then (λ (e : EntryParts). tag_of e.value) (Some l.0) ≡ None =
+    ap (option_and_then (λ (e : EntryParts). tag_of e.value)) (sym l.1) ∙ v in
     ap (λ (e : EntryParts). tag_of e.value) (sym same) ∙ none
 
 -- ---- what the calls on whole records find
@@ -104,21 +115,29 @@ none_transforms : HasTransform [] → ⊥
 none_transforms h = omega (arith, ap length h.3, length-append h.0 (h.1 ∷ h.2))
 
 -- `r` is what `validate` gives for a tag of the core `c` alone: it is valid exactly if `r` is no refusal
-pub plain_verdict : (R : List EntryParts) (t : TagForm) (c : CoreParts) → t ≡ core_alone c → IsTagValue t → (r : Result (Unit {0}) ValidRefusal) → OnOk r (HasNoFault R t) → IfErr r (IsRefusal R t) → Decides (is_ok r) (IsValidCoreAlone R t)
+pub plain_verdict : (R : List EntryParts) (t : TagForm) (c : CoreParts) → t ≡ core_alone c → IsTagValue t
+    → (r : Result (Unit {0}) ValidRefusal) → OnOk r (HasNoFault R t) → IfErr r (IsRefusal R t)
+    → Decides (is_ok r) (IsValidCoreAlone R t)
 plain_verdict R t c e V (Ok u) ok err = ((λ h. record { core = c; is = e; valid = (valid_law R t V).1 ok }), (λ k. refl))
 plain_verdict R t c e V (Err (refusals.Fault f)) ok err = ((λ h. cc), (λ k. absurd ((valid_law R t V).0 k.valid f.kind f.place err.there)))
 plain_verdict R t c e V (Err refusals.OutOfMemory) ok err = absurd (none_transforms (subst HasTransform (ap extensions_of e) err))
 
 -- `b` tells that the value `u` of a whole record is not valid: so the record does not meet C9
-pub invalid_whole : (R : List EntryParts) (e : EntryParts) (t u : TagForm) → e.name ≡ names.Whole t → tag_of e.value ≡ Some u → (b : Bool) → Decides b (IsValidCoreAlone R u) → b ≡ false → Decides b (HasValidWhole R e)
+pub invalid_whole : (R : List EntryParts) (e : EntryParts) (t u : TagForm) → e.name ≡ names.Whole t
+    → tag_of e.value ≡ Some u → (b : Bool) → Decides b (IsValidCoreAlone R u) → b ≡ false
+    → Decides b (HasValidWhole R e)
 invalid_whole R e t u n v b d f = ((λ h. absurd (let k : true ≡ false = sym h ∙ f in cc)), (λ w. d.1 (w t u n v).0))
 
 -- `o` is the value that is found for a core that repeats no variant, and `b` whether there is none: it tells whether
 -- the core rests
-pub rest_verdict : (R : List EntryParts) → MeetsBelow 10 R → IsRegistry R → (c : CoreParts) → Distinct c.variants → (o : Option (Bor TagForm)) → option_copied o ≡ whole_value R (core_alone c) → (b : Bool) → is_some o ≡ not b → Decides b (RestsAlone R c)
+pub rest_verdict : (R : List EntryParts) → MeetsBelow 10 R → IsRegistry R → (c : CoreParts) → Distinct c.variants
+    → (o : Option (Bor TagForm)) → option_copied o ≡ whole_value R (core_alone c) → (b : Bool) → is_some o ≡ not b
+    → Decides b (RestsAlone R c)
 rest_verdict R M I c D None w b n = ((λ h. (D, none_has_value R M I (core_alone c) (sym w))), (λ k. not-false b (sym n)))
-rest_verdict R M I c D (Some u) w b n =
-    ((λ h. let f = not-true b (sym n) in cc), (λ k. let none : whole_value R (core_alone c) ≡ None = no_value R (core_alone c) k.1 in let f = w ∙ none in cc))
+rest_verdict R M I c D (Some u) w b n = (
+  (λ h. let f = not-true b (sym n) in cc),
+  (λ k. let none : whole_value R (core_alone c) ≡ None = no_value R (core_alone c) k.1 in let f = w ∙ none in cc),
+)
 
 -- comparison decides whether two cores are equal
 pub same_verdict : (c d : CoreParts) (b : Bool) → b ≡ eq_by_cmp core_cmp c d → Decides b (c ≡ d)
@@ -130,7 +149,8 @@ differ c d b e f k = let t : b ≡ true = (same_verdict c d b e).1 k in cc
 
 -- `form` is the core normal form of the tag's core `c`: whether the tag agrees with `end` is decided by whether `form`
 -- comes to `end`, unless it is `c`
-pub at_form : (R : List EntryParts) → MeetsBelow 10 R → (t : TagForm) (c form end : CoreParts) → t ≡ core_alone c → IsCoreNormalForm R c form → (b : Bool) → Decides b (form ≢ c → ComesTo R form end) → Decides b (Agrees R t end)
+pub at_form : (R : List EntryParts) → MeetsBelow 10 R → (t : TagForm) (c form end : CoreParts) → t ≡ core_alone c
+    → IsCoreNormalForm R c form → (b : Bool) → Decides b (form ≢ c → ComesTo R form end) → Decides b (Agrees R t end)
 at_form R M t c form end e n b d =
     Decides-like b
     (λ f a s x m moved.
@@ -142,7 +162,9 @@ at_form R M t c form end e n b d =
 
 -- `form` is neither `c` nor `end` and has the value `q`, whose core normal form is `r`: it comes to `end` exactly if
 -- `r` is `end`
-pub by_value : (R : List EntryParts) → MeetsBelow 10 R → (c form end q r : CoreParts) → form ≢ c → form ≢ end → whole_value R (core_alone form) ≡ Some (core_alone q) → IsCoreNormalForm R q r → (b : Bool) → Decides b (r ≡ end) → Decides b (form ≢ c → ComesTo R form end)
+pub by_value : (R : List EntryParts) → MeetsBelow 10 R → (c form end q r : CoreParts) → form ≢ c → form ≢ end
+    → whole_value R (core_alone form) ≡ Some (core_alone q) → IsCoreNormalForm R q r → (b : Bool) → Decides b (r ≡ end)
+    → Decides b (form ≢ c → ComesTo R form end)
 by_value R M c form end q r moved apart w m b d =
     Decides-like b
     (λ e k. inr (q, w, subst (IsCoreNormalForm R q) e m))
@@ -157,7 +179,10 @@ by_value R M c form end q r moved apart w m b d =
 
 -- a whole record's value is the core `p` alone, with the core normal form `end`: what `P` says of the record is decided
 -- by what it says of its tag and `end`
-pub at_end : (R : List EntryParts) → MeetsBelow 10 R → (e : EntryParts) (t u : TagForm) (p end : CoreParts) → e.name ≡ names.Whole t → tag_of e.value ≡ Some u → u ≡ core_alone p → IsCoreNormalForm R p end → (P : TagForm → CoreParts → Type 0) (b : Bool) → Decides b (P t end) → Decides b (OfWhole e (λ t u. (p d : CoreParts) → u ≡ core_alone p → IsCoreNormalForm R p d → P t d))
+pub at_end : (R : List EntryParts) → MeetsBelow 10 R → (e : EntryParts) (t u : TagForm) (p end : CoreParts)
+    → e.name ≡ names.Whole t → tag_of e.value ≡ Some u → u ≡ core_alone p → IsCoreNormalForm R p end
+    → (P : TagForm → CoreParts → Type 0) (b : Bool) → Decides b (P t end)
+    → Decides b (OfWhole e (λ t u. (p d : CoreParts) → u ≡ core_alone p → IsCoreNormalForm R p d → P t d))
 at_end R M e t u p end n v up k P b d =
     Decides-like b
     (λ f x y m w z q yz l.

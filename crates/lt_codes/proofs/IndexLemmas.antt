@@ -1,5 +1,6 @@
 -- The places of the codes of a table.
-use Rattle.std.proofs.Common.{◌≡◌, ◌≢◌, ◌<◌, ◌-◌, ◌++◌, ◌∙◌, ◌⊎◌, ℕ, true, false, List, [], ◌∷◌, inl, inr, refl, sym, ap, arith, subst, length, Some, None, get_or, set, replicate, length-set}
+use Rattle.std.proofs.Common.{◌≡◌, ◌≢◌, ◌<◌, ◌-◌, ◌++◌, ◌∙◌, ◌⊎◌, ℕ, true, false, List, [], ◌∷◌, inl, inr, refl, sym}
+use Rattle.std.proofs.Common.{ap, arith, subst, length, Some, None, get_or, set, replicate, length-set}
 use Rattle.std.specs.Prelude.{Option, slice_get, zero, suc, bytes_eq, IsSome}
 use Rattle.std.specs.List.{All}
 use Rattle.std.specs.Option.{option_or}
@@ -50,23 +51,28 @@ module _ (codes : List Code) (x : Code) (text : List ℕ) where
   found_before c some = find-append (λ c. bytes_eq c.code (folded text)) codes (x ∷ []) ∙ rw some refl
 
   -- the place of a text stays, unless it had none and x is the text
-  place_stays : (place : ℕ) → (place ≡ 0 → bytes_eq x.code (folded text) ≡ false) → IsPlaceOf codes text place → IsPlaceOf (codes ++ x ∷ []) text place
+  place_stays : (place : ℕ) → (place ≡ 0 → bytes_eq x.code (folded text) ≡ false) → IsPlaceOf codes text place
+      → IsPlaceOf (codes ++ x ∷ []) text place
   place_stays zero other none = found_other (other refl) ∙ none
   place_stays (suc i) other some = (some.0, found_before some.0 some.1, get_before codes x some.0 i some.2)
 
   -- where x is the text, and none before it is, the last place is the text's
-  place_last : (place : ℕ) → place ≡ length (codes ++ x ∷ []) → found_in codes text ≡ None → bytes_eq x.code (folded text) ≡ true → IsPlaceOf (codes ++ x ∷ []) text place
-  place_last place is none same = subst (IsPlaceOf (codes ++ x ∷ []) text) (sym (is ∙ length-last codes x)) (x, found_last none same, get_last codes x)
+  place_last : (place : ℕ) → place ≡ length (codes ++ x ∷ []) → found_in codes text ≡ None
+      → bytes_eq x.code (folded text) ≡ true → IsPlaceOf (codes ++ x ∷ []) text place
+  place_last place is none same = subst (IsPlaceOf (codes ++ x ∷ []) text) (sym (is ∙ length-last codes x))
+      (x, found_last none same, get_last codes x)
 
 -- a text whose number is not that of a code is not the code
-other_code : (x : Code) (text : List ℕ) (n m : ℕ) → number_of x.code ≡ Some n → number_of text ≡ Some m → (m ≡ n → ⊥) → bytes_eq x.code (folded text) ≡ false
+other_code : (x : Code) (text : List ℕ) (n m : ℕ) → number_of x.code ≡ Some n → number_of text ≡ Some m → (m ≡ n → ⊥)
+    → bytes_eq x.code (folded text) ≡ false
 other_code x text n m is has other = elim (cases_Bool (bytes_eq x.code (folded text))) [
   | inl same ↦ let one : Some n ≡ Some m = sym is ∙ number_is x text same ∙ has in let equal : m ≡ n = cc in absurd (other equal)
   | inr not ↦ not
 ]
 
 -- a text whose number is that of a code is the code
-same_code : (x : Code) (text : List ℕ) (n : ℕ) → IsCode x → number_of x.code ≡ Some n → number_of text ≡ Some n → bytes_eq x.code (folded text) ≡ true
+same_code : (x : Code) (text : List ℕ) (n : ℕ) → IsCode x → number_of x.code ≡ Some n → number_of text ≡ Some n
+    → bytes_eq x.code (folded text) ≡ true
 same_code x text n code is has = (bytes_eq-Decides x.code (folded text)).1 (sym code.lower ∙ one_number x.code text n is has)
 
 -- numbers of three letters are below 17576, which is 26 to the 3
@@ -78,20 +84,25 @@ pub indexed_none : (places : List ℕ) → places ≡ replicate numbers 0 → Ar
 indexed_none places is = record {
   each = All-nil IsCode;
   full = ap length is ∙ length-replicate {A = ℕ} numbers 0;
-  place = λ text n has. subst (IsPlaceOf [] text) (sym (ap (λ l. get_or l n 0) is ∙ get_or-replicate {A = ℕ} numbers n 0 0 (number_small text n has))) refl;
+  place = λ text n has. subst (IsPlaceOf [] text)
+      (sym (ap (λ l. get_or l n 0) is ∙ get_or-replicate {A = ℕ} numbers n 0 0 (number_small text n has))) refl;
 }
 
 -- one more code x with the number n, at which a code before has its place: the places stay
-pub indexed_known : (codes : List Code) (places : List ℕ) (x : Code) (n : ℕ) → AreIndexed codes places → IsCode x → number_of x.code ≡ Some n → get_or places n 0 ≢ 0 → AreIndexed (codes ++ x ∷ []) places
+pub indexed_known : (codes : List Code) (places : List ℕ) (x : Code) (n : ℕ) → AreIndexed codes places → IsCode x
+    → number_of x.code ≡ Some n → get_or places n 0 ≢ 0 → AreIndexed (codes ++ x ∷ []) places
 indexed_known codes places x n old code is taken = record {
   each = All-push IsCode codes x old.each code;
   full = old.full;
   place = λ text m has.
-      place_stays codes x text (get_or places m 0) (λ none. other_code x text n m is has (λ same. taken (ap (λ k. get_or places k 0) (sym same) ∙ none))) (old.place text m has);
+      place_stays codes x text (get_or places m 0)
+      (λ none. other_code x text n m is has (λ same. taken (ap (λ k. get_or places k 0) (sym same) ∙ none)))
+      (old.place text m has);
 }
 
 -- one more code x with the number n, which has no place yet: it gets the place of x
-pub indexed_new : (codes : List Code) (places : List ℕ) (x : Code) (n : ℕ) → AreIndexed codes places → IsCode x → number_of x.code ≡ Some n → get_or places n 0 ≡ 0
+pub indexed_new : (codes : List Code) (places : List ℕ) (x : Code) (n : ℕ) → AreIndexed codes places → IsCode x
+    → number_of x.code ≡ Some n → get_or places n 0 ≡ 0
     → AreIndexed (codes ++ x ∷ []) (set places n (length (codes ++ x ∷ [])))
 indexed_new codes places x n old code is free = record {
   each = All-push IsCode codes x old.each code;
@@ -99,7 +110,8 @@ indexed_new codes places x n old code is free = record {
   place = λ text m has. by_number text m has (cases_eq m n);
 }
   where
-    by_number : (text : List ℕ) (m : ℕ) → number_of text ≡ Some m → (m ≡ n) ⊎ (m ≡ n → ⊥) → IsPlaceOf (codes ++ x ∷ []) text (get_or (set places n (length (codes ++ x ∷ []))) m 0)
+    by_number : (text : List ℕ) (m : ℕ) → number_of text ≡ Some m → (m ≡ n) ⊎ (m ≡ n → ⊥)
+        → IsPlaceOf (codes ++ x ∷ []) text (get_or (set places n (length (codes ++ x ∷ []))) m 0)
     by_number text m has (inl same) =
         let here : number_of text ≡ Some n = has ∙ ap (λ k. Some k) same in
         let within : n < length places = omega (arith, number_small x.code n is, old.full) in
@@ -112,13 +124,15 @@ indexed_new codes places x n old code is free = record {
 
 -- what `places` has at the number n of a text is the place of the text; `place` is also the default, which no number
 -- in range needs
-pub place_at : (codes : List Code) (places : List ℕ) (text : List ℕ) (n place : ℕ) → AreIndexed codes places → number_of text ≡ Some n → place ≡ get_or places n place → IsPlaceOf codes text place
+pub place_at : (codes : List Code) (places : List ℕ) (text : List ℕ) (n place : ℕ) → AreIndexed codes places
+    → number_of text ≡ Some n → place ≡ get_or places n place → IsPlaceOf codes text place
 place_at codes places text n place indexed has is =
     let within : n < length places = omega (arith, number_small text n has, indexed.full) in
     subst (IsPlaceOf codes text) (sym (is ∙ get_or_default_zero places n place within)) (indexed.place text n has)
 
 -- where the place of a text is not 0, the code there is the one that is found for the text
-pub at_place : (codes : List Code) (text : List ℕ) (place : ℕ) → (place ≡ 0 → ⊥) → IsPlaceOf codes text place → (c : Code) × (found_in codes text ≡ Some c) × (slice_get codes (place - 1) ≡ Some c)
+pub at_place : (codes : List Code) (text : List ℕ) (place : ℕ) → (place ≡ 0 → ⊥) → IsPlaceOf codes text place
+    → (c : Code) × (found_in codes text ≡ Some c) × (slice_get codes (place - 1) ≡ Some c)
 at_place codes text zero some none = absurd (some refl)
 at_place codes text (suc i) some found = (found.0, found.1, subst (λ k. slice_get codes k ≡ Some found.0) (omega arith) found.2)
 

@@ -51,7 +51,8 @@ pub record HasLetters (text : List ℕ) (n : ℕ) : Type 0 where
   pub folds : folded text ≡ (97 + a) ∷ (97 + b) ∷ (97 + c) ∷ []
 
 -- three bytes whose letters have a number n have letters of these numbers; x, y and z are what is found for each
-by_letters : (a b c n : ℕ) (x y z : Option ℕ) → letter_of a ≡ x → letter_of b ≡ y → letter_of c ≡ z → number_from x y z ≡ Some n → HasLetters (a ∷ b ∷ c ∷ []) n
+by_letters : (a b c n : ℕ) (x y z : Option ℕ) → letter_of a ≡ x → letter_of b ≡ y → letter_of c ≡ z
+    → number_from x y z ≡ Some n → HasLetters (a ∷ b ∷ c ∷ []) n
 by_letters a b c n (Some x) (Some y) (Some z) ax by cz h =
     let one = letter_is a x ax in
     let two = letter_is b y by in

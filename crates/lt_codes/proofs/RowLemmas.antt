@@ -41,11 +41,15 @@ three_letters [] is long = absurd (omega (arith, long))
 three_letters (a ∷ []) is long = absurd (omega (arith, long))
 three_letters (a ∷ b ∷ []) is long = absurd (omega (arith, long))
 three_letters (a ∷ b ∷ c ∷ []) is long =
-    let lower : (is_ascii_lowercase a ≡ true) × (is_ascii_lowercase b ≡ true) × (is_ascii_lowercase c ≡ true) = grind (arith, common_steps) in
-    by_letters (letter_of a) (letter_of b) (letter_of c) refl refl refl (lower_letter a lower.0) (lower_letter b lower.1) (lower_letter c lower.2)
+    let lower : (is_ascii_lowercase a ≡ true) × (is_ascii_lowercase b ≡ true)
+    × (is_ascii_lowercase c ≡ true) = grind (arith, common_steps) in
+    by_letters (letter_of a) (letter_of b) (letter_of c) refl refl refl (lower_letter a lower.0)
+    (lower_letter b lower.1) (lower_letter c lower.2)
   where
-    by_letters : (x y z : Option ℕ) → letter_of a ≡ x → letter_of b ≡ y → letter_of c ≡ z → IsSome (letter_of a) × (to_ascii_lowercase a ≡ a)
-        → IsSome (letter_of b) × (to_ascii_lowercase b ≡ b) → IsSome (letter_of c) × (to_ascii_lowercase c ≡ c) → IsSome (number_of (a ∷ b ∷ c ∷ [])) × (folded (a ∷ b ∷ c ∷ []) ≡ a ∷ b ∷ c ∷ [])
+    by_letters : (x y z : Option ℕ) → letter_of a ≡ x → letter_of b ≡ y → letter_of c ≡ z → IsSome (letter_of a)
+        × (to_ascii_lowercase a ≡ a)
+        → IsSome (letter_of b) × (to_ascii_lowercase b ≡ b) → IsSome (letter_of c) × (to_ascii_lowercase c ≡ c)
+        → IsSome (number_of (a ∷ b ∷ c ∷ [])) × (folded (a ∷ b ∷ c ∷ []) ≡ a ∷ b ∷ c ∷ [])
     by_letters (Some x) (Some y) (Some z) ax by cz p q r = (rw (ax, by, cz) refl, rw (p.1, q.1, r.1) refl)
     by_letters None y z ax by cz p q r = let bad : IsSome {T = ℕ} None = subst (λ (o : Option ℕ). IsSome o) ax p.0 in cc
     by_letters (Some x) None z ax by cz p q r = let bad : IsSome {T = ℕ} None = subst (λ (o : Option ℕ). IsSome o) by q.0 in cc
@@ -54,7 +58,8 @@ three_letters (a ∷ b ∷ c ∷ d ∷ code) is long = absurd (omega (arith, lon
 
 -- three letters in lower case are a code, if at least two bytes are registered for it
 is_code : (code registered : List ℕ) → AreLetters 3 code → 2 ≤ length registered → IsCode (record { code = code; registered = registered })
-is_code code registered are long = let three = three_letters code are.letters are.long in record { number = three.0; lower = three.1; long = long }
+is_code code registered are long = let three = three_letters code are.letters are.long in
+    record { number = three.0; lower = three.1; long = long }
 
 -- each code of the row has its form: three letters, or two in the third
 pub record IsSoundRow (row : Row) : Type 0 where
@@ -63,7 +68,8 @@ pub record IsSoundRow (row : Row) : Type 0 where
   pub two_letters : (code : List ℕ) → row.two_letters ≡ Some code → AreLetters 2 code
 
 -- the code that a field gives, of those that may be empty, has this many letters
-option_is : (count : ℕ) (field : List ℕ) (given : Option (List ℕ)) (code : List ℕ) → code_or_none count field ≡ Some given → given ≡ Some code → AreLetters count code
+option_is : (count : ℕ) (field : List ℕ) (given : Option (List ℕ)) (code : List ℕ)
+    → code_or_none count field ≡ Some given → given ≡ Some code → AreLetters count code
 option_is count [] given code h is = cc
 option_is count (byte ∷ field) given code h is = by_read (code_of count (byte ∷ field)) refl
   where
@@ -75,7 +81,8 @@ option_is count (byte ∷ field) given code h is = by_read (code_of count (byte 
         letters_are count (subtag_of (byte ∷ field)) code (e ∙ ap (λ (l : List ℕ). Some l) one)
 
 -- the row of three fields that have their forms is sound; x, y and z are what is found for each
-from_is : (b t w : List ℕ) (x : Option (List ℕ)) (y z : Option (Option (List ℕ))) (row : Row) → code_of 3 b ≡ x → code_or_none 3 t ≡ y → code_or_none 2 w ≡ z
+from_is : (b t w : List ℕ) (x : Option (List ℕ)) (y z : Option (Option (List ℕ))) (row : Row) → code_of 3 b ≡ x
+    → code_or_none 3 t ≡ y → code_or_none 2 w ≡ z
     → row_from x y z ≡ Some row → IsSoundRow row
 from_is b t w (Some x) (Some y) (Some z) row bx ty wz h =
     let one : record { bibliographic = x; terminologic = y; two_letters = z } ≡ row = cc in
@@ -105,20 +112,28 @@ registered_long row is = by_codes row.two_letters row.terminologic refl refl
 pub are_codes : (row : Row) → IsSoundRow row → All IsCode (codes_in row)
 are_codes row is =
     let long = registered_long row is in
-    All-cons IsCode (record { code = row.bibliographic; registered = registered_in row }) (code_if row.terminologic (registered_in row)) (is_code row.bibliographic (registered_in row) is.bibliographic long)
+    All-cons IsCode (record { code = row.bibliographic; registered = registered_in row })
+    (code_if row.terminologic (registered_in row)) (is_code row.bibliographic (registered_in row) is.bibliographic
+    long)
     (by_code row.terminologic refl)
   where
     by_code : (t : Option (List ℕ)) → row.terminologic ≡ t → All IsCode (code_if t (registered_in row))
     by_code None e = All-nil IsCode
     by_code (Some t) e =
-        All-cons IsCode (record { code = t; registered = registered_in row }) [] (is_code t (registered_in row) (is.terminologic t e) (registered_long row is)) (All-nil IsCode)
+        All-cons IsCode (record { code = t; registered = registered_in row }) []
+        (is_code t (registered_in row) (is.terminologic t e) (registered_long row is)) (All-nil IsCode)
 
 -- what is true of each code of a row is true of the bibliographic one
-pub holds_first : (P : Code → Type 0) (row : Row) → All P (codes_in row) → P (record { code = row.bibliographic; registered = registered_in row })
-holds_first P row all = All-head P (record { code = row.bibliographic; registered = registered_in row }) (code_if row.terminologic (registered_in row)) all
+pub holds_first : (P : Code → Type 0) (row : Row) → All P (codes_in row)
+    → P (record { code = row.bibliographic; registered = registered_in row })
+holds_first P row all = All-head P (record { code = row.bibliographic; registered = registered_in row })
+    (code_if row.terminologic (registered_in row)) all
 
 -- what is true of each code of a row is true of the terminologic one, if there is one
-pub holds_second : (P : Code → Type 0) (row : Row) (code : List ℕ) → row.terminologic ≡ Some code → All P (codes_in row) → P (record { code = code; registered = registered_in row })
+pub holds_second : (P : Code → Type 0) (row : Row) (code : List ℕ) → row.terminologic ≡ Some code → All P (codes_in row)
+    → P (record { code = code; registered = registered_in row })
 holds_second P row code is all =
     All-head P (record { code = code; registered = registered_in row }) []
-    (subst (λ o. All P (code_if o (registered_in row))) is (All-tail P (record { code = row.bibliographic; registered = registered_in row }) (code_if row.terminologic (registered_in row)) all))
+    (subst (λ o. All P (code_if o (registered_in row))) is
+    (All-tail P (record { code = row.bibliographic; registered = registered_in row })
+    (code_if row.terminologic (registered_in row)) all))

@@ -1,5 +1,6 @@
 -- What is before the first of some byte in a text, and after it.
-use Rattle.std.proofs.Common.{◌≡◌, ◌≢◌, ◌<◌, ◌+◌, ◌++◌, ◌==◌, ◌&&◌, ◌∙◌, ℕ, false, List, [], ◌∷◌, refl, sym, ap, arith, length, take, drop, length-append, suc}
+use Rattle.std.proofs.Common.{◌≡◌, ◌≢◌, ◌<◌, ◌+◌, ◌++◌, ◌==◌, ◌&&◌, ◌∙◌, ℕ, false, List, [], ◌∷◌, refl, sym, ap, arith}
+use Rattle.std.proofs.Common.{length, take, drop, length-append, suc}
 use Rattle.std.specs.Prelude.{is_some}
 use Rattle.std.specs.List.{All, after_first, before_first, position_or_len}
 use Rattle.std.proofs.lemmas.Bool.{eq-eqb, ne_eqb}
@@ -21,7 +22,10 @@ module _ (byte : ℕ) where
   -- behind a front that is free of the byte, it is first
   place : (front rest : List ℕ) → IsFreeOf byte front → position_or_len (λ b. b == byte) (front ++ byte ∷ rest) ≡ length front
   place [] rest free = rw (eq-eqb byte byte refl) refl
-  place (b ∷ front) rest free = rw (ne_eqb b byte (All-head other b front free), place front rest (All-tail other b front free)) (omega arith)
+  place (b ∷ front) rest free = rw (
+    ne_eqb b byte (All-head other b front free),
+    place front rest (All-tail other b front free),
+  ) (omega arith)
 
   -- in a text that is free of the byte, its place is the length
   place_none : (text : List ℕ) → IsFreeOf byte text → position_or_len (λ b. b == byte) text ≡ length text
@@ -36,13 +40,15 @@ module _ (byte : ℕ) where
       ap (λ n. drop n ((b ∷ front) ++ byte ∷ rest)) next ∙ drop_past front rest
 
   -- what is before the first such byte is a front that is free of it
-  pub before_found : (text front rest : List ℕ) → IsFreeOf byte front → text ≡ front ++ byte ∷ rest → before_first (λ b. b == byte) text ≡ front
+  pub before_found : (text front rest : List ℕ) → IsFreeOf byte front → text ≡ front ++ byte ∷ rest
+      → before_first (λ b. b == byte) text ≡ front
   before_found text front rest free is =
       ap (before_first (λ b. b == byte)) is ∙ ap (λ n. take n (front ++ byte ∷ rest)) (place front rest free)
       ∙ take-append-le (length front) front (byte ∷ rest) (omega arith) ∙ take_all (length front) front (omega arith)
 
   -- what is behind the first such byte is the rest
-  pub after_found : (text front rest : List ℕ) → IsFreeOf byte front → text ≡ front ++ byte ∷ rest → after_first (λ b. b == byte) text ≡ rest
+  pub after_found : (text front rest : List ℕ) → IsFreeOf byte front → text ≡ front ++ byte ∷ rest
+      → after_first (λ b. b == byte) text ≡ rest
   after_found text front rest free is =
       ap (after_first (λ b. b == byte)) is ∙ ap (λ n. drop (n + 1) (front ++ byte ∷ rest)) (place front rest free) ∙ drop_past front rest
 
@@ -55,14 +61,18 @@ module _ (byte : ℕ) where
   after_none text free = ap (λ n. drop (n + 1) text) (place_none text free) ∙ drop_all (length text + 1) text (omega arith)
 
 -- a field with a hyphen (45) is a range exactly if both parts of it are codes of three letters
-pub range_found : (field first last : List ℕ) → IsFreeOf 45 first × (field ≡ first ++ 45 ∷ last) → is_range field ≡ (is_some (code_of 3 last) && is_some (code_of 3 first))
+pub range_found : (field first last : List ℕ) → IsFreeOf 45 first × (field ≡ first ++ 45 ∷ last)
+    → is_range field ≡ (is_some (code_of 3 last) && is_some (code_of 3 first))
 range_found field first last split =
-    ap (λ (l : List ℕ). is_some (code_of 3 l) && is_some (code_of 3 (before_first (λ byte. byte == 45) field))) (after_found 45 field first last split.0 split.1)
+    ap (λ (l : List ℕ). is_some (code_of 3 l) && is_some (code_of 3 (before_first (λ byte. byte == 45) field)))
+    (after_found 45 field first last split.0 split.1)
     ∙ ap (λ (l : List ℕ). is_some (code_of 3 last) && is_some (code_of 3 l)) (before_found 45 field first last split.0 split.1)
 
 -- a field without a hyphen (45) is no range
 pub range_none : (field : List ℕ) → IsFreeOf 45 field → is_range field ≡ false
-range_none field free = ap (λ (l : List ℕ). is_some (code_of 3 l) && is_some (code_of 3 (before_first (λ byte. byte == 45) field))) (after_none 45 field free)
+range_none field free =
+    ap (λ (l : List ℕ). is_some (code_of 3 l) && is_some (code_of 3 (before_first (λ byte. byte == 45) field)))
+    (after_none 45 field free)
 
 -- the first subtag of a text with a hyphen (45) is as long as what is before it
 pub first_found : (text first rest : List ℕ) → IsFreeOf 45 first × (text ≡ first ++ 45 ∷ rest) → length first ≡ length (first_subtag text)
@@ -80,7 +90,8 @@ bars text free = All-weaker (λ (byte : ℕ). byte ≢ 124) (λ (byte : ℕ). (b
 
 -- a field in front of a vertical bar (124) is the first field, and those after the bar follow
 pub field_next : (rest field after : List ℕ) → IsFreeOf 124 field × (rest ≡ field ++ 124 ∷ after) → fields_of rest ≡ field ∷ fields_of after
-field_next rest field after split = ap fields_of split.1 ∙ slice_split_at (λ (byte : ℕ). byte == 124) field 124 after (bars field split.0) refl
+field_next rest field after split = ap fields_of split.1
+    ∙ slice_split_at (λ (byte : ℕ). byte == 124) field 124 after (bars field split.0) refl
 
 -- a text without a vertical bar (124) is one field
 pub field_last : (rest : List ℕ) → IsFreeOf 124 rest → fields_of rest ≡ rest ∷ []
@@ -96,7 +107,8 @@ field_some rest none =
 -- ---- lines
 
 -- a text without a line feed (10), in front of one, is the first line, and those of a shorter text follow
-pub line_next : (text line after : List ℕ) → IsFreeOf 10 line × (text ≡ line ++ 10 ∷ after) → (lines_of text ≡ line ∷ lines_of after) × (length after < length text)
+pub line_next : (text line after : List ℕ) → IsFreeOf 10 line × (text ≡ line ++ 10 ∷ after)
+    → (lines_of text ≡ line ∷ lines_of after) × (length after < length text)
 line_next text line after split =
     (ap lines_of split.1 ∙ lines_of-ended line after split.0, omega (arith, ap length split.1, length-append line (10 ∷ after)))
 

@@ -1,5 +1,6 @@
 -- Reading the lines of a table.
-use Rattle.std.proofs.Common.{◌≡◌, ◌≤◌, ◌<◌, ◌+◌, ◌++◌, ◌&&◌, ◌∙◌, ℕ, Bool, true, false, List, [], ◌∷◌, refl, sym, ap, arith, subst, length, append_assoc, append-nil, length-append, Some, None}
+use Rattle.std.proofs.Common.{◌≡◌, ◌≤◌, ◌<◌, ◌+◌, ◌++◌, ◌&&◌, ◌∙◌, ℕ, Bool, true, false, List, [], ◌∷◌, refl, sym, ap}
+use Rattle.std.proofs.Common.{arith, subst, length, append_assoc, append-nil, length-append, Some, None}
 use Rattle.std.specs.Prelude.{Option, Result, Ok, Err}
 use Rattle.std.specs.Str.{IsUtf8}
 use Rattle.std.proofs.lemmas.List.Elements.{All-nil}
@@ -32,18 +33,21 @@ module _ (before after : List Code) (line b t w : List ℕ) (utf8 : IsUtf8 line)
   bad_code not none = row_of_fields None (rw (not, none) refl)
 
   -- a line of a row adds the codes of the row, or is refused as the row is
-  pub row_adds : (row : Row) (r : Result (Unit {0}) TableFaultKind) → of_range b t w ≡ false → row_of b t w ≡ Some row → AddsRow before after row r → AddsCodes before after line r
+  pub row_adds : (row : Row) (r : Result (Unit {0}) TableFaultKind) → of_range b t w ≡ false → row_of b t w ≡ Some row
+      → AddsRow before after row r → AddsCodes before after line r
   row_adds row (Ok done) not is adds = (codes_in row, (row_of_fields (Some (codes_in row)) (rw (not, is) refl), adds.0), adds.1)
   row_adds row (Err kinds.RepeatedCode) not is adds = (codes_in row, row_of_fields (Some (codes_in row)) (rw (not, is) refl), adds)
   row_adds row (Err kinds.OutOfMemory) not is adds = tt
   row_adds row (Err kind) not is adds = absurd adds
 
 -- one line more adds its codes to those of the lines before
-add_more : (start : List Code) (before : List (List ℕ)) (line : List ℕ) (codes more : List Code) → AddLines start before codes → AddsLine codes (content_of line) (Ok more)
+add_more : (start : List Code) (before : List (List ℕ)) (line : List ℕ) (codes more : List Code)
+    → AddLines start before codes → AddsLine codes (content_of line) (Ok more)
     → AddLines start (before ++ line ∷ []) (codes ++ more)
 add_more start [] line codes more is adds =
     (more, subst (λ (l : List Code). AddsLine l (content_of line) (Ok more)) is adds, ap (λ (l : List Code). l ++ more) is)
-add_more start (first ∷ before) line codes more lines adds = (lines.0, lines.1, add_more (start ++ lines.0) before line codes more lines.2 adds)
+add_more start (first ∷ before) line codes more lines adds =
+    (lines.0, lines.1, add_more (start ++ lines.0) before line codes more lines.2 adds)
 
 -- the lines of a text before `rest` are read, and their codes are in `table`; `line` is the number of the next line
 pub record IsRead (text : List ℕ) (table : List Code) (rest : List ℕ) (line : ℕ) : Type 0 where
@@ -58,7 +62,8 @@ pub record IsRead (text : List ℕ) (table : List Code) (rest : List ℕ) (line 
   pub room : line + length rest ≤ length text + 1
 
 -- at first no line is read, and no code is there
-pub read_none : (text mark rest : List ℕ) (table : List Code) → length text ≤ longest_table → SplitsMark text mark rest → table ≡ [] → IsRead text table rest 1
+pub read_none : (text mark rest : List ℕ) (table : List Code) → length text ≤ longest_table → SplitsMark text mark rest
+    → table ≡ [] → IsRead text table rest 1
 read_none text mark rest table short split none = record {
   short = short;
   mark = mark;
@@ -72,8 +77,10 @@ read_none text mark rest table short split none = record {
 }
 
 -- one line more, `part`, is read, whose codes are in `table'` too; `after` is left
-pub read_next : (text : List ℕ) (table : List Code) (rest : List ℕ) (line : ℕ) → IsRead text table rest line → (part after : List ℕ) (table' : List Code)
-    → (lines_of rest ≡ part ∷ lines_of after) × (length after < length rest) → AddsCodes table table' (content_of part) (Ok tt) → IsRead text table' after (line + 1)
+pub read_next : (text : List ℕ) (table : List Code) (rest : List ℕ) (line : ℕ) → IsRead text table rest line
+    → (part after : List ℕ) (table' : List Code)
+    → (lines_of rest ≡ part ∷ lines_of after) × (length after < length rest)
+    → AddsCodes table table' (content_of part) (Ok tt) → IsRead text table' after (line + 1)
 read_next text table rest line r part after table' next adds = record {
   short = r.short;
   mark = r.mark;
@@ -81,24 +88,29 @@ read_next text table rest line r part after table' next adds = record {
   split = r.split;
   before = r.before ++ part ∷ [];
   there = r.there ∙ ap (λ (l : List (List ℕ)). r.before ++ l) next.0 ∙ sym (append_assoc r.before (part ∷ []) (lines_of after));
-  codes = subst (λ (l : List Code). AddLines [] (r.before ++ part ∷ []) l) (sym adds.2) (add_more [] r.before part table adds.0 r.codes adds.1);
+  codes = subst (λ (l : List Code). AddLines [] (r.before ++ part ∷ []) l) (sym adds.2)
+      (add_more [] r.before part table adds.0 r.codes adds.1);
   number = omega (arith, r.number, length-append r.before (part ∷ []));
   room = omega (arith, r.room, next.1);
 }
 
 -- all lines are read: the text is a table of these codes
-pub read_done : (text : List ℕ) (table : List Code) (rest : List ℕ) (line : ℕ) → IsRead text table rest line → lines_of rest ≡ [] → IsTable text table
+pub read_done : (text : List ℕ) (table : List Code) (rest : List ℕ) (line : ℕ) → IsRead text table rest line
+    → lines_of rest ≡ [] → IsTable text table
 read_done text table rest line r none = record {
   short = r.short;
   mark = r.mark;
   rest = r.whole;
   split = r.split;
-  lines = subst (λ (l : List (List ℕ)). AddLines [] l table) (sym (append-nil r.before) ∙ ap (λ (l : List (List ℕ)). r.before ++ l) (sym none) ∙ sym r.there) r.codes;
+  lines = subst (λ (l : List (List ℕ)). AddLines [] l table) (sym (append-nil r.before)
+      ∙ ap (λ (l : List (List ℕ)). r.before ++ l) (sym none) ∙ sym r.there) r.codes;
 }
 
 -- the next line, `part`, is refused with this kind of fault, and so is the text
-pub read_refused : (text : List ℕ) (table : List Code) (rest : List ℕ) (line : ℕ) → IsRead text table rest line → (part after : List ℕ) (table' : List Code) (kind : TableFaultKind)
-    → (lines_of rest ≡ part ∷ lines_of after) × (length after < length rest) → AddsCodes table table' (content_of part) (Err kind) → RefusesLine text (record { kind = kind; line = line })
+pub read_refused : (text : List ℕ) (table : List Code) (rest : List ℕ) (line : ℕ) → IsRead text table rest line
+    → (part after : List ℕ) (table' : List Code) (kind : TableFaultKind)
+    → (lines_of rest ≡ part ∷ lines_of after) × (length after < length rest)
+    → AddsCodes table table' (content_of part) (Err kind) → RefusesLine text (record { kind = kind; line = line })
 read_refused text table rest line r part after table' kind next adds = record {
   short = r.short;
   mark = r.mark;

@@ -20,7 +20,8 @@ registered_long codes subtag each = by_found (found_in codes subtag) refl
     by_found None is = rw is (omega arith)
     by_found (Some c) is =
         let code = find_holds IsCode (λ c. bytes_eq c.code (folded subtag)) codes c each is in
-        let same : c.code ≡ folded subtag = (bytes_eq-Decides c.code (folded subtag)).0 (find_passes (λ c. bytes_eq c.code (folded subtag)) codes c is) in
+        let same : c.code ≡ folded subtag = (bytes_eq-Decides c.code (folded subtag)).0
+        (find_passes (λ c. bytes_eq c.code (folded subtag)) codes c is) in
         let long : length c.code ≡ length subtag = ap length same ∙ length-map subtag to_ascii_lowercase in
         rw is (omega (arith, long, code.long, code_long c code))
 
@@ -28,4 +29,10 @@ registered_long codes subtag each = by_found (found_in codes subtag) refl
 pub replaced_long : (codes : List Code) (text : List ℕ) → All IsCode codes → length text ≤ length (registered_text codes text) + 1
 replaced_long codes text each =
     let first = first_subtag text in
-    omega (arith, registered_long codes first each, length-append (registered_for codes first) (drop (length first) text), length-drop (length first) text)
+    omega (
+      arith,
+      registered_long codes first each,
+      length-append (registered_for codes first)
+          (drop (length first) text),
+      length-drop (length first) text,
+    )

@@ -1,5 +1,6 @@
 -- The first row of a text that comes in pieces.
-use Rattle.std.proofs.Common.{◌≡◌, ◌++◌, ◌∙◌, ◌⊎◌, inl, inr, ℕ, List, [], Bool, Option, Some, None, Result, Ok, Err, true, false, length, take, sym, ap, refl, subst, append_assoc, append-nil}
+use Rattle.std.proofs.Common.{◌≡◌, ◌++◌, ◌∙◌, ◌⊎◌, inl, inr, ℕ, List, [], Bool, Option, Some, None, Result, Ok, Err}
+use Rattle.std.proofs.Common.{true, false, length, take, sym, ap, refl, subst, append_assoc, append-nil}
 use Rattle.std.proofs.Math.Seq.{take-append_seam}
 use Rattle.lt_rows.specs.Marks.{IsWide, MayBeMark, SplitsMark}
 use Rattle.lt_rows.proofs.MarkLemmas.{short_narrow, split_more, wide_more}
@@ -7,15 +8,18 @@ use Rattle.lt_rows.specs.declared.quotes.Place.{Place}
 use Rattle.lt_rows.specs.declared.rows.Separator.{Separator}
 use Rattle.lt_stream.specs.declared.faults.ToolFault.{ToolFault}
 use Rattle.lt_stream.specs.declared.faults.ToolFault.TheVariants as faults
-use Rattle.lt_heading.specs.Headings.{BeginsText, EndsText, FinishesText, HasLongHeading, IsBegun, IsGoing, IsMarked, IsRowIn, IsUndecided, TakesPiece, TakesText, long_fault, taken_by}
+use Rattle.lt_heading.specs.Headings.{BeginsText, EndsText, FinishesText, HasLongHeading, IsBegun, IsGoing, IsMarked}
+use Rattle.lt_heading.specs.Headings.{IsRowIn, IsUndecided, TakesPiece, TakesText, long_fault, taken_by}
 use Rattle.lt_heading.specs.declared.first_rows.FirstRow.{FirstRow}
 
 -- ---- the mark is split off
 
 -- The text after the mark was taken. `kept`, the bytes before, were split into `mark` and `text`. They are the new
 -- mark and the new text, which is one row so far, or has a first row of the length `end`.
-pub begin_done : (S : Separator) (kept mark text old_text new_text new_mark : List ℕ) (place : Place) (end : Option ℕ) → SplitsMark kept mark text
-    → old_text ≡ [] → new_mark ≡ take (length mark) kept → TakesText S text old_text new_text place (Ok end) → SplitsMark kept new_mark new_text × IsRowIn S new_text place end
+pub begin_done : (S : Separator) (kept mark text old_text new_text new_mark : List ℕ) (place : Place) (end : Option ℕ)
+    → SplitsMark kept mark text
+    → old_text ≡ [] → new_mark ≡ take (length mark) kept → TakesText S text old_text new_text place (Ok end)
+    → SplitsMark kept new_mark new_text × IsRowIn S new_text place end
 begin_done S kept mark text old_text new_text new_mark place end s none cut t =
     let same_text : new_text ≡ text = t.0 ∙ ap (λ l. l ++ text) none in
     let same_mark : new_mark ≡ mark = cut ∙ ap (take (length mark)) s.whole ∙ take-append_seam mark text in
@@ -24,7 +28,8 @@ begin_done S kept mark text old_text new_text new_mark place end s none cut t =
 -- the text after the mark could not be taken, for the fault `f`: memory ran out, or the first row of the bytes `kept`
 -- is too long
 pub begin_stopped : (S : Separator) (kept mark text old_text new_text : List ℕ) (place : Place) (f : ToolFault) → SplitsMark kept mark text
-    → old_text ≡ [] → TakesText S text old_text new_text place (Err f) → (f ≡ faults.OutOfMemory) ⊎ ((f ≡ long_fault S) × HasLongHeading S kept)
+    → old_text ≡ [] → TakesText S text old_text new_text place (Err f) → (f ≡ faults.OutOfMemory)
+    ⊎ ((f ≡ long_fault S) × HasLongHeading S kept)
 begin_stopped S kept mark text old_text new_text place f s none (inl memory) = inl memory
 begin_stopped S kept mark text old_text new_text place f s none (inr long) = inr (
   long.0,
@@ -69,17 +74,22 @@ split_whole bytes state s = sym s.whole
 -- `old` and `new` are the states before and after a piece was taken
 module _ (S : Separator) (piece : List ℕ) (old new : FirstRow) where
   -- the bytes taken before, the piece and any bytes `more` are the bytes taken after it and `more`
-  all_more : (more : List ℕ) → new.mark.items ≡ old.mark.items → new.text.items ≡ old.text.items ++ piece → taken_by old ++ (piece ++ more) ≡ taken_by new ++ more
+  all_more : (more : List ℕ) → new.mark.items ≡ old.mark.items → new.text.items ≡ old.text.items ++ piece
+      → taken_by old ++ (piece ++ more) ≡ taken_by new ++ more
   all_more more mark text = sym (append_assoc (taken_by old) piece more) ∙ ap (λ l. l ++ more)
-      (append_assoc old.mark.items old.text.items piece ∙ ap (λ l. old.mark.items ++ l) (sym text) ∙ ap (λ l. l ++ new.text.items) (sym mark))
+      (append_assoc old.mark.items old.text.items piece ∙ ap (λ l. old.mark.items ++ l) (sym text)
+      ∙ ap (λ l. l ++ new.text.items) (sym mark))
 
   -- a known mark stays known when the piece is appended to the text after it
   marked_more : IsMarked old → new.mark.items ≡ old.mark.items → new.text.items ≡ old.text.items ++ piece → IsMarked new
   marked_more marked mark text = record {
     split = λ more.
-        let after : old.text.items ++ (piece ++ more) ≡ new.text.items ++ more = sym (append_assoc old.text.items piece more) ∙ ap (λ l. l ++ more) (sym text) in
+        let after : old.text.items ++ (piece ++ more) ≡ new.text.items ++ more =
+        sym (append_assoc old.text.items piece more) ∙ ap (λ l. l ++ more) (sym text) in
         subst (λ l. SplitsMark (taken_by new ++ more) l (new.text.items ++ more)) (sym mark)
-        (subst (λ l. SplitsMark (taken_by new ++ more) old.mark.items l) after (subst (λ l. SplitsMark l old.mark.items (old.text.items ++ (piece ++ more))) (all_more more mark text) (marked.split (piece ++ more))));
+        (subst (λ l. SplitsMark (taken_by new ++ more) old.mark.items l) after
+        (subst (λ l. SplitsMark l old.mark.items (old.text.items ++ (piece ++ more))) (all_more more mark text)
+        (marked.split (piece ++ more))));
     narrow = λ more. subst (λ l. IsWide l → ⊥) (all_more more mark text) (marked.narrow (piece ++ more));
   }
 
@@ -100,7 +110,8 @@ module _ (S : Separator) (piece : List ℕ) (old new : FirstRow) where
       inr (inr (long.0, record { mark = old.mark.items; text = old.text.items ++ piece; split = b.marked.split piece; begins = long.1 }))
 
   -- a piece is kept with the bytes before it where all of them may be a part of a byte order mark
-  pub piece_may_be : IsUndecided old → new.is_begun ≡ false → new.mark.items ≡ old.mark.items ++ piece → new.text.items ≡ old.text.items → new.place ≡ old.place
+  pub piece_may_be : IsUndecided old → new.is_begun ≡ false → new.mark.items ≡ old.mark.items ++ piece
+      → new.text.items ≡ old.text.items → new.place ≡ old.place
       → MayBeMark (old.mark.items ++ piece) → TakesPiece S piece old new (Ok None)
   piece_may_be u not mark text place may = (
     kept_alone new (text ∙ u.none) ∙ mark ∙ ap (λ l. l ++ piece) (sym (kept_alone old u.none)),
@@ -113,7 +124,8 @@ module _ (S : Separator) (piece : List ℕ) (old new : FirstRow) where
 
   -- the mark is known with the piece: the kept bytes are neither a part of a mark nor a mark of UTF-16; `mid` is the
   -- state in which the piece was appended to them
-  module _ (mid : FirstRow) (u : IsUndecided old) (mark : mid.mark.items ≡ old.mark.items ++ piece) (narrow : IsWide (old.mark.items ++ piece) → ⊥)
+  module _ (mid : FirstRow) (u : IsUndecided old) (mark : mid.mark.items ≡ old.mark.items ++ piece)
+      (narrow : IsWide (old.mark.items ++ piece) → ⊥)
       (none : MayBeMark (old.mark.items ++ piece) → ⊥) where
     -- the bytes kept in `mid` are all that were taken, with the piece
     all_kept : mid.mark.items ≡ taken_by old ++ piece
@@ -124,8 +136,10 @@ module _ (S : Separator) (piece : List ℕ) (old new : FirstRow) where
     marked_now s =
         let undecided = subst (λ l. MayBeMark l → ⊥) (sym mark) none in
         record {
-          split = λ more. subst (λ l. SplitsMark (l ++ more) new.mark.items (new.text.items ++ more)) s.whole (split_more mid.mark.items new.mark.items new.text.items more undecided s);
-          narrow = λ more. subst (λ l. IsWide (l ++ more) → ⊥) s.whole (wide_more mid.mark.items more undecided (subst (λ l. IsWide l → ⊥) (sym mark) narrow));
+          split = λ more. subst (λ l. SplitsMark (l ++ more) new.mark.items (new.text.items ++ more)) s.whole
+              (split_more mid.mark.items new.mark.items new.text.items more undecided s);
+          narrow = λ more. subst (λ l. IsWide (l ++ more) → ⊥) s.whole
+              (wide_more mid.mark.items more undecided (subst (λ l. IsWide l → ⊥) (sym mark) narrow));
         }
 
     -- a piece with which the mark is known: the result `r` of splitting that off and taking the text after it is that
@@ -157,7 +171,16 @@ module _ (S : Separator) (old new : FirstRow) where
     inr (e.0, e.1 b.so_far),
   )
   finish_begun (Err f) b e =
-      inl (e.0, record { mark = old.mark.items; text = old.text.items; split = marked_alone old b.marked; one = b.so_far.one; inside = e.1 b.so_far })
+      inl (
+        e.0,
+        record {
+          mark = old.mark.items;
+          text = old.text.items;
+          split = marked_alone old b.marked;
+          one = b.so_far.one;
+          inside = e.1 b.so_far;
+        },
+      )
 
   -- the bytes are shorter than a mark, and end
   module _ (u : IsUndecided old) where
@@ -182,7 +205,17 @@ module _ (S : Separator) (old new : FirstRow) where
     -- ending it
     pub finish_last : (r : Result ℕ ToolFault) → BeginsText S old new (Ok None) → EndsText S new r → FinishesText S (taken_by old) new r
     finish_last (Ok end) b e = (split_whole old.mark.items new b.1 ∙ sym all_of, split_of b.1, narrow_of, inr (e.0, e.1 b.2))
-    finish_last (Err f) b e = inl (e.0, record { mark = new.mark.items; text = new.text.items; split = split_of b.1; one = b.2.one; inside = e.1 b.2 })
+    finish_last (Err f) b e =
+        inl (
+          e.0,
+          record {
+            mark = new.mark.items;
+            text = new.text.items;
+            split = split_of b.1;
+            one = b.2.one;
+            inside = e.1 b.2;
+          },
+        )
 
     -- the bytes end: those that are kept are split, and their text can't be taken, for the fault `f`
     pub finish_stopped : (f : ToolFault) → BeginsText S old new (Err f) → FinishesText S (taken_by old) new (Err f)

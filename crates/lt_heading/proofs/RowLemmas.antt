@@ -22,7 +22,8 @@ one_more (separators.Delimiter delimiter) text part h one =
     free-append delimiter 10 places.Fresh text part h (free_of_none delimiter 10 (place_at delimiter places.Fresh text) part one)
 
 -- the place after a text and `part` is the place after `part`, from that after the text
-pub place_more : (S : Separator) (text part : List ℕ) → place_then S places.Fresh (text ++ part) ≡ place_then S (place_then S places.Fresh text) part
+pub place_more : (S : Separator) (text part : List ℕ) → place_then S places.Fresh (text ++ part)
+    ≡ place_then S (place_then S places.Fresh text) part
 place_more separators.Tab text part = refl
 place_more (separators.Delimiter delimiter) text part = place_at-append delimiter places.Fresh text part
 
@@ -32,7 +33,8 @@ feed_within separators.Tab text h inside = let bad : false ≡ true = inside in 
 feed_within (separators.Delimiter delimiter) text h inside = free-append delimiter 10 places.Fresh text (10 ∷ []) h (λ e. inside, tt)
 
 -- the rows of a text whose first row a line feed (10) ends outside of quotes: that row, and the rows of the rest
-pub rows_ended : (S : Separator) (row rest : List ℕ) → IsOneRow S row → is_open S row ≡ false → rows_of S (row ++ 10 ∷ rest) ≡ row ∷ rows_of S rest
+pub rows_ended : (S : Separator) (row rest : List ℕ) → IsOneRow S row → is_open S row ≡ false
+    → rows_of S (row ++ 10 ∷ rest) ≡ row ∷ rows_of S rest
 rows_ended separators.Tab row rest one closed = lines_of-ended row rest one
 rows_ended (separators.Delimiter delimiter) row rest one closed = records_from-ended delimiter places.Fresh row rest one closed
 

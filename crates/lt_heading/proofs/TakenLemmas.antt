@@ -1,5 +1,6 @@
 -- Pieces of a text that is one row so far.
-use Rattle.std.proofs.Common.{◌≡◌, ◌++◌, ◌∷◌, ◌∙◌, inl, inr, ℕ, List, [], Some, None, Ok, Err, true, false, length, sym, ap, refl, append_assoc, append-nil}
+use Rattle.std.proofs.Common.{◌≡◌, ◌++◌, ◌∷◌, ◌∙◌, inl, inr, ℕ, List, [], Some, None, Ok, Err, true, false, length, sym}
+use Rattle.std.proofs.Common.{ap, refl, append_assoc, append-nil}
 use Rattle.lt_jar.specs.Lines.{IsOneLine}
 use Rattle.lt_rows.specs.Quotes.{is_quoted}
 use Rattle.lt_rows.specs.declared.quotes.Place.{Place}
@@ -47,7 +48,8 @@ module _ (S : Separator) (old piece text : List ℕ) (place : Place) (rest : Lis
       whole_after = ap (λ l. l ++ 10 ∷ after) a.0 ∙ append_assoc text part (10 ∷ after) ∙ ap (λ l. text ++ l) (sym cut) ∙ whole
 
       -- a line feed outside of quotes ends the row, which is `mid`; the rest of the piece is appended too
-      pub turn_ends : (last : Place) → is_quoted next ≡ false → TakesText S piece old ((mid ++ 10 ∷ []) ++ after) last (Ok (Some (length mid)))
+      pub turn_ends : (last : Place) → is_quoted next ≡ false
+          → TakesText S piece old ((mid ++ 10 ∷ []) ++ after) last (Ok (Some (length mid)))
       turn_ends last closed = (
         append_assoc mid (10 ∷ []) after ∙ whole_after,
         record {
@@ -64,11 +66,14 @@ module _ (S : Separator) (old piece text : List ℕ) (place : Place) (rest : Lis
       inside_of inside = ap is_quoted (sym part_so_far.place_is) ∙ inside
 
       -- a line feed within quotes is appended, which gives `more`, and the loop goes on with what is after it
-      pub turn_next : (more : List ℕ) (further : Place) → is_quoted next ≡ true → AppendsPart S next (10 ∷ []) mid more (Ok further) → TextTurn S old piece more further after
+      pub turn_next : (more : List ℕ) (further : Place) → is_quoted next ≡ true
+          → AppendsPart S next (10 ∷ []) mid more (Ok further) → TextTurn S old piece more further after
       turn_next more further inside b = record {
         front = t.front ++ (part ++ 10 ∷ []);
-        split = t.split ∙ ap (λ l. t.front ++ l) (cut ∙ sym (append_assoc part (10 ∷ []) after)) ∙ sym (append_assoc t.front (part ++ 10 ∷ []) after);
-        text_is = b.0 ∙ ap (λ l. l ++ 10 ∷ []) (a.0 ∙ ap (λ l. l ++ part) t.text_is ∙ append_assoc old t.front part) ∙ append_assoc old (t.front ++ part) (10 ∷ [])
+        split = t.split ∙ ap (λ l. t.front ++ l) (cut ∙ sym (append_assoc part (10 ∷ []) after))
+            ∙ sym (append_assoc t.front (part ++ 10 ∷ []) after);
+        text_is = b.0 ∙ ap (λ l. l ++ 10 ∷ []) (a.0 ∙ ap (λ l. l ++ part) t.text_is ∙ append_assoc old t.front part)
+            ∙ append_assoc old (t.front ++ part) (10 ∷ [])
             ∙ ap (λ l. old ++ l) (append_assoc t.front part (10 ∷ []));
         so_far = record {
           one = rw b.0 (feed_within S mid part_so_far.one (inside_of inside));
@@ -78,15 +83,23 @@ module _ (S : Separator) (old piece text : List ℕ) (place : Place) (rest : Lis
       }
 
       -- a line feed within quotes makes the row too long, or memory runs out for it
-      pub turn_feed_long : (more : List ℕ) (last : Place) (f : ToolFault) → is_quoted next ≡ true → AppendsPart S next (10 ∷ []) mid more (Err f) → TakesText S piece old more last (Err f)
+      pub turn_feed_long : (more : List ℕ) (last : Place) (f : ToolFault) → is_quoted next ≡ true
+          → AppendsPart S next (10 ∷ []) mid more (Err f) → TakesText S piece old more last (Err f)
       turn_feed_long more last f inside (inl memory) = inl memory
       turn_feed_long more last f inside (inr long) = inr (
         long.0,
-        record { begun = mid ++ 10 ∷ []; rest = after; cut = sym (append_assoc mid (10 ∷ []) after ∙ whole_after); one = feed_within S mid part_so_far.one (inside_of inside); long = long.1 },
+        record {
+          begun = mid ++ 10 ∷ [];
+          rest = after;
+          cut = sym (append_assoc mid (10 ∷ []) after ∙ whole_after);
+          one = feed_within S mid part_so_far.one (inside_of inside);
+          long = long.1;
+        },
       )
 
   -- bytes `part` without a line feed make the row too long, or memory runs out for them
-  pub turn_long : (part after new : List ℕ) (last : Place) (f : ToolFault) → IsOneLine part → rest ≡ part ++ after → AppendsPart S place part text new (Err f) → TakesText S piece old new last (Err f)
+  pub turn_long : (part after new : List ℕ) (last : Place) (f : ToolFault) → IsOneLine part → rest ≡ part ++ after
+      → AppendsPart S place part text new (Err f) → TakesText S piece old new last (Err f)
   turn_long part after new last f one cut (inl memory) = inl memory
   turn_long part after new last f one cut (inr long) = inr (
     long.0,
@@ -100,5 +113,6 @@ module _ (S : Separator) (old piece text : List ℕ) (place : Place) (rest : Lis
   )
 
   -- the rest of the piece has no line feed: it is appended, and the text is one row so far
-  pub turn_last : (new : List ℕ) (next : Place) → IsOneLine rest → AppendsPart S place rest text new (Ok next) → TakesText S piece old new next (Ok None)
+  pub turn_last : (new : List ℕ) (next : Place) → IsOneLine rest → AppendsPart S place rest text new (Ok next)
+      → TakesText S piece old new next (Ok None)
   turn_last new next one a = (a.0 ∙ whole, part_so_far rest [] new next one a)

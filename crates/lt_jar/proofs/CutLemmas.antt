@@ -1,5 +1,6 @@
 -- Where a line ends.
-use Rattle.std.proofs.Common.{◌≡◌, ◌≢◌, ◌<◌, ◌≤◌, ◌+◌, ◌-◌, ◌++◌, ◌∷◌, ◌∙◌, ℕ, List, [], take, drop, length, sym, ap, arith, add-one, if◌then◌else◌, get_or, length-drop, suc, subst, refl}
+use Rattle.std.proofs.Common.{◌≡◌, ◌≢◌, ◌<◌, ◌≤◌, ◌+◌, ◌-◌, ◌++◌, ◌∷◌, ◌∙◌, ℕ, List, [], take, drop, length, sym, ap}
+use Rattle.std.proofs.Common.{arith, add-one, if◌then◌else◌, get_or, length-drop, suc, subst, refl}
 use Rattle.std.proofs.Math.Seq.{drop-cons, take-length}
 use Rattle.std.proofs.lemmas.Bool.{eq-eqb, eqb-true, ne_eqb}
 use Rattle.std.proofs.lemmas.List.{get_or-take, length-take-le, take-append-drop, take_all}
@@ -19,7 +20,8 @@ begins byte text other = ap (λ b. if b then [] ∷ lines_of text else begin_fir
 pub lines_of-ended : (line rest : List ℕ) → IsOneLine line → lines_of (line ++ 10 ∷ rest) ≡ line ∷ lines_of rest
 lines_of-ended [] rest one = refl
 lines_of-ended (byte ∷ line) rest one =
-    begins byte (line ++ 10 ∷ rest) (All-head IsNoEnd byte line one) ∙ ap (begin_first byte) (lines_of-ended line rest (All-tail IsNoEnd byte line one))
+    begins byte (line ++ 10 ∷ rest) (All-head IsNoEnd byte line one)
+    ∙ ap (begin_first byte) (lines_of-ended line rest (All-tail IsNoEnd byte line one))
 
 -- a text that has bytes, and no line feed (10) among them, is one line
 pub lines_of-last : (line : List ℕ) → IsOneLine line → 0 < length line → lines_of line ≡ line ∷ []
@@ -27,7 +29,8 @@ lines_of-last [] one some = absurd (omega arith)
 lines_of-last (byte ∷ []) one some = begins byte [] (All-head IsNoEnd byte [] one)
 lines_of-last (byte ∷ next ∷ line) one some =
     let tail = All-tail IsNoEnd byte (next ∷ line) one in
-    begins byte (next ∷ line) (All-head IsNoEnd byte (next ∷ line) one) ∙ ap (begin_first byte) (lines_of-last (next ∷ line) tail (omega arith))
+    begins byte (next ∷ line) (All-head IsNoEnd byte (next ∷ line) one)
+    ∙ ap (begin_first byte) (lines_of-last (next ∷ line) tail (omega arith))
 
 -- Bytes without a line feed (10), at least one, begin the first line, whatever follows them. Of the bytes `more` after
 -- them that line has `front`, and `after` are the lines behind it.
@@ -48,7 +51,8 @@ pub line_front : (text : List ℕ) (i : ℕ) → i ≤ length text → Nowhere (
 line_front text i le none =
     let long = length-take-le i text le in
     All-from_get_or IsNoEnd (take i text) 0
-    (λ k inside e. none k (omega arith) (omega (arith, inside, long)) (eq-eqb (get_or text k 0) 10 (sym (get_or-take i text k 0 (omega (arith, inside, long))) ∙ e)))
+    (λ k inside e. none k (omega arith) (omega (arith, inside, long))
+    (eq-eqb (get_or text k 0) 10 (sym (get_or-take i text k 0 (omega (arith, inside, long))) ∙ e)))
 
 -- where no byte of a text is found to be a line feed (10), the text is one line
 pub whole_line : (text : List ℕ) → Nowhere (Passes (is_byte 10) text) 0 (length text) → IsOneLine text
@@ -71,7 +75,9 @@ cut_at text i below end =
 
 -- a text is the bytes before the line feed (10) at the index i, that line feed, and the slice from the index i + 1 to
 -- the end
-pub split_at : (text : List ℕ) (i : ℕ) → i < length text → get_or text i 0 ≡ 10 → text ≡ take i text ++ 10 ∷ take (length text - (i + 1)) (drop (i + 1) text)
+pub split_at : (text : List ℕ) (i : ℕ) → i < length text → get_or text i 0 ≡ 10
+    → text ≡ take i text ++ 10 ∷ take (length text - (i + 1)) (drop (i + 1) text)
 split_at text i below end =
     let back = drop-cons text i 0 below ∙ ap (λ b. b ∷ drop (suc i) text) end in
-    rw (take_all (length text - (i + 1)) (drop (i + 1) text) (omega (arith, length-drop (i + 1) text)), add-one) (sym (take-append-drop i text) ∙ ap (λ l. take i text ++ l) back)
+    rw (take_all (length text - (i + 1)) (drop (i + 1) text) (omega (arith, length-drop (i + 1) text)), add-one)
+    (sym (take-append-drop i text) ∙ ap (λ l. take i text ++ l) back)

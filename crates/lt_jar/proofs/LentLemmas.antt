@@ -1,5 +1,6 @@
 -- What is wrong with a text after whole lines, and what was lent or read of it so far.
-use Rattle.std.proofs.Common.{◌≡◌, ◌∙◌, ◌++◌, ◌∷◌, ◌⊎◌, inl, inr, ℕ, List, [], false, refl, sym, ap, subst, append_assoc, append-nil, length, ◌+◌, ◌≤◌, arith, length-append, Option}
+use Rattle.std.proofs.Common.{◌≡◌, ◌∙◌, ◌++◌, ◌∷◌, ◌⊎◌, inl, inr, ℕ, List, [], false, refl, sym, ap, subst}
+use Rattle.std.proofs.Common.{append_assoc, append-nil, length, ◌+◌, ◌≤◌, arith, length-append, Option}
 use Rattle.std.specs.List.{AllByRecursion, filter, flat_map}
 use Rattle.std.proofs.lemmas.Grind.{flat_map-append}
 use Rattle.lt_jar.specs.Lines.{IsOneLine, lines_of, whole_lines, HoldsOfWhole}
@@ -49,31 +50,48 @@ behind_none = record {
 }
 
 -- the lines of a text that begins with lines as in `Behind`: they, and those of the rest
-pub lines_behind : {lines : List (List ℕ)} {records : List (List Field)} {earlier line : ℕ} {text : List ℕ} (rest : List ℕ) → Behind lines records earlier line → text ≡ whole_lines lines ++ rest → lines_of text ≡ lines ++ lines_of rest
+pub lines_behind : {lines : List (List ℕ)} {records : List (List Field)} {earlier line : ℕ} {text : List ℕ} (rest : List
+    ℕ) → Behind lines records earlier line → text ≡ whole_lines lines ++ rest → lines_of text ≡ lines ++ lines_of rest
 lines_behind {lines} rest front bytes = ap lines_of bytes ∙ lines_of-whole lines rest front.each
 
 -- a line has a fault behind lines as in `Behind` exactly if it has that fault in a text that comes after `earlier`
 -- records
-wrong_as : {lines : List (List ℕ)} {records : List (List Field)} {earlier at : ℕ} → Behind lines records earlier at → (before : List (List ℕ)) (line : List ℕ) (fault : Fault)
-    → (IsWrong earlier fault before line → IsWrong 0 fault (lines ++ before) line) × (IsWrong 0 fault (lines ++ before) line → IsWrong earlier fault before line)
+wrong_as : {lines : List (List ℕ)} {records : List (List Field)} {earlier at : ℕ} → Behind lines records earlier at
+    → (before : List (List ℕ)) (line : List ℕ) (fault : Fault)
+    → (IsWrong earlier fault before line → IsWrong 0 fault (lines ++ before) line)
+    × (IsWrong 0 fault (lines ++ before) line → IsWrong earlier fault before line)
 wrong_as {lines} {records} {earlier} front before line =
     let ended = front.ended in
-    let inside = ap (is_inside false) (nonblank-append lines before ∙ ap (λ l. l ++ nonblank before) ended.lines_are) ∙ (past_ended ended.groups (nonblank before)).0 in
+    let inside = ap (is_inside false) (nonblank-append lines before ∙ ap (λ l. l ++ nonblank before) ended.lines_are)
+    ∙ (past_ended ended.groups (nonblank before)).0 in
     let more = before ++ line ∷ [] in
-    let begins = ap (λ l. begun false (nonblank l)) (append_assoc lines before (line ∷ [])) ∙ ap (begun false) (nonblank-append lines more ∙ ap (λ l. l ++ nonblank more) ended.lines_are) ∙ (past_ended ended.groups (nonblank more)).1 in
-    let long : length records ≡ length (filter has_field ended.groups) = ap length ended.records_are ∙ length-map (filter has_field ended.groups) record_of in
-    each_fault (λ fault. (IsWrong earlier fault before line → IsWrong 0 fault (lines ++ before) line) × (IsWrong 0 fault (lines ++ before) line → IsWrong earlier fault before line))
+    let begins = ap (λ l. begun false (nonblank l)) (append_assoc lines before (line ∷ []))
+    ∙ ap (begun false) (nonblank-append lines more ∙ ap (λ l. l ++ nonblank more) ended.lines_are)
+    ∙ (past_ended ended.groups (nonblank more)).1 in
+    let long : length records ≡ length (filter has_field ended.groups) = ap length ended.records_are
+    ∙ length-map (filter has_field ended.groups) record_of in
+    each_fault (λ fault. (IsWrong earlier fault before line → IsWrong 0 fault (lines ++ before) line)
+    × (IsWrong 0 fault (lines ++ before) line → IsWrong earlier fault before line))
     (λ w. w, λ w. w) (λ w. w, λ w. w) (λ w. (w.0, inside ∙ w.1), λ w. (w.0, sym inside ∙ w.1)) (λ w. w, λ w. w)
     (λ w. omega (arith, w, begins, long, front.counted), λ w. omega (arith, w, begins, long, front.counted))
 
 -- what is wrong, at the line `at`, with a text that begins with lines as in `Behind` is wrong with the rest, at its
 -- line k
-pub wrong_is_behind : {lines : List (List ℕ)} {records : List (List Field)} {earlier line : ℕ} {text rest : List ℕ} {fault : Fault} {at : ℕ} → Behind lines records earlier line → text ≡ whole_lines lines ++ rest → IsWrongAt 0 text fault at
+pub wrong_is_behind : {lines : List (List ℕ)} {records : List (List Field)} {earlier line : ℕ} {text rest : List
+    ℕ} {fault : Fault} {at : ℕ} → Behind lines records earlier line → text ≡ whole_lines lines ++ rest
+    → IsWrongAt 0 text fault at
     → (k : ℕ) × (at + 1 ≡ line + k) × IsWrongAt earlier rest fault k
 wrong_is_behind {lines} {rest = rest} {fault = fault} {at} front bytes wrong =
     elim (where_in lines _ wrong.before wrong.line wrong.after (sym (lines_behind rest front bytes) ∙ wrong.all)) [
       | inl within ↦ absurd (front.sound fault at
-          (record { before = wrong.before; line = wrong.line; after = within.0; all = lines_of-whole_lines lines front.each ∙ within.1; counted = wrong.counted; wrong = wrong.wrong }))
+          (record {
+            before = wrong.before;
+            line = wrong.line;
+            after = within.0;
+            all = lines_of-whole_lines lines front.each ∙ within.1;
+            counted = wrong.counted;
+            wrong = wrong.wrong;
+          }))
       | inr behind ↦
           let there = (wrong_as front behind.0 wrong.line fault).1 (subst (λ b. IsWrong 0 fault b wrong.line) behind.1 wrong.wrong) in (
             length behind.0 + 1,
@@ -83,11 +101,13 @@ wrong_is_behind {lines} {rest = rest} {fault = fault} {at} front bytes wrong =
     ]
 
 -- a text that begins with lines as in `Behind` is sound if its rest is, which comes after `earlier` records
-pub sound_on : {lines : List (List ℕ)} {records : List (List Field)} {earlier line : ℕ} {text rest : List ℕ} → Behind lines records earlier line → text ≡ whole_lines lines ++ rest → IsSound earlier rest → IsSound 0 text
+pub sound_on : {lines : List (List ℕ)} {records : List (List Field)} {earlier line : ℕ} {text rest : List ℕ}
+    → Behind lines records earlier line → text ≡ whole_lines lines ++ rest → IsSound earlier rest → IsSound 0 text
 sound_on front bytes sound = λ fault number wrong. let there = wrong_is_behind front bytes wrong in sound fault there.0 there.2
 
 -- the fault of the rest behind lines as in `Behind` is that of the text, at a number that those lines raise
-pub fault_on : {lines : List (List ℕ)} {records : List (List Field)} {earlier line : ℕ} {text rest : List ℕ} {fault : Fault} {number at : ℕ} → Behind lines records earlier line → text ≡ whole_lines lines ++ rest
+pub fault_on : {lines : List (List ℕ)} {records : List (List Field)} {earlier line : ℕ} {text rest : List ℕ} {fault
+    : Fault} {number at : ℕ} → Behind lines records earlier line → text ≡ whole_lines lines ++ rest
     → IsTheFault earlier rest fault number → at + 1 ≡ line + number → IsTheFault 0 text fault at
 fault_on {lines} {earlier = earlier} {rest = rest} {fault = fault} {number} {at} front bytes is count =
     let wrong = is.wrong in
@@ -96,7 +116,8 @@ fault_on {lines} {earlier = earlier} {rest = rest} {fault = fault} {number} {at}
         before = lines ++ wrong.before;
         line = wrong.line;
         after = wrong.after;
-        all = lines_behind rest front bytes ∙ ap (λ l. lines ++ l) wrong.all ∙ sym (append_assoc lines wrong.before (wrong.line ∷ wrong.after));
+        all = lines_behind rest front bytes ∙ ap (λ l. lines ++ l) wrong.all
+            ∙ sym (append_assoc lines wrong.before (wrong.line ∷ wrong.after));
         counted = omega (arith, count, front.line_is, wrong.counted, length-append lines wrong.before);
         wrong = (wrong_as front wrong.before wrong.line fault).0 wrong.wrong;
       };
@@ -108,16 +129,19 @@ fault_on {lines} {earlier = earlier} {rest = rest} {fault = fault} {number} {at}
     }
 
 -- a line that is reached in the rest behind lines as in `Behind` is reached in the text
-pub reached_on : {lines : List (List ℕ)} {records : List (List Field)} {earlier line : ℕ} {text rest : List ℕ} {number at : ℕ} → Behind lines records earlier line → text ≡ whole_lines lines ++ rest
+pub reached_on : {lines : List (List ℕ)} {records : List (List Field)} {earlier line : ℕ} {text rest : List ℕ} {number
+    at : ℕ} → Behind lines records earlier line → text ≡ whole_lines lines ++ rest
     → IsLineReached earlier rest number → at + 1 ≡ line + number → IsLineReached 0 text at
 reached_on {lines} {rest = rest} front bytes is count = record {
   from = omega (arith, is.from, count, front.line_is);
   to = omega (arith, is.to, count, front.line_is, ap length (lines_behind rest front bytes), length-append lines (lines_of rest));
-  clean = λ other here wrong. let there = wrong_is_behind front bytes wrong in omega (arith, there.1, count, is.clean other there.0 there.2);
+  clean = λ other here wrong. let there = wrong_is_behind front bytes wrong in
+      omega (arith, there.1, count, is.clean other there.0 there.2);
 }
 
 -- the records of ended groups in two lists of lines, one list after the other
-ended-append : (xs ys : List (List ℕ)) (first second : List (List Field)) → AreEnded xs first → AreEnded ys second → AreEnded (xs ++ ys) (first ++ second)
+ended-append : (xs ys : List (List ℕ)) (first second : List (List Field)) → AreEnded xs first → AreEnded ys second
+    → AreEnded (xs ++ ys) (first ++ second)
 ended-append xs ys first second ended more = record {
   groups = ended.groups ++ more.groups;
   lines_are = cc (nonblank-append xs ys, flat_map-append lines_of_ended ended.groups more.groups);
@@ -125,7 +149,8 @@ ended-append xs ys first second ended more = record {
 }
 
 -- separators alone are the lines of groups without a field
-empty_groups : (skipped : List Line) → AllByRecursion (λ line. line ≡ Separator) skipped → (groups : List (List Written)) × (skipped ≡ flat_map lines_of_ended groups) × (records_of groups ≡ [])
+empty_groups : (skipped : List Line) → AllByRecursion (λ line. line ≡ Separator) skipped
+    → (groups : List (List Written)) × (skipped ≡ flat_map lines_of_ended groups) × (records_of groups ≡ [])
 empty_groups [] each = ([], refl, refl)
 empty_groups (line ∷ skipped) each = let rest = empty_groups skipped each.1 in ([] ∷ rest.0, cc (each.0, rest.1), rest.2)
 
@@ -137,12 +162,27 @@ one_ended lines fields ends =
     let separator : nonblank (ends.last ∷ []) ≡ Separator ∷ [] = ap (λ k. filter is_nonblank (k ∷ [])) ends.separator in
     record {
       groups = empty.0 ++ gathers.group ∷ [];
-      lines_are = simp (flat_map-append, append-nil) (cc (nonblank-append ends.before (ends.last ∷ []), separator, append_assoc gathers.skipped (lines_of_group gathers.group) (Separator ∷ []), empty.1));
-      records_are = cc (rest_some fields ends.some, ap rest_of gathers.fields_are, finished-going_of [] gathers.group, empty.2, records_of-append empty.0 (gathers.group ∷ []));
+      lines_are = simp (flat_map-append, append-nil)
+          (cc (
+            nonblank-append ends.before (ends.last ∷ []),
+            separator,
+            append_assoc gathers.skipped
+                (lines_of_group gathers.group) (Separator ∷ []),
+            empty.1,
+          ));
+      records_are = cc (
+        rest_some fields ends.some,
+        ap rest_of gathers.fields_are,
+        finished-going_of [] gathers.group,
+        empty.2,
+        records_of-append empty.0 (gathers.group ∷ []),
+      );
     }
 
 -- one record more is cut from the rest behind lines as in `Behind`: its lines join those, and it joins their records
-pub behind_more : {lines more : List (List ℕ)} {records : List (List Field)} {fields : List Field} {earlier line earlier' line' : ℕ} {text rest : List ℕ} → Behind lines records earlier line → CutsRecord earlier text fields more rest
+pub behind_more : {lines more : List (List ℕ)} {records : List (List Field)} {fields : List Field} {earlier line
+    earlier' line' : ℕ} {text rest : List ℕ} → Behind lines records earlier line
+    → CutsRecord earlier text fields more rest
     → earlier' ≡ earlier + 1 → line' ≡ line + length more → Behind (lines ++ more) (records ++ fields ∷ []) earlier' line'
 behind_more {lines} {more} {records} {fields} front cuts one longer = record {
   each = each-append lines more front.each cuts.each;
@@ -153,14 +193,16 @@ behind_more {lines} {more} {records} {fields} front cuts one longer = record {
 }
 
 -- a text that begins with lines as in `Behind` has their records, and then those of the rest
-pub records_on : {lines : List (List ℕ)} {records more : List (List Field)} {earlier line : ℕ} {text rest : List ℕ} → Behind lines records earlier line → text ≡ whole_lines lines ++ rest → HasRecords rest more
+pub records_on : {lines : List (List ℕ)} {records more : List (List Field)} {earlier line : ℕ} {text rest : List ℕ}
+    → Behind lines records earlier line → text ≡ whole_lines lines ++ rest → HasRecords rest more
     → HasRecords text (records ++ more)
 records_on {lines} {records} {more} {rest = rest} front bytes has =
     let ended = front.ended in
     record {
       ended = ended.groups ++ has.ended;
       last = has.last;
-      lines = simp (flat_map-append, append_assoc) (cc (lines_behind rest front bytes, nonblank-append lines (lines_of rest), ended.lines_are));
+      lines = simp (flat_map-append, append_assoc)
+          (cc (lines_behind rest front bytes, nonblank-append lines (lines_of rest), ended.lines_are));
       all = cc (records_of-append ended.groups (has.ended ++ has.last ∷ []), append_assoc ended.groups has.ended (has.last ∷ []));
     }
 
@@ -170,26 +212,39 @@ some_lines [] some = omega (arith, some)
 some_lines (line ∷ lines) some = omega arith
 
 -- what a source has lent is lines as in `Behind`, before the bytes that it keeps
-front_of : {bytes : List ℕ} {records : List (List Field)} {s : JarSource} → (lent : HasLent bytes records s) → Behind lent.lines records (lent_by s) (line_of_kept s)
+front_of : {bytes : List ℕ} {records : List (List Field)} {s : JarSource} → (lent : HasLent bytes records s)
+    → Behind lent.lines records (lent_by s) (line_of_kept s)
 front_of lent = record { each = lent.each; ended = lent.ended; sound = lent.sound; counted = lent.counted; line_is = lent.line }
 
 -- the bytes so far and those of a call are the lines that were lent, the bytes that were kept, and those read
-text_is : {bytes : List ℕ} {records : List (List Field)} {s : JarSource} (read : List ℕ) → (lent : HasLent bytes records s) → bytes ++ read ≡ whole_lines lent.lines ++ (kept_in s ++ read)
+text_is : {bytes : List ℕ} {records : List (List Field)} {s : JarSource} (read : List ℕ)
+    → (lent : HasLent bytes records s) → bytes ++ read ≡ whole_lines lent.lines ++ (kept_in s ++ read)
 text_is {s} read lent = ap (λ l. l ++ read) lent.bytes_are ∙ append_assoc (whole_lines lent.lines) (kept_in s) read
 
 -- nothing is lent at the start
 pub lent_start : {s : JarSource} → IsFresh s → HasLent [] [] s
-lent_start fresh = record { lines = []; each = tt; bytes_are = sym fresh.kept; ended = behind_none.ended; sound = behind_none.sound; counted = fresh.lent; line = fresh.line }
+lent_start fresh = record {
+  lines = [];
+  each = tt;
+  bytes_are = sym fresh.kept;
+  ended = behind_none.ended;
+  sound = behind_none.sound;
+  counted = fresh.lent;
+  line = fresh.line;
+}
 
 -- after a call that lends a record that a separator ends, one record more is lent
-pub lent_more : {R : Type 0} {bytes read : List ℕ} {records : List (List Field)} {old new : JarSource} {before after : Device R} {reads : ℕ} → HasLent bytes records old → LendsEnded old new before after read reads → lent_by new ≡ lent_by old + 1
+pub lent_more : {R : Type 0} {bytes read : List ℕ} {records : List (List Field)} {old new : JarSource} {before after
+    : Device R} {reads : ℕ} → HasLent bytes records old → LendsEnded old new before after read reads
+    → lent_by new ≡ lent_by old + 1
     → HasLent (bytes ++ read) (records ++ record_in new ∷ []) new
 lent_more {bytes} {read} {old = old} {new} lent lends count =
     let front = behind_more (front_of lent) lends.cuts count lends.line in
     record {
       lines = lent.lines ++ lends.lines;
       each = front.each;
-      bytes_are = whole_joined (bytes ++ read) (kept_in old ++ read) (kept_in new) lent.lines lends.lines (text_is read lent) lends.cuts.bytes;
+      bytes_are = whole_joined (bytes ++ read) (kept_in old ++ read) (kept_in new) lent.lines lends.lines
+          (text_is read lent) lends.cuts.bytes;
       ended = front.ended;
       sound = front.sound;
       counted = front.counted;
@@ -197,14 +252,20 @@ lent_more {bytes} {read} {old = old} {new} lent lends count =
     }
 
 -- the text ended: the records that were lent before, and `more`, are all that it has, and nothing is wrong with it
-pub lent_last : {R : Type 0} {remaining : R → Option (List ℕ)} {bytes read : List ℕ} {records more : List (List Field)} {old new : JarSource} {after : Device R} → HasLent bytes records old
+pub lent_last : {R : Type 0} {remaining : R → Option (List ℕ)} {bytes read : List ℕ} {records more : List
+    (List Field)} {old new : JarSource} {after : Device R} → HasLent bytes records old
     → LendsLast remaining old new after read more → HasRecords (bytes ++ read) (records ++ more) × IsSound 0 (bytes ++ read)
-lent_last {read = read} lent lends = (records_on (front_of lent) (text_is read lent) lends.has, sound_on (front_of lent) (text_is read lent) lends.sound)
+lent_last {read = read} lent lends = (
+  records_on (front_of lent) (text_is read lent) lends.has,
+  sound_on (front_of lent) (text_is read lent) lends.sound,
+)
 
 -- the fault that a call finds in the bytes since the last record is the fault of the whole text, at the number that
 -- the source tells
-pub lent_fault : {bytes : List ℕ} {records : List (List Field)} {old : JarSource} {fault : Fault} {number : ℕ} {ended : Type 0} (read : List ℕ) (new : JarSource) → HasLent bytes records old
-    → HoldsOfWhole (λ text. IsTheFault (lent_by old) text fault number) ended (kept_in old ++ read) → line_of_kept new + 1 ≡ line_of_kept old + number
+pub lent_fault : {bytes : List ℕ} {records : List (List Field)} {old : JarSource} {fault : Fault} {number : ℕ} {ended
+    : Type 0} (read : List ℕ) (new : JarSource) → HasLent bytes records old
+    → HoldsOfWhole (λ text. IsTheFault (lent_by old) text fault number) ended (kept_in old ++ read)
+    → line_of_kept new + 1 ≡ line_of_kept old + number
     → HoldsOfWhole (λ text. IsTheFault 0 text fault (line_of_kept new)) ended (bytes ++ read)
 lent_fault {bytes} {old = old} read new lent is line =
     elim is [
@@ -215,12 +276,14 @@ lent_fault {bytes} {old = old} read new lent is line =
     ]
 
 -- the line that a call reached, counted from the last record, is a line that is reached in the whole text
-pub lent_reached : {bytes : List ℕ} {records : List (List Field)} {old : JarSource} {number : ℕ} (read : List ℕ) (new : JarSource) → HasLent bytes records old → IsLineReached (lent_by old) (kept_in old ++ read) number
+pub lent_reached : {bytes : List ℕ} {records : List (List Field)} {old : JarSource} {number : ℕ} (read : List ℕ) (new
+    : JarSource) → HasLent bytes records old → IsLineReached (lent_by old) (kept_in old ++ read) number
     → line_of_kept new + 1 ≡ line_of_kept old + number → IsLineReached 0 (bytes ++ read) (line_of_kept new)
 lent_reached read new lent is line = reached_on (front_of lent) (text_is read lent) is line
 
 -- where the bytes since the last record are cut short, the whole text breaks off, in the same line
-pub lent_cut : {bytes : List ℕ} {records : List (List Field)} {old : JarSource} {number : ℕ} (read : List ℕ) (new : JarSource) → HasLent bytes records old → IsCutShort (lent_by old) (kept_in old ++ read) number
+pub lent_cut : {bytes : List ℕ} {records : List (List Field)} {old : JarSource} {number : ℕ} (read : List ℕ) (new
+    : JarSource) → HasLent bytes records old → IsCutShort (lent_by old) (kept_in old ++ read) number
     → line_of_kept new + 1 ≡ line_of_kept old + number → BreaksOff 0 (bytes ++ read) (line_of_kept new)
 lent_cut {bytes} {records} {old} read new lent cut line = record {
   ended = lent.lines;

@@ -1,12 +1,15 @@
 -- The names of fields, and lines that begin with a name that is known.
-use Rattle.std.proofs.Common.{◌≡◌, ◌≢◌, Bool, true, false, ◌&&◌, ◌==◌, if◌then◌else◌, ◌∙◌, ◌<◌, ◌+◌, ◌∷◌, ◌++◌, ℕ, suc, List, [], refl, sym, ap, length, get_or, take, drop, arith, add-one}
+use Rattle.std.proofs.Common.{◌≡◌, ◌≢◌, Bool, true, false, ◌&&◌, ◌==◌, if◌then◌else◌, ◌∙◌, ◌<◌, ◌+◌, ◌∷◌, ◌++◌, ℕ, suc}
+use Rattle.std.proofs.Common.{List, [], refl, sym, ap, length, get_or, take, drop, arith, add-one}
 use Rattle.std.specs.List.{list_all}
 use Rattle.std.proofs.Math.Seq.{drop-append_seam, drop-cons}
 use Rattle.std.proofs.lemmas.Bool.{cond_both}
 use Rattle.std.proofs.lemmas.Bool.Decides.{nat_tests}
 use Rattle.std.proofs.lemmas.List.{take-append-drop}
 use Rattle.lt_jar.specs.Lines.{content_of}
-use Rattle.lt_jar.specs.LineKinds.{HasName, IsNamed, Line, Blank, Separator, Continuation, Start, begins_blank, is_blank, is_name_byte, kind_of_content, line_of, name_at_front, separates, start_by, start_of, trim, trim_start}
+use Rattle.lt_jar.specs.LineKinds.{HasName, IsNamed, Line, Blank, Separator, Continuation, Start, begins_blank}
+use Rattle.lt_jar.specs.LineKinds.{is_blank, is_name_byte, kind_of_content, line_of, name_at_front, separates, start_by}
+use Rattle.lt_jar.specs.LineKinds.{start_of, trim, trim_start}
 
 -- the longest front of name bytes is made of name bytes
 front_named : (text : List ℕ) → IsNamed (name_at_front text)
@@ -65,7 +68,8 @@ content_again [] rest named some = absurd (some refl)
 content_again (byte ∷ name) rest named some =
     let parts = first_named byte name named in
     let text = byte ∷ (name ++ 58 ∷ rest) in
-    ap (λ (b : Bool). if b then Continuation (trim text) else (if separates text then Separator else start_of text)) (not_blank byte parts.0)
+    ap (λ (b : Bool). if b then Continuation (trim text) else (if separates text then Separator else start_of text))
+    (not_blank byte parts.0)
     ∙ ap (λ (b : Bool). if b then Separator else start_of text) (no_separator byte name rest parts.0)
     ∙ ap (λ (n : List ℕ). start_by n (trim_start (drop (length n) text))) (front_is (byte ∷ name) rest named)
     ∙ ap (λ (l : List ℕ). start_by (byte ∷ name) (trim_start l)) (drop-append_seam (byte ∷ name) (58 ∷ rest))
@@ -76,7 +80,8 @@ by_content text = if list_all is_blank text then Blank else kind_of_content text
 
 -- A line is a name, a colon (58) and a rest, perhaps with a carriage return behind it. So it begins a field of that
 -- name, whose body is the rest, trimmed.
-pub line_again : (line name rest : List ℕ) → IsNamed name → name ≢ [] → content_of line ≡ name ++ 58 ∷ rest → line_of line ≡ Start name (trim rest)
+pub line_again : (line name rest : List ℕ) → IsNamed name → name ≢ [] → content_of line ≡ name ++ 58 ∷ rest
+    → line_of line ≡ Start name (trim rest)
 unfolding by_content
 line_again line [] rest named some is = absurd (some refl)
 line_again line (byte ∷ name) rest named some is =

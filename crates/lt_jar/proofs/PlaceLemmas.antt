@@ -1,5 +1,6 @@
 -- Where a byte is first in a text.
-use Rattle.std.proofs.Common.{◌≡◌, ◌≤◌, ◌<◌, ◌+◌, ◌-◌, ◌==◌, ◌∷◌, ◌∙◌, [], ℕ, zero, suc, true, false, not, List, Option, Some, None, eqb, length, map, take, get_or, ap, sym, subst, arith, inl, inr}
+use Rattle.std.proofs.Common.{◌≡◌, ◌≤◌, ◌<◌, ◌+◌, ◌-◌, ◌==◌, ◌∷◌, ◌∙◌, [], ℕ, zero, suc, true, false, not, List, Option}
+use Rattle.std.proofs.Common.{Some, None, eqb, length, map, take, get_or, ap, sym, subst, arith, inl, inr}
 use Rattle.std.proofs.lemmas.Bool.{cases_Bool, cases_eq}
 use Rattle.std.proofs.lemmas.Simd.{leading_from_mask_l, trailing_mask_l, run_in_chunk_fails, run_in_chunk_stops}
 use Rattle.std.specs.List.{prefix_len}
@@ -40,8 +41,15 @@ module _ (byte : ℕ) (text : List ℕ) where
   first_from i zero k rest e = cc
   first_from i (suc n) k rest e = elim (cases_Bool (get_or text i 0 == byte)) [
     | inl is ↦
-        let first : i ≡ k = head_is i k (places_from (is_byte byte) text (i + 1) n) rest (rw is at e) in
-        (record { low = omega (arith, first); high = omega (arith, first); before = λ j low high. absurd (omega (arith, first, low, high)) }, subst has first is)
+        let first : i ≡ k = head_is i k (places_from (is_byte byte) text (i + 1) n) rest (rw is at e) in (
+          record {
+            low = omega (arith, first);
+            high = omega (arith, first);
+            before = λ j low high. absurd
+                (omega (arith, first, low, high));
+          },
+          subst has first is,
+        )
     | inr not ↦
         let more = first_from (i + 1) n k rest (rw not at e) in
         let before = not_here i k not more.0.before in
@@ -69,7 +77,8 @@ module _ (byte : ℕ) (text : List ℕ) where
     record {
       low = omega arith;
       high = omega (arith, long, short);
-      before = λ k low below here. let bad : (get_or text k 0 == byte) ≡ false = run_in_chunk_fails (is_byte byte) text 0 32 count 0 long counted k low (omega (arith, below)) in cc;
+      before = λ k low below here. let bad : (get_or text k 0 == byte) ≡ false = run_in_chunk_fails (is_byte byte) text
+          0 32 count 0 long counted k low (omega (arith, below)) in cc;
     },
     subst has (omega arith) (run_in_chunk_stops (is_byte byte) text 0 32 count 0 long counted short),
   )

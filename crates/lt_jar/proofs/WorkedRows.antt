@@ -23,7 +23,13 @@ folded_lines = refl
 
 -- one record with the one field `A`, body `b c`
 folded_records : HasRecords folded (((codes "A", codes "b c") ∷ []) ∷ [])
-folded_records = record { ended = []; last = record { name = codes "A"; first = []; more = codes "b" ∷ codes "c" ∷ [] } ∷ []; lines = refl; all = refl }
+folded_records = record {
+  ended = [];
+  last = record { name = codes "A"; first = []; more = codes "b" ∷ codes "c" ∷ [] }
+      ∷ [];
+  lines = refl;
+  all = refl;
+}
 
 -- an empty text has no records
 empty_records : HasRecords [] []
@@ -39,7 +45,12 @@ with_gap = record { ended = (record { name = codes "A"; first = codes "b:c"; mor
 
 -- a line of one space, `A: b`, a line of one space, ` c`
 with_blanks : HasRecords (codes " " ++ 10 ∷ (codes "A: b" ++ 10 ∷ (codes " " ++ 10 ∷ codes " c"))) (((codes "A", codes "b c") ∷ []) ∷ [])
-with_blanks = record { ended = []; last = record { name = codes "A"; first = codes "b"; more = codes "c" ∷ [] } ∷ []; lines = refl; all = refl }
+with_blanks = record {
+  ended = [];
+  last = record { name = codes "A"; first = codes "b"; more = codes "c" ∷ [] } ∷ [];
+  lines = refl;
+  all = refl;
+}
 
 -- a line without a colon is bad
 bad_word : line_of (codes "abc") ≡ Bad

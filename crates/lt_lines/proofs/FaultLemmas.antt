@@ -27,9 +27,11 @@ before_none p text none = elim (cases_Bool (nat_lt (position_or_len p text) (len
 
 -- the slice of a text without its first `count` bytes; it begins at `least`, which is the text's end if the text is
 -- shorter
-pub after_front : (text : List ℕ) (count least : ℕ) → least ≡ min count (length text) → take (length text - least) (drop least text) ≡ drop count text
+pub after_front : (text : List ℕ) (count least : ℕ) → least ≡ min count (length text)
+    → take (length text - least) (drop least text) ≡ drop count text
 after_front text count least is = take_rest text least ∙ ap (λ n. drop n text) is ∙ drop_min count text
 
 -- the slice of `items` from `start` on, where the old bytes end, is the bytes that were appended to them
-pub appended : (old bytes items : List ℕ) (start : ℕ) → items ≡ old ++ bytes → start ≡ length old → take (length items - start) (drop start items) ≡ bytes
+pub appended : (old bytes items : List ℕ) (start : ℕ) → items ≡ old ++ bytes → start ≡ length old
+    → take (length items - start) (drop start items) ≡ bytes
 appended old bytes items start grown from = take_rest items start ∙ rw (grown, from) (drop-append_seam old bytes)

@@ -1,5 +1,6 @@
 -- Lines by their form, and line feeds.
-use Rattle.std.proofs.Common.{◌≡◌, ◌≢◌, ◌≤◌, ◌<◌, ◌+◌, ◌++◌, ◌∷◌, ◌∙◌, ℕ, List, [], true, false, length, ap, refl, arith, append_assoc, length-append, cond, ◌==◌, ne_eqb}
+use Rattle.std.proofs.Common.{◌≡◌, ◌≢◌, ◌≤◌, ◌<◌, ◌+◌, ◌++◌, ◌∷◌, ◌∙◌, ℕ, List, [], true, false, length, ap, refl}
+use Rattle.std.proofs.Common.{arith, append_assoc, length-append, cond, ◌==◌, ne_eqb}
 use Rattle.std.specs.List.{AllByRecursion}
 use Rattle.std.proofs.lemmas.List.Elements.{All-append, All-head, All-tail}
 use Rattle.std.proofs.lemmas.List.Sums.{sum_by-append}
@@ -27,7 +28,13 @@ pub record HasNone (form : LineForm) : Type 0 where
 pub of_none : (form : LineForm) → HasNone form
 of_none forms.Tag = record { short = tt; units = refl; unit = λ k d lt. absurd (omega (arith, lt)); closed = refl; kept = refl }
 of_none (forms.Csv row delimiter) = record { short = omega arith; units = refl; unit = tt; closed = refl; kept = refl }
-of_none (forms.Row row) = record { short = omega arith; units = refl; unit = λ k d lt. absurd (omega (arith, lt)); closed = refl; kept = refl }
+of_none (forms.Row row) = record {
+  short = omega arith;
+  units = refl;
+  unit = λ k d lt. absurd (omega (arith, lt));
+  closed = refl;
+  kept = refl;
+}
 
 -- the lines of a text that begins with a whole line and its line feed (10): this line, and then the lines of the rest
 pub units-ended : (form : LineForm) (line rest : List ℕ) → IsWhole form line → units_of form (line ++ 10 ∷ rest) ≡ line ∷ units_of form rest
@@ -41,7 +48,8 @@ units-last form line one some = lines_of-last line one some
 
 -- a line that no line feed ends goes on with bytes that have no line feed, and is still such a line
 pub unit-append : (form : LineForm) (last part : List ℕ) → IsUnit form last → IsOneLine part → IsUnit form (last ++ part)
-unit-append (forms.Csv row delimiter) last part h one = free-append delimiter 10 places.Fresh last part h (free_of_none delimiter 10 (place_at delimiter places.Fresh last) part one)
+unit-append (forms.Csv row delimiter) last part h one = free-append delimiter 10 places.Fresh last part h
+    (free_of_none delimiter 10 (place_at delimiter places.Fresh last) part one)
 unit-append form last part h one = All-append (λ (byte : ℕ). byte ≢ 10) last part h one
 
 -- the place at the end of a text that goes on with `part`, by the place at the end of its front, `last`
@@ -56,9 +64,13 @@ quoted_is places.Fresh inside = let bad : false ≡ true = inside in cc
 quoted_is places.Plain inside = let bad : false ≡ true = inside in cc
 
 -- a line that is within quotes goes on after a line feed (10), and is still within quotes
-pub feed_within : (form : LineForm) (last : List ℕ) → IsUnit form last → is_open form last ≡ true → IsUnit form (last ++ 10 ∷ []) × (place_of form (last ++ 10 ∷ []) ≡ places.Quoted)
-feed_within (forms.Csv row delimiter) last h inside =
-    (free-append delimiter 10 places.Fresh last (10 ∷ []) h (λ e. inside, tt), place_at-append delimiter places.Fresh last (10 ∷ []) ∙ ap (λ p. place_at delimiter p (10 ∷ [])) (quoted_is (place_at delimiter places.Fresh last) inside))
+pub feed_within : (form : LineForm) (last : List ℕ) → IsUnit form last → is_open form last ≡ true
+    → IsUnit form (last ++ 10 ∷ []) × (place_of form (last ++ 10 ∷ []) ≡ places.Quoted)
+feed_within (forms.Csv row delimiter) last h inside = (
+  free-append delimiter 10 places.Fresh last (10 ∷ []) h (λ e. inside, tt),
+  place_at-append delimiter places.Fresh last (10 ∷ [])
+      ∙ ap (λ p. place_at delimiter p (10 ∷ [])) (quoted_is (place_at delimiter places.Fresh last) inside),
+)
 feed_within form last h inside = let bad : false ≡ true = inside in cc
 
 -- the lines of a text that begins with whole lines, each with its line feed: these lines, and then the lines of the
@@ -74,8 +86,10 @@ pub place_of_ended : (form : LineForm) (lines : List (List ℕ)) (last : List �
     → place_of form (ended lines ++ last) ≡ place_of form last
 place_of_ended form [] last h = refl
 place_of_ended (forms.Csv row delimiter) (line ∷ lines) last h =
-    ap (place_at delimiter places.Fresh) (append_assoc line (10 ∷ ended lines) last) ∙ place_at-append delimiter places.Fresh line (10 ∷ (ended lines ++ last))
-    ∙ ap (λ p. place_at delimiter p (ended lines ++ last)) (place_after_feed delimiter (place_at delimiter places.Fresh line) h.0.closed) ∙ place_of_ended (forms.Csv row delimiter) lines last h.1
+    ap (place_at delimiter places.Fresh) (append_assoc line (10 ∷ ended lines) last)
+    ∙ place_at-append delimiter places.Fresh line (10 ∷ (ended lines ++ last))
+    ∙ ap (λ p. place_at delimiter p (ended lines ++ last)) (place_after_feed delimiter
+    (place_at delimiter places.Fresh line) h.0.closed) ∙ place_of_ended (forms.Csv row delimiter) lines last h.1
 place_of_ended form lines last h = refl
 
 -- the bytes of lines, each with its line feed (10), where one line more follows
@@ -98,7 +112,8 @@ feeds_in-append text more = sum_by-append (λ (byte : ℕ). cond (byte == 10) 1 
 pub no_feeds : (text : List ℕ) → IsOneLine text → feeds_in text ≡ 0
 no_feeds [] one = refl
 no_feeds (byte ∷ text) one =
-    rw (ne_eqb byte 10 (All-head (λ (b : ℕ). b ≢ 10) byte text one)) (omega (arith, no_feeds text (All-tail (λ (b : ℕ). b ≢ 10) byte text one)))
+    rw (ne_eqb byte 10 (All-head (λ (b : ℕ). b ≢ 10) byte text one))
+    (omega (arith, no_feeds text (All-tail (λ (b : ℕ). b ≢ 10) byte text one)))
 
 -- a text that goes on with `part`, which has no line feed, and a line feed (10) has one line feed more
 pub one_feed : (text part : List ℕ) → IsOneLine part → feeds_in (text ++ (part ++ 10 ∷ [])) ≡ feeds_in text + 1

@@ -1,5 +1,7 @@
 -- Lines of rows that are looked at before they are answered.
-use Rattle.std.proofs.Common.{refl, ◌≡◌, ◌≢◌, ◌≤◌, ◌<◌, ◌+◌, ◌-◌, ◌&&◌, ◌++◌, [], ◌∷◌, ◌∙◌, ℕ, Bool, true, false, List, Option, Some, None, MatchOption, inl, inr, length, sym, ap, arith, subst, take, drop, if◌then◌else◌, append_assoc, length-append}
+use Rattle.std.proofs.Common.{refl, ◌≡◌, ◌≢◌, ◌≤◌, ◌<◌, ◌+◌, ◌-◌, ◌&&◌, ◌++◌, [], ◌∷◌, ◌∙◌, ℕ, Bool, true, false, List}
+use Rattle.std.proofs.Common.{Option, Some, None, MatchOption, inl, inr, length, sym, ap, arith, subst, take, drop}
+use Rattle.std.proofs.Common.{if◌then◌else◌, append_assoc, length-append}
 use Rattle.std.proofs.lemmas.Bool.{cases_Bool, eqb-true, ltb-true}
 use Rattle.std.proofs.Math.Seq.{take-append_seam, drop-append_seam}
 use Rattle.std.proofs.lemmas.List.{drop_all, length-take-le, take-take}
@@ -25,12 +27,15 @@ use Rattle.lt_lines.proofs.FormLemmas.{of_none}
 use Rattle.lt_lines.proofs.PartLemmas.{nothing_kept}
 
 -- a line that is the first `count` bytes of a text has for its content the first bytes of the same text
-pub content_front : (text : List ℕ) (count : ℕ) → count ≤ length text → take (length (content_of (take count text))) text ≡ content_of (take count text)
+pub content_front : (text : List ℕ) (count : ℕ) → count ≤ length text
+    → take (length (content_of (take count text))) text ≡ content_of (take count text)
 content_front text count le =
     let line = take count text in
     let long : length line ≡ count = length-take-le count text le in
-    elim (ends_with_byte 13 line) as (λ t. take (length (if t then take (length line - 1) line else line)) text ≡ (if t then take (length line - 1) line else line)) [
-      | true ↦ ap (λ n. take n text) (length-take-le (length line - 1) line (omega arith)) ∙ sym (take-take (length line - 1) count text (omega (arith, long)))
+    elim (ends_with_byte 13 line) as (λ t. take (length (if t then take (length line - 1) line else line)) text
+    ≡ (if t then take (length line - 1) line else line)) [
+      | true ↦ ap (λ n. take n text) (length-take-le (length line - 1) line (omega arith))
+          ∙ sym (take-take (length line - 1) count text (omega (arith, long)))
       | false ↦ ap (λ n. take n text) long
     ]
 
@@ -69,13 +74,16 @@ content_quoted d line = elim (cases_Bool (ends_with_byte 13 line)) [
   | inl e ↦
       let front = take (length line - 1) line in
       let whole : is_quoted (place_at d places.Fresh line) ≡ is_quoted (place_at d places.Fresh front) =
-      ap (λ l. is_quoted (place_at d places.Fresh l)) (last_return line e) ∙ ap is_quoted (place_at-append d places.Fresh front (13 ∷ [])) ∙ return_quoted d (place_at d places.Fresh front) in
+      ap (λ l. is_quoted (place_at d places.Fresh l)) (last_return line e)
+      ∙ ap is_quoted (place_at-append d places.Fresh front (13 ∷ []))
+      ∙ return_quoted d (place_at d places.Fresh front) in
       rw e (sym whole)
   | inr e ↦ rw e refl
 ]
 
 -- a look at a whole line, which begins outside of quotes, finds whether it ends within quotes
-look_open : (form : LineForm) (line : List ℕ) (look : Look) → IsLook form line (Some look) → look.is_open ≡ is_quoted (place_then form places.Fresh line)
+look_open : (form : LineForm) (line : List ℕ) (look : Look) → IsLook form line (Some look)
+    → look.is_open ≡ is_quoted (place_then form places.Fresh line)
 look_open forms.Tag line look is = let bad : Some look ≡ None = is in cc
 look_open (forms.Row row) line look is = is.ends
 look_open (forms.Csv row delimiter) line look is = is.ends ∙ content_quoted delimiter line
@@ -83,14 +91,17 @@ look_open (forms.Csv row delimiter) line look is = is.ends ∙ content_quoted de
 -- `result` tells whether a line ends within quotes: it is what the look found, or, where there was none, follows from
 -- the place before the bytes `line` that came now
 pub open_is : (form : LineForm) (kept line : List ℕ) (place : Place) (look : Option Look) (result : Bool) → IsAhead form kept line look
-    → MatchOption look (result ≡ is_quoted (place_then form place line)) (λ l. result ≡ l.is_open) → (kept ≡ [] → place ≡ places.Fresh) → result ≡ is_quoted (place_then form place line)
+    → MatchOption look (result ≡ is_quoted (place_then form place line)) (λ l. result ≡ l.is_open)
+    → (kept ≡ [] → place ≡ places.Fresh) → result ≡ is_quoted (place_then form place line)
 open_is form kept line place None result ahead tells fresh = tells
 open_is form kept line place (Some look) result ahead tells fresh =
     tells ∙ look_open form line look ahead.is_look ∙ ap (λ p. is_quoted (place_then form p line)) (sym (fresh ahead.whole))
 
 -- where nothing is kept of the unfinished line, the place is that of a line's beginning
-pub fresh_place : (T : Terms) (bytes out : List ℕ) (state : Answering) → IsTaken T bytes out state → state.kept.items ≡ [] → state.place ≡ places.Fresh
-fresh_place T bytes out state t none = t.goes_on ∙ ap (place_of T.form) (nothing_kept T.form state.kept.items t.last t.kept none) ∙ (of_none T.form).closed
+pub fresh_place : (T : Terms) (bytes out : List ℕ) (state : Answering) → IsTaken T bytes out state
+    → state.kept.items ≡ [] → state.place ≡ places.Fresh
+fresh_place T bytes out state t none = t.goes_on
+    ∙ ap (place_of T.form) (nothing_kept T.form state.kept.items t.last t.kept none) ∙ (of_none T.form).closed
 
 -- ---- what lines lack
 
@@ -120,7 +131,8 @@ line_lacks line after text lacks one split known = record {
 }
 
 -- what follows the first line of a text is known to lack what the text is known to lack
-pub after_lacks : (line after text : List ℕ) (lacks : Lacks) → text ≡ line ++ 10 ∷ after → IsKnownToLack text lacks → IsKnownToLack after lacks
+pub after_lacks : (line after text : List ℕ) (lacks : Lacks) → text ≡ line ++ 10 ∷ after → IsKnownToLack text lacks
+    → IsKnownToLack after lacks
 after_lacks line after text lacks split known =
     let ended = line ++ 10 ∷ [] in
     let long : length line + 1 ≡ length ended = sym (length-append line (10 ∷ [])) in

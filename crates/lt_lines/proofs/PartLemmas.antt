@@ -1,5 +1,6 @@
 -- What is kept of a line that comes in pieces, and rows and records that are too long.
-use Rattle.std.proofs.Common.{◌≡◌, ◌++◌, ◌∷◌, ◌∙◌, ℕ, List, [], true, false, length, sym, ap, subst, arith, append-nil, length-append, inl, inr}
+use Rattle.std.proofs.Common.{◌≡◌, ◌++◌, ◌∷◌, ◌∙◌, ℕ, List, [], true, false, length, sym, ap, subst, arith, append-nil}
+use Rattle.std.proofs.Common.{length-append, inl, inr}
 use Rattle.std.specs.List.{AllByRecursion}
 use Rattle.lt_lines.specs.Answering.{kept_of, IsLongBy, longest_kept, part_kept}
 use Rattle.lt_lines.specs.Owed.{IsOfGrammar, IsWhole, is_open, IsShort}
@@ -11,7 +12,8 @@ use Rattle.std.proofs.lemmas.Bool.Decides.{leb_tells}
 use Rattle.lt_lines.specs.declared.forms.LineForm.TheVariants as forms
 
 -- `kept` is kept of a line, `last`; with what is to be kept of its next bytes, `part`, it is what is kept of both
-pub kept_more : (form : LineForm) (kept last part new : List ℕ) → kept ≡ kept_of form last → new ≡ kept ++ part_kept form (length kept) part → new ≡ kept_of form (last ++ part)
+pub kept_more : (form : LineForm) (kept last part new : List ℕ) → kept ≡ kept_of form last
+    → new ≡ kept ++ part_kept form (length kept) part → new ≡ kept_of form (last ++ part)
 kept_more forms.Tag kept last part new is e = kept_front longest_kept kept last part new is e
 kept_more form kept last part new is e = e ∙ ap (λ (l : List ℕ). l ++ part) is
 
@@ -40,7 +42,8 @@ short_by (forms.Csv row delimiter) kept part room = elim (leb_tells (length (kep
 ]
 
 -- a line, `last`, is short with its next bytes, `part`, if what is kept of it is
-pub short_line : (form : LineForm) (kept last part : List ℕ) → kept ≡ kept_of form last → IsShort form (kept ++ part) → IsShort form (last ++ part)
+pub short_line : (form : LineForm) (kept last part : List ℕ) → kept ≡ kept_of form last → IsShort form (kept ++ part)
+    → IsShort form (last ++ part)
 short_line forms.Tag kept last part is short = tt
 short_line form kept last part is short = subst (λ (l : List ℕ). IsShort form (l ++ part)) is short
 
@@ -50,13 +53,15 @@ short_kept forms.Tag kept last is short = tt
 short_kept form kept last is short = subst (IsShort form) (sym is ∙ sym (append-nil kept)) short
 
 -- a line, `last`, is not short with next bytes, `part`, that make it too long
-pub long_by : (form : LineForm) (kept last part : List ℕ) → kept ≡ kept_of form last → IsLongBy form (length kept) (length part) → IsShort form (last ++ part) → ⊥
+pub long_by : (form : LineForm) (kept last part : List ℕ) → kept ≡ kept_of form last
+    → IsLongBy form (length kept) (length part) → IsShort form (last ++ part) → ⊥
 long_by forms.Tag kept last part is long short = long
 long_by (forms.Row row) kept last part is long short = omega (arith, long, short, ap length is, length-append last part)
 long_by (forms.Csv row delimiter) kept last part is long short = omega (arith, long, short, ap length is, length-append last part)
 
 -- of a line, `last`, that `count` further bytes make too long all is kept, as it is a row or a record
-pub kept_long : (form : LineForm) (kept last : List ℕ) (count : ℕ) → kept ≡ kept_of form last → IsLongBy form (length kept) count → kept ≡ last
+pub kept_long : (form : LineForm) (kept last : List ℕ) (count : ℕ) → kept ≡ kept_of form last
+    → IsLongBy form (length kept) count → kept ≡ last
 kept_long forms.Tag kept last count is long = absurd long
 kept_long form kept last count is long = is
 
@@ -64,10 +69,12 @@ kept_long form kept last count is long = is
 of_grammar : (form : LineForm) (line : List ℕ) → IsWhole form line → IsOfGrammar form line
 of_grammar forms.Tag line w = tt
 of_grammar (forms.Row row) line w = tt
-of_grammar (forms.Csv row delimiter) line w = λ unquoted fed. closed_is_record delimiter unquoted line (record { free = w.unit; closed = w.closed })
+of_grammar (forms.Csv row delimiter) line w = λ unquoted fed. closed_is_record delimiter unquoted line
+    (record { free = w.unit; closed = w.closed })
 
 -- whole lines are all of the grammar of their form
-pub all_of_grammar : (form : LineForm) (lines : List (List ℕ)) → AllByRecursion (IsWhole form) lines → AllByRecursion (IsOfGrammar form) lines
+pub all_of_grammar : (form : LineForm) (lines : List (List ℕ)) → AllByRecursion (IsWhole form) lines
+    → AllByRecursion (IsOfGrammar form) lines
 all_of_grammar form [] h = tt
 all_of_grammar form (line ∷ lines) h = (of_grammar form line h.0, all_of_grammar form lines h.1)
 

@@ -1,5 +1,6 @@
 -- What is owed for a row.
-use Rattle.std.proofs.Common.{refl, ◌≡◌, ◌≤◌, ◌-◌, ◌++◌, ◌∷◌, ◌∙◌, [], ℕ, Bool, false, true, List, inl, inr, ap, arith, append_assoc, codes, drop, length, subst, sym, take, take-append-drop}
+use Rattle.std.proofs.Common.{refl, ◌≡◌, ◌≤◌, ◌-◌, ◌++◌, ◌∷◌, ◌∙◌, [], ℕ, Bool, false, true, List, inl, inr, ap, arith}
+use Rattle.std.proofs.Common.{append_assoc, codes, drop, length, subst, sym, take, take-append-drop}
 use Rattle.std.proofs.lemmas.List.{drop-drop, drop-take, take_rest, take-take}
 use Rattle.lt_jar.specs.Lines.{content_of}
 use Rattle.lt_codes.specs.Codes.{registered_text}
@@ -16,10 +17,13 @@ use Rattle.lt_rows.specs.declared.rows.Separator.{Separator}
 
 -- a row whose field's text is replaced: `old` is the answers before it, `fronted` those with the row up to the text,
 -- `filled` those with the canonical text too (if there is one), and `new` those with all of this row's answer
-module _ (S : Separator) (G : Ground) (row : RowForm) (line front field after quotes text old fronted filled new : List ℕ) (at : HasField S row.before (content_of line) front field after)
-    (is_text : IsTextIn S field quotes text) (none : HasReturn S (content_of line) → ⊥) (changed : row.is_kept ≡ false) (first : fronted ≡ old ++ (front ++ quotes)) where
+module _ (S : Separator) (G : Ground) (row : RowForm) (line front field after quotes text old fronted filled new : List
+    ℕ) (at : HasField S row.before (content_of line) front field after)
+    (is_text : IsTextIn S field quotes text) (none : HasReturn S (content_of line) → ⊥) (changed : row.is_kept ≡ false)
+    (first : fronted ≡ old ++ (front ++ quotes)) where
   -- where the text has a canonical text, the row with it and an empty last field is the answer
-  pub row_answered : AppendsCanonicalText G.entries (registered_text G.codes text) fronted filled → new ≡ filled ++ row_line S (quotes ++ after) [] line → AppendsRowReply S G row line old new false
+  pub row_answered : AppendsCanonicalText G.entries (registered_text G.codes text) fronted filled
+      → new ≡ filled ++ row_line S (quotes ++ after) [] line → AppendsRowReply S G row line old new false
   row_answered a last = record {
     bytes = row_line S ((front ++ quotes) ++ a.canonical ++ (quotes ++ after)) [] line;
     grown = rw (last, a.grown, first) (simp append_assoc);
@@ -44,7 +48,9 @@ module _ (S : Separator) (G : Ground) (row : RowForm) (line front field after qu
   }
 
   -- where the text is refused, the row as it was with a last field that says why is the answer
-  pub row_refused : (refusal : TextRefusal) → IsTextRefusal G.entries (registered_text G.codes text) refusal → filled ≡ fronted → EndsRefused S refusal (text ++ (quotes ++ after)) line filled new → AppendsRowReply S G row line old new true
+  pub row_refused : (refusal : TextRefusal) → IsTextRefusal G.entries (registered_text G.codes text) refusal
+      → filled ≡ fronted → EndsRefused S refusal (text ++ (quotes ++ after)) line filled new
+      → AppendsRowReply S G row line old new true
   row_refused refusal is same e = record {
     bytes = row_line S (content_of line) e.told line;
     grown = rw (e.grown, same, first, at.row_is, is_text.field_is) (simp append_assoc);
@@ -71,8 +77,10 @@ module _ (S : Separator) (G : Ground) (row : RowForm) (line front field after qu
   }
 
 -- where rows are kept, the row with two further fields is the answer, the text answered or refused
-pub row_kept : (S : Separator) (G : Ground) (row : RowForm) (line front field after quotes text old new : List ℕ) (refused : Bool) → HasField S row.before (content_of line) front field after
-    → IsTextIn S field quotes text → (HasReturn S (content_of line) → ⊥) → row.is_kept ≡ true → AppendsKept S G text line old new refused → AppendsRowReply S G row line old new refused
+pub row_kept : (S : Separator) (G : Ground) (row : RowForm) (line front field after quotes text old new : List
+    ℕ) (refused : Bool) → HasField S row.before (content_of line) front field after
+    → IsTextIn S field quotes text → (HasReturn S (content_of line) → ⊥) → row.is_kept ≡ true
+    → AppendsKept S G text line old new refused → AppendsRowReply S G row line old new refused
 row_kept S G row line front field after quotes text old new refused at is_text none kept a = record {
   bytes = row_line S (with_canonical true S (content_of line) a.canonical) a.told line;
   grown = a.grown;
@@ -117,9 +125,11 @@ row_kept S G row line front field after quotes text old new refused at is_text n
 
 -- a row that is kept: `old` is the answers before it, `fronted` those with the row and a separator, `filled` those with
 -- the canonical text too (if there is one), and `new` those with all of this row's answer
-module _ (S : Separator) (G : Ground) (line text old fronted filled new : List ℕ) (first : fronted ≡ (old ++ content_of line) ++ separator S ∷ []) where
+module _ (S : Separator) (G : Ground) (line text old fronted filled new : List ℕ)
+    (first : fronted ≡ (old ++ content_of line) ++ separator S ∷ []) where
   -- the text has a canonical text: that and an empty field are added
-  pub kept_answered : AppendsCanonicalText G.entries (registered_text G.codes text) fronted filled → new ≡ filled ++ row_line S [] [] line → AppendsKept S G text line old new false
+  pub kept_answered : AppendsCanonicalText G.entries (registered_text G.codes text) fronted filled
+      → new ≡ filled ++ row_line S [] [] line → AppendsKept S G text line old new false
   kept_answered a last = record {
     canonical = a.canonical;
     told = [];
@@ -128,7 +138,8 @@ module _ (S : Separator) (G : Ground) (line text old fronted filled new : List �
   }
 
   -- the text is refused: an empty field and why are added
-  pub kept_refused : (refusal : TextRefusal) → IsTextRefusal G.entries (registered_text G.codes text) refusal → filled ≡ fronted → EndsRefused S refusal [] line filled new → AppendsKept S G text line old new true
+  pub kept_refused : (refusal : TextRefusal) → IsTextRefusal G.entries (registered_text G.codes text) refusal
+      → filled ≡ fronted → EndsRefused S refusal [] line filled new → AppendsKept S G text line old new true
   kept_refused refusal is same e = record {
     canonical = [];
     told = e.told;
@@ -139,51 +150,67 @@ module _ (S : Separator) (G : Ground) (line text old fronted filled new : List �
 -- ---- by the place of the field's text
 
 -- a row from the start of its field's text on is the text and what follows it
-text_and_rest : (row text after : List ℕ) (place : TextAt) → place.start ≤ place.end → take (place.end - place.start) (drop place.start row) ≡ text → drop place.end row ≡ after → drop place.start row ≡ text ++ after
+text_and_rest : (row text after : List ℕ) (place : TextAt) → place.start ≤ place.end
+    → take (place.end - place.start) (drop place.start row) ≡ text → drop place.end row ≡ after
+    → drop place.start row ≡ text ++ after
 text_and_rest row text after place ordered is follows =
     let rest = drop place.start row in
     sym (take-append-drop (place.end - place.start) rest)
-    ∙ ap (λ l. take (place.end - place.start) rest ++ l) (drop-drop (place.end - place.start) place.start row ∙ ap (λ n. drop n row) (omega (arith, ordered)) ∙ follows)
+    ∙ ap (λ l. take (place.end - place.start) rest ++ l) (drop-drop (place.end - place.start) place.start row
+    ∙ ap (λ n. drop n row) (omega (arith, ordered)) ∙ follows)
     ∙ ap (λ l. l ++ after) is
 
 -- the text of a field is the same in the line's content as in `text`, whose first `count` bytes are the line
-pub text_within : (text : List ℕ) (count : ℕ) (place : TextAt) → count ≤ length text → place.start ≤ place.end → place.end ≤ length (content_of (take count text))
-    → take (place.end - place.start) (take (length text - place.start) (drop place.start text)) ≡ take (place.end - place.start) (drop place.start (content_of (take count text)))
+pub text_within : (text : List ℕ) (count : ℕ) (place : TextAt) → count ≤ length text → place.start ≤ place.end
+    → place.end ≤ length (content_of (take count text))
+    → take (place.end - place.start) (take (length text - place.start) (drop place.start text))
+    ≡ take (place.end - place.start) (drop place.start (content_of (take count text)))
 text_within text count place le ordered inside =
     let row = content_of (take count text) in
     let n = length row in
     let long = place.end - place.start in
     let row_is : drop place.start row ≡ take (n - place.start) (drop place.start text) =
-    ap (drop place.start) (sym (content_front text count le)) ∙ ap (λ m. drop place.start (take m text)) (omega (arith, ordered, inside)) ∙ drop-take place.start (n - place.start) text in
-    ap (take long) (take_rest text place.start) ∙ sym (ap (take long) row_is ∙ take-take long (n - place.start) (drop place.start text) (omega (arith, inside)))
+    ap (drop place.start) (sym (content_front text count le))
+    ∙ ap (λ m. drop place.start (take m text)) (omega (arith, ordered, inside))
+    ∙ drop-take place.start (n - place.start) text in
+    ap (take long) (take_rest text place.start)
+    ∙ sym (ap (take long) row_is ∙ take-take long (n - place.start) (drop place.start text) (omega (arith, inside)))
 
 -- a row whose field's text was found at `place`; `old`, `fronted`, `filled` and `new` as above
-module _ (S : Separator) (G : Ground) (row : RowForm) (line old fronted filled new : List ℕ) (place : TextAt) (h : HasTextAt S row.before (content_of line) place)
+module _ (S : Separator) (G : Ground) (row : RowForm) (line old fronted filled new : List ℕ) (place : TextAt)
+    (h : HasTextAt S row.before (content_of line) place)
     (none : HasReturn S (content_of line) → ⊥) where
   -- the text of the row's field
   abbrev text : List ℕ
   text = take (place.end - place.start) (drop place.start (content_of line))
 
   -- the text has a canonical text, which replaces it
-  pub found_answered : row.is_kept ≡ false → fronted ≡ old ++ take place.start (content_of line) → AppendsCanonicalText G.entries (registered_text G.codes text) fronted filled
+  pub found_answered : row.is_kept ≡ false → fronted ≡ old ++ take place.start (content_of line)
+      → AppendsCanonicalText G.entries (registered_text G.codes text) fronted filled
       → new ≡ filled ++ row_line S (drop place.end (content_of line)) [] line → AppendsRowReply S G row line old new false
   found_answered changed first a last =
-      row_answered S G row line h.front h.field h.after h.quotes h.text old fronted filled new h.at h.is_text none changed (first ∙ ap (λ l. old ++ l) h.front_is)
-      (subst (λ t. AppendsCanonicalText G.entries (registered_text G.codes t) fronted filled) h.text_is a) (last ∙ ap (λ l. filled ++ row_line S l [] line) h.after_is)
+      row_answered S G row line h.front h.field h.after h.quotes h.text old fronted filled new h.at h.is_text none
+      changed (first ∙ ap (λ l. old ++ l) h.front_is)
+      (subst (λ t. AppendsCanonicalText G.entries (registered_text G.codes t) fronted filled) h.text_is a)
+      (last ∙ ap (λ l. filled ++ row_line S l [] line) h.after_is)
 
   -- the text is refused, and stays as it was
-  pub found_refused : row.is_kept ≡ false → fronted ≡ old ++ take place.start (content_of line) → (refusal : TextRefusal) → IsTextRefusal G.entries (registered_text G.codes text) refusal → filled ≡ fronted
+  pub found_refused : row.is_kept ≡ false → fronted ≡ old ++ take place.start (content_of line)
+      → (refusal : TextRefusal) → IsTextRefusal G.entries (registered_text G.codes text) refusal → filled ≡ fronted
       → EndsRefused S refusal (drop place.start (content_of line)) line filled new → AppendsRowReply S G row line old new true
   found_refused changed first refusal is same e =
       let rest = text_and_rest (content_of line) h.text (h.quotes ++ h.after) place h.ordered h.text_is h.after_is in
-      row_refused S G row line h.front h.field h.after h.quotes h.text old fronted filled new h.at h.is_text none changed (first ∙ ap (λ l. old ++ l) h.front_is) refusal
+      row_refused S G row line h.front h.field h.after h.quotes h.text old fronted filled new h.at h.is_text none
+      changed (first ∙ ap (λ l. old ++ l) h.front_is) refusal
       (subst (λ t. IsTextRefusal G.entries (registered_text G.codes t) refusal) h.text_is is) same
       (record { told = e.told; is_told = e.is_told; grown = e.grown ∙ ap (λ l. filled ++ row_line S l e.told line) rest })
 
   -- the row is kept, and the answer to the text is added
-  pub found_kept : (refused : Bool) → row.is_kept ≡ true → AppendsKept S G text line old new refused → AppendsRowReply S G row line old new refused
+  pub found_kept : (refused : Bool) → row.is_kept ≡ true → AppendsKept S G text line old new refused
+      → AppendsRowReply S G row line old new refused
   found_kept refused kept a =
-      row_kept S G row line h.front h.field h.after h.quotes h.text old new refused h.at h.is_text none kept (subst (λ t. AppendsKept S G t line old new refused) h.text_is a)
+      row_kept S G row line h.front h.field h.after h.quotes h.text old new refused h.at h.is_text none kept
+      (subst (λ t. AppendsKept S G t line old new refused) h.text_is a)
 
 -- ---- a row without its field
 
@@ -197,7 +224,8 @@ row_returns S G row line old new returns grown = record {
 }
 
 -- the answer to a row that has no field of that number was appended
-pub row_lacks : (S : Separator) (G : Ground) (row : RowForm) (line old new : List ℕ) → (HasReturn S (content_of line) → ⊥) × HasFewer S row.before (content_of line)
+pub row_lacks : (S : Separator) (G : Ground) (row : RowForm) (line old new : List ℕ)
+    → (HasReturn S (content_of line) → ⊥) × HasFewer S row.before (content_of line)
     → new ≡ old ++ refused_line row.is_kept S line (codes "NoColumn") → AppendsRowReply S G row line old new true
 row_lacks S G row line old new lacks grown = record {
   bytes = refused_line row.is_kept S line (codes "NoColumn");

@@ -1,5 +1,6 @@
 -- What holds of a text while it is read, and how a run over lines ends.
-use Rattle.std.proofs.Common.{◌≡◌, ◌+◌, ◌++◌, ◌∙◌, inl, inr, ℕ, List, [], Option, Result, Ok, Err, length, sym, ap, refl, arith, append-nil, ◌<◌, ◌^◌}
+use Rattle.std.proofs.Common.{◌≡◌, ◌+◌, ◌++◌, ◌∙◌, inl, inr, ℕ, List, [], Option, Result, Ok, Err, length, sym, ap}
+use Rattle.std.proofs.Common.{refl, arith, append-nil, ◌<◌, ◌^◌}
 use Rattle.std.specs.Io.KnownBytes.{Appends, IsAtEnd}
 use Rattle.std.proofs.KnownBytes.{Appends-nil, Appends-trans}
 use Rattle.lt_jar.specs.Devices.{failures_of, inner_of}
@@ -23,7 +24,8 @@ use Rattle.lt_lines.proofs.MarkedLemmas.{begun_none, stop_from, text_begun, text
 -- ---- what was written is a front of what is owed
 
 -- where all that is owed was written, that is a front of what is owed
-begun_owed : (T : Terms) (read written : List ℕ) (counts : Counts) (tallies : List Tally) → AfterMark T (λ text more. OwesAll T text more counts tallies) read written → IsBegunText T read written
+begun_owed : (T : Terms) (read written : List ℕ) (counts : Counts) (tallies : List Tally)
+    → AfterMark T (λ text more. OwesAll T text more counts tallies) read written → IsBegunText T read written
 begun_owed T read written counts tallies a = record {
   mark = a.mark;
   text = a.text;
@@ -31,26 +33,50 @@ begun_owed T read written counts tallies a = record {
   front = inr (
     a.more,
     a.written_is,
-    record { lines = units_of T.form a.text; others = []; cut = sym (append-nil (units_of T.form a.text)); owed = a.holds.all.owed; each = a.holds.all.each; rest = []; front = sym a.holds.all.all ∙ sym (append-nil a.more) },
+    record {
+      lines = units_of T.form a.text;
+      others = [];
+      cut = sym (append-nil (units_of T.form a.text));
+      owed = a.holds.all.owed;
+      each = a.holds.all.each;
+      rest = [];
+      front = sym a.holds.all.all
+          ∙ sym (append-nil a.more);
+    },
   );
 }
 
 -- where the text ends within quotes, what was written is a front of what is owed
-begun_in_quotes : (T : Terms) (read written : List ℕ) (line : ℕ) (tallies : List Tally) → AfterMark T (TalliesInQuotes T line tallies) read written → IsBegunText T read written
+begun_in_quotes : (T : Terms) (read written : List ℕ) (line : ℕ) (tallies : List Tally)
+    → AfterMark T (TalliesInQuotes T line tallies) read written → IsBegunText T read written
 begun_in_quotes T read written line tallies a =
-    record { mark = a.mark; text = a.text; split = a.split; front = inr (a.more, a.written_is, begun_to_last_feed T a.text a.more a.holds.0.owed) }
+    record {
+      mark = a.mark;
+      text = a.text;
+      split = a.split;
+      front = inr (a.more, a.written_is, begun_to_last_feed T a.text a.more a.holds.0.owed);
+    }
 
 -- where a row or a record is too long, what was written is a front of what is owed
-begun_after : (T : Terms) (read written : List ℕ) (line : ℕ) (tallies : List Tally) → AfterMark T (TalliesTooLong T line tallies) read written → IsBegunText T read written
+begun_after : (T : Terms) (read written : List ℕ) (line : ℕ) (tallies : List Tally)
+    → AfterMark T (TalliesTooLong T line tallies) read written → IsBegunText T read written
 begun_after T read written line tallies a =
-    record { mark = a.mark; text = a.text; split = a.split; front = inr (a.more, a.written_is, begun_too_long T a.text a.more line a.holds.0) }
+    record {
+      mark = a.mark;
+      text = a.text;
+      split = a.split;
+      front = inr (a.more, a.written_is, begun_too_long T a.text a.more line a.holds.0);
+    }
 
 -- a run ends by the fault of its form where a row or a record is too long and what is owed before it was written
-ends_long : {I O : Type 0} (T : Terms) (remaining : I → Option (List ℕ)) (input input' : Device I) (output output' : Device O) (reads : ℕ) (read written : List ℕ) (tallies : List Tally) (line : ℕ)
-    → AfterMark T (TalliesTooLong T line tallies) read written → EndsAs T remaining input input' output output' reads read written tallies (Err (long_fault T.form line))
+ends_long : {I O : Type 0} (T : Terms) (remaining : I → Option (List ℕ)) (input input' : Device I)
+    (output output' : Device O) (reads : ℕ) (read written : List ℕ) (tallies : List Tally) (line : ℕ)
+    → AfterMark T (TalliesTooLong T line tallies) read written
+    → EndsAs T remaining input input' output output' reads read written tallies (Err (long_fault T.form line))
 ends_long T remaining input input' output output' reads read written tallies line a = by_form T.form refl
   where
-    by_form : (form : LineForm) → T.form ≡ form → EndsAs T remaining input input' output output' reads read written tallies (Err (long_fault form line))
+    by_form : (form : LineForm) → T.form ≡ form
+        → EndsAs T remaining input input' output output' reads read written tallies (Err (long_fault form line))
     by_form forms.Tag is = record { named = sym (ap (λ (f : LineForm). long_fault f line) is); ends = a }
     by_form (forms.Row row) is = record { named = sym (ap (λ (f : LineForm). long_fault f line) is); ends = a }
     by_form (forms.Csv row delimiter) is = inr (record { named = sym (ap (λ (f : LineForm). long_fault f line) is); ends = a })
@@ -64,12 +90,14 @@ module _ {W : Type 0} (T : Terms) (contents : W → Option (List ℕ)) (start : 
   reading_none state new = record { written = []; appends = Appends-nil _; same = refl; taken = new.taken; emptied = new.emptied }
 
   -- while fewer than 2 to the 63 bytes are read, the counts have room for a piece of `count` bytes and one line more
-  pub reading_room : (now : Device W) (read : List ℕ) (state : Marked) (count : ℕ) → IsReading T contents start now read state → length read + count < 2 ^ 63 → HasRoomFor state (count + 1)
+  pub reading_room : (now : Device W) (read : List ℕ) (state : Marked) (count : ℕ)
+      → IsReading T contents start now read state → length read + count < 2 ^ 63 → HasRoomFor state (count + 1)
   reading_room now read state count t few = text_room T read t.written state (count + 1) t.taken (omega (arith, few))
 
   -- a piece is taken or the text is finished after the bytes `read`: `old` and `before` are the state and the output
   -- before it, `new` and `after` those after it, and `U` is the terms of the state, which stay the same
-  module _ (before after : Device W) (read piece : List ℕ) (old new : Marked) (t : IsReading T contents start before read old) (U : Terms) (same : U ≡ T) where
+  module _ (before after : Device W) (read piece : List ℕ) (old new : Marked)
+      (t : IsReading T contents start before read old) (U : Terms) (same : U ≡ T) where
     -- a piece that was taken is read after the bytes before it
     pub reading_more : TakesText U contents piece old new before after (Ok tt) → IsReading T contents start after (read ++ piece) new
     reading_more takes =
@@ -83,13 +111,15 @@ module _ {W : Type 0} (T : Terms) (contents : W → Option (List ℕ)) (start : 
         }
 
     -- why a run over a text ends is true since the beginning of the run, if it is true since the output was `before`
-    ends_from : (bytes written : List ℕ) (tallies : List Tally) (f : ToolFault) → EndsText T before after bytes written tallies f → EndsText T start after bytes written tallies f
+    ends_from : (bytes written : List ℕ) (tallies : List Tally) (f : ToolFault)
+        → EndsText T before after bytes written tallies f → EndsText T start after bytes written tallies f
     ends_from bytes written tallies f (inl stop) = inl (stop_from start before after f t.same stop.0, stop.1)
     ends_from bytes written tallies f (inr (inl wide)) = inr (inl (wide.0, wide.1 ∙ t.same, wide.2, wide.3, wide.4, wide.5))
     ends_from bytes written tallies f (inr (inr long)) = inr (inr (long.0, long.1, long.2 ∙ t.same, long.3))
 
     -- a piece that ends by a fault ends the run by it
-    pub reading_stops : (f : ToolFault) → TakesText U contents piece old new before after (Err f) → StopsReading T contents start after (read ++ piece) new.answering.tallies (Err f)
+    pub reading_stops : (f : ToolFault) → TakesText U contents piece old new before after (Err f)
+        → StopsReading T contents start after (read ++ piece) new.answering.tallies (Err f)
     reading_stops f takes =
         let p = rw same at takes in
         record {
@@ -99,10 +129,15 @@ module _ {W : Type 0} (T : Terms) (contents : W → Option (List ℕ)) (start : 
         }
 
     -- the end of the text ends the run, with its counts or by a fault
-    pub reading_ends : (r : Result Counts ToolFault) → FinishesText U contents old new before after r → EndsReading T contents start after read new.answering.tallies r
+    pub reading_ends : (r : Result Counts ToolFault) → FinishesText U contents old new before after r
+        → EndsReading T contents start after read new.answering.tallies r
     reading_ends (Ok counts) finishes =
         let p = rw same at finishes in
-        record { written = t.written ++ p.written; appends = Appends-trans _ _ _ _ _ t.appends p.appends; holds = (p.done.0 ∙ t.same, p.done.1 read t.written t.taken) }
+        record {
+          written = t.written ++ p.written;
+          appends = Appends-trans _ _ _ _ _ t.appends p.appends;
+          holds = (p.done.0 ∙ t.same, p.done.1 read t.written t.taken);
+        }
     reading_ends (Err f) finishes =
         let p = rw same at finishes in
         record {
@@ -117,7 +152,8 @@ module _ {W : Type 0} (T : Terms) (contents : W → Option (List ℕ)) (start : 
 -- ---- how a run ends
 
 -- a run whose state at the end is `here`: `text` gives the state of its text, `U` its terms
-module _ {I W A : Type 0} (T : Terms) (U : A → Terms) (text : A → Marked) (remaining : I → Option (List ℕ)) (contents : W → Option (List ℕ)) (input input' : Device I) (output output' : Device W) (here : A) where
+module _ {I W A : Type 0} (T : Terms) (U : A → Terms) (text : A → Marked) (remaining : I → Option (List ℕ))
+    (contents : W → Option (List ℕ)) (input input' : Device I) (output output' : Device W) (here : A) where
   -- what is true of the run while it reads
   abbrev Taken : RunFact (Device W) A
   Taken start now read state = (U state ≡ T) × IsReading T contents start now read (text state)
@@ -133,9 +169,12 @@ module _ {I W A : Type 0} (T : Terms) (U : A → Terms) (text : A → Marked) (r
   -- the run gave the result `r`; `p` says what it read and how it ended
   module _ (r : Result Counts ToolFault) (p : RunsPieces Taken Stopped Finished remaining input input' output output' here r) where
     -- what a run did, from what it read and wrote and how it ended; a read or a write that fails is its fault
-    run_over : (written : List ℕ) → Appends (contents (inner_of output)) (contents (inner_of output')) written → IsBegunText T p.read written
-        → EndsAs T remaining input input' output output' p.reads p.read written (text here).answering.tallies r → (failures_of input < failures_of input' → r ≡ Err faults.Read)
-        → (failures_of output < failures_of output' → r ≡ Err faults.Write) → RunsLines T remaining contents input input' output output' (text here).answering.tallies r
+    run_over : (written : List ℕ) → Appends (contents (inner_of output)) (contents (inner_of output')) written
+        → IsBegunText T p.read written
+        → EndsAs T remaining input input' output output' p.reads p.read written (text here).answering.tallies r
+        → (failures_of input < failures_of input' → r ≡ Err faults.Read)
+        → (failures_of output < failures_of output' → r ≡ Err faults.Write)
+        → RunsLines T remaining contents input input' output output' (text here).answering.tallies r
     run_over written appends begun ends read_rises write_rises = record {
       read = p.read;
       written = written;
@@ -151,30 +190,49 @@ module _ {I W A : Type 0} (T : Terms) (U : A → Terms) (text : A → Marked) (r
     }
 
     -- a run that ends between two pieces, as a read failed, all reads were made, or memory for a piece ran out
-    run_taken : (t : IsReading T contents output output' p.read (text here)) → EndsAs T remaining input input' output output' p.reads p.read t.written (text here).answering.tallies r
-        → (failures_of input < failures_of input' → r ≡ Err faults.Read) → RunsLines T remaining contents input input' output output' (text here).answering.tallies r
-    run_taken t ends read_rises = run_over t.written t.appends (text_begun T p.read t.written (text here) t.taken t.emptied) ends read_rises (λ lt. absurd (omega (arith, lt, t.same)))
+    run_taken : (t : IsReading T contents output output' p.read (text here))
+        → EndsAs T remaining input input' output output' p.reads p.read t.written (text here).answering.tallies r
+        → (failures_of input < failures_of input' → r ≡ Err faults.Read)
+        → RunsLines T remaining contents input input' output output' (text here).answering.tallies r
+    run_taken t ends read_rises = run_over t.written t.appends
+        (text_begun T p.read t.written (text here) t.taken t.emptied) ends read_rises
+        (λ lt. absurd (omega (arith, lt, t.same)))
 
     -- a run that a failed read ended
-    run_read : IsStoppedByRead (λ bytes. Taken output output' bytes here) input input' p.read r → RunsLines T remaining contents input input' output output' (text here).answering.tallies r
+    run_read : IsStoppedByRead (λ bytes. Taken output output' bytes here) input input' p.read r
+        → RunsLines T remaining contents input input' output output' (text here).answering.tallies r
     run_read s =
         let t = s.taken.1 in
-        run_taken t (rw s.fault (record { failed = s.failed; owed = text_to_last_feed T p.read t.written (text here) t.taken t.emptied })) (λ _. s.fault)
+        run_taken t
+        (rw s.fault
+        (record { failed = s.failed; owed = text_to_last_feed T p.read t.written (text here) t.taken t.emptied }))
+        (λ _. s.fault)
 
     -- a run that made all reads that it may make
-    run_turns : IsStoppedByTurns (λ bytes. Taken output output' bytes here) input input' p.reads p.read r → RunsLines T remaining contents input input' output output' (text here).answering.tallies r
+    run_turns : IsStoppedByTurns (λ bytes. Taken output output' bytes here) input input' p.reads p.read r
+        → RunsLines T remaining contents input input' output output' (text here).answering.tallies r
     run_turns s =
         let t = s.taken.1 in
-        run_taken t (rw s.fault (record { all_made = s.all_made; gave_bytes = s.gave_bytes; last_gave = s.last_gave; owed = text_to_last_feed T p.read t.written (text here) t.taken t.emptied }))
+        run_taken t
+        (rw s.fault
+        (record {
+          all_made = s.all_made;
+          gave_bytes = s.gave_bytes;
+          last_gave = s.last_gave;
+          owed = text_to_last_feed T p.read t.written (text here) t.taken t.emptied;
+        }))
         (λ lt. absurd (omega (arith, lt, s.same)))
 
     -- a run that had no memory for a further piece
-    run_memory : IsWithoutMemory (λ bytes. Taken output output' bytes here) input input' p.read r → RunsLines T remaining contents input input' output output' (text here).answering.tallies r
+    run_memory : IsWithoutMemory (λ bytes. Taken output output' bytes here) input input' p.read r
+        → RunsLines T remaining contents input input' output output' (text here).answering.tallies r
     run_memory s = run_taken s.taken.1 (rw s.fault tt) (λ lt. absurd (omega (arith, lt, s.same)))
 
     -- a run that ends early: a write or memory failed, the text is UTF-16, or a row or a record is too long
-    run_stopped : (f : ToolFault) → r ≡ Err f → failures_of input' ≡ failures_of input → (written : List ℕ) → Appends (contents (inner_of output)) (contents (inner_of output')) written
-        → EndsText T output output' p.read written (text here).answering.tallies f → RunsLines T remaining contents input input' output output' (text here).answering.tallies r
+    run_stopped : (f : ToolFault) → r ≡ Err f → failures_of input' ≡ failures_of input → (written : List ℕ)
+        → Appends (contents (inner_of output)) (contents (inner_of output')) written
+        → EndsText T output output' p.read written (text here).answering.tallies f
+        → RunsLines T remaining contents input input' output output' (text here).answering.tallies r
     run_stopped f is same written appends (inl (inl wrote, begun)) =
         let fault : r ≡ Err faults.Write = is ∙ ap (λ (e : ToolFault). Err e) wrote.0 in
         run_over written appends begun (rw fault wrote.1) (λ lt. absurd (omega (arith, lt, same))) (λ _. fault)
@@ -183,27 +241,37 @@ module _ {I W A : Type 0} (T : Terms) (U : A → Terms) (text : A → Marked) (r
         run_over written appends begun (rw fault tt) (λ lt. absurd (omega (arith, lt, same))) (λ lt. absurd (omega (arith, lt, lacks.1)))
     run_stopped f is same written appends (inr (inl wide)) =
         let fault : r ≡ Err faults.Utf16 = is ∙ ap (λ (e : ToolFault). Err e) wide.0 in
-        run_over written appends (rw wide.3 (begun_none T p.read)) (rw fault (record { looked = wide.5; wide = wide.2; nothing = wide.3; none = wide.4 })) (λ lt. absurd (omega (arith, lt, same))) (λ lt. absurd (omega (arith, lt, wide.1)))
+        run_over written appends (rw wide.3 (begun_none T p.read))
+        (rw fault (record { looked = wide.5; wide = wide.2; nothing = wide.3; none = wide.4 }))
+        (λ lt. absurd (omega (arith, lt, same))) (λ lt. absurd (omega (arith, lt, wide.1)))
     run_stopped f is same written appends (inr (inr long)) =
         let fault : r ≡ Err (long_fault T.form long.0) = is ∙ ap (λ (e : ToolFault). Err e) long.1 in
         run_over written appends (begun_after T p.read written long.0 (text here).answering.tallies long.3)
-        (rw fault (ends_long T remaining input input' output output' p.reads p.read written (text here).answering.tallies long.0 long.3)) (λ lt. absurd (omega (arith, lt, same)))
+        (rw fault (ends_long T remaining input input' output output' p.reads p.read written
+        (text here).answering.tallies long.0 long.3)) (λ lt. absurd (omega (arith, lt, same)))
         (λ lt. absurd (omega (arith, lt, long.2)))
 
     -- a run whose text ends within quotes
-    run_quotes : (f : ToolFault) → r ≡ Err f → IsAtEnd (remaining (inner_of input')) → failures_of input' ≡ failures_of input → (written : List ℕ) → Appends (contents (inner_of output)) (contents (inner_of output')) written
-        → EndsTextInQuotes T output output' p.read written (text here).answering.tallies f → RunsLines T remaining contents input input' output output' (text here).answering.tallies r
+    run_quotes : (f : ToolFault) → r ≡ Err f → IsAtEnd (remaining (inner_of input'))
+        → failures_of input' ≡ failures_of input → (written : List ℕ)
+        → Appends (contents (inner_of output)) (contents (inner_of output')) written
+        → EndsTextInQuotes T output output' p.read written (text here).answering.tallies f
+        → RunsLines T remaining contents input input' output output' (text here).answering.tallies r
     run_quotes f is end same written appends q =
         let fault : r ≡ Err (faults.BadCsv q.line) = is ∙ ap (λ (e : ToolFault). Err e) q.fault in
-        run_over written appends (begun_in_quotes T p.read written q.line (text here).answering.tallies q.ends) (rw fault (inl (record { end = end; ends = q.ends }))) (λ lt. absurd (omega (arith, lt, same)))
+        run_over written appends (begun_in_quotes T p.read written q.line (text here).answering.tallies q.ends)
+        (rw fault (inl (record { end = end; ends = q.ends }))) (λ lt. absurd (omega (arith, lt, same)))
         (λ lt. absurd (omega (arith, lt, q.same)))
 
   -- a run over the pieces of a text is a run over its lines, however it ends
-  pub runs_lines : (r : Result Counts ToolFault) → RunsPieces Taken Stopped Finished remaining input input' output output' here r → RunsLines T remaining contents input input' output output' (text here).answering.tallies r
+  pub runs_lines : (r : Result Counts ToolFault)
+      → RunsPieces Taken Stopped Finished remaining input input' output output' here r
+      → RunsLines T remaining contents input input' output output' (text here).answering.tallies r
   runs_lines (Ok counts) p = elim p.ends [
     | inl f ↦
         let h = f.finished in
-        run_over (Ok counts) p h.written h.appends (begun_owed T p.read h.written counts (text here).answering.tallies h.holds.1) (record { end = f.end; owed = h.holds.1 })
+        run_over (Ok counts) p h.written h.appends (begun_owed T p.read h.written counts (text here).answering.tallies
+        h.holds.1) (record { end = f.end; owed = h.holds.1 })
         (λ lt. absurd (omega (arith, lt, f.same))) (λ lt. absurd (omega (arith, lt, h.holds.0)))
     | inr (inl s) ↦ absurd s.stopped
     | inr (inr (inl s)) ↦ run_read (Ok counts) p s

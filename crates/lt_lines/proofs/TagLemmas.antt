@@ -1,5 +1,6 @@
 -- A run over lines whose form is a tag, without codes, is a run over tags.
-use Rattle.std.proofs.Common.{◌≡◌, ◌+◌, ◌++◌, ◌∷◌, ◌∙◌, ◌<◌, ◌==◌, cond, inl, inr, ℕ, zero, suc, List, [], Bool, true, false, Option, Result, Ok, Err, length, map, sym, ap, refl, subst, take, drop}
+use Rattle.std.proofs.Common.{◌≡◌, ◌+◌, ◌++◌, ◌∷◌, ◌∙◌, ◌<◌, ◌==◌, cond, inl, inr, ℕ, zero, suc, List, [], Bool, true}
+use Rattle.std.proofs.Common.{false, Option, Result, Ok, Err, length, map, sym, ap, refl, subst, take, drop}
 use Rattle.std.specs.List.{AllByRecursion, before_first, concat, count_by, position_or_len}
 use Rattle.std.proofs.lemmas.List.{length-map}
 use Rattle.std.proofs.lemmas.List.Sums.{sum_by-cons}
@@ -11,7 +12,8 @@ use Rattle.lt_codes.specs.Codes.{registered_text}
 use Rattle.lt_stream.specs.declared.faults.ToolFault.{ToolFault}
 use Rattle.lt_stream.specs.declared.faults.ToolFault.TheVariants as faults
 use Rattle.lt_stream.specs.declared.tallies.Tally.{Tally}
-use Rattle.lt_lines.specs.Owed.{AfterMark, AreReplies, AreRepliesFrom, IsBegunText, IsTextReply, IsWhole, Reply, Terms, bytes_in, ended, is_refusal, refused_in, terms}
+use Rattle.lt_lines.specs.Owed.{AfterMark, AreReplies, AreRepliesFrom, IsBegunText, IsTextReply, IsWhole, Reply, Terms}
+use Rattle.lt_lines.specs.Owed.{bytes_in, ended, is_refusal, refused_in, terms}
 use Rattle.lt_lines.specs.Tallied.{TalliesToLastFeed}
 use Rattle.lt_lines.specs.Running.{EndsAs, RunsLines}
 use Rattle.lt_lines.specs.TagLines.{AreOwedLines, EndsTags, IsOwedLine, Owes, OwesFront, OwesToLastFeed, RunsTags}
@@ -42,20 +44,23 @@ module _ (R : List EntryParts) where
   -- the answer that is owed for a line is the line that is owed for its text
   owed_line : (line : List ℕ) (r : Reply) → IsTextReply R (registered_text [] (content_of line)) r → IsOwedLine R (content_of line) r.bytes
   owed_line line r is =
-      let plain = subst (λ (t : List ℕ). IsTextReply R t r) (front_rest (position_or_len (λ (b : ℕ). b == 45) (content_of line)) (content_of line)) is in
+      let plain = subst (λ (t : List ℕ). IsTextReply R t r)
+      (front_rest (position_or_len (λ (b : ℕ). b == 45) (content_of line)) (content_of line)) is in
       elim plain.owed [
         | inl a ↦ inl a.0
         | inr a ↦ inr a.0
       ]
 
-  owed_lines : (first : Bool) (lines : List (List ℕ)) (replies : List Reply) → AreRepliesFrom T first lines replies → AreOwedLines R lines (bytes_of replies)
+  owed_lines : (first : Bool) (lines : List (List ℕ)) (replies : List Reply) → AreRepliesFrom T first lines replies
+      → AreOwedLines R lines (bytes_of replies)
   owed_lines first [] [] each = refl
   owed_lines first [] (r ∷ replies) each = absurd each
   owed_lines first (line ∷ lines) [] each = absurd each
   owed_lines first (line ∷ lines) (r ∷ replies) each = (owed_line line r each.0, owed_lines false lines replies each.1)
 
   -- as many of them are refusals as begin with `! `
-  refused_lines : (first : Bool) (lines : List (List ℕ)) (replies : List Reply) → AreRepliesFrom T first lines replies → refused_in replies ≡ count_by is_refusal (bytes_of replies)
+  refused_lines : (first : Bool) (lines : List (List ℕ)) (replies : List Reply) → AreRepliesFrom T first lines replies
+      → refused_in replies ≡ count_by is_refusal (bytes_of replies)
   refused_lines first [] [] each = refl
   refused_lines first [] (r ∷ replies) each = absurd each
   refused_lines first (line ∷ lines) [] each = absurd each
@@ -65,8 +70,13 @@ module _ (R : List EntryParts) where
       ∙ ap (λ (n : ℕ). cond (is_refusal r.bytes) 1 0 + n) (refused_lines false lines replies each.1)
       ∙ sym (sum_by-cons (λ (l : List ℕ). cond (is_refusal l) 1 0) r.bytes (bytes_of replies))
 
-  owes : (lines : List (List ℕ)) (replies : List Reply) (written : List ℕ) → AreReplies T lines replies → written ≡ bytes_in replies → Owes R lines written
-  owes lines replies written each all = record { owed = bytes_of replies; each = owed_lines true lines replies each; all = all ∙ joined replies }
+  owes : (lines : List (List ℕ)) (replies : List Reply) (written : List ℕ) → AreReplies T lines replies
+      → written ≡ bytes_in replies → Owes R lines written
+  owes lines replies written each all = record {
+    owed = bytes_of replies;
+    each = owed_lines true lines replies each;
+    all = all ∙ joined replies;
+  }
 
   -- no mark is looked for before tags
   unmarked : (P : (text more : List ℕ) → Type 0) (read written : List ℕ) → AfterMark T P read written → P read written
@@ -78,10 +88,18 @@ module _ (R : List EntryParts) where
   each_line [] each = tt
   each_line (line ∷ lines) each = (each.0.unit, each_line lines each.1)
 
-  to_last_feed : (tallies : List Tally) (read written : List ℕ) → AfterMark T (TalliesToLastFeed T tallies) read written → OwesToLastFeed R read written
+  to_last_feed : (tallies : List Tally) (read written : List ℕ) → AfterMark T (TalliesToLastFeed T tallies) read written
+      → OwesToLastFeed R read written
   to_last_feed tallies read written a =
       let o = (unmarked (TalliesToLastFeed T tallies) read written a).0 in
-      record { lines = o.lines; last = o.last; cut = o.cut; each_one = each_line o.lines o.each_one; last_one = o.last_one; owes = owes o.lines o.owed written o.each o.all }
+      record {
+        lines = o.lines;
+        last = o.last;
+        cut = o.cut;
+        each_one = each_line o.lines o.each_one;
+        last_one = o.last_one;
+        owes = owes o.lines o.owed written o.each o.all;
+      }
 
   begun : (read written : List ℕ) → IsBegunText T read written → OwesFront R read written
   begun read written b = elim b.front [
@@ -107,8 +125,11 @@ module _ (R : List EntryParts) where
   ]
 
   -- `input` and `output` are the devices before the run, `input'` and `output'` those after it
-  module _ {I O : Type 0} (remaining : I → Option (List ℕ)) (input input' : Device I) (output output' : Device O) (reads : ℕ) (read written : List ℕ) (tallies : List Tally) where
-    ends_tags : (r : Result Counts ToolFault) → IsBegunText T read written → EndsAs T remaining input input' output output' reads read written tallies r → EndsTags R remaining input input' output output' reads read written r
+  module _ {I O : Type 0} (remaining : I → Option (List ℕ)) (input input' : Device I) (output output' : Device O)
+      (reads : ℕ) (read written : List ℕ) (tallies : List Tally) where
+    ends_tags : (r : Result Counts ToolFault) → IsBegunText T read written
+        → EndsAs T remaining input input' output output' reads read written tallies r
+        → EndsTags R remaining input input' output output' reads read written r
     ends_tags (Ok counts) front is =
         let all = unmarked _ read written is.owed in
         let o = all.all in (
@@ -130,7 +151,8 @@ module _ (R : List EntryParts) where
     ends_tags (Err (faults.BadTsv line)) front is = absurd ((unmarked _ read written is.ends).0.long tt)
     ends_tags (Err faults.Utf16) front is = absurd is.looked
 
-  pub runs_tags : {I O : Type 0} (remaining : I → Option (List ℕ)) (contents : O → Option (List ℕ)) (input input' : Device I) (output output' : Device O) (tallies : List Tally) (r : Result Counts ToolFault)
+  pub runs_tags : {I O : Type 0} (remaining : I → Option (List ℕ)) (contents : O → Option (List ℕ))
+      (input input' : Device I) (output output' : Device O) (tallies : List Tally) (r : Result Counts ToolFault)
       → RunsLines T remaining contents input input' output output' tallies r → RunsTags R remaining contents input input' output output' r
   runs_tags remaining contents input input' output output' tallies r run = record {
     read = run.read;

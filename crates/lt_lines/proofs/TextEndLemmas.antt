@@ -1,5 +1,6 @@
 -- The call that answers the end of a text that may begin with a byte order mark.
-use Rattle.std.proofs.Common.{Result, Ok, Err, ◌≡◌, ◌++◌, ◌∙◌, ◌⊎◌, ℕ, List, [], true, false, Option, sym, ap, refl, subst, append_assoc, inl, inr}
+use Rattle.std.proofs.Common.{Result, Ok, Err, ◌≡◌, ◌++◌, ◌∙◌, ◌⊎◌, ℕ, List, [], true, false, Option, sym, ap, refl}
+use Rattle.std.proofs.Common.{subst, append_assoc, inl, inr}
 use Rattle.std.proofs.KnownBytes.{Appends-trans}
 use Rattle.lt_jar.specs.Devices.{failures_of}
 use Rattle.lt_jar.specs.declared.devices.Device.{Device}
@@ -17,8 +18,10 @@ use Rattle.lt_lines.proofs.MarkedLemmas.{IsAt, at_after, splits_marked, stop_fro
 use Rattle.lt_lines.proofs.TextRunLemmas.{unbegun}
 
 -- all lines after the mark were answered: all that is owed for the bytes was written; `a` is the state before the end
-finish_done : {W : Type 0} (T : Terms) (contents : W → Option (List ℕ)) (bytes out : List ℕ) (a new : Answering) (before after : Device W) (counts : Counts) → IsAt T bytes out a
-    → (f : FinishesLines T contents a new before after (Ok counts)) → AfterMark T (λ text more. OwesAll T text more counts new.tallies) bytes (out ++ f.written)
+finish_done : {W : Type 0} (T : Terms) (contents : W → Option (List ℕ)) (bytes out : List ℕ) (a new : Answering) (before
+    after : Device W) (counts : Counts) → IsAt T bytes out a
+    → (f : FinishesLines T contents a new before after (Ok counts))
+    → AfterMark T (λ text more. OwesAll T text more counts new.tallies) bytes (out ++ f.written)
 finish_done T contents bytes out a new before after counts at f = record {
   mark = at.mark;
   text = at.text;
@@ -31,8 +34,11 @@ finish_done T contents bytes out a new before after counts at f = record {
 
 -- the end of the text after the mark ended the run by the fault `e`; `between` is the output before the last answers,
 -- and no write had failed from `before` to it
-finish_ends : {W : Type 0} (T : Terms) (contents : W → Option (List ℕ)) (bytes out : List ℕ) (a new : Answering) (before between after : Device W) (e : ToolFault) → IsAt T bytes out a → a.owed.items ≡ []
-    → failures_of between ≡ failures_of before → (f : FinishesLines T contents a new between after (Err e)) → EndsTextInQuotes T before after bytes (out ++ f.written) new.tallies e ⊎ EndsText T before after bytes (out ++ f.written) new.tallies e
+finish_ends : {W : Type 0} (T : Terms) (contents : W → Option (List ℕ)) (bytes out : List ℕ) (a new : Answering) (before
+    between after : Device W) (e : ToolFault) → IsAt T bytes out a → a.owed.items ≡ []
+    → failures_of between ≡ failures_of before → (f : FinishesLines T contents a new between after (Err e))
+    → EndsTextInQuotes T before after bytes (out ++ f.written) new.tallies e
+    ⊎ EndsText T before after bytes (out ++ f.written) new.tallies e
 finish_ends T contents bytes out a new before between after e at none same f =
     let is = ap (λ (l : List ℕ). l ++ f.written) at.written_is ∙ append_assoc at.mark at.out f.written in
     elim f.stopped [
@@ -40,7 +46,15 @@ finish_ends T contents bytes out a new before between after e at none same f =
         line = q.line;
         fault = q.fault;
         same = q.same ∙ same;
-        ends = record { mark = at.mark; text = at.text; split = at.split; narrow = at.narrow; more = at.out ++ f.written; written_is = is; holds = q.ends at.text at.out at.taken none };
+        ends = record {
+          mark = at.mark;
+          text = at.text;
+          split = at.split;
+          narrow = at.narrow;
+          more = at.out ++ f.written;
+          written_is = is;
+          holds = q.ends at.text at.out at.taken none;
+        };
       })
       | inr stop ↦ inr (inl (
         stop_from before between after e same stop.0,
@@ -49,7 +63,9 @@ finish_ends T contents bytes out a new before between after e at none same f =
     ]
 
 -- the end of a text that is past its mark
-pub finish_text : {W : Type 0} (T : Terms) (contents : W → Option (List ℕ)) (old new : Marked) (before after : Device W) (r : Result Counts ToolFault) → old.is_begun ≡ true → FinishesLines T contents old.answering new.answering before after r
+pub finish_text : {W : Type 0} (T : Terms) (contents : W → Option (List ℕ)) (old new : Marked) (before after : Device
+    W) (r : Result Counts ToolFault) → old.is_begun ≡ true
+    → FinishesLines T contents old.answering new.answering before after r
     → FinishesText T contents old new before after r
 finish_text T contents old new before after (Ok counts) begun f = record {
   written = f.written;
@@ -75,9 +91,11 @@ finish_text T contents old new before after (Err e) begun f = record {
 
 -- the end of a text of which the first bytes are still kept: `mid` and `between` are the state and the output once they
 -- are taken as text, `new` and `after` once the lines are finished
-module _ {W : Type 0} (T : Terms) (contents : W → Option (List ℕ)) (old mid new : Marked) (before between after : Device W) (begun : old.is_begun ≡ false) where
+module _ {W : Type 0} (T : Terms) (contents : W → Option (List ℕ)) (old mid new : Marked)
+    (before between after : Device W) (begun : old.is_begun ≡ false) where
   -- the bytes, fewer than a mark has, were taken as text
-  at_begun : (bytes out : List ℕ) → IsKeptFront T bytes out old → (b : BeginsText T contents old mid before between (Ok tt)) → IsAt T bytes (out ++ b.written) mid.answering
+  at_begun : (bytes out : List ℕ) → IsKeptFront T bytes out old
+      → (b : BeginsText T contents old mid before between (Ok tt)) → IsAt T bytes (out ++ b.written) mid.answering
   at_begun bytes out k b =
       let more = b.done.4 in
       record {
@@ -91,7 +109,9 @@ module _ {W : Type 0} (T : Terms) (contents : W → Option (List ℕ)) (old mid 
       }
 
   -- the lines were finished, with counts or by a fault
-  pub finish_front : (r : Result Counts ToolFault) → BeginsText T contents old mid before between (Ok tt) → FinishesLines T contents mid.answering new.answering between after r → FinishesText T contents old new before after r
+  pub finish_front : (r : Result Counts ToolFault) → BeginsText T contents old mid before between (Ok tt)
+      → FinishesLines T contents mid.answering new.answering between after r
+      → FinishesText T contents old new before after r
   finish_front (Ok counts) b f = record {
     written = b.written ++ f.written;
     appends = Appends-trans _ _ _ _ _ b.appends f.appends;
@@ -99,7 +119,9 @@ module _ {W : Type 0} (T : Terms) (contents : W → Option (List ℕ)) (old mid 
       f.done.0 ∙ b.done.0,
       λ bytes out t. elim t [
         | inl a ↦ unbegun old.is_begun a.begun begun
-        | inr k ↦ rw (← append_assoc out b.written f.written) (finish_done T contents bytes (out ++ b.written) mid.answering new.answering between after counts (at_begun bytes out k b) f)
+        | inr k ↦ rw (← append_assoc out b.written f.written)
+            (finish_done T contents bytes (out ++ b.written) mid.answering new.answering between after counts
+            (at_begun bytes out k b) f)
       ],
     );
     stopped = tt;
@@ -110,12 +132,15 @@ module _ {W : Type 0} (T : Terms) (contents : W → Option (List ℕ)) (old mid 
     done = tt;
     stopped = λ bytes out t none. elim t [
       | inl a ↦ unbegun old.is_begun a.begun begun
-      | inr k ↦ rw (← append_assoc out b.written f.written) (finish_ends T contents bytes (out ++ b.written) mid.answering new.answering before between after e (at_begun bytes out k b) b.done.1 b.done.0 f)
+      | inr k ↦ rw (← append_assoc out b.written f.written)
+          (finish_ends T contents bytes (out ++ b.written) mid.answering new.answering before between after e
+          (at_begun bytes out k b) b.done.1 b.done.0 f)
     ];
   }
 
   -- the run ended before, by the fault `e`
-  pub finish_stopped : (e : ToolFault) → BeginsText T contents old mid before after (Err e) → FinishesText T contents old mid before after (Err e)
+  pub finish_stopped : (e : ToolFault) → BeginsText T contents old mid before after (Err e)
+      → FinishesText T contents old mid before after (Err e)
   finish_stopped e b = record {
     written = b.written;
     appends = b.appends;

@@ -1,5 +1,7 @@
 -- The calls that answer a text that may begin with a byte order mark, piece by piece.
-use Rattle.std.proofs.Common.{Result, Ok, Err, ◌≡◌, ◌↔◌, IsTrue, not, ◌++◌, ◌∷◌, ◌∙◌, ℕ, List, [], Bool, true, false, Option, length, sym, ap, refl, subst, arith, append_assoc, append-nil, length-append, inl, inr}
+use Rattle.std.proofs.Common.{Result, Ok, Err, ◌≡◌, ◌↔◌, IsTrue, not, ◌++◌, ◌∷◌, ◌∙◌, ℕ, List, [], Bool, true, false}
+use Rattle.std.proofs.Common.{Option, length, sym, ap, refl, subst, arith, append_assoc, append-nil, length-append, inl}
+use Rattle.std.proofs.Common.{inr}
 use Rattle.std.specs.Io.KnownBytes.{Appends}
 use Rattle.std.proofs.KnownBytes.{Appends-nil, Appends-trans}
 use Rattle.lt_jar.specs.Devices.{inner_of}
@@ -45,7 +47,8 @@ fresh_taken T state fresh = record {
 
 -- a state that keeps no bytes and has answered nothing has read nothing of a text; it has begun where no mark is looked
 -- for, which `may` tells
-pub new_text : (T : Terms) (state : Marked) (may : Bool) → IsTrue may ↔ MayHaveMark T.form → state.front.items ≡ [] → state.is_begun ≡ not may → IsFresh state.answering → IsNew T state
+pub new_text : (T : Terms) (state : Marked) (may : Bool) → IsTrue may ↔ MayHaveMark T.form → state.front.items ≡ []
+    → state.is_begun ≡ not may → IsFresh state.answering → IsNew T state
 new_text T state true tells front begun fresh = record {
   taken = inr (record {
     looked = tells.0 refl;
@@ -79,7 +82,8 @@ new_text T state false tells front begun fresh =
 
 -- the kept first bytes were split into `mark` and `text`: the output is `before` until the mark is written, then
 -- `between`, and `after` once the text was taken in
-module _ {W : Type 0} (T : Terms) (contents : W → Option (List ℕ)) (old new : Marked) (before between after : Device W) (mark text : List ℕ) (split : SplitsMark old.front.items mark text) where
+module _ {W : Type 0} (T : Terms) (contents : W → Option (List ℕ)) (old new : Marked) (before between after : Device W)
+    (mark text : List ℕ) (split : SplitsMark old.front.items mark text) where
   -- the mark could not be written
   pub begin_unwritten : (f : ToolFault) → WritesText contents mark before after (Err f) → BeginsText T contents old new before after (Err f)
   begin_unwritten f w = record {
@@ -90,28 +94,46 @@ module _ {W : Type 0} (T : Terms) (contents : W → Option (List ℕ)) (old new 
     split = split;
     done = tt;
     room = tt;
-    stopped = λ looked narrow taken. inl (inl w.stopped, record { mark = mark; text = text; split = splits_marked T.form old.front.items mark text looked split; front = inl w.front });
+    stopped = λ looked narrow taken.
+        inl (
+          inl w.stopped,
+          record {
+            mark = mark;
+            text = text;
+            split = splits_marked T.form old.front.items mark text
+                looked split;
+            front = inl w.front;
+          },
+        );
   }
 
   -- the mark was written, and the text after it ended the run
-  pub begin_stopped : (f : ToolFault) → WritesText contents mark before between (Ok tt) → TakesPiece T contents text old.answering new.answering between after (Err f) → BeginsText T contents old new before after (Err f)
+  pub begin_stopped : (f : ToolFault) → WritesText contents mark before between (Ok tt)
+      → TakesPiece T contents text old.answering new.answering between after (Err f)
+      → BeginsText T contents old new before after (Err f)
   begin_stopped f w p = record {
     written = mark ++ p.written;
-    appends = Appends-trans _ _ _ _ _ (subst (Appends (contents (inner_of before)) (contents (inner_of between))) w.done.0 w.appends) p.appends;
+    appends = Appends-trans _ _ _ _ _ (subst (Appends (contents (inner_of before)) (contents (inner_of between)))
+        w.done.0 w.appends) p.appends;
     mark = mark;
     text = text;
     split = split;
     done = tt;
     room = tt;
-    stopped = λ looked narrow taken. piece_stopped T old.front.items [] [] text p.written mark old.answering new.answering before between after f (splits_marked T.form old.front.items mark text looked split) (λ _. narrow) taken w.done.1 p.stopped;
+    stopped = λ looked narrow taken. piece_stopped T old.front.items [] [] text p.written mark old.answering
+        new.answering before between after f (splits_marked T.form old.front.items mark text looked split) (λ _. narrow)
+        taken w.done.1 p.stopped;
   }
 
   -- the mark was written, and the text after it was taken in
-  pub begin_done : WritesText contents mark before between (Ok tt) → TakesPiece T contents text old.answering new.answering between after (Ok tt) → new.is_begun ≡ true → new.front.items ≡ []
+  pub begin_done : WritesText contents mark before between (Ok tt)
+      → TakesPiece T contents text old.answering new.answering between after (Ok tt) → new.is_begun ≡ true
+      → new.front.items ≡ []
       → BeginsText T contents old new before after (Ok tt)
   begin_done w p begun emptied = record {
     written = mark ++ p.written;
-    appends = Appends-trans _ _ _ _ _ (subst (Appends (contents (inner_of before)) (contents (inner_of between))) w.done.0 w.appends) p.appends;
+    appends = Appends-trans _ _ _ _ _ (subst (Appends (contents (inner_of before)) (contents (inner_of between)))
+        w.done.0 w.appends) p.appends;
     mark = mark;
     text = text;
     split = split;
@@ -129,7 +151,8 @@ module _ {W : Type 0} (T : Terms) (contents : W → Option (List ℕ)) (old new 
 -- a piece of a text comes in
 module _ {W : Type 0} (T : Terms) (contents : W → Option (List ℕ)) (piece : List ℕ) (old new : Marked) (before after : Device W) where
   -- after the mark a piece is taken in by the state that answers lines
-  pub text_piece : (r : Result (Unit {0}) ToolFault) → old.is_begun ≡ true → new.is_begun ≡ true → new.front.items ≡ old.front.items → TakesPiece T contents piece old.answering new.answering before after r
+  pub text_piece : (r : Result (Unit {0}) ToolFault) → old.is_begun ≡ true → new.is_begun ≡ true
+      → new.front.items ≡ old.front.items → TakesPiece T contents piece old.answering new.answering before after r
       → TakesText T contents piece old new before after r
   text_piece (Ok u) begun begins front p = record {
     written = p.written;
@@ -161,22 +184,34 @@ module _ {W : Type 0} (T : Terms) (contents : W → Option (List ℕ)) (piece : 
     appends = p.appends;
     done = tt;
     stopped = λ bytes out t. elim t [
-      | inl a ↦ rw (a.written_is, append_assoc a.mark a.out p.written) (piece_stopped T (bytes ++ piece) a.text a.out piece p.written a.mark old.answering new.answering before before after f (a.split piece) (a.narrow piece) a.taken refl p.stopped)
+      | inl a ↦ rw (a.written_is, append_assoc a.mark a.out p.written)
+          (piece_stopped T (bytes ++ piece) a.text a.out piece p.written a.mark old.answering new.answering before
+          before after f (a.split piece) (a.narrow piece) a.taken refl p.stopped)
       | inr k ↦ unbegun old.is_begun begun k.begun
     ];
   }
 
 -- a piece of a text comes in before it is known whether the text begins with a mark
-module _ {W : Type 0} (T : Terms) (contents : W → Option (List ℕ)) (piece : List ℕ) (old new : Marked) (before : Device W) (begun : old.is_begun ≡ false) where
+module _ {W : Type 0} (T : Terms) (contents : W → Option (List ℕ)) (piece : List ℕ) (old new : Marked)
+    (before : Device W) (begun : old.is_begun ≡ false) where
   -- the bytes begin with a byte order mark of UTF-16
-  pub text_wide : new.answering ≡ old.answering → IsWide (old.front.items ++ piece) → TakesText T contents piece old new before before (Err faults.Utf16)
+  pub text_wide : new.answering ≡ old.answering → IsWide (old.front.items ++ piece)
+      → TakesText T contents piece old new before before (Err faults.Utf16)
   text_wide same wide = record {
     written = [];
     appends = Appends-nil _;
     done = tt;
     stopped = λ bytes out t. elim t [
       | inl a ↦ unbegun old.is_begun a.begun begun
-      | inr k ↦ inr (inl (refl, refl, subst (λ (l : List ℕ). IsWide (l ++ piece)) k.kept wide, append-nil out ∙ k.nothing, ap (λ (a : Answering). a.tallies) same ∙ k.none_refused, k.looked))
+      | inr k ↦ inr (inl (
+        refl,
+        refl,
+        subst (λ (l : List ℕ). IsWide (l ++ piece)) k.kept wide,
+        append-nil out
+            ∙ k.nothing,
+        ap (λ (a : Answering). a.tallies) same ∙ k.none_refused,
+        k.looked,
+      ))
     ];
   }
 
@@ -188,12 +223,17 @@ module _ {W : Type 0} (T : Terms) (contents : W → Option (List ℕ)) (piece : 
     done = tt;
     stopped = λ bytes out t. elim t [
       | inl a ↦ unbegun old.is_begun a.begun begun
-      | inr k ↦ inl (inr (refl, refl), subst (IsBegunText T (bytes ++ piece)) (sym (append-nil out ∙ k.nothing)) (begun_none T (bytes ++ piece)))
+      | inr k ↦ inl (
+        inr (refl, refl),
+        subst (IsBegunText T (bytes ++ piece)) (sym (append-nil out ∙ k.nothing))
+            (begun_none T (bytes ++ piece)),
+      )
     ];
   }
 
   -- the bytes may still be part of a mark, and are kept
-  pub text_may_be : new.is_begun ≡ false → new.front.items ≡ old.front.items ++ piece → new.answering ≡ old.answering → MayBeMark (old.front.items ++ piece) → TakesText T contents piece old new before before (Ok tt)
+  pub text_may_be : new.is_begun ≡ false → new.front.items ≡ old.front.items ++ piece → new.answering ≡ old.answering
+      → MayBeMark (old.front.items ++ piece) → TakesText T contents piece old new before before (Ok tt)
   text_may_be still front same may = record {
     written = [];
     appends = Appends-nil _;
@@ -219,7 +259,9 @@ module _ {W : Type 0} (T : Terms) (contents : W → Option (List ℕ)) (piece : 
   }
 
   -- the bytes tell whether there is a mark: `mid` keeps them all, and they are split
-  pub text_begins : (mid : Marked) (after : Device W) (r : Result (Unit {0}) ToolFault) → mid.front.items ≡ old.front.items ++ piece → mid.answering ≡ old.answering → (IsWide (old.front.items ++ piece) → ⊥) → (MayBeMark (old.front.items ++ piece) → ⊥)
+  pub text_begins : (mid : Marked) (after : Device W) (r : Result (Unit {0}) ToolFault)
+      → mid.front.items ≡ old.front.items ++ piece → mid.answering ≡ old.answering
+      → (IsWide (old.front.items ++ piece) → ⊥) → (MayBeMark (old.front.items ++ piece) → ⊥)
       → BeginsText T contents mid new before after r → TakesText T contents piece old new before after r
   text_begins mid after (Ok u) front same narrow none b = record {
     written = b.written;
@@ -231,7 +273,8 @@ module _ {W : Type 0} (T : Terms) (contents : W → Option (List ℕ)) (piece : 
         | inr k ↦
             let whole : mid.front.items ≡ bytes ++ piece = front ∙ ap (λ (l : List ℕ). l ++ piece) k.kept in
             let kept : old.front.items ++ piece ≡ bytes ++ piece = ap (λ (l : List ℕ). l ++ piece) k.kept in
-            let split = splits_marked T.form (bytes ++ piece) b.mark b.text k.looked (subst (λ (l : List ℕ). SplitsMark l b.mark b.text) whole b.split) in
+            let split = splits_marked T.form (bytes ++ piece) b.mark b.text k.looked
+            (subst (λ (l : List ℕ). SplitsMark l b.mark b.text) whole b.split) in
             let undecided = subst (λ (l : List ℕ). MayBeMark l → ⊥) kept none in
             let more = b.done.4 in (
               inl (record {
@@ -257,7 +300,8 @@ module _ {W : Type 0} (T : Terms) (contents : W → Option (List ℕ)) (piece : 
     done = tt;
     stopped = λ bytes out t. elim t [
       | inl a ↦ unbegun old.is_begun a.begun begun
-      | inr k ↦ rw k.nothing (subst (λ (l : List ℕ). EndsText T before after l b.written new.answering.tallies f) (front ∙ ap (λ (l : List ℕ). l ++ piece) k.kept)
+      | inr k ↦ rw k.nothing (subst (λ (l : List ℕ). EndsText T before after l b.written new.answering.tallies f)
+          (front ∙ ap (λ (l : List ℕ). l ++ piece) k.kept)
           (b.stopped k.looked (subst (λ (l : List ℕ). IsWide l → ⊥) (sym front) narrow) (rw same k.taken)))
     ];
   }

@@ -4,7 +4,8 @@ use Rattle.std.specs.Prelude.{Err}
 use Rattle.std.proofs.lemmas.List.{get_or_append_left, get_or_push, get_or-map, length-append, length-map}
 use borrow.Author.Count.{below_more}
 use Rattle.lt_registry.specs.Parts.{EntryParts}
-use Rattle.lt_range.specs.Asked.{ArePreferencesOf, Asks, element_at_place, HasRefusedRange, IsElementRefusal, IsHeaderRefusal, IsPreferenceOf}
+use Rattle.lt_range.specs.Asked.{ArePreferencesOf, Asks, element_at_place, HasRefusedRange, IsElementRefusal}
+use Rattle.lt_range.specs.Asked.{IsHeaderRefusal, IsPreferenceOf}
 use Rattle.lt_range.specs.Elements.{ElementParts, parts_of}
 use Rattle.lt_range.specs.HeaderRefusals.{of_accept_fault, of_range_refusal}
 use Rattle.lt_range.specs.Headers.{elements_of, IsFault}
@@ -21,23 +22,27 @@ use Rattle.lt_range.specs.declared.refusals.RangeRefusal.{RangeRefusal}
 use Rattle.lt_range.specs.declared.refusals.RangeRefusal.TheVariants as refusals
 
 -- the next preference is that of the next element
-pub preference_next : (R : List EntryParts) (elements : List ElementParts) (n : ℕ) (all : List Preference) (p : Preference) → ArePreferencesOf R elements n all
+pub preference_next : (R : List EntryParts) (elements : List ElementParts) (n : ℕ) (all : List Preference) (p
+    : Preference) → ArePreferencesOf R elements n all
     → IsPreferenceOf R (element_at_place elements n) p → ArePreferencesOf R elements (n + 1) (all ++ p ∷ [])
 preference_next R elements n all p h k =
     let none : Preference = record { range = record { wild = false; named = [] }; weight = 0 } in
     record {
       counted = length-append all (p ∷ []) ∙ ap (λ (i : ℕ). i + 1) h.counted;
       each = below_more (λ (i : ℕ). IsPreferenceOf R (element_at_place elements i) (at (all ++ p ∷ []) i)) n
-          (λ i l. subst (λ (x : Preference). IsPreferenceOf R (element_at_place elements i) x) (sym (get_or_append_left all (p ∷ []) none i (omega (arith, l, h.counted)))) (h.each i l))
+          (λ i l. subst (λ (x : Preference). IsPreferenceOf R (element_at_place elements i) x)
+          (sym (get_or_append_left all (p ∷ []) none i (omega (arith, l, h.counted)))) (h.each i l))
           (subst (λ (x : Preference). IsPreferenceOf R (element_at_place elements n) x) (sym (get_or_push all p none n h.counted)) k);
     }
 
 -- the element that is read at a place, as contracts see it
-pub part_at : (elements : List WeightedRange) (n : ℕ) (d : WeightedRange) → n < length elements → parts_of (get_or elements n d) ≡ element_at_place (map parts_of elements) n
+pub part_at : (elements : List WeightedRange) (n : ℕ) (d : WeightedRange) → n < length elements
+    → parts_of (get_or elements n d) ≡ element_at_place (map parts_of elements) n
 part_at elements n d within = sym (get_or-map parts_of elements n d (record { range = []; weight = 0 }) within)
 
 -- the refusal of the range at a place is that of an element
-pub refused_at : (R : List EntryParts) (elements : List WeightedRange) (n : ℕ) (d : WeightedRange) (refusal : RangeRefusal) → n < length elements
+pub refused_at : (R : List EntryParts) (elements : List WeightedRange) (n : ℕ) (d : WeightedRange) (refusal
+    : RangeRefusal) → n < length elements
     → IsRangeRefusal R (get_or elements n d).range.now refusal → IsElementRefusal R (map parts_of elements) refusal
 refused_at R elements n d refusal within h = record {
   place = n;
@@ -46,30 +51,37 @@ refused_at R elements n d refusal within h = record {
 }
 
 -- memory may run out at any element
-pub memory_at : (R : List EntryParts) (elements : List WeightedRange) (n : ℕ) → n < length elements → IsElementRefusal R (map parts_of elements) refusals.OutOfMemory
+pub memory_at : (R : List EntryParts) (elements : List WeightedRange) (n : ℕ) → n < length elements
+    → IsElementRefusal R (map parts_of elements) refusals.OutOfMemory
 memory_at R elements n within = record { place = n; within = omega (arith, within, length-map elements parts_of); refused = tt }
 
 -- the preference of the range at a place is that of its element
-pub preference_at : (R : List EntryParts) (elements : List WeightedRange) (n : ℕ) (d : WeightedRange) (range : RangeParts) → n < length elements
-    → IsExtlangRange R (get_or elements n d).range.now range → IsPreferenceOf R (element_at_place (map parts_of elements) n) (record { range = range; weight = (get_or elements n d).weight })
+pub preference_at : (R : List EntryParts) (elements : List WeightedRange) (n : ℕ) (d : WeightedRange) (range
+    : RangeParts) → n < length elements
+    → IsExtlangRange R (get_or elements n d).range.now range
+    → IsPreferenceOf R (element_at_place (map parts_of elements) n) (record
+    { range = range; weight = (get_or elements n d).weight })
 preference_at R elements n d range within h = record {
   range = subst (λ (e : ElementParts). IsExtlangRange R e.range range) (part_at elements n d within) h;
   weight = ap (λ (e : ElementParts). e.weight) (part_at elements n d within);
 }
 
 -- the fault of a header, by its kind, is why it gives no preferences
-by_kind : (R : List EntryParts) (header : List ℕ) (fault : AcceptFault) (kind : AcceptFaultKind) → fault.kind ≡ kind → IsFault (elements_of header) fault → IsHeaderRefusal R header (of_accept_fault fault)
+by_kind : (R : List EntryParts) (header : List ℕ) (fault : AcceptFault) (kind : AcceptFaultKind) → fault.kind ≡ kind
+    → IsFault (elements_of header) fault → IsHeaderRefusal R header (of_accept_fault fault)
 by_kind R header fault (kinds.BadRange f) e h = rw e (rw e at h)
 by_kind R header fault kinds.ExtendedRange e h = rw e (rw e at h)
 by_kind R header fault kinds.BadWeight e h = rw e (rw e at h)
 by_kind R header fault kinds.OutOfMemory e h = rw e tt
 
 -- the fault of a header is why it gives no preferences
-pub fault_refused : (R : List EntryParts) (header : List ℕ) (fault : AcceptFault) → IsFault (elements_of header) fault → IsHeaderRefusal R header (of_accept_fault fault)
+pub fault_refused : (R : List EntryParts) (header : List ℕ) (fault : AcceptFault) → IsFault (elements_of header) fault
+    → IsHeaderRefusal R header (of_accept_fault fault)
 fault_refused R header fault h = by_kind R header fault fault.kind refl h
 
 -- the refusal of one of its ranges is why a header gives no preferences
-pub range_refused : (R : List EntryParts) (header : List ℕ) (refusal : RangeRefusal) → HasRefusedRange R header refusal → IsHeaderRefusal R header (of_range_refusal refusal)
+pub range_refused : (R : List EntryParts) (header : List ℕ) (refusal : RangeRefusal) → HasRefusedRange R header refusal
+    → IsHeaderRefusal R header (of_range_refusal refusal)
 range_refused R header (refusals.NotARange fault) h = h
 range_refused R header (refusals.ReplacementRepeats v) h = h
 range_refused R header refusals.OutOfMemory h = tt

@@ -13,22 +13,27 @@ use Rattle.lt_range.specs.Matched.{HasExtlangList, HasSubtags}
 use Rattle.lt_range.proofs.MatchLaws.{determined, list_of_text, same_list}
 
 -- the next list is that of the next text
-pub available_next : (R : List EntryParts) (texts : List (List ℕ)) (n : ℕ) (lists : List (List (List ℕ))) (list : List (List ℕ)) → AreAvailable R texts n lists
+pub available_next : (R : List EntryParts) (texts : List (List ℕ)) (n : ℕ) (lists : List (List (List ℕ))) (list : List
+    (List ℕ)) → AreAvailable R texts n lists
     → HasSubtags R (text_at texts n) list → AreAvailable R texts (n + 1) (lists ++ list ∷ [])
 available_next R texts n lists list h k = record {
   counted = length-append lists (list ∷ []) ∙ ap (λ (i : ℕ). i + 1) h.counted;
   each = below_more (λ (i : ℕ). HasSubtags R (text_at texts i) (tag_at (lists ++ list ∷ []) i)) n
-      (λ i l. subst (λ (x : List (List ℕ)). HasSubtags R (text_at texts i) x) (sym (get_or_append_left lists (list ∷ []) [] i (omega (arith, l, h.counted)))) (h.each i l))
+      (λ i l. subst (λ (x : List (List ℕ)). HasSubtags R (text_at texts i) x)
+      (sym (get_or_append_left lists (list ∷ []) [] i (omega (arith, l, h.counted)))) (h.each i l))
       (subst (λ (x : List (List ℕ)). HasSubtags R (text_at texts n) x) (sym (get_or_push lists list [] n h.counted)) k);
 }
 
 -- the text that is read at a place, as contracts see it
-pub text_read : (texts : List (Bor (List ℕ))) (n : ℕ) (d : Bor (List ℕ)) → n < length texts → (get_or texts n d).now ≡ text_at (map (λ (text : Bor (List ℕ)). text.now) texts) n
+pub text_read : (texts : List (Bor (List ℕ))) (n : ℕ) (d : Bor (List ℕ)) → n < length texts
+    → (get_or texts n d).now ≡ text_at (map (λ (text : Bor (List ℕ)). text.now) texts) n
 text_read texts n d within = sym (get_or-map (λ (text : Bor (List ℕ)). text.now) texts n d [] within)
 
 -- the refusal of the text at a place, before which each has its list, is that of the list of texts
-pub refused_at : (R : List EntryParts) (texts : List (Bor (List ℕ))) (n : ℕ) (d : Bor (List ℕ)) (lists : List (List (List ℕ))) (refused : AvailableRefusal) → n < length texts
-    → AreAvailable R (map (λ (text : Bor (List ℕ)). text.now) texts) n lists → refused.place ≡ n + 1 → IsTextRefusal R (get_or texts n d).now refused.refusal
+pub refused_at : (R : List EntryParts) (texts : List (Bor (List ℕ))) (n : ℕ) (d : Bor (List ℕ)) (lists : List
+    (List (List ℕ))) (refused : AvailableRefusal) → n < length texts
+    → AreAvailable R (map (λ (text : Bor (List ℕ)). text.now) texts) n lists → refused.place ≡ n + 1
+    → IsTextRefusal R (get_or texts n d).now refused.refusal
     → IsAvailableRefusal R (map (λ (text : Bor (List ℕ)). text.now) texts) refused
 refused_at R texts n d lists refused within before numbered h = inl (record {
   lists = lists;
@@ -46,7 +51,10 @@ serve_alike R C texts others a b alike h k =
     same_lists a b as_many (λ i d l.
     let within : i < length others = omega (arith, l, h.counted, alike.as_many) in
     let e = alike.each i within in
-    let first : HasExtlangList R e.tag (tag_at a i) = list_of_text R C (text_at texts i) e.tag (tag_at a i) e.read (h.each i (omega (arith, within, alike.as_many))) in
-    let second : HasExtlangList R e.other (tag_at b i) = list_of_text R C (text_at others i) e.other (tag_at b i) e.read_other (k.each i within) in
-    let one = (determined R C).list e.other (tag_at a i) (tag_at b i) (same_list R C e.tag e.other (tag_at a i) e.valid e.equivalent first) second in
+    let first : HasExtlangList R e.tag (tag_at a i) = list_of_text R C (text_at texts i) e.tag (tag_at a i) e.read
+    (h.each i (omega (arith, within, alike.as_many))) in
+    let second : HasExtlangList R e.other (tag_at b i) = list_of_text R C (text_at others i) e.other (tag_at b i)
+    e.read_other (k.each i within) in
+    let one = (determined R C).list e.other (tag_at a i) (tag_at b i)
+    (same_list R C e.tag e.other (tag_at a i) e.valid e.equivalent first) second in
     get_or_default a i d [] l ∙ one ∙ get_or_default b i [] d (omega (arith, l, as_many)))

@@ -18,7 +18,8 @@ none_fault (Err fault) basic h e = absurd (cc)
 none_fault (Ok range) basic h e = rw e refl
 
 -- a text that is read as a range, `r`, and has not the form of a basic one has the fault ExtendedRange
-pub extended_fault : (r : Result RangeParts RangeFault) (basic : Bool) → IsOk r → basic ≡ false → fault_by r basic ≡ Some kinds.ExtendedRange
+pub extended_fault : (r : Result RangeParts RangeFault) (basic : Bool) → IsOk r → basic ≡ false
+    → fault_by r basic ≡ Some kinds.ExtendedRange
 extended_fault (Err fault) basic h e = absurd (cc)
 extended_fault (Ok range) basic h e = rw e refl
 

@@ -16,14 +16,16 @@ module _ (P : List (List ℕ) → Type 0) (tags : List (List (List ℕ))) where
   GoOn i found = (more : List ℕ) → ArePlaces P i (drop i tags) more → ArePlaces P 0 tags (found ++ more)
 
   -- if `P` is true of the next tag, its place is added
-  pub places_yes : (i : ℕ) (t : List (List ℕ)) (found : List ℕ) → i < length tags → t ≡ get_or tags i t → P t → GoOn i found → GoOn (i + 1) (found ++ i ∷ [])
+  pub places_yes : (i : ℕ) (t : List (List ℕ)) (found : List ℕ) → i < length tags → t ≡ get_or tags i t → P t
+      → GoOn i found → GoOn (i + 1) (found ++ i ∷ [])
   places_yes i t found within is p go = λ more h.
       let here : ArePlaces P i (t ∷ drop (i + 1) tags) (i ∷ more) = inl (p, (more, refl, h)) in
       subst (λ (l : List ℕ). ArePlaces P 0 tags l) (sym (append_assoc found (i ∷ []) more))
       (go (i ∷ more) (subst (λ (l : List (List (List ℕ))). ArePlaces P i l (i ∷ more)) (sym (next_is tags i t within is)) here))
 
   -- if `P` is not true of the next tag, no place is added
-  pub places_no : (i : ℕ) (t : List (List ℕ)) (found : List ℕ) → i < length tags → t ≡ get_or tags i t → (P t → ⊥) → GoOn i found → GoOn (i + 1) found
+  pub places_no : (i : ℕ) (t : List (List ℕ)) (found : List ℕ) → i < length tags → t ≡ get_or tags i t → (P t → ⊥)
+      → GoOn i found → GoOn (i + 1) found
   places_no i t found within is n go = λ more h.
       let here : ArePlaces P i (t ∷ drop (i + 1) tags) more = inr (n, h) in
       go more (subst (λ (l : List (List (List ℕ))). ArePlaces P i l more) (sym (next_is tags i t within is)) here)
@@ -46,11 +48,13 @@ module _ (M : RangeParts → List (List ℕ) → Type 0) (ranges : List RangePar
   pub selects_next : (i : ℕ) (r : RangeParts) (found here : List ℕ) → i < length ranges → r ≡ get_or ranges i r
       → ArePlaces (λ tag. M r tag × NoneMatches M (take i ranges) tag) 0 tags here → SelectsOn i found → SelectsOn (i + 1) (found ++ here)
   selects_next i r found here within is places go = λ more h.
-      let before : take (i + 1) ranges ≡ take i ranges ++ r ∷ [] = take_more ranges i r within ∙ ap (λ y. take i ranges ++ y ∷ []) (sym is) in
+      let before : take (i + 1) ranges ≡ take i ranges ++ r ∷ [] = take_more ranges i r within
+      ∙ ap (λ y. take i ranges ++ y ∷ []) (sym is) in
       let step : Selects M (take i ranges) (r ∷ drop (i + 1) ranges) tags (here ++ more) =
       (here, more, refl, places, subst (λ (l : List RangeParts). Selects M l (drop (i + 1) ranges) tags more) before h) in
       subst (λ (l : List ℕ). Selects M [] ranges tags l) (sym (append_assoc found here more))
-      (go (here ++ more) (subst (λ (l : List RangeParts). Selects M (take i ranges) l tags (here ++ more)) (sym (next_is ranges i r within is)) step))
+      (go (here ++ more) (subst (λ (l : List RangeParts). Selects M (take i ranges) l tags (here ++ more))
+      (sym (next_is ranges i r within is)) step))
 
   -- past the last range, the places are what all ranges select
   pub selects_end : (i : ℕ) (found : List ℕ) → length ranges ≤ i → SelectsOn i found → Selects M [] ranges tags found

@@ -13,7 +13,8 @@ module _ {X : Type 0} where
 pub front_next : (front list rest others : List (List ℕ)) (i : ℕ) (x : List ℕ) → list ≡ take i front ++ rest → rest ≡ x ∷ others
     → take (i + 1) front ≡ take i front ++ x ∷ [] → list ≡ take (i + 1) front ++ others
 front_next front list rest others i x so_far here more =
-    so_far ∙ ap (λ (l : List (List ℕ)). take i front ++ l) here ∙ sym (append_assoc (take i front) (x ∷ []) others) ∙ ap (λ (l : List (List ℕ)). l ++ others) (sym more)
+    so_far ∙ ap (λ (l : List (List ℕ)). take i front ++ l) here ∙ sym (append_assoc (take i front) (x ∷ []) others)
+    ∙ ap (λ (l : List (List ℕ)). l ++ others) (sym more)
 
 -- if `list` begins with the first `i` subtags of `front` and the next subtag is not the same, it doesn't begin with
 -- `front`
@@ -23,5 +24,6 @@ front_stops front list rest i d within so_far other begins =
     let more : List (List ℕ) = begins.0 in
     let s : List ℕ = get_or front i d in
     let whole : take i front ++ rest ≡ take i front ++ s ∷ (drop (i + 1) front ++ more) =
-    sym so_far ∙ begins.1 ∙ ap (λ (l : List (List ℕ)). l ++ more) (parted front i d within) ∙ append_assoc (take i front) (s ∷ drop (i + 1) front) more in
+    sym so_far ∙ begins.1 ∙ ap (λ (l : List (List ℕ)). l ++ more) (parted front i d within)
+    ∙ append_assoc (take i front) (s ∷ drop (i + 1) front) more in
     other (drop (i + 1) front ++ more) (append_cancel_left (take i front) rest (s ∷ (drop (i + 1) front ++ more)) whole)

@@ -14,7 +14,8 @@ use Rattle.lt_subtag.specs.declared.SubtagFault.{SubtagFault}
 use Rattle.lt_tag.specs.Lists.{pieces}
 use Rattle.lt_tag.proofs.ListedLemmas.{subtag_is}
 use Rattle.lt_range.specs.Ranges.{RangeForm, RangeParts, IsLanguageRange, is_first, written, named_of, parts_of}
-use Rattle.lt_range.specs.Reading.{is_star, of_subtag, of_first, later_piece, first_piece, with_piece, later_pieces, begun, range_of_pieces, range_of}
+use Rattle.lt_range.specs.Reading.{is_star, of_subtag, of_first, later_piece, first_piece, with_piece, later_pieces}
+use Rattle.lt_range.specs.Reading.{begun, range_of_pieces, range_of}
 use Rattle.lt_range.specs.Ranges.{IsRangeOf}
 use Rattle.lt_range.specs.declared.faults.RangeFault.{RangeFault}
 use Rattle.lt_range.specs.declared.faults.RangeFault.TheVariants as faults
@@ -67,7 +68,8 @@ record IsForm (test : List ℕ → Bool) (p : List ℕ) (o : Option (List ℕ)) 
 later_form : (p : List ℕ) (o : Option (List ℕ)) → later_piece p ≡ Ok o → IsForm is_subtag p o
 later_form p o h = go (is_star p) refl (subtag_of p) refl h
   where
-    go : (star : Bool) → is_star p ≡ star → (r : Result (List ℕ) SubtagFault) → subtag_of p ≡ r → cond star (Ok None) (of_subtag r) ≡ Ok o → IsForm is_subtag p o
+    go : (star : Bool) → is_star p ≡ star → (r : Result (List ℕ) SubtagFault) → subtag_of p ≡ r
+        → cond star (Ok None) (of_subtag r) ≡ Ok o → IsForm is_subtag p o
     go true e r k g = subst (IsForm is_subtag p) (let n : None ≡ o = cc in n) (record { same = sym (ap folded (star_is p e)); fits = refl })
     go false e (Err fault) k g = absurd (cc)
     go false e (Ok s) k g = subst (IsForm is_subtag p) (let n : Some s ≡ o = cc in n)
@@ -85,14 +87,16 @@ first_form : (p : List ℕ) (o : Option (List ℕ)) → first_piece p ≡ Ok o �
 first_form p o h = go (is_star p) refl (subtag_of p) refl h
   where
     -- a first piece that is read as a subtag is a written form of `o` if the subtag has letters alone
-    letters : (s : List ℕ) (a : Bool) → is_alphabetic s ≡ a → subtag_of p ≡ Ok s → cond a (Ok (Some s)) (Err faults.BadFirst) ≡ Ok o → IsForm is_first p o
+    letters : (s : List ℕ) (a : Bool) → is_alphabetic s ≡ a → subtag_of p ≡ Ok s
+        → cond a (Ok (Some s)) (Err faults.BadFirst) ≡ Ok o → IsForm is_first p o
     letters s false e k g = absurd (cc)
     letters s true e k g =
         let is = subtag_is p s k in
         subst (IsForm is_first p) (let n : Some s ≡ o = cc in n)
         (record { same = is; fits = and_from (is_subtag s) (is_alphabetic s) (ap is_subtag is ∙ subtag_read p s k) e })
 
-    go : (star : Bool) → is_star p ≡ star → (r : Result (List ℕ) SubtagFault) → subtag_of p ≡ r → cond star (Ok None) (of_first r) ≡ Ok o → IsForm is_first p o
+    go : (star : Bool) → is_star p ≡ star → (r : Result (List ℕ) SubtagFault) → subtag_of p ≡ r
+        → cond star (Ok None) (of_first r) ≡ Ok o → IsForm is_first p o
     go true e r k g = subst (IsForm is_first p) (let n : None ≡ o = cc in n) (record { same = sym (ap folded (star_is p e)); fits = refl })
     go false e (Err fault) k g = absurd (cc)
     go false e (Ok s) k g = letters s (is_alphabetic s) refl k g
@@ -126,11 +130,15 @@ record AreRead (a : Result (Option (List ℕ)) RangeFault) (b : Result (List (Li
   others_are : b ≡ Ok others
 
 -- if a piece and those after it are read as subtags, neither reading has a fault
-with_piece_ok : (a : Result (Option (List ℕ)) RangeFault) (b : Result (List (List ℕ)) RangeFault) (named : List (List ℕ)) → with_piece a b ≡ Ok named
+with_piece_ok : (a : Result (Option (List ℕ)) RangeFault) (b : Result (List (List ℕ)) RangeFault) (named : List
+    (List ℕ)) → with_piece a b ≡ Ok named
     → (r : AreRead a b) × (named ≡ option_to_list r.here ++ r.others)
 with_piece_ok (Err fault) b named h = absurd (cc)
 with_piece_ok (Ok s) (Err fault) named h = absurd (cc)
-with_piece_ok (Ok s) (Ok others) named h = (record { here = s; others = others; here_is = refl; others_are = refl }, let e : named ≡ option_to_list s ++ others = cc in e)
+with_piece_ok (Ok s) (Ok others) named h = (
+  record { here = s; others = others; here_is = refl; others_are = refl },
+  let e : named ≡ option_to_list s ++ others = cc in e,
+)
 
 -- pieces after the first that are read as subtags are written forms of these and of `*`
 later_forms : (ps named : List (List ℕ)) → later_pieces ps ≡ Ok named → AreForms ps named
@@ -148,7 +156,8 @@ later_forms (p ∷ ps) named h =
     }
 
 -- pieces after the first that are written forms of subtags and `*` are read as these subtags
-later_forms_back : (ps : List (List ℕ)) (os : RangeForm) → map written os ≡ map folded ps → list_all (λ o. option_map_or is_subtag o true) os ≡ true → later_pieces ps ≡ Ok (named_of os)
+later_forms_back : (ps : List (List ℕ)) (os : RangeForm) → map written os ≡ map folded ps
+    → list_all (λ o. option_map_or is_subtag o true) os ≡ true → later_pieces ps ≡ Ok (named_of os)
 unfolding later_pieces
 later_forms_back [] [] e h = refl
 later_forms_back [] (o ∷ os) e h = absurd (cc)
@@ -172,11 +181,13 @@ begun_ok (Ok None) (Ok named) range h = (
 )
 begun_ok (Ok (Some s)) (Ok named) range h = (
   record { here = Some s; others = named; here_is = refl; others_are = refl },
-  λ os e. let n : range ≡ record { wild = false; named = s ∷ named } = cc in n ∙ ap (λ (l : List (List ℕ)). record { wild = false; named = s ∷ l }) e,
+  λ os e. let n : range ≡ record { wild = false; named = s ∷ named } = cc in
+      n ∙ ap (λ (l : List (List ℕ)). record { wild = false; named = s ∷ l }) e,
 )
 
 -- a text whose pieces `ps` are read as a range is that range by the grammar
-read_range : (text : List ℕ) (ps : List (List ℕ)) (range : RangeParts) → ps ≡ pieces text → range_of_pieces ps ≡ Ok range → IsRangeOf text range
+read_range : (text : List ℕ) (ps : List (List ℕ)) (range : RangeParts) → ps ≡ pieces text
+    → range_of_pieces ps ≡ Ok range → IsRangeOf text range
 read_range text [] range cut h = absurd (cc)
 read_range text (p ∷ ps) range cut h =
     let r = begun_ok (first_piece p) (later_pieces ps) range h in
@@ -186,13 +197,15 @@ read_range text (p ∷ ps) range cut h =
       form = r.0.here ∷ fs.others;
       has = record {
         range = (f.fits, fs.fit);
-        spelled = ap (λ (s : List ℕ). s ∷ map written fs.others) f.same ∙ ap (λ (l : List (List ℕ)). folded p ∷ l) fs.same ∙ ap (map folded) cut;
+        spelled = ap (λ (s : List ℕ). s ∷ map written fs.others) f.same
+            ∙ ap (λ (l : List (List ℕ)). folded p ∷ l) fs.same ∙ ap (map folded) cut;
       };
       is = r.1 fs.others fs.is;
     }
 
 -- pieces that are written forms of a range's subtags are read as that range
-range_read : (ps : List (List ℕ)) (form : RangeForm) → IsLanguageRange form → map written form ≡ map folded ps → range_of_pieces ps ≡ Ok (parts_of form)
+range_read : (ps : List (List ℕ)) (form : RangeForm) → IsLanguageRange form → map written form ≡ map folded ps
+    → range_of_pieces ps ≡ Ok (parts_of form)
 range_read ps [] fits e = absurd fits
 range_read [] (o ∷ os) fits e = absurd (cc)
 range_read (p ∷ ps) (o ∷ os) fits e =

@@ -40,7 +40,8 @@ read_without range None None element h = absurd (cc)
 read_without range None (Some n) element h = record { number = n; no_fault = refl; some = refl; is = cc }
 
 -- white space, and then a text that is read as an element or as an empty one, is a piece by the grammar
-piece_at : (before text : List ℕ) (element : Option ElementParts) → IsWhiteSpace before → element_at text ≡ Ok element → IsPiece (before ++ text) element
+piece_at : (before text : List ℕ) (element : Option ElementParts) → IsWhiteSpace before → element_at text ≡ Ok element
+    → IsPiece (before ++ text) element
 piece_at before [] element blank h = record {
   before = before;
   text = [];
@@ -61,7 +62,8 @@ piece_at before (b ∷ bs) element blank h =
       before = before;
       text = range ++ e.weight;
       after = e.after;
-      whole = ap (λ (l : List ℕ). before ++ l) (front_rest is_word_byte text ∙ ap (λ (l : List ℕ). range ++ l) e.whole ∙ sym (append_assoc range e.weight e.after));
+      whole = ap (λ (l : List ℕ). before ++ l) (front_rest is_word_byte text ∙ ap (λ (l : List ℕ). range ++ l) e.whole
+          ∙ sym (append_assoc range e.weight e.after));
       blank_before = blank;
       blank_after = e.blank;
       is_element = subst (MayBeElement (range ++ e.weight)) (sym w.is)
@@ -87,11 +89,13 @@ at_range (b ∷ bs) weight after n basic has blank =
     let here : rest is_blank (range ++ (weight ++ after)) ≡ range ++ (weight ++ after) =
     rest_is is_blank [] (range ++ (weight ++ after)) refl (word_stops b (bs ++ (weight ++ after)) first.0) in
     let front_here : front is_word_byte (range ++ (weight ++ after)) ≡ range = front_is is_word_byte range (weight ++ after) word r.stops in
-    let rest_here : rest is_word_byte (range ++ (weight ++ after)) ≡ weight ++ after = rest_is is_word_byte range (weight ++ after) word r.stops in
+    let rest_here : rest is_word_byte (range ++ (weight ++ after)) ≡ weight ++ after = rest_is is_word_byte range
+    (weight ++ after) word r.stops in
     ap element_at here
     ∙ ap (λ (l : List ℕ). element_with l (range_fault l) (weight_of (rest is_word_byte (range ++ (weight ++ after))))) front_here
     ∙ ap (λ (l : List ℕ). element_with range (range_fault range) (weight_of l)) rest_here
-    ∙ ap (λ (o : Option AcceptFaultKind). element_with range o (weight_of (weight ++ after))) (none_fault (range_of range) (is_basic range) basic.range basic.basic)
+    ∙ ap (λ (o : Option AcceptFaultKind). element_with range o (weight_of (weight ++ after))) (none_fault
+    (range_of range) (is_basic range) basic.range basic.basic)
     ∙ ap (λ (o : Option ℕ). element_with range None o) r.read
 
 -- each piece by the grammar is read, as the same element
@@ -102,13 +106,15 @@ piece_read piece None p =
     ∙ ap element_at (rest_append is_blank p.before p.after p.blank_before ∙ rest_of_all is_blank p.after p.blank_after)
 piece_read piece (Some element) p =
     let e = p.is_element in
-    let split : p.text ++ p.after ≡ element.range ++ (e.weight ++ p.after) = ap (λ (l : List ℕ). l ++ p.after) e.whole ∙ append_assoc element.range e.weight p.after in
+    let split : p.text ++ p.after ≡ element.range ++ (e.weight ++ p.after) = ap (λ (l : List ℕ). l ++ p.after) e.whole
+    ∙ append_assoc element.range e.weight p.after in
     ap (λ (l : List ℕ). element_at (rest is_blank l)) p.whole
     ∙ ap element_at (rest_append is_blank p.before (p.text ++ p.after) p.blank_before ∙ ap (rest is_blank) split)
     ∙ at_range element.range e.weight p.after element.weight e.is_range e.has_weight p.blank_after
 
 -- the first piece is read as `element`, and those after it as `others`: `elements` are all of them
-record IsReadOf (first : Result (Option ElementParts) AcceptFaultKind) (read : Result (List ElementParts) AcceptFault) (elements : List ElementParts) : Type 0 where
+record IsReadOf (first : Result (Option ElementParts) AcceptFaultKind) (read : Result (List ElementParts) AcceptFault)
+    (elements : List ElementParts) : Type 0 where
   element : Option ElementParts
   others : List ElementParts
   first_is : first ≡ Ok element
@@ -116,11 +122,18 @@ record IsReadOf (first : Result (Option ElementParts) AcceptFaultKind) (read : R
   is : elements ≡ option_to_list element ++ others
 
 -- where the first piece and those after it are read as `elements`, each of both is read
-with_element_ok : (place : ℕ) (first : Result (Option ElementParts) AcceptFaultKind) (read : Result (List ElementParts) AcceptFault) (elements : List ElementParts)
+with_element_ok : (place : ℕ) (first : Result (Option ElementParts) AcceptFaultKind)
+    (read : Result (List ElementParts) AcceptFault) (elements : List ElementParts)
     → with_element place first read ≡ Ok elements → IsReadOf first read elements
 with_element_ok place (Err kind) read elements h = absurd (cc)
 with_element_ok place (Ok element) (Err fault) elements h = absurd (cc)
-with_element_ok place (Ok element) (Ok others) elements h = record { element = element; others = others; first_is = refl; read_is = refl; is = cc }
+with_element_ok place (Ok element) (Ok others) elements h = record {
+  element = element;
+  others = others;
+  first_is = refl;
+  read_is = refl;
+  is = cc;
+}
 
 -- pieces that are read are pieces by the grammar, with the same elements; `place` is the number of the first
 read_pieces : (place : ℕ) (ps : List (List ℕ)) (elements : List ElementParts) → elements_from place ps ≡ Ok elements → ArePieces ps elements

@@ -10,12 +10,14 @@ use Rattle.lt_range.specs.declared.accept_faults.AcceptFaultKind.{AcceptFaultKin
 use Rattle.lt_range.specs.declared.accept_faults.AcceptFaultKind.TheVariants as kinds
 
 -- `front` was read before the piece `p`, which has this number and is read as `element`: that is added to what was read
-elements_next : (front : List ElementParts) (place : ℕ) (p : List ℕ) (ps : List (List ℕ)) (element : Option ElementParts) → element_of p ≡ Ok element
+elements_next : (front : List ElementParts) (place : ℕ) (p : List ℕ) (ps : List (List ℕ)) (element : Option
+    ElementParts) → element_of p ≡ Ok element
     → with_front front (elements_from place (p ∷ ps)) ≡ with_front (front ++ option_to_list element) (elements_from (place + 1) ps)
 unfolding elements_from
 elements_next front place p ps element read = go (elements_from (place + 1) ps)
   where
-    go : (r : Result (List ElementParts) AcceptFault) → with_front front (with_element place (element_of p) r) ≡ with_front (front ++ option_to_list element) r
+    go : (r : Result (List ElementParts) AcceptFault) → with_front front (with_element place (element_of p) r)
+        ≡ with_front (front ++ option_to_list element) r
     go (Ok others) = rw read (ap (λ (l : List ElementParts). Ok l) (sym (append_assoc front (option_to_list element) others)))
     go (Err fault) = rw read refl
 
@@ -32,18 +34,22 @@ elements_end front place = ap (λ (l : List ElementParts). Ok l) (append-nil fro
 
 -- `whole` is the answer for the header: where the piece `p` has a fault of this kind, the header has it, at the piece's
 -- number
-refused_so : (front : List ElementParts) (place : ℕ) (p : List ℕ) (ps : List (List ℕ)) (whole : Result (List ElementParts) AcceptFault) (kind : AcceptFaultKind)
-    → IsRefused (element_of p) kind → with_front front (elements_from place (p ∷ ps)) ≡ whole → IsFault whole (record { kind = kind; place = place })
+refused_so : (front : List ElementParts) (place : ℕ) (p : List ℕ) (ps : List (List ℕ))
+    (whole : Result (List ElementParts) AcceptFault) (kind : AcceptFaultKind)
+    → IsRefused (element_of p) kind → with_front front (elements_from place (p ∷ ps)) ≡ whole
+    → IsFault whole (record { kind = kind; place = place })
 refused_so front place p ps whole (kinds.BadRange fault) h so_far = sym so_far ∙ elements_stop front place p ps (kinds.BadRange fault) h
 refused_so front place p ps whole kinds.ExtendedRange h so_far = sym so_far ∙ elements_stop front place p ps kinds.ExtendedRange h
 refused_so front place p ps whole kinds.BadWeight h so_far = sym so_far ∙ elements_stop front place p ps kinds.BadWeight h
 refused_so front place p ps whole kinds.OutOfMemory h so_far = tt
 
 -- `whole` is the answer for the header: a fault of the piece `p`, with the piece's number, is the fault of the header
-refused_at : (front : List ElementParts) (place : ℕ) (p : List ℕ) (ps : List (List ℕ)) (whole : Result (List ElementParts) AcceptFault) (fault : AcceptFault)
+refused_at : (front : List ElementParts) (place : ℕ) (p : List ℕ) (ps : List (List ℕ))
+    (whole : Result (List ElementParts) AcceptFault) (fault : AcceptFault)
     → IsFaultAt (element_of p) place fault → with_front front (elements_from place (p ∷ ps)) ≡ whole → IsFault whole fault
 refused_at front place p ps whole fault h so_far =
-    subst (λ (n : ℕ). IsFault whole (record { kind = fault.kind; place = n })) (sym h.1) (refused_so front place p ps whole fault.kind h.0 so_far)
+    subst (λ (n : ℕ). IsFault whole (record { kind = fault.kind; place = n })) (sym h.1)
+    (refused_so front place p ps whole fault.kind h.0 so_far)
 
 -- the bytes of pieces
 abbrev pub texts : List (Bor (List ℕ)) → List (List ℕ)
@@ -59,21 +65,28 @@ module _ (pieces : List (Bor (List ℕ))) (i : ℕ) (front : List ElementParts) 
   so_far : i < length pieces → with_front front (elements_from (i + 1) (texts (drop i pieces))) ≡ whole
       → with_front front (elements_from (i + 1) (text_at pieces i ∷ texts (drop (i + 1) pieces))) ≡ whole
   so_far within h =
-      ap (λ (ps : List (List ℕ)). with_front front (elements_from (i + 1) ps)) (sym (ap texts (drop_more pieces i (record { ref_ptr = (0, 0); now = [] }) within))) ∙ h
+      ap (λ (ps : List (List ℕ)). with_front front (elements_from (i + 1) ps)) (sym
+      (ap texts (drop_more pieces i (record { ref_ptr = (0, 0); now = [] }) within))) ∙ h
 
   -- `front` was read before index `i`: a fault of the piece there is that of the header, `whole`; pieces are numbered
   -- from 1
   pub refused_within : (fault : AcceptFault) → i < length pieces → with_front front (elements_from (i + 1) (texts (drop i pieces))) ≡ whole
       → IsFaultAt (element_of (text_at pieces i)) (i + 1) fault → IsFault whole fault
-  refused_within fault within h at = refused_at front (i + 1) (text_at pieces i) (texts (drop (i + 1) pieces)) whole fault at (so_far within h)
+  refused_within fault within h at = refused_at front (i + 1) (text_at pieces i) (texts (drop (i + 1) pieces)) whole
+      fault at (so_far within h)
 
   -- `front` was read before index `i`, and the piece there is read as `element`: with that added, the answer for the
   -- header is still `whole`
-  pub one_more : (element : Option ElementParts) → i < length pieces → with_front front (elements_from (i + 1) (texts (drop i pieces))) ≡ whole
-      → element_of (text_at pieces i) ≡ Ok element → with_front (front ++ option_to_list element) (elements_from (i + 1 + 1) (texts (drop (i + 1) pieces))) ≡ whole
-  one_more element within h read = sym (elements_next front (i + 1) (text_at pieces i) (texts (drop (i + 1) pieces)) element read) ∙ so_far within h
+  pub one_more : (element : Option ElementParts) → i < length pieces
+      → with_front front (elements_from (i + 1) (texts (drop i pieces))) ≡ whole
+      → element_of (text_at pieces i) ≡ Ok element
+      → with_front (front ++ option_to_list element) (elements_from (i + 1 + 1) (texts (drop (i + 1) pieces)))
+      ≡ whole
+  one_more element within h read = sym (elements_next front (i + 1) (text_at pieces i) (texts (drop (i + 1) pieces))
+      element read) ∙ so_far within h
 
   -- after the last piece the answer for the header is `front`, which was read before
   pub no_more : length pieces ≤ i → with_front front (elements_from (i + 1) (texts (drop i pieces))) ≡ whole → whole ≡ Ok front
   no_more past h =
-      sym h ∙ ap (λ (ps : List (Bor (List ℕ))). with_front front (elements_from (i + 1) (texts ps))) (drop_of_length-le pieces past) ∙ elements_end front (i + 1)
+      sym h ∙ ap (λ (ps : List (Bor (List ℕ))). with_front front (elements_from (i + 1) (texts ps))) (drop_of_length-le
+      pieces past) ∙ elements_end front (i + 1)

@@ -15,15 +15,22 @@ use Rattle.lt_canon.proofs.RepeatedVariants.{canonical_or_repeats, repeat_togeth
 use Rattle.lt_canon.proofs.EndForms.{equivalent_sym, equivalent_trans, star_equivalent}
 use Rattle.lt_range.specs.Ranges.{RangeParts, range_of_tag}
 use Rattle.lt_range.specs.Matched.{HasExtlangList, HasSubtags, IsExtlangRange, IsRangeOfText, MatchesAs, MatchesBy}
-use Rattle.lt_range.specs.Laws.{EquivalentTagsMatchAlike, EquivalentRangesMatchAlike, MatchesAsSpelled, MatchesOnlyAsSpelled, MatchingIsDetermined}
+use Rattle.lt_range.specs.Laws.{EquivalentTagsMatchAlike, EquivalentRangesMatchAlike, MatchesAsSpelled}
+use Rattle.lt_range.specs.Laws.{MatchesOnlyAsSpelled, MatchingIsDetermined}
 
 module _ (R : List EntryParts) (C : IsChecked R) where
   -- equivalent valid tags are matched by one list of subtags
-  pub same_list : (t u : TagForm) (list : List (List ℕ)) → IsValid R u → AreEquivalent R t u → HasExtlangList R t list → HasExtlangList R u list
+  pub same_list : (t u : TagForm) (list : List (List ℕ)) → IsValid R u → AreEquivalent R t u → HasExtlangList R t list
+      → HasExtlangList R u list
   same_list t u list W e h = elim (canonical_or_repeats R C u W) [
     | inl d ↦
-        let one : h.is_form.canonical ≡ d.0 = (equivalence_is_equality R C).equal t u h.is_form.canonical d.0 h.is_form.canonical_form d.1 e in
-        record { form = h.form; is_form = extlang_answer R C u d.0 h.form d.1 (h.is_form.is ∙ ap (extlang_form R) one); spelled = h.spelled }
+        let one : h.is_form.canonical ≡ d.0 = (equivalence_is_equality R C).equal t u h.is_form.canonical d.0
+        h.is_form.canonical_form d.1 e in
+        record {
+          form = h.form;
+          is_form = extlang_answer R C u d.0 h.form d.1 (h.is_form.is ∙ ap (extlang_form R) one);
+          spelled = h.spelled;
+        }
     | inr r ↦ absurd (h.is_form.canonical_form.repeats_none (repeat_together R C u t W h.is_form.canonical_form.valid (equivalent_sym e) r))
   ]
 
@@ -42,7 +49,8 @@ module _ (R : List EntryParts) (C : IsChecked R) where
   list_of_text text t list read h = subst (λ (x : TagForm). HasExtlangList R x list) (one_tag_of_text text h.tag t h.read read) h.holds
 
   -- the texts `a` and `b` are read as equivalent valid tags: they match by one range
-  same_range : (a b : List ℕ) (t u : TagForm) (range : RangeParts) → HasTag a t → HasTag b u → IsValid R t → IsValid R u → AreEquivalent R t u
+  same_range : (a b : List ℕ) (t u : TagForm) (range : RangeParts) → HasTag a t → HasTag b u → IsValid R t → IsValid R u
+      → AreEquivalent R t u
       → IsExtlangRange R a range → IsExtlangRange R b range
   same_range a b t u range h k V W e (inl c) = inl (record {
     list = c.list;
@@ -91,7 +99,8 @@ module _ (R : List EntryParts) (C : IsChecked R) where
   one_list : (t : TagForm) (a b : List (List ℕ)) → HasExtlangList R t a → HasExtlangList R t b → a ≡ b
   one_list t a b h k =
       let one : h.is_form.canonical ≡ k.is_form.canonical =
-      (equivalence_is_equality R C).equal t t h.is_form.canonical k.is_form.canonical h.is_form.canonical_form k.is_form.canonical_form same in
+      (equivalence_is_equality R C).equal t t h.is_form.canonical k.is_form.canonical h.is_form.canonical_form
+      k.is_form.canonical_form same in
       h.spelled ∙ ap spell (h.is_form.is ∙ ap (extlang_form R) one ∙ sym k.is_form.is) ∙ sym k.spelled
 
   -- a text has one list of subtags
@@ -102,7 +111,8 @@ module _ (R : List EntryParts) (C : IsChecked R) where
   one_in_place : (wild : Bool) (named : List (List ℕ)) (a b : RangeParts) → MatchesAs R wild named a → MatchesAs R wild named b → a ≡ b
   one_in_place true named a b h k = h ∙ sym k
   one_in_place false [] a b h k = h ∙ sym k
-  one_in_place false (s ∷ ss) a b (inl h) (inl k) = h.2 ∙ ap (λ (l : List (List ℕ)). range_of_tag (l ++ ss)) (one_of_text s h.0 k.0 h.1 k.1) ∙ sym k.2
+  one_in_place false (s ∷ ss) a b (inl h) (inl k) = h.2
+      ∙ ap (λ (l : List (List ℕ)). range_of_tag (l ++ ss)) (one_of_text s h.0 k.0 h.1 k.1) ∙ sym k.2
   one_in_place false (s ∷ ss) a b (inl h) (inr k) = absurd (k.0 h.0 h.1)
   one_in_place false (s ∷ ss) a b (inr h) (inl k) = absurd (h.0 k.0 k.1)
   one_in_place false (s ∷ ss) a b (inr h) (inr k) = h.1 ∙ sym k.1

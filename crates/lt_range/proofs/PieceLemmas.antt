@@ -37,7 +37,8 @@ pub pieces_next : (front : List (List ℕ)) (p : List ℕ) (ps : List (List ℕ)
 unfolding later_pieces
 pieces_next front p ps s read = go (later_pieces ps)
   where
-    go : (r : Result (List (List ℕ)) RangeFault) → with_front front (with_piece (later_piece p) r) ≡ with_front (front ++ option_to_list s) r
+    go : (r : Result (List (List ℕ)) RangeFault) → with_front front (with_piece (later_piece p) r)
+        ≡ with_front (front ++ option_to_list s) r
     go (Ok named) = rw read (ap (λ (l : List (List ℕ)). Ok l) (sym (append_assoc front (option_to_list s) named)))
     go (Err fault) = rw read refl
 

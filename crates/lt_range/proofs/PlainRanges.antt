@@ -21,12 +21,14 @@ use Rattle.lt_range.specs.declared.refusals.RangeRefusal.TheVariants as refusals
 
 module _ (R : List EntryParts) (text : List ℕ) where
   -- a text that is refused as no tag is no valid tag
-  pub unread : (refusal : TextRefusal) (fault : TagFault) → refusal ≡ texts.NotATag fault → IsTextRefusal R text refusal → IsNoValidTag R text
+  pub unread : (refusal : TextRefusal) (fault : TagFault) → refusal ≡ texts.NotATag fault → IsTextRefusal R text refusal
+      → IsNoValidTag R text
   unread refusal fault is h = λ tag read valid.
       text_repeats_answered R text (texts.NotATag fault) (subst (λ (r : TextRefusal). IsTextRefusal R text r) is h) tag read
 
   -- a text that is refused as a tag that is not valid is no valid tag
-  pub unvalid : (refusal : TextRefusal) (fault : ValidFault) → refusal ≡ texts.Invalid fault → IsTextRefusal R text refusal → IsNoValidTag R text
+  pub unvalid : (refusal : TextRefusal) (fault : ValidFault) → refusal ≡ texts.Invalid fault
+      → IsTextRefusal R text refusal → IsNoValidTag R text
   unvalid refusal fault is h = λ tag read valid.
       let other = text_repeats_answered R text (texts.Invalid fault) (subst (λ (r : TextRefusal). IsTextRefusal R text r) is h) in
       other.2 (subst (λ (t : TagForm). IsValid R t) (one_tag_of_text text tag other.0 read other.1) valid)
@@ -34,7 +36,8 @@ module _ (R : List EntryParts) (text : List ℕ) where
   -- a text that is refused is no tag that has an extlang form
   refused_none : (refusal : TextRefusal) → IsTextRefusal R text refusal → (refusal ≡ texts.OutOfMemory → ⊥) → HasNoSubtags R text
   refused_none (texts.NotATag fault) owed other = λ list h. text_repeats_answered R text (texts.NotATag fault) owed h.tag h.read
-  refused_none (texts.Invalid fault) owed other = λ list h. unvalid (texts.Invalid fault) fault refl owed h.tag h.read h.holds.is_form.canonical_form.valid
+  refused_none (texts.Invalid fault) owed other = λ list h. unvalid (texts.Invalid fault) fault refl owed h.tag h.read
+      h.holds.is_form.canonical_form.valid
   refused_none (texts.ReplacementRepeats v) owed other = λ list h.
       let a = text_repeats_answered R text (texts.ReplacementRepeats v) owed in
       h.holds.is_form.canonical_form.repeats_none (subst (λ (t : TagForm). CanRepeat R t) (one_tag_of_text text a.0 h.tag a.1 h.read) a.3)
@@ -42,31 +45,37 @@ module _ (R : List EntryParts) (text : List ℕ) where
 
   -- a text that is refused, but not for lack of memory, is no tag that has an extlang form; `kind` is the refusal as the
   -- program tells it apart
-  pub none_of : (refusal kind : TextRefusal) → refusal ≡ kind → IsTextRefusal R text refusal → (kind ≡ texts.OutOfMemory → ⊥) → HasNoSubtags R text
+  pub none_of : (refusal kind : TextRefusal) → refusal ≡ kind → IsTextRefusal R text refusal
+      → (kind ≡ texts.OutOfMemory → ⊥) → HasNoSubtags R text
   none_of refusal kind is owed other = refused_none refusal owed (λ e. other (sym is ∙ e))
 
   -- `r` is what a text that is no valid tag matches by: where it is a range, the text matches by it
-  pub plain_ok : (r : Result RangeParts RangeRefusal) → IsNoValidTag R text → IfOk r (λ range. IsRangeOfText R text range) → IfOk r (λ range. IsExtlangRange R text range)
+  pub plain_ok : (r : Result RangeParts RangeRefusal) → IsNoValidTag R text
+      → IfOk r (λ range. IsRangeOfText R text range) → IfOk r (λ range. IsExtlangRange R text range)
   plain_ok (Ok range) n h = inr (n, h)
   plain_ok (Err refusal) n h = tt
 
   -- `r` is what a text that is no valid tag matches by: where it is a refusal, the text is refused so
-  pub plain_err : (r : Result RangeParts RangeRefusal) → IsNoValidTag R text → IfErr r (IsPlainRefusal text) → IfErr r (λ refusal. IsRangeRefusal R text refusal)
+  pub plain_err : (r : Result RangeParts RangeRefusal) → IsNoValidTag R text → IfErr r (IsPlainRefusal text)
+      → IfErr r (λ refusal. IsRangeRefusal R text refusal)
   plain_err (Ok range) n h = tt
   plain_err (Err (refusals.NotARange fault)) n h = (n, h)
   plain_err (Err (refusals.ReplacementRepeats v)) n h = absurd h
   plain_err (Err refusals.OutOfMemory) n h = tt
 
 -- where the first subtag of a range has the subtags `list`, the range with these in its place matches
-pub some_as : (R : List EntryParts) (written : RangeParts) (s : List ℕ) (ss list : List (List ℕ)) (r : Result RangeParts OutOfMemory) → written.wild ≡ false → written.named ≡ s ∷ ss
-    → HasSubtags R s list → IfOk r (λ range. range ≡ range_of_tag (list ++ ss)) → IfOk r (λ range. MatchesAs R written.wild written.named range)
+pub some_as : (R : List EntryParts) (written : RangeParts) (s : List ℕ) (ss list : List (List ℕ)) (r : Result RangeParts
+    OutOfMemory) → written.wild ≡ false → written.named ≡ s ∷ ss
+    → HasSubtags R s list → IfOk r (λ range. range ≡ range_of_tag (list ++ ss))
+    → IfOk r (λ range. MatchesAs R written.wild written.named range)
 some_as R written s ss list (Ok range) w n has is =
     let here : MatchesAs R false (s ∷ ss) range = inl (list, has, is) in
     rw (w, n) here
 some_as R written s ss list (Err e) w n has is = tt
 
 -- where the first subtag of a range has none, the range matches as it is
-pub none_as : (R : List EntryParts) (written : RangeParts) (s : List ℕ) (ss : List (List ℕ)) → written.wild ≡ false → written.named ≡ s ∷ ss → HasNoSubtags R s
+pub none_as : (R : List EntryParts) (written : RangeParts) (s : List ℕ) (ss : List (List ℕ)) → written.wild ≡ false
+    → written.named ≡ s ∷ ss → HasNoSubtags R s
     → MatchesAs R written.wild written.named written
 none_as R written s ss w n none =
     let here : MatchesAs R false (s ∷ ss) (range_of_tag (s ∷ ss)) = inr (none, refl) in

@@ -2,7 +2,8 @@
 use Rattle.std.proofs.Common.{◌≡◌, ◌<◌, ◌∙◌, Bool, true, false, ℕ, List, Option, Some, None, inl, inr, length, sym, ap, refl, subst, arith}
 use Rattle.std.proofs.lemmas.Bool.Decides.{leb_tells}
 use Rattle.lt_range.specs.Ranges.{RangeParts}
-use Rattle.lt_range.specs.Preferences.{at, BestIsDetermined, FallsAt, FirstServes, IsBest, MaySelect, Serves, ServesBy, ServesInTurn, tag_length_at}
+use Rattle.lt_range.specs.Preferences.{at, BestIsDetermined, FallsAt, FirstServes, IsBest, MaySelect, Serves, ServesBy}
+use Rattle.lt_range.specs.Preferences.{ServesInTurn, tag_length_at}
 use Rattle.lt_range.specs.declared.preferences.Preference.{Preference}
 use Rattle.lt_range.proofs.PreferenceLemmas.{one_longest}
 
@@ -26,7 +27,8 @@ module _ (all : List Preference) (tags : List (List (List ℕ))) where
 
   -- a range serves one tag
   one_served : (range : RangeParts) (p q : Option ℕ) → Serves all range tags p → Serves all range tags q → p ≡ q
-  one_served range p q (inl h) (inl k) = h.2 ∙ ap Some (one_longest (FallsAt all range tags) (tag_length_at tags) (length tags) h.0 k.0 h.1 k.1) ∙ sym k.2
+  one_served range p q (inl h) (inl k) = h.2
+      ∙ ap Some (one_longest (FallsAt all range tags) (tag_length_at tags) (length tags) h.0 k.0 h.1 k.1) ∙ sym k.2
   one_served range p q (inl h) (inr k) = absurd (k.0 h.0 h.1.within h.1.holds)
   one_served range p q (inr h) (inl k) = absurd (h.0 k.0 k.1.within k.1.holds)
   one_served range p q (inr h) (inr k) = one_selected range p q h.1 k.1
@@ -46,7 +48,8 @@ module _ (all : List Preference) (tags : List (List (List ℕ))) where
     -- one tag is served first in the turn
     one_first : (p q : ℕ) → FirstServes wild all tags p → FirstServes wild all tags q → Some p ≡ Some q
     one_first p q h k =
-        let same : h.index ≡ k.index = one_place h.index k.index (λ l. not_none h.index p h.serves (k.before h.index l)) (λ l. not_none k.index q k.serves (h.before k.index l)) in
+        let same : h.index ≡ k.index = one_place h.index k.index (λ l. not_none h.index p h.serves (k.before h.index l))
+        (λ l. not_none k.index q k.serves (h.before k.index l)) in
         one_by k.index (Some p) (Some q) (subst (λ (i : ℕ). ServesBy wild all i tags (Some p)) same h.serves) k.serves
 
     -- one tag is served in the turn

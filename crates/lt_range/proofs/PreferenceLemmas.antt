@@ -1,11 +1,13 @@
 -- The weight of a tag, and the tags that are accepted.
-use Rattle.std.proofs.Common.{false, ◌≡◌, ◌<◌, ◌≤◌, ◌+◌, ◌++◌, ◌∷◌, ◌∙◌, ℕ, List, [], Option, Some, None, inl, inr, length, drop, sym, ap, refl, subst, arith}
+use Rattle.std.proofs.Common.{false, ◌≡◌, ◌<◌, ◌≤◌, ◌+◌, ◌++◌, ◌∷◌, ◌∙◌, ℕ, List, [], Option, Some, None, inl, inr}
+use Rattle.std.proofs.Common.{length, drop, sym, ap, refl, subst, arith}
 use Rattle.std.proofs.lemmas.List.{append_assoc, append-nil, drop_more}
 use Rattle.std.proofs.Math.ListN.{drop_of_length-le}
 use Rattle.std.proofs.lemmas.Bool.Decides.{leb_tells}
 use borrow.Author.Count.{below_more}
 use Rattle.lt_range.specs.Filtering.{ArePlaces}
-use Rattle.lt_range.specs.Preferences.{at, length_at, IsLonger, IsLongestOf, Matched, MayBeLongest, Accepts, AreAcceptedFrom, AreAccepted, Decides, NoneDecides, HasWeight, IsRefused}
+use Rattle.lt_range.specs.Preferences.{at, length_at, IsLonger, IsLongestOf, Matched, MayBeLongest, Accepts}
+use Rattle.lt_range.specs.Preferences.{AreAcceptedFrom, AreAccepted, Decides, NoneDecides, HasWeight, IsRefused}
 use Rattle.lt_range.specs.declared.preferences.Preference.{Preference}
 
 module _ (P : ℕ → Type 0) (long : ℕ → ℕ) where
@@ -34,12 +36,14 @@ module _ (P : ℕ → Type 0) (long : ℕ → ℕ) where
   }
 
   -- what was found is the longest with the next place too, if `P` is not true of that, or it is not longer
-  pub longest_same : (n : ℕ) (best : Option ℕ) → MayBeLongest P long n best → (P n → IsLonger long best n → ⊥) → MayBeLongest P long (n + 1) best
+  pub longest_same : (n : ℕ) (best : Option ℕ) → MayBeLongest P long n best → (P n → IsLonger long best n → ⊥)
+      → MayBeLongest P long (n + 1) best
   longest_same n None none other = below_more (λ (i : ℕ). P i → ⊥) n none (λ h. other h tt)
   longest_same n (Some b) found other = record {
     within = omega (arith, found.within);
     holds = found.holds;
-    longest = below_more (λ (i : ℕ). P i → long i ≤ long b) n found.longest (λ h. elim (leb_tells (long n) (long b)) [ inl l ↦ l.1 | inr g ↦ absurd (other h (omega (arith, g.1))) ]);
+    longest = below_more (λ (i : ℕ). P i → long i ≤ long b) n found.longest
+        (λ h. elim (leb_tells (long n) (long b)) [ inl l ↦ l.1 | inr g ↦ absurd (other h (omega (arith, g.1))) ]);
     first = found.first;
   }
 
@@ -68,11 +72,13 @@ module _ (all : List Preference) (tags : List (List (List ℕ))) where
   AcceptsOn i found = (more : List ℕ) → AreAcceptedFrom all i (drop i all) tags more → AreAccepted all tags (found ++ more)
 
   -- the next range adds the places of the tags that it accepts
-  pub accepts_next : (i : ℕ) (found here : List ℕ) → i < length all → ArePlaces (Accepts all i) 0 tags here → AcceptsOn i found → AcceptsOn (i + 1) (found ++ here)
+  pub accepts_next : (i : ℕ) (found here : List ℕ) → i < length all → ArePlaces (Accepts all i) 0 tags here
+      → AcceptsOn i found → AcceptsOn (i + 1) (found ++ here)
   accepts_next i found here within places go = λ more h.
       let step : AreAcceptedFrom all i (at all i ∷ drop (i + 1) all) tags (here ++ more) = (here, more, refl, places, h) in
       subst (λ (l : List ℕ). AreAccepted all tags l) (sym (append_assoc found here more))
-      (go (here ++ more) (subst (λ (l : List Preference). AreAcceptedFrom all i l tags (here ++ more)) (sym (drop_more all i (record { range = record { wild = false; named = [] }; weight = 0 }) within)) step))
+      (go (here ++ more) (subst (λ (l : List Preference). AreAcceptedFrom all i l tags (here ++ more))
+      (sym (drop_more all i (record { range = record { wild = false; named = [] }; weight = 0 }) within)) step))
 
   -- past the last range, the places are what all accept
   pub accepts_end : (i : ℕ) (found : List ℕ) → length all ≤ i → AcceptsOn i found → AreAccepted all tags found

@@ -27,7 +27,8 @@ of_none weight [] h = refl
 of_none weight (e ∷ es) h = absurd (omega arith)
 
 -- a stable sort leaves the elements of each weight in their order
-same_of_weight : (xs ys : List WeightedRange) → IsPermutation xs ys → IsStableBy comes_first xs ys → (weight : ℕ) → of_weight weight ys ≡ of_weight weight xs
+same_of_weight : (xs ys : List WeightedRange) → IsPermutation xs ys → IsStableBy comes_first xs ys → (weight : ℕ)
+    → of_weight weight ys ≡ of_weight weight xs
 same_of_weight [] ys moved stable weight = of_none weight ys (length_permutation [] ys moved)
 same_of_weight (e ∷ es) ys moved stable weight =
     let x : WeightedRange = record e { weight = weight } in
@@ -44,7 +45,8 @@ others_stay weight [] h = refl
 others_stay weight (e ∷ es) h = grind (arith, nat_tests, others_stay weight es h)
 
 -- `xs` are the elements whose weight is not 0, and `ys` these, sorted by weight and stable: they are the priority list
-pub sorted_is_priority : (es xs ys : List WeightedRange) → xs ≡ filter has_weight es → IsPermutation xs ys → IsSortedBy comes_first ys → IsStableBy comes_first xs ys
+pub sorted_is_priority : (es xs ys : List WeightedRange) → xs ≡ filter has_weight es → IsPermutation xs ys
+    → IsSortedBy comes_first ys → IsStableBy comes_first xs ys
     → IsPriorityList es ys
 sorted_is_priority es xs ys kept moved sorted stable =
     let same = same_of_weight xs ys moved stable in

@@ -11,7 +11,8 @@ use Rattle.lt_subtag.specs.declared.SubtagFault.{SubtagFault}
 use Rattle.lt_subtag.specs.declared.SubtagFault.TheVariants as subtag_faults
 use Rattle.lt_tag.specs.Lists.{pieces}
 use Rattle.lt_tag.proofs.ListLemmas.{list_all-append}
-use Rattle.lt_range.specs.Reading.{is_star, of_subtag, of_first, later_piece, first_piece, with_piece, later_pieces, begun, range_of_pieces, range_of}
+use Rattle.lt_range.specs.Reading.{is_star, of_subtag, of_first, later_piece, first_piece, with_piece, later_pieces}
+use Rattle.lt_range.specs.Reading.{begun, range_of_pieces, range_of}
 use Rattle.lt_range.specs.declared.faults.RangeFault.{RangeFault}
 use Rattle.lt_range.specs.Words.{is_word_byte}
 use Rattle.lt_range.proofs.WordLemmas.{all_imply}
@@ -32,10 +33,12 @@ word_byte_of_letter b h = grind (arith, nat_tests)
 
 -- what is read as a subtag is a word
 subtag_word : (p : List ℕ) → IsOk (subtag_of p) → IsWord p
-subtag_word p h = all_imply is_ascii_alphanumeric is_word_byte word_byte_of_letter p (go (length p == 0) (list_all is_ascii_alphanumeric p) (nat_le (length p) 8) refl h)
+subtag_word p h = all_imply is_ascii_alphanumeric is_word_byte word_byte_of_letter p
+    (go (length p == 0) (list_all is_ascii_alphanumeric p) (nat_le (length p) 8) refl h)
   where
     go : (empty letters short : Bool) → list_all is_ascii_alphanumeric p ≡ letters
-        → IsOk (cond empty (Err subtag_faults.Empty) (cond letters (cond short (Ok (folded p)) (Err subtag_faults.TooLong)) (Err subtag_faults.BadByte)))
+        → IsOk (cond empty (Err subtag_faults.Empty)
+        (cond letters (cond short (Ok (folded p)) (Err subtag_faults.TooLong)) (Err subtag_faults.BadByte)))
         → list_all is_ascii_alphanumeric p ≡ true
     go true letters short e k = cc
     go false true short e k = e
@@ -101,7 +104,8 @@ joined_word (p ∷ q ∷ ps) h = list_all-append is_word_byte p (45 ∷ join_wit
 
 -- the bytes of a language range are all bytes of a word
 pub range_word : (text : List ℕ) → IsOk (range_of text) → list_all is_word_byte text ≡ true
-range_word text h = subst (λ (l : List ℕ). IsWord l) (join_with_byte-slice_split 45 text) (joined_word (pieces text) (pieces_words (pieces text) h))
+range_word text h = subst (λ (l : List ℕ). IsWord l) (join_with_byte-slice_split 45 text)
+    (joined_word (pieces text) (pieces_words (pieces text) h))
 
 -- an empty text is no range
 pub range_some : IsOk (range_of []) → ⊥

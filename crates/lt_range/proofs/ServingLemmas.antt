@@ -1,11 +1,13 @@
 -- The first range that serves a tag, and the ranges that decide.
-use Rattle.std.proofs.Common.{◌≡◌, ◌<◌, ◌≤◌, ◌+◌, ◌++◌, ◌∷◌, ◌∙◌, Bool, true, false, ℕ, List, [], Option, Some, None, inl, inr, length, refl, sym, ap, subst, arith}
+use Rattle.std.proofs.Common.{◌≡◌, ◌<◌, ◌≤◌, ◌+◌, ◌++◌, ◌∷◌, ◌∙◌, Bool, true, false, ℕ, List, [], Option, Some, None}
+use Rattle.std.proofs.Common.{inl, inr, length, refl, sym, ap, subst, arith}
 use Rattle.std.specs.Prelude.{◌⊎◌, slice_index_or}
 use Rattle.std.proofs.lemmas.List.{get_or_append_left, get_or_push, length-append}
 use Rattle.std.proofs.lemmas.Bool.Decides.{leb_tells}
 use borrow.Author.Count.{below_more}
 use Rattle.lt_range.specs.Lookup.{tag_at}
-use Rattle.lt_range.specs.Preferences.{at, AreDeciding, MayDecide, NoneOf, IsRefused, Serves, ServesAt, ServesBy, ServesInTurn, TakesTurn, ReachesAt, IsFirstServing}
+use Rattle.lt_range.specs.Preferences.{at, AreDeciding, MayDecide, NoneOf, IsRefused, Serves, ServesAt, ServesBy}
+use Rattle.lt_range.specs.Preferences.{ServesInTurn, TakesTurn, ReachesAt, IsFirstServing}
 use Rattle.lt_range.specs.declared.preferences.Preference.{Preference}
 
 -- two truth values are equal, or not
@@ -28,16 +30,19 @@ turn_tells wild p = elim (leb_tells p.weight 0) [
 module _ (wild : Bool) (all : List Preference) (tags : List (List (List ℕ))) where
   -- the next tag is not refused, and `index` is the first range that reaches it, before the first that serves a tag so
   -- far
-  pub next_serves : (n first index : ℕ) → IsFirstServing wild all tags n first → index < first → NoneOf (ReachesAt wild all (tag_at tags n)) index
+  pub next_serves : (n first index : ℕ) → IsFirstServing wild all tags n first → index < first
+      → NoneOf (ReachesAt wild all (tag_at tags n)) index
       → ReachesAt wild all (tag_at tags n) index → (IsRefused all (tag_at tags n) → ⊥) → IsFirstServing wild all tags (n + 1) index
   next_serves n first index so_far less none reaches allowed = record {
     within = omega (arith, so_far.within, less);
-    before = below_more (λ (p : ℕ). NoneOf (ServesAt wild all tags p) index) n (λ p l i m s. so_far.before p l i (omega (arith, m, less)) s) (λ i m s. none i m s.reached);
+    before = below_more (λ (p : ℕ). NoneOf (ServesAt wild all tags p) index) n
+        (λ p l i m s. so_far.before p l i (omega (arith, m, less)) s) (λ i m s. none i m s.reached);
     serves = λ l. (n, omega arith, record { reached = reaches; allowed = allowed });
   }
 
   -- no range before the first so far serves the next tag
-  pub next_same : (n first : ℕ) → IsFirstServing wild all tags n first → NoneOf (ServesAt wild all tags n) first → IsFirstServing wild all tags (n + 1) first
+  pub next_same : (n first : ℕ) → IsFirstServing wild all tags n first → NoneOf (ServesAt wild all tags n) first
+      → IsFirstServing wild all tags (n + 1) first
   next_same n first so_far none = record {
     within = so_far.within;
     before = below_more (λ (p : ℕ). NoneOf (ServesAt wild all tags p) first) n so_far.before none;
@@ -58,7 +63,8 @@ module _ (wild : Bool) (all : List Preference) (tags : List (List (List ℕ))) w
   ]
 
   -- the first range that serves a tag serves one
-  not_none : (first : ℕ) → IsFirstServing wild all tags (length tags) first → first < length all → Serves all (at all first).range tags None → ⊥
+  not_none : (first : ℕ) → IsFirstServing wild all tags (length tags) first → first < length all
+      → Serves all (at all first).range tags None → ⊥
   not_none first found less (inl h) = let bad : None ≡ Some h.0 = h.2 in cc
   not_none first found less (inr h) =
       let w = found.serves less in
@@ -80,10 +86,12 @@ module _ (wild : Bool) (all : List Preference) (tags : List (List (List ℕ))) w
 
 module _ (all : List Preference) (tags : List (List (List ℕ))) where
   -- `o` is the range that decides the weight of the next tag, if one does
-  pub deciding_next : (n : ℕ) (found : List (Option ℕ)) (o : Option ℕ) → AreDeciding all tags n found → MayDecide all (tag_at tags n) o → AreDeciding all tags (n + 1) (found ++ o ∷ [])
+  pub deciding_next : (n : ℕ) (found : List (Option ℕ)) (o : Option ℕ) → AreDeciding all tags n found
+      → MayDecide all (tag_at tags n) o → AreDeciding all tags (n + 1) (found ++ o ∷ [])
   deciding_next n found o h m = record {
     counted = length-append found (o ∷ []) ∙ ap (λ (k : ℕ). k + 1) h.counted;
     each = below_more (λ (p : ℕ). MayDecide all (tag_at tags p) (slice_index_or (found ++ o ∷ []) p None)) n
-        (λ p l. subst (λ (x : Option ℕ). MayDecide all (tag_at tags p) x) (sym (get_or_append_left found (o ∷ []) None p (omega (arith, l, h.counted)))) (h.each p l))
+        (λ p l. subst (λ (x : Option ℕ). MayDecide all (tag_at tags p) x)
+        (sym (get_or_append_left found (o ∷ []) None p (omega (arith, l, h.counted)))) (h.each p l))
         (subst (λ (x : Option ℕ). MayDecide all (tag_at tags n) x) (sym (get_or_push found o None n h.counted)) m);
   }

@@ -20,10 +20,17 @@ passed_next s first others other h = go h.passed h.there h.long
   where
     go : (passed : List (List ℕ)) → first ∷ others ≡ passed ++ s ∷ h.rest → list_all is_no_singleton passed ≡ true → IsPassedTo others s
     go [] there long = absurd (other (head_is first s others h.rest there))
-    go (p ∷ ps) there long = record { passed = ps; rest = h.rest; there = tail_is first p others (ps ++ s ∷ h.rest) there; long = long_tail p ps long }
+    go (p ∷ ps) there long = record {
+      passed = ps;
+      rest = h.rest;
+      there = tail_is first p others (ps ++ s ∷ h.rest)
+          there;
+      long = long_tail p ps long;
+    }
 
 -- no subtag is in a list with no singleton before it if the list begins with a singleton that is another subtag
-pub passed_stops : (s first : List ℕ) (others : List (List ℕ)) → (first ≡ s → ⊥) → is_no_singleton first ≡ false → IsPassedTo (first ∷ others) s → ⊥
+pub passed_stops : (s first : List ℕ) (others : List (List ℕ)) → (first ≡ s → ⊥) → is_no_singleton first ≡ false
+    → IsPassedTo (first ∷ others) s → ⊥
 passed_stops s first others other short h = go h.passed h.there h.long
   where
     go : (passed : List (List ℕ)) → first ∷ others ≡ passed ++ s ∷ h.rest → list_all is_no_singleton passed ≡ true → ⊥
@@ -61,14 +68,25 @@ first_place s (p ∷ ps) (x ∷ xs) rest other same new =
     let here : p ≡ x = head_is p x (ps ++ s ∷ rest) (xs ++ s ∷ other) same in
     elim (first_place s ps xs rest other (tail_is p x (ps ++ s ∷ rest) (xs ++ s ∷ other) same) new.1) [
       | inl e ↦ inl e
-      | inr l ↦ inr (record { between = l.between; rest_is = l.rest_is; passed_is = ap (λ (y : List ℕ). y ∷ xs) (sym here) ∙ ap (λ (ys : List (List ℕ)). p ∷ ys) l.passed_is })
+      | inr l ↦
+          inr (record {
+            between = l.between;
+            rest_is = l.rest_is;
+            passed_is = ap (λ (y : List ℕ). y ∷ xs) (sym here)
+                ∙ ap (λ (ys : List (List ℕ)). p ∷ ys) l.passed_is;
+          })
     ]
 
 -- if subtags are in turn in a list, they are so with subtags before it that are no singletons
 more_before : (ss passed list : List (List ℕ)) → list_all is_no_singleton passed ≡ true → AreInTurn ss list → AreInTurn ss (passed ++ list)
 more_before [] passed list long h = tt
-more_before (s ∷ ss) passed list long h =
-    (passed ++ h.0, h.1, ap (λ (l : List (List ℕ)). passed ++ l) h.2 ∙ sym (append_assoc passed h.0 (s ∷ h.1)), list_all-append is_no_singleton passed h.0 long h.3, h.4)
+more_before (s ∷ ss) passed list long h = (
+  passed ++ h.0,
+  h.1,
+  ap (λ (l : List (List ℕ)). passed ++ l) h.2 ∙ sym (append_assoc passed h.0 (s ∷ h.1)),
+  list_all-append is_no_singleton passed h.0 long h.3,
+  h.4,
+)
 
 -- if a list has no singletons, its end has none
 long_part : (xs ys : List (List ℕ)) → list_all is_no_singleton (xs ++ ys) ≡ true → list_all is_no_singleton ys ≡ true
@@ -81,10 +99,13 @@ turn_next s ss list rest f h =
     elim (first_place s f.passed h.0 rest h.1 (sym f.there ∙ h.2) f.new) [
       | inl e ↦ subst (AreInTurn ss) (sym e) h.4
       | inr l ↦
-          let long : list_all is_no_singleton (f.passed ++ s ∷ l.between) ≡ true = subst (λ (xs : List (List ℕ)). list_all is_no_singleton xs ≡ true) l.passed_is h.3 in
+          let long : list_all is_no_singleton (f.passed ++ s ∷ l.between) ≡ true = subst
+          (λ (xs : List (List ℕ)). list_all is_no_singleton xs ≡ true) l.passed_is h.3 in
           let from : list_all is_no_singleton (s ∷ l.between) ≡ true = long_part f.passed (s ∷ l.between) long in
           let later : AreInTurn ss ((l.between ++ s ∷ []) ++ h.1) =
-          more_before ss (l.between ++ s ∷ []) h.1 (list_all-append is_no_singleton l.between (s ∷ []) (long_tail s l.between from) (grind (arith, nat_tests, long_head s l.between from))) h.4 in
+          more_before ss (l.between ++ s ∷ []) h.1
+          (list_all-append is_no_singleton l.between (s ∷ []) (long_tail s l.between from)
+          (grind (arith, nat_tests, long_head s l.between from))) h.4 in
           subst (AreInTurn ss) (append_assoc l.between (s ∷ []) h.1 ∙ sym l.rest_is) later
     ]
 
@@ -98,6 +119,7 @@ pub turn_none : (s : List ℕ) (ss list : List (List ℕ)) → (IsPassedTo list 
 turn_none s ss list none h = none (record { passed = h.0; rest = h.1; there = h.2; long = h.3 })
 
 -- if `s` is none of `xs` and is not `x`, it is none of `xs` and `x`
-pub new_more : (s : List ℕ) (xs : List (List ℕ)) (x : List ℕ) → AllByRecursion (λ t. t ≡ s → ⊥) xs → (x ≡ s → ⊥) → AllByRecursion (λ t. t ≡ s → ⊥) (xs ++ x ∷ [])
+pub new_more : (s : List ℕ) (xs : List (List ℕ)) (x : List ℕ) → AllByRecursion (λ t. t ≡ s → ⊥) xs → (x ≡ s → ⊥)
+    → AllByRecursion (λ t. t ≡ s → ⊥) (xs ++ x ∷ [])
 new_more s [] x new other = (other, tt)
 new_more s (y ∷ ys) x new other = (new.0, new_more s ys x new.1 other)

@@ -26,7 +26,11 @@ number_word whole decimals n h = go (are_decimals decimals) refl h
   where
     go : (c : Bool) → are_decimals decimals ≡ c → cond c (of_digits whole (thousandths decimals)) None ≡ Some n
         → (is_word_byte whole ≡ true) × (list_all is_word_byte decimals ≡ true)
-    go true e k = (whole_word whole (thousandths decimals) n k, all_imply is_ascii_digit is_word_byte digit_word decimals (and_parts (nat_le (length decimals) 3) (list_all is_ascii_digit decimals) e).1)
+    go true e k = (
+      whole_word whole (thousandths decimals) n k,
+      all_imply is_ascii_digit is_word_byte digit_word
+          decimals (and_parts (nat_le (length decimals) 3) (list_all is_ascii_digit decimals) e).1,
+    )
     go false e k = absurd (cc)
 
 -- the bytes of a qvalue are all bytes of a word (RFC 9110, 12.4.2)
@@ -35,7 +39,8 @@ qvalue_word [] n h = refl
 qvalue_word (whole ∷ []) n h = let w = number_word whole [] n h in grind (arith, nat_tests, w.0)
 qvalue_word (whole ∷ point ∷ decimals) n h = go (point == 46) refl h
   where
-    go : (c : Bool) → (point == 46) ≡ c → cond c (number_of whole decimals) None ≡ Some n → list_all is_word_byte (whole ∷ point ∷ decimals) ≡ true
+    go : (c : Bool) → (point == 46) ≡ c → cond c (number_of whole decimals) None ≡ Some n
+        → list_all is_word_byte (whole ∷ point ∷ decimals) ≡ true
     go true e k = let w = number_word whole decimals n k in grind (arith, nat_tests, w.0, w.1)
     go false e k = cc
 
@@ -104,7 +109,8 @@ ending_at before (b ∷ bs) n blank h = go (b == 59) refl h
           weight = weight;
           after = p.after;
           whole = ap (λ (x : ℕ). before ++ x ∷ bs) semicolon ∙ ap (λ (l : List ℕ). before ++ 59 ∷ l) tail
-              ∙ sym (append_assoc before (59 ∷ (middle ++ p.q ∷ 61 ∷ p.value)) p.after ∙ ap (λ (l : List ℕ). before ++ 59 ∷ l) (append_assoc middle (p.q ∷ 61 ∷ p.value) p.after));
+              ∙ sym (append_assoc before (59 ∷ (middle ++ p.q ∷ 61 ∷ p.value)) p.after
+              ∙ ap (λ (l : List ℕ). before ++ 59 ∷ l) (append_assoc middle (p.q ∷ 61 ∷ p.value) p.after));
           blank = p.blank;
           is_weight = inr (record {
             before = before;
@@ -145,12 +151,15 @@ pub record IsRead (text : List ℕ) (n : ℕ) : Type 0 where
   pub stops : Stops is_word_byte text
 
 -- a semicolon (59) and the parameter `q=`, with white space wherever it may be, are read as the weight `n`
-long_read : (before middle : List ℕ) (q : ℕ) (value after : List ℕ) (n : ℕ) → IsWhiteSpace before → IsWhiteSpace middle → is_q q ≡ true → IsWhiteSpace after → qvalue_of value ≡ Some n
+long_read : (before middle : List ℕ) (q : ℕ) (value after : List ℕ) (n : ℕ) → IsWhiteSpace before → IsWhiteSpace middle
+    → is_q q ≡ true → IsWhiteSpace after → qvalue_of value ≡ Some n
     → IsRead (before ++ 59 ∷ (middle ++ q ∷ 61 ∷ (value ++ after))) n
 long_read before middle q value after n blank_before blank_middle letter blank is_value =
     let parameter = middle ++ q ∷ 61 ∷ (value ++ after) in
-    let at_semicolon : rest is_blank (before ++ 59 ∷ parameter) ≡ 59 ∷ parameter = rest_is is_blank before (59 ∷ parameter) blank_before refl in
-    let at_q : rest is_blank parameter ≡ q ∷ 61 ∷ (value ++ after) = rest_is is_blank middle (q ∷ 61 ∷ (value ++ after)) blank_middle (q_stops q (61 ∷ (value ++ after)) letter) in
+    let at_semicolon : rest is_blank (before ++ 59 ∷ parameter) ≡ 59 ∷ parameter = rest_is is_blank before
+    (59 ∷ parameter) blank_before refl in
+    let at_q : rest is_blank parameter ≡ q ∷ 61 ∷ (value ++ after) = rest_is is_blank middle (q ∷ 61 ∷ (value ++ after))
+    blank_middle (q_stops q (61 ∷ (value ++ after)) letter) in
     record {
       read = ap weight_at at_semicolon ∙ ap parameter_of at_q ∙ parameter_read q value after n letter blank is_value;
       stops = ends before blank_before;
@@ -163,11 +172,13 @@ long_read before middle q value after n blank_before blank_middle letter blank i
 -- a weight by the grammar, or none, that white space follows is read as its weight `n`
 pub weight_read : (weight after : List ℕ) (n : ℕ) → HasWeight weight n → IsWhiteSpace after → IsRead (weight ++ after) n
 weight_read weight after n (inl none) blank = record {
-  read = ap (λ (l : List ℕ). weight_of (l ++ after)) none.0 ∙ ap weight_at (rest_of_all is_blank after blank) ∙ ap (λ (m : ℕ). Some m) (sym none.1);
+  read = ap (λ (l : List ℕ). weight_of (l ++ after)) none.0 ∙ ap weight_at (rest_of_all is_blank after blank)
+      ∙ ap (λ (m : ℕ). Some m) (sym none.1);
   stops = subst (λ (l : List ℕ). Stops is_word_byte (l ++ after)) (sym none.0) (blank_stops after blank);
 }
 weight_read weight after n (inr w) blank =
     let split : weight ++ after ≡ w.before ++ 59 ∷ (w.after ++ w.q ∷ 61 ∷ (w.value ++ after)) =
     ap (λ (l : List ℕ). l ++ after) w.whole ∙ append_assoc w.before (59 ∷ (w.after ++ w.q ∷ 61 ∷ w.value)) after
     ∙ ap (λ (l : List ℕ). w.before ++ 59 ∷ l) (append_assoc w.after (w.q ∷ 61 ∷ w.value) after) in
-    subst (λ (l : List ℕ). IsRead l n) (sym split) (long_read w.before w.after w.q w.value after n w.blank_before w.blank_after w.letter blank w.is_value)
+    subst (λ (l : List ℕ). IsRead l n) (sym split) (long_read w.before w.after w.q w.value after n w.blank_before
+    w.blank_after w.letter blank w.is_value)

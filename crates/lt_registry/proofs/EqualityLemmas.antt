@@ -63,5 +63,14 @@ entry_decides a b =
     (Decides-and _ _ (option_decides a.value b.value) (slice_eq-Decides list_decides a.prefixes b.prefixes _ refl)))) in (
       (λ h. let p = all.0 h in
           λ i. record { number = p.0 i; kind = p.1.0 i; name = p.1.1.0 i; value = p.1.1.1.0 i; prefixes = p.1.1.1.1 i }),
-      (λ e. all.1 (ap (λ (x : EntryParts). x.number) e, (ap (λ (x : EntryParts). x.kind) e, (ap (λ (x : EntryParts). x.name) e, (ap (λ (x : EntryParts). x.value) e, ap (λ (x : EntryParts). x.prefixes) e))))),
+      (λ e. all.1 (
+        ap (λ (x : EntryParts). x.number) e,
+        (
+          ap (λ (x : EntryParts). x.kind) e,
+          (
+            ap (λ (x : EntryParts). x.name) e,
+            (ap (λ (x : EntryParts). x.value) e, ap (λ (x : EntryParts). x.prefixes) e),
+          ),
+        ),
+      )),
     )

@@ -1,5 +1,6 @@
 -- Which name a text has, and one field more of a record.
-use Rattle.std.proofs.Common.{◌≡◌, ◌≢◌, ℕ, suc, ◌+◌, ◌-◌, ◌≤◌, Bool, true, false, ◌||◌, List, [], ◌∷◌, ◌++◌, length, Option, Some, None, refl, sym, ap, ◌∙◌, arith}
+use Rattle.std.proofs.Common.{◌≡◌, ◌≢◌, ℕ, suc, ◌+◌, ◌-◌, ◌≤◌, Bool, true, false, ◌||◌, List, [], ◌∷◌, ◌++◌, length}
+use Rattle.std.proofs.Common.{Option, Some, None, refl, sym, ap, ◌∙◌, arith}
 use Rattle.std.specs.Prelude.{find, is_some, nat_lt, cond, count_by, option_map, if◌then◌else◌}
 use Rattle.std.specs.Cmp.Lexicographic.{bytes_decides}
 use Rattle.std.specs.List.{position_from, slice_get}
@@ -31,7 +32,9 @@ apart s n m far h =
 -- which field a name is, by the tests for Type, Subtag, Tag, Preferred-Value and File-Date: the first that holds tells
 -- it
 abbrev told_by : Bool → Bool → Bool → Bool → Bool → FieldName
-told_by a b c d e = if a then told.Type else (if b then told.Subtag else (if c then told.Tag else (if d then told.PreferredValue else (if e then told.FileDate else told.Other))))
+told_by a b c d e = if a then told.Type else
+    (if b then told.Subtag else
+    (if c then told.Tag else (if d then told.PreferredValue else (if e then told.FileDate else told.Other))))
 
 -- if the five tests of `told_by` tell Type, the first holds
 pub by_type : (a b c d e : Bool) → told_by a b c d e ≡ told.Type → a ≡ true
@@ -113,35 +116,44 @@ map_some g (Some a) = refl
 module _ {A : Type 0} (p : A → Bool) where
   -- with an element `y` more, the place of the first that passes is the one in `xs`, or else that of `y` if it passes;
   -- `i` is the place of the first of `xs`
-  place_next : (i : ℕ) (xs : List A) (y : A) → position_from p i (xs ++ y ∷ []) ≡ option_or (position_from p i xs) (cond (p y) (Some (i + length xs)) None)
+  place_next : (i : ℕ) (xs : List A) (y : A)
+      → position_from p i (xs ++ y ∷ []) ≡ option_or (position_from p i xs) (cond (p y) (Some (i + length xs)) None)
   place_next i [] y = let same : i ≡ i + 0 = omega arith in ap (λ n. cond (p y) (Some n) None) same
   place_next i (x ∷ xs) y = by (p x) (place_next (i + 1) xs y)
     where
       same : i + 1 + length xs ≡ i + length (x ∷ xs)
       same = omega arith
 
-      by : (b : Bool) → position_from p (i + 1) (xs ++ y ∷ []) ≡ option_or (position_from p (i + 1) xs) (cond (p y) (Some (i + 1 + length xs)) None)
-          → cond b (Some i) (position_from p (i + 1) (xs ++ y ∷ [])) ≡ option_or (cond b (Some i) (position_from p (i + 1) xs)) (cond (p y) (Some (i + length (x ∷ xs))) None)
+      by : (b : Bool) → position_from p (i + 1) (xs ++ y ∷ [])
+          ≡ option_or (position_from p (i + 1) xs) (cond (p y) (Some (i + 1 + length xs)) None)
+          → cond b (Some i) (position_from p (i + 1) (xs ++ y ∷ []))
+          ≡ option_or (cond b (Some i) (position_from p (i + 1) xs)) (cond (p y) (Some (i + length (x ∷ xs))) None)
       by true rest = refl
       by false rest = rest ∙ ap (λ n. option_or (position_from p (i + 1) xs) (cond (p y) (Some n) None)) same
 
   -- an element more that fails doesn't change the place of the first that passes
   pub place_same : (xs : List A) (y : A) → p y ≡ false → position_from p 0 xs ≡ position_from p 0 (xs ++ y ∷ [])
-  place_same xs y h = sym (place_next 0 xs y ∙ ap (λ b. option_or (position_from p 0 xs) (cond b (Some (0 + length xs)) None)) h ∙ or_none (position_from p 0 xs))
+  place_same xs y h = sym (place_next 0 xs y
+      ∙ ap (λ b. option_or (position_from p 0 xs) (cond b (Some (0 + length xs)) None)) h
+      ∙ or_none (position_from p 0 xs))
 
   -- with an element more that passes, at the place `n`, the place of the first that passes is the one in `xs`, or else
   -- `n`
-  pub place_more : (xs : List A) (y : A) (n : ℕ) → length xs ≡ n → p y ≡ true → option_or (position_from p 0 xs) (Some n) ≡ position_from p 0 (xs ++ y ∷ [])
+  pub place_more : (xs : List A) (y : A) (n : ℕ) → length xs ≡ n → p y ≡ true
+      → option_or (position_from p 0 xs) (Some n) ≡ position_from p 0 (xs ++ y ∷ [])
   place_more xs y n l h =
       let at : n ≡ 0 + length xs = omega (arith, l) in
-      sym (place_next 0 xs y ∙ ap (λ b. option_or (position_from p 0 xs) (cond b (Some (0 + length xs)) None)) h ∙ ap (λ z. option_or (position_from p 0 xs) (Some z)) (sym at))
+      sym (place_next 0 xs y ∙ ap (λ b. option_or (position_from p 0 xs) (cond b (Some (0 + length xs)) None)) h
+      ∙ ap (λ z. option_or (position_from p 0 xs) (Some z)) (sym at))
 
   -- at the place of the first that passes is the element that `find` gives; `i` is the place of the first of `xs`
   there : (i : ℕ) (xs : List A) (k : ℕ) → position_from p i xs ≡ Some k → (i ≤ k) × (find p xs ≡ slice_get xs (k - i))
   there i [] k h = cc
   there i (x ∷ xs) k h = by (p x) (there (i + 1) xs k) h
     where
-      by : (b : Bool) → (position_from p (i + 1) xs ≡ Some k → (i + 1 ≤ k) × (find p xs ≡ slice_get xs (k - (i + 1)))) → cond b (Some i) (position_from p (i + 1) xs) ≡ Some k → (i ≤ k) × (cond b (Some x) (find p xs) ≡ slice_get (x ∷ xs) (k - i))
+      by : (b : Bool) → (position_from p (i + 1) xs ≡ Some k → (i + 1 ≤ k) × (find p xs ≡ slice_get xs (k - (i + 1))))
+          → cond b (Some i) (position_from p (i + 1) xs) ≡ Some k → (i ≤ k)
+          × (cond b (Some x) (find p xs) ≡ slice_get (x ∷ xs) (k - i))
       by true later h =
           let same : i ≡ k = cc h in
           let none : 0 ≡ k - i = omega (arith, same) in
@@ -156,7 +168,8 @@ module _ {A : Type 0} (p : A → Bool) where
   nowhere i [] h = refl
   nowhere i (x ∷ xs) h = by (p x) (nowhere (i + 1) xs) h
     where
-      by : (b : Bool) → (position_from p (i + 1) xs ≡ None → find p xs ≡ None) → cond b (Some i) (position_from p (i + 1) xs) ≡ None → cond b (Some x) (find p xs) ≡ None
+      by : (b : Bool) → (position_from p (i + 1) xs ≡ None → find p xs ≡ None)
+          → cond b (Some i) (position_from p (i + 1) xs) ≡ None → cond b (Some x) (find p xs) ≡ None
       by true later h = cc
       by false later h = later h
 
@@ -165,7 +178,8 @@ module _ {A : Type 0} (p : A → Bool) where
   some_place i [] = refl
   some_place i (x ∷ xs) = by (p x) (some_place (i + 1) xs)
     where
-      by : (b : Bool) → is_some (position_from p (i + 1) xs) ≡ is_some (find p xs) → is_some (cond b (Some i) (position_from p (i + 1) xs)) ≡ is_some (cond b (Some x) (find p xs))
+      by : (b : Bool) → is_some (position_from p (i + 1) xs) ≡ is_some (find p xs)
+          → is_some (cond b (Some i) (position_from p (i + 1) xs)) ≡ is_some (cond b (Some x) (find p xs))
       by true rest = refl
       by false rest = rest
 
@@ -187,7 +201,8 @@ module _ {A : Type 0} (p : A → Bool) where
 
 module _ (name : List ℕ) (r : List Field) where
   -- the body of the field at the first place of a name is the body of the name
-  pub body_there : (place : Option ℕ) → IsPlace name r place → option_map (λ (f : Field). f.1) (option_and_then (slice_get r) place) ≡ body name r
+  pub body_there : (place : Option ℕ) → IsPlace name r place
+      → option_map (λ (f : Field). f.1) (option_and_then (slice_get r) place) ≡ body name r
   body_there None h = ap (option_map (λ (f : Field). f.1)) (sym (nowhere (is_called name) 0 r (sym h)))
   body_there (Some k) h =
       let is = there (is_called name) 0 r k (sym h) in
@@ -202,23 +217,30 @@ module _ (name : List ℕ) (r : List Field) where
     -- with the field `f` more, the body of a name is the one in `r`, or else that of `f` if it has the name
     body_next : body name (r ++ f ∷ []) ≡ option_or (body name r) (option_map (λ (g : Field). g.1) (cond (is_called name f) (Some f) None))
     body_next =
-        ap (option_map (λ (g : Field). g.1)) (find-append (is_called name) r (f ∷ [])) ∙ map_or (λ (g : Field). g.1) (find (is_called name) r) (cond (is_called name f) (Some f) None)
+        ap (option_map (λ (g : Field). g.1)) (find-append (is_called name) r (f ∷ []))
+        ∙ map_or (λ (g : Field). g.1) (find (is_called name) r) (cond (is_called name f) (Some f) None)
 
     -- with a field more of another name, whether the name has a body stays
     pub some_same : is_called name f ≡ false → is_some (body name (r ++ f ∷ [])) ≡ is_some (body name r)
-    some_same h = ap is_some (body_next ∙ ap (λ b. option_or (body name r) (option_map (λ (g : Field). g.1) (cond b (Some f) None))) h ∙ or_none (body name r))
+    some_same h = ap is_some
+        (body_next ∙ ap (λ b. option_or (body name r) (option_map (λ (g : Field). g.1) (cond b (Some f) None))) h
+        ∙ or_none (body name r))
 
     -- with a field more of the name, the name has a body
     pub some_more : is_called name f ≡ true → is_some (body name (r ++ f ∷ [])) ≡ true
-    some_more h = ap is_some (body_next ∙ ap (λ b. option_or (body name r) (option_map (λ (g : Field). g.1) (cond b (Some f) None))) h) ∙ or_some (body name r) f.1
+    some_more h = ap is_some (body_next
+        ∙ ap (λ b. option_or (body name r) (option_map (λ (g : Field). g.1) (cond b (Some f) None))) h)
+        ∙ or_some (body name r) f.1
 
     -- with a field more of another name, whether the name is repeated stays
     pub repeated_same : is_called name f ≡ false → is_repeated name (r ++ f ∷ []) ≡ is_repeated name r
     repeated_same h = ap (nat_lt 1) (counted_next (is_called name) r f ∙ ap (λ b. count_by (is_called name) r + cond b 1 0) h ∙ omega arith)
 
     -- with a field more of the name, the name is repeated if it was, or if it had a place
-    pub repeated_more : (place : Option ℕ) → IsPlace name r place → is_called name f ≡ true → is_repeated name (r ++ f ∷ []) ≡ (is_repeated name r || is_some place)
+    pub repeated_more : (place : Option ℕ) → IsPlace name r place → is_called name f ≡ true
+        → is_repeated name (r ++ f ∷ []) ≡ (is_repeated name r || is_some place)
     repeated_more place l h =
         let some : is_some place ≡ nat_lt 0 (count_by (is_called name) r) = ap is_some l ∙ some_counted (is_called name) 0 r in
-        let more : count_by (is_called name) (r ++ f ∷ []) ≡ count_by (is_called name) r + 1 = counted_next (is_called name) r f ∙ ap (λ b. count_by (is_called name) r + cond b 1 0) h in
+        let more : count_by (is_called name) (r ++ f ∷ []) ≡ count_by (is_called name) r + 1 =
+        counted_next (is_called name) r f ∙ ap (λ b. count_by (is_called name) r + cond b 1 0) h in
         rw (some, more) (grind (arith, nat_tests))

@@ -1,5 +1,6 @@
 -- A record gives one entry or has one first fault, and not both.
-use Rattle.std.proofs.Common.{◌≡◌, ℕ, ◌≤◌, true, false, eqb, List, [], Option, Some, None, refl, sym, ap, ◌∙◌, arith, zero, suc, ◌⊎◌, inl, inr, subst, ◌≢◌, if◌then◌else◌, Result, Ok, Err}
+use Rattle.std.proofs.Common.{◌≡◌, ℕ, ◌≤◌, true, false, eqb, List, [], Option, Some, None, refl, sym, ap, ◌∙◌, arith}
+use Rattle.std.proofs.Common.{zero, suc, ◌⊎◌, inl, inr, subst, ◌≢◌, if◌then◌else◌, Result, Ok, Err}
 use Rattle.std.specs.Prelude.{Ok, Err, Result, IfOk, IfErr}
 use Rattle.std.specs.List.{AllByRecursion}
 use Rattle.std.proofs.lemmas.Bool.{cases_eq}
@@ -8,7 +9,9 @@ use Rattle.lt_tag.specs.Faults.{HasTag}
 use Rattle.lt_tag.proofs.OneTagLemmas.{one_tag}
 use Rattle.lt_jar.specs.Records.{Field}
 use Rattle.lt_registry.specs.Records.{ends_of, bodies, subtags_named, body, type_name, subtag_name}
-use Rattle.lt_registry.specs.Records.{tag_name, value_name, repeats_field, kind_of, HasKind, name_field, IsName, IsValue, IsValueOf, prefix_name, prefixes_in, IsEntryOf, HasRecordFault, record_rank}
+use Rattle.lt_registry.specs.Records.{tag_name, value_name, repeats_field, kind_of, HasKind, name_field, IsName}
+use Rattle.lt_registry.specs.Records.{IsValue, IsValueOf, prefix_name, prefixes_in, IsEntryOf, HasRecordFault}
+use Rattle.lt_registry.specs.Records.{record_rank}
 use Rattle.lt_registry.specs.Entries.{IsPrefix, is_whole_kind}
 use Rattle.lt_registry.specs.declared.entries.Kind.{Kind}
 use Rattle.lt_registry.specs.declared.entries.EntryName.{EntryName}
@@ -44,13 +47,15 @@ pub field_of_tag : (k : Kind) → is_whole_kind k ≡ true → name_field k ≡ 
 field_of_tag k e = ap (λ b. if b then tag_name else subtag_name) e
 
 -- a record that has a kind, and the field for that kind's name, doesn't have MissingName
-no_missing_name : (r : List Field) (k : Kind) (s : List ℕ) → HasKind r k → body (name_field k) r ≡ Some s → HasRecordFault r faults.MissingName → ⊥
+no_missing_name : (r : List Field) (k : Kind) (s : List ℕ) → HasKind r k → body (name_field k) r ≡ Some s
+    → HasRecordFault r faults.MissingName → ⊥
 no_missing_name r k s h there f =
     let same : f.0 ≡ k = one_kind r f.0 k f.1 h in
     cc (there, ap (λ (z : Kind). body (name_field z) r) (sym same) ∙ f.2)
 
 -- a record whose field Subtag is read as `a` doesn't have another fault of that field
-no_subtag_fault : (r : List Field) (k : Kind) (s : List ℕ) (fault : RecordFaultKind) (a : Result EntryName RecordFaultKind) → HasKind r k → body subtag_name r ≡ Some s → subtags_named k s ≡ a → a ≢ Err fault
+no_subtag_fault : (r : List Field) (k : Kind) (s : List ℕ) (fault : RecordFaultKind) (a : Result EntryName
+    RecordFaultKind) → HasKind r k → body subtag_name r ≡ Some s → subtags_named k s ≡ a → a ≢ Err fault
     → (l : Kind) (t : List ℕ) → HasKind r l → body subtag_name r ≡ Some t → subtags_named l t ≡ Err fault → ⊥
 no_subtag_fault r k s fault a h there told other l t g here bad =
     let kind : k ≡ l = one_kind r k l h g in
@@ -59,7 +64,8 @@ no_subtag_fault r k s fault a h there told other l t g here bad =
 
 -- the field Subtag of a record that isn't of a whole tag has this fault
 abbrev IsSubtagFault : List Field → RecordFaultKind → Type 0
-IsSubtagFault r fault = (k : Kind) × (s : List ℕ) × HasKind r k × (is_whole_kind k ≡ false) × (body subtag_name r ≡ Some s) × (subtags_named k s ≡ Err fault)
+IsSubtagFault r fault = (k : Kind) × (s : List ℕ) × HasKind r k × (is_whole_kind k ≡ false)
+    × (body subtag_name r ≡ Some s) × (subtags_named k s ≡ Err fault)
 
 -- a record of a whole tag has no fault of the field Subtag
 not_subtags : (r : List Field) (k : Kind) (fault : RecordFaultKind) → HasKind r k → is_whole_kind k ≡ true → IsSubtagFault r fault → ⊥
@@ -67,7 +73,8 @@ not_subtags r k fault h whole f =
     cc (whole, ap is_whole_kind (one_kind r k f.0 h f.2) ∙ f.3)
 
 -- a record that has a name has no fault of the field Subtag
-no_named_fault : (r : List Field) (k : Kind) (name : EntryName) (fault : RecordFaultKind) → HasKind r k → IsNameIn k r name → IsSubtagFault r fault → ⊥
+no_named_fault : (r : List Field) (k : Kind) (name : EntryName) (fault : RecordFaultKind) → HasKind r k
+    → IsNameIn k r name → IsSubtagFault r fault → ⊥
 no_named_fault r k (names.Whole t) fault h (s, there, is) f = not_subtags r k fault h is.0 f
 no_named_fault r k name fault h (s, there, is) f =
     let e : body subtag_name r ≡ Some s = ap (λ z. body z r) (sym (field_of_subtag k is.0)) ∙ there in
@@ -87,7 +94,8 @@ value_there k s None is = absurd is
 value_there k s (Some v) is = (v, is)
 
 -- a record whose Preferred-Value gives a value, or that has none, doesn't have BadPreferred
-no_bad_value : (r : List Field) (k : Kind) (v : Option EntryValue) → HasKind r k → IsValueOf k (body value_name r) v → HasRecordFault r faults.BadPreferred → ⊥
+no_bad_value : (r : List Field) (k : Kind) (v : Option EntryValue) → HasKind r k → IsValueOf k (body value_name r) v
+    → HasRecordFault r faults.BadPreferred → ⊥
 no_bad_value r k v h is f =
     let got = value_there k f.1 v (subst (λ o. IsValueOf k o v) f.3 is) in
     f.4 got.0 (subst (λ (z : Kind). IsValue z f.1 got.0) (one_kind r k f.0 h f.2) got.1)
@@ -110,7 +118,14 @@ entry_faultless r n e h faults.OutOfMemory f = f
 -- the kind of fault that has the rank `n`
 abbrev pub ranked : ℕ → RecordFaultKind
 ranked n =
-    if eqb n 0 then faults.RepeatedField else (if eqb n 1 then faults.MissingType else (if eqb n 2 then faults.UnknownType else (if eqb n 3 then faults.MissingName else (if eqb n 4 then faults.BadRange else (if eqb n 5 then faults.BadSubtag else (if eqb n 6 then faults.BadTag else (if eqb n 7 then faults.BadPreferred else (if eqb n 8 then faults.BadPrefix else faults.OutOfMemory))))))))
+    if eqb n 0 then faults.RepeatedField else
+    (if eqb n 1 then faults.MissingType else
+    (if eqb n 2 then faults.UnknownType else
+    (if eqb n 3 then faults.MissingName else
+    (if eqb n 4 then faults.BadRange else
+    (if eqb n 5 then faults.BadSubtag else
+    (if eqb n 6 then faults.BadTag else
+    (if eqb n 7 then faults.BadPreferred else (if eqb n 8 then faults.BadPrefix else faults.OutOfMemory))))))))
 
 -- the kind of fault that has the rank of `k` is `k`
 pub ranked_again : (k : RecordFaultKind) → ranked (record_rank k) ≡ k
@@ -146,14 +161,25 @@ module _ (r : List Field) where
     -- in a record that has a kind, a fault of the name is the record's first, or memory ran out
     pub name_refused : (fault : RecordFaultKind) → IsNameFault k r fault → IsRefused r fault
     name_refused faults.MissingName f = inr (record { there = (k, kind, f); earliest = past 3 kind_clear })
-    name_refused faults.BadRange f = inr (record { there = (k, f.0, kind, f.1, f.2, f.3); earliest = past 4 (subtag_named_there f.0 f.1 f.2) })
+    name_refused faults.BadRange f =
+        inr (record { there = (k, f.0, kind, f.1, f.2, f.3); earliest = past 4 (subtag_named_there f.0 f.1 f.2) })
     name_refused faults.BadSubtag f = inr (record {
       there = (k, f.0, kind, f.1, f.2, f.3);
-      earliest = past 5 (subtag_named_there f.0 f.1 f.2, λ g. no_subtag_fault r k f.0 faults.BadRange (Err faults.BadSubtag) kind f.2 f.3 (λ w. cc) g.0 g.1 g.2 g.4 g.5);
+      earliest = past 5 (
+        subtag_named_there f.0 f.1 f.2,
+        λ g. no_subtag_fault r k f.0 faults.BadRange
+            (Err faults.BadSubtag) kind f.2 f.3 (λ w. cc) g.0 g.1 g.2 g.4 g.5,
+      );
     })
     name_refused faults.BadTag f = inr (record {
       there = (k, f.0, kind, f.1, f.2, f.3);
-      earliest = past 6 (((kind_clear, no_missing_name r k f.0 kind (ap (λ z. body z r) (field_of_tag k f.1) ∙ f.2)), not_subtags r k faults.BadRange kind f.1), not_subtags r k faults.BadSubtag kind f.1);
+      earliest = past 6 (
+        (
+          (kind_clear, no_missing_name r k f.0 kind (ap (λ z. body z r) (field_of_tag k f.1) ∙ f.2)),
+          not_subtags r k faults.BadRange kind f.1,
+        ),
+        not_subtags r k faults.BadSubtag kind f.1,
+      );
     })
     name_refused faults.OutOfMemory f = inl refl
     name_refused _ f = absurd f
@@ -162,8 +188,17 @@ module _ (r : List Field) where
     module _ (name : EntryName) (named : IsNameIn k r name) where
       -- a record that has a kind and a name has no fault with a rank below 7, that of BadPreferred
       name_clear : ClearTo 7
-      name_clear =
-          ((((kind_clear, no_missing_name r k named.0 kind named.1), no_named_fault r k name faults.BadRange kind named), no_named_fault r k name faults.BadSubtag kind named), no_bad_tag r k name kind named)
+      name_clear = (
+        (
+          (
+            (kind_clear, no_missing_name r k named.0 kind named.1),
+            no_named_fault r k name faults.BadRange kind
+                named,
+          ),
+          no_named_fault r k name faults.BadSubtag kind named,
+        ),
+        no_bad_tag r k name kind named,
+      )
 
       -- in a record that has a kind and a name, a fault of the value is the record's first, or memory ran out
       pub value_refused : (fault : RecordFaultKind) → IsValueFault k r fault → IsRefused r fault
@@ -173,8 +208,10 @@ module _ (r : List Field) where
 
       -- in a record that has a kind, a name, and a value or none, a fault of the Prefixes is the record's first, or
       -- memory ran out
-      pub prefix_refused : (v : Option EntryValue) → IsValueOf k (body value_name r) v → (fault : RecordFaultKind) → IsPrefixFault k r fault → IsRefused r fault
-      prefix_refused v is faults.BadPrefix f = inr (record { there = (k, kind, f); earliest = past 8 (name_clear, no_bad_value r k v kind is) })
+      pub prefix_refused : (v : Option EntryValue) → IsValueOf k (body value_name r) v → (fault : RecordFaultKind)
+          → IsPrefixFault k r fault → IsRefused r fault
+      prefix_refused v is faults.BadPrefix f =
+          inr (record { there = (k, kind, f); earliest = past 8 (name_clear, no_bad_value r k v kind is) })
       prefix_refused v is faults.OutOfMemory f = inl refl
       prefix_refused v is _ f = absurd f
 
@@ -228,23 +265,33 @@ one_entry r n e f h g =
     let named : IsNameIn f.kind r e.name = subst (λ (z : Kind). IsNameIn z r e.name) kind h.named in
     let text : named.0 ≡ g.named.0 = cc (named.1, g.named.1) in
     let name : e.name ≡ f.name = one_name f.kind g.named.0 e.name f.name (subst (λ z. IsName f.kind z e.name) text named.2) g.named.2 in
-    let value : e.value ≡ f.value = one_value_of f.kind (body value_name r) e.value f.value (subst (λ (z : Kind). IsValueOf z (body value_name r) e.value) kind h.valued) g.valued in
+    let value : e.value ≡ f.value = one_value_of f.kind (body value_name r) e.value f.value
+    (subst (λ (z : Kind). IsValueOf z (body value_name r) e.value) kind h.valued) g.valued in
     let prefixes : e.prefixes ≡ f.prefixes = cc (ap (λ (z : Kind). prefixes_in z r) (sym kind) ∙ h.prefixed, g.prefixed) in
     λ i. record { number = number i; kind = kind i; name = name i; value = value i; prefixes = prefixes i }
 
 -- what the steps of reading a record give
 
 -- what the field Subtag is read as (`a`) is the record's name, or a fault of the name
-pub name_told : (r : List Field) (k : Kind) (s : List ℕ) (a : Result EntryName RecordFaultKind) → is_whole_kind k ≡ false → body (name_field k) r ≡ Some s → a ≡ subtags_named k s → IfOk a (IsNameIn k r) × IfErr a (IsNameFault k r)
+pub name_told : (r : List Field) (k : Kind) (s : List ℕ) (a : Result EntryName RecordFaultKind)
+    → is_whole_kind k ≡ false → body (name_field k) r ≡ Some s → a ≡ subtags_named k s → IfOk a (IsNameIn k r)
+    × IfErr a (IsNameFault k r)
 name_told r k s (Ok (names.Whole t)) whole there e = absurd (subst IsSubtagsResult (sym e) (name_fits k s (ends_of s)))
 name_told r k s (Ok _) whole there e = ((s, there, (whole, sym e)), tt)
 name_told r k s (Err fault) whole there e =
     let here : body subtag_name r ≡ Some s = ap (λ z. body z r) (sym (field_of_subtag k whole)) ∙ there in
-    let bad : (fault ≡ faults.BadRange) ⊎ (fault ≡ faults.BadSubtag) = subst IsSubtagsResult (sym e) (name_fits k s (ends_of s)) in
-    (tt, elim bad [ inl is ↦ subst (IsNameFault k r) (sym is) (s, whole, here, sym e ∙ ap Err is) | inr is ↦ subst (IsNameFault k r) (sym is) (s, whole, here, sym e ∙ ap Err is) ])
+    let bad : (fault ≡ faults.BadRange) ⊎ (fault ≡ faults.BadSubtag) = subst IsSubtagsResult (sym e) (name_fits k s (ends_of s)) in (
+      tt,
+      elim bad [
+        | inl is ↦ subst (IsNameFault k r) (sym is) (s, whole, here, sym e ∙ ap Err is)
+        | inr is ↦ subst
+            (IsNameFault k r) (sym is) (s, whole, here, sym e ∙ ap Err is)
+      ],
+    )
 
 -- a fault of the text of Preferred-Value is one of the record's value
-pub text_told : (r : List Field) (k : Kind) (s : List ℕ) → body value_name r ≡ Some s → (fault : RecordFaultKind) → IsTextFault k s fault → IsValueFault k r fault
+pub text_told : (r : List Field) (k : Kind) (s : List ℕ) → body value_name r ≡ Some s → (fault : RecordFaultKind)
+    → IsTextFault k s fault → IsValueFault k r fault
 text_told r k s there faults.BadPreferred f = (s, there, f)
 text_told r k s there faults.OutOfMemory f = tt
 text_told r k s there _ f = absurd f
@@ -258,7 +305,8 @@ prefixes_fit kinds.Variant r ps h = prefixes_are (bodies prefix_name r) ps h
 prefixes_fit _ r ps h = let same : [] ≡ ps = cc in subst (AllByRecursion IsPrefix) same tt
 
 -- only a record of an extlang or a variant gives Prefixes
-pub prefixes_where : (k : Kind) (r : List Field) (ps : List (List (List ℕ))) → prefixes_in k r ≡ Some ps → (ps ≡ []) ⊎ ((k ≡ kinds.Extlang) ⊎ (k ≡ kinds.Variant))
+pub prefixes_where : (k : Kind) (r : List Field) (ps : List (List (List ℕ))) → prefixes_in k r ≡ Some ps → (ps ≡ [])
+    ⊎ ((k ≡ kinds.Extlang) ⊎ (k ≡ kinds.Variant))
 prefixes_where kinds.Extlang r ps h = inr (inl refl)
 prefixes_where kinds.Variant r ps h = inr (inr refl)
 prefixes_where _ r ps h = inl (cc)

@@ -1,5 +1,7 @@
 -- What is read of the texts of a record: subtags, Prefixes and names.
-use Rattle.std.proofs.Common.{◌≡◌, ℕ, Bool, ◌==◌, ◌+◌, ◌<◌, ◌≤◌, true, false, List, [], ◌∷◌, ◌++◌, length, take, drop, get_or, Option, Some, None, refl, sym, ap, ◌∙◌, arith, add-one, append_assoc, suc, ◌⊎◌, inl, inr, subst, Result, Ok, Err, append-nil}
+use Rattle.std.proofs.Common.{◌≡◌, ℕ, Bool, ◌==◌, ◌+◌, ◌<◌, ◌≤◌, true, false, List, [], ◌∷◌, ◌++◌, length, take, drop}
+use Rattle.std.proofs.Common.{get_or, Option, Some, None, refl, sym, ap, ◌∙◌, arith, add-one, append_assoc, suc, ◌⊎◌}
+use Rattle.std.proofs.Common.{inl, inr, subst, Result, Ok, Err, append-nil}
 use Rattle.std.specs.Prelude.{Ok, Err, option_map, Result}
 use Rattle.std.proofs.Math.Seq.{drop-cons}
 use Rattle.std.proofs.lemmas.List.{take_more, drop_all, drop-drop, append-nil}
@@ -13,7 +15,8 @@ use Rattle.lt_subtag.specs.Bytes.{is_subtag, folded}
 use Rattle.lt_subtag.proofs.BytesLemmas.{piece_folds}
 use Rattle.lt_tag.specs.Lists.{pieces}
 use Rattle.lt_jar.specs.Records.{Field}
-use Rattle.lt_registry.specs.Records.{begins_dots, with_first, ends_of, with_subtag, subtags_of, with_prefix, prefix_of, prefixes_of, bodies, is_called, formed, is_range, range_of, single_of, name_by}
+use Rattle.lt_registry.specs.Records.{begins_dots, with_first, ends_of, with_subtag, subtags_of, with_prefix, prefix_of}
+use Rattle.lt_registry.specs.Records.{prefixes_of, bodies, is_called, formed, is_range, range_of, single_of, name_by}
 use Rattle.lt_registry.specs.Entries.{has_form, IsPrefix}
 use Rattle.lt_registry.specs.declared.entries.Kind.{Kind}
 use Rattle.lt_registry.specs.declared.entries.EntryName.{EntryName}
@@ -41,7 +44,8 @@ behind_more front b None = refl
 behind_more front b (Some p) = ap (λ z. Some (z, p.1)) (sym (append_assoc front (b ∷ []) p.0))
 
 -- if no two full stops are at the index `i`, the byte there goes to the front, and the search goes on after it
-pub ends_stay : (text : List ℕ) (i : ℕ) → i < length text → begins_dots (drop i text) ≡ false → behind (take i text) (ends_of (drop i text)) ≡ behind (take (i + 1) text) (ends_of (drop (i + 1) text))
+pub ends_stay : (text : List ℕ) (i : ℕ) → i < length text → begins_dots (drop i text) ≡ false
+    → behind (take i text) (ends_of (drop i text)) ≡ behind (take (i + 1) text) (ends_of (drop (i + 1) text))
 unfolding ends_of
 ends_stay text i l h =
     let b = get_or text i 0 in
@@ -49,10 +53,12 @@ ends_stay text i l h =
     let none : begins_dots (b ∷ drop (i + 1) text) ≡ false = ap begins_dots (sym d) ∙ h in
     let step : ends_of (b ∷ drop (i + 1) text) ≡ with_first b (ends_of (drop (i + 1) text)) = rw none refl in
     ap (λ z. behind (take i text) (ends_of z)) d ∙ ap (behind (take i text)) step
-    ∙ behind_more (take i text) b (ends_of (drop (i + 1) text)) ∙ ap (λ z. behind z (ends_of (drop (i + 1) text))) (sym (take_more text i 0 l))
+    ∙ behind_more (take i text) b (ends_of (drop (i + 1) text))
+    ∙ ap (λ z. behind z (ends_of (drop (i + 1) text))) (sym (take_more text i 0 l))
 
 -- if two full stops are at the index `i`, the texts are what is before and after them
-pub ends_found : (text : List ℕ) (i : ℕ) → begins_dots (drop i text) ≡ true → behind (take i text) (ends_of (drop i text)) ≡ Some (take i text, drop (i + 2) text)
+pub ends_found : (text : List ℕ) (i : ℕ) → begins_dots (drop i text) ≡ true
+    → behind (take i text) (ends_of (drop i text)) ≡ Some (take i text, drop (i + 2) text)
 ends_found text i h =
     ap (behind (take i text)) (dots_found (drop i text) h)
     ∙ ap (λ z. Some (z, drop 2 (drop i text))) (append-nil (take i text)) ∙ ap (λ z. Some (take i text, z)) (drop-drop 2 i text)
@@ -70,25 +76,33 @@ after front None = None
 after front (Some rest) = Some (front ++ rest)
 
 -- an element put before a list, and `front` before that, are one longer front
-after_one : {A : Type 0} (front : List A) (x : A) (o : Option (List A)) → after front (option_map (λ (rest : List A). x ∷ rest) o) ≡ after (front ++ x ∷ []) o
+after_one : {A : Type 0} (front : List A) (x : A) (o : Option (List A))
+    → after front (option_map (λ (rest : List A). x ∷ rest) o) ≡ after (front ++ x ∷ []) o
 after_one front x None = refl
 after_one front x (Some rest) = ap Some (sym (append_assoc front (x ∷ []) rest))
 
 -- if the next piece is a subtag, it goes to those read, `front`, and the others are left; `all` are the pieces of the
 -- whole text, `text` is what is left of that
-pub piece_stays : (all front : List (List ℕ)) (text piece s : List ℕ) (rest : List (List ℕ)) → subtags_of all ≡ after front (subtags_of (pieces text)) → pieces text ≡ piece ∷ rest → subtag_of piece ≡ Ok s → subtags_of all ≡ after (front ++ s ∷ []) (subtags_of rest)
+pub piece_stays : (all front : List (List ℕ)) (text piece s : List ℕ) (rest : List (List ℕ))
+    → subtags_of all ≡ after front (subtags_of (pieces text)) → pieces text ≡ piece ∷ rest → subtag_of piece ≡ Ok s
+    → subtags_of all ≡ after (front ++ s ∷ []) (subtags_of rest)
 unfolding subtags_of
 piece_stays all front text piece s rest so_far cut h =
-    so_far ∙ ap (λ z. after front (subtags_of z)) cut ∙ ap (λ z. after front (with_subtag z (subtags_of rest))) h ∙ after_one front s (subtags_of rest)
+    so_far ∙ ap (λ z. after front (subtags_of z)) cut ∙ ap (λ z. after front (with_subtag z (subtags_of rest))) h
+    ∙ after_one front s (subtags_of rest)
 
 -- if the next piece is no subtag, the whole text is no list of subtags
-pub piece_fails : (all front : List (List ℕ)) (text piece : List ℕ) (rest : List (List ℕ)) (fault : SubtagFault) → subtags_of all ≡ after front (subtags_of (pieces text)) → pieces text ≡ piece ∷ rest → subtag_of piece ≡ Err fault → subtags_of all ≡ None
+pub piece_fails : (all front : List (List ℕ)) (text piece : List ℕ) (rest : List (List ℕ)) (fault : SubtagFault)
+    → subtags_of all ≡ after front (subtags_of (pieces text)) → pieces text ≡ piece ∷ rest → subtag_of piece ≡ Err fault
+    → subtags_of all ≡ None
 unfolding subtags_of
 piece_fails all front text piece rest fault so_far cut h =
     so_far ∙ ap (λ z. after front (subtags_of z)) cut ∙ ap (λ z. after front (with_subtag z (subtags_of rest))) h
 
 -- if the last piece is a subtag, the whole text is the subtags read and that
-pub piece_last : (all front : List (List ℕ)) (text piece s : List ℕ) → subtags_of all ≡ after front (subtags_of (pieces text)) → pieces text ≡ piece ∷ [] → subtag_of piece ≡ Ok s → subtags_of all ≡ Some (front ++ s ∷ [])
+pub piece_last : (all front : List (List ℕ)) (text piece s : List ℕ)
+    → subtags_of all ≡ after front (subtags_of (pieces text)) → pieces text ≡ piece ∷ [] → subtag_of piece ≡ Ok s
+    → subtags_of all ≡ Some (front ++ s ∷ [])
 unfolding subtags_of
 piece_last all front text piece s so_far cut h = piece_stays all front text piece s [] so_far cut h ∙ ap Some (append-nil (front ++ s ∷ []))
 
@@ -109,23 +123,28 @@ module _ (name : List ℕ) (all r : List Field) (i : ℕ) (front : List (List (L
       so_far ∙ ap (λ z. after front (prefixes_of z)) (field_here ∙ none)
 
   -- a field of the name gives its Prefix before those of the others
-  called_step : is_called name f ≡ true → prefixes_of (bodies name all) ≡ after front (with_prefix (prefix_of f.1) (prefixes_of (bodies name (drop (i + 1) r))))
+  called_step : is_called name f ≡ true
+      → prefixes_of (bodies name all)
+      ≡ after front (with_prefix (prefix_of f.1) (prefixes_of (bodies name (drop (i + 1) r))))
   unfolding prefixes_of
   called_step h =
       let one : bodies name (f ∷ drop (i + 1) r) ≡ f.1 ∷ bodies name (drop (i + 1) r) = rw h refl in
       so_far ∙ ap (λ z. after front (prefixes_of z)) (field_here ∙ one)
 
   -- a body that is a Prefix goes to those read
-  pub field_taken : (p : List (List ℕ)) → is_called name f ≡ true → prefix_of f.1 ≡ Some p → prefixes_of (bodies name all) ≡ after (front ++ p ∷ []) (prefixes_of (bodies name (drop (i + 1) r)))
+  pub field_taken : (p : List (List ℕ)) → is_called name f ≡ true → prefix_of f.1 ≡ Some p
+      → prefixes_of (bodies name all) ≡ after (front ++ p ∷ []) (prefixes_of (bodies name (drop (i + 1) r)))
   field_taken p h g =
-      called_step h ∙ ap (λ z. after front (with_prefix z (prefixes_of (bodies name (drop (i + 1) r))))) g ∙ after_one front p (prefixes_of (bodies name (drop (i + 1) r)))
+      called_step h ∙ ap (λ z. after front (with_prefix z (prefixes_of (bodies name (drop (i + 1) r))))) g
+      ∙ after_one front p (prefixes_of (bodies name (drop (i + 1) r)))
 
   -- if a body is no list of subtags, the fields give no Prefixes
   pub field_fails : is_called name f ≡ true → prefix_of f.1 ≡ None → prefixes_of (bodies name all) ≡ None
   field_fails h g = called_step h ∙ ap (λ z. after front (with_prefix z (prefixes_of (bodies name (drop (i + 1) r))))) g
 
 -- past the last field, the Prefixes read are all
-pub no_field : (name : List ℕ) (r : List Field) (i : ℕ) (front : List (List (List ℕ))) → length r ≤ i → after front (prefixes_of (bodies name (drop i r))) ≡ Some front
+pub no_field : (name : List ℕ) (r : List Field) (i : ℕ) (front : List (List (List ℕ))) → length r ≤ i
+    → after front (prefixes_of (bodies name (drop i r))) ≡ Some front
 unfolding prefixes_of
 no_field name r i front l = ap (λ z. after front (prefixes_of (bodies name z))) (drop_all i r l) ∙ ap Some (append-nil front)
 
@@ -199,11 +218,16 @@ some_piece (b ∷ bs) = grind (arith, nat_tests, some_more b (pieces bs))
 -- the subtags of pieces
 
 -- a subtag before `m` others is a list of one more; `piece` was read as `r`, and the others as `o`
-subtags_at : (piece : List ℕ) (r : Result (List ℕ) SubtagFault) (o : Option (List (List ℕ))) (m : ℕ) (ss : List (List ℕ)) → ((n : List ℕ) → r ≡ Ok n → is_subtag n ≡ true) → ((ts : List (List ℕ)) → o ≡ Some ts → (list_all is_subtag ts ≡ true) × (length ts ≡ m)) → with_subtag r o ≡ Some ss → (list_all is_subtag ss ≡ true) × (length ss ≡ suc m)
+subtags_at : (piece : List ℕ) (r : Result (List ℕ) SubtagFault) (o : Option (List (List ℕ))) (m : ℕ) (ss : List
+    (List ℕ)) → ((n : List ℕ) → r ≡ Ok n → is_subtag n ≡ true)
+    → ((ts : List (List ℕ)) → o ≡ Some ts → (list_all is_subtag ts ≡ true) × (length ts ≡ m))
+    → with_subtag r o ≡ Some ss → (list_all is_subtag ss ≡ true) × (length ss ≡ suc m)
 subtags_at piece (Ok n) (Some ts) m ss f g h =
     let same : n ∷ ts ≡ ss = cc in
-    let rest = g ts refl in
-    (ap (list_all is_subtag) (sym same) ∙ and_from (is_subtag n) (list_all is_subtag ts) (f n refl) rest.0, ap length (sym same) ∙ ap suc rest.1)
+    let rest = g ts refl in (
+      ap (list_all is_subtag) (sym same) ∙ and_from (is_subtag n) (list_all is_subtag ts) (f n refl) rest.0,
+      ap length (sym same) ∙ ap suc rest.1,
+    )
 subtags_at piece _ _ m ss f g h = cc
 
 -- what pieces are read as are subtags, as many as the pieces
@@ -219,7 +243,10 @@ prefix_is s p h =
     record { subtags = r.0; some = subst (λ n. 0 < n) (sym r.1) (some_piece s) }
 
 -- a Prefix before others makes a list of Prefixes; they were read as `o` and `rest`
-prefixes_at : (o : Option (List (List ℕ))) (rest : Option (List (List (List ℕ)))) (ps : List (List (List ℕ))) → ((p : List (List ℕ)) → o ≡ Some p → IsPrefix p) → ((qs : List (List (List ℕ))) → rest ≡ Some qs → AllByRecursion IsPrefix qs) → with_prefix o rest ≡ Some ps → AllByRecursion IsPrefix ps
+prefixes_at : (o : Option (List (List ℕ))) (rest : Option (List (List (List ℕ)))) (ps : List (List (List ℕ)))
+    → ((p : List (List ℕ)) → o ≡ Some p → IsPrefix p)
+    → ((qs : List (List (List ℕ))) → rest ≡ Some qs → AllByRecursion IsPrefix qs) → with_prefix o rest ≡ Some ps
+    → AllByRecursion IsPrefix ps
 prefixes_at (Some p) (Some qs) ps f g h = let same : p ∷ qs ≡ ps = cc in subst (AllByRecursion IsPrefix) same (f p refl, g qs refl)
 prefixes_at _ _ ps f g h = cc
 

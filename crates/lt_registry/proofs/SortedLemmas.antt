@@ -1,5 +1,6 @@
 -- The sorted rows of a table, and what a search in them finds.
-use Rattle.std.proofs.Common.{◌≡◌, ℕ, zero, suc, ◌+◌, ◌<◌, ◌≤◌, Bool, true, false, eqb, List, [], ◌∷◌, length, get_or, refl, sym, ap, ◌∙◌, arith, inl, inr, ◌&&◌, Option, Some, None, ◌⊎◌, subst}
+use Rattle.std.proofs.Common.{◌≡◌, ℕ, zero, suc, ◌+◌, ◌<◌, ◌≤◌, Bool, true, false, eqb, List, [], ◌∷◌, length, get_or}
+use Rattle.std.proofs.Common.{refl, sym, ap, ◌∙◌, arith, inl, inr, ◌&&◌, Option, Some, None, ◌⊎◌, subst}
 use Rattle.std.specs.Prelude.{bytes_eq}
 use Rattle.std.specs.List.{AllByRecursion, All, AllPairs, Any, Contains, find, slice_get, dedup, dedup_from}
 use Rattle.std.specs.List.Sorted.{IsPermutation, IsSorted, IsStrictlySortedBy, IsNonDecreasingBy, IsPartitionPoint}
@@ -38,7 +39,8 @@ pub nats_equal : (m n : ℕ) → is_eq (nat_cmp m n) ≡ eqb m n
 nats_equal m n = grind (arith, nat_tests)
 
 -- the order of lists says Equal exactly if the elements are equal one by one, where `R` orders and `E` tests elements
-lists_equal : {A : Type 0} (R : A → A → Ordering) (E : A → A → Bool) → ((x y : A) → is_eq (R x y) ≡ E x y) → (xs ys : List A) → is_eq (slice_cmp R xs ys) ≡ pointwise E xs ys
+lists_equal : {A : Type 0} (R : A → A → Ordering) (E : A → A → Bool) → ((x y : A) → is_eq (R x y) ≡ E x y)
+    → (xs ys : List A) → is_eq (slice_cmp R xs ys) ≡ pointwise E xs ys
 lists_equal R E same (x ∷ xs) (y ∷ ys) = then_equal (R x y) (slice_cmp R xs ys) ∙ rw (same x y, lists_equal R E same xs ys) refl
 lists_equal R E same [] [] = refl
 lists_equal R E same _ _ = refl
@@ -59,11 +61,19 @@ options_equal _ _ = refl
 
 -- the order of extensions says Equal exactly if they are equal
 extensions_equal : (a b : ExtensionParts) → is_eq (extension_cmp a b) ≡ same_extension a b
-extensions_equal a b = then_equal (nat_cmp a.singleton b.singleton) (list_cmp a.subtags b.subtags) ∙ rw (nats_equal a.singleton b.singleton, many_equal a.subtags b.subtags) refl
+extensions_equal a b = then_equal (nat_cmp a.singleton b.singleton) (list_cmp a.subtags b.subtags)
+    ∙ rw (nats_equal a.singleton b.singleton, many_equal a.subtags b.subtags) refl
 
 -- the order of tags says Equal exactly if they are the same
 pub tags_equal : (t u : TagForm) → is_eq (tag_cmp t u) ≡ same_tag t u
-tags_equal (LangTag c es ps) (LangTag d fs qs) = simp (then_equal, and-true, subtags_equal, options_equal, many_equal, lists_equal extension_cmp same_extension extensions_equal)
+tags_equal (LangTag c es ps) (LangTag d fs qs) = simp (
+  then_equal,
+  and-true,
+  subtags_equal,
+  options_equal,
+  many_equal,
+  lists_equal extension_cmp same_extension extensions_equal,
+)
 tags_equal (PrivateUse ps) (PrivateUse qs) = simp (then_equal, and-true, many_equal)
 tags_equal (PrivateUse ps) (Grandfathered n) = then_equal (list_cmp ps []) Less ∙ and-false (is_eq (list_cmp ps []))
 tags_equal (Grandfathered m) (PrivateUse qs) = then_equal (list_cmp [] qs) Greater ∙ and-false (is_eq (list_cmp [] qs))
@@ -101,7 +111,8 @@ find_none P (x ∷ xs) h = rw (h 0 x refl) (find_none P xs (λ p e k. h (suc p) 
 -- what is found, and what is not
 
 -- what is found is in the list and passes the test
-pub found_passes : {X : Type 0} (P : X → Bool) (xs : List X) (e : X) → find P xs ≡ Some e → (i : ℕ) × (i < length xs) × (e ≡ get_or xs i e) × (P e ≡ true)
+pub found_passes : {X : Type 0} (P : X → Bool) (xs : List X) (e : X) → find P xs ≡ Some e → (i : ℕ) × (i < length xs)
+    × (e ≡ get_or xs i e) × (P e ≡ true)
 found_passes P [] e h = cc
 found_passes P (x ∷ xs) e h =
     elim (cases_Bool (P x)) [
@@ -110,14 +121,20 @@ found_passes P (x ∷ xs) e h =
     ]
 
 -- if none is found, each element fails the test
-pub unfound_fails : {X : Type 0} (P : X → Bool) (xs : List X) → find P xs ≡ None → (i : ℕ) (e : X) → i < length xs → get_or xs i e ≡ e → P e ≡ false
+pub unfound_fails : {X : Type 0} (P : X → Bool) (xs : List X) → find P xs ≡ None → (i : ℕ) (e : X) → i < length xs
+    → get_or xs i e ≡ e → P e ≡ false
 unfound_fails P [] h i e l is = absurd (omega (arith, l))
 unfound_fails P (x ∷ xs) h zero e l is = ap P (sym is) ∙ false_from_ne_true (P x) (λ t. let bad : Some x ≡ None = rw t at h in cc)
 unfound_fails P (x ∷ xs) h (suc i) e l is =
-    elim (cases_Bool (P x)) [ inl t ↦ let bad : Some x ≡ None = rw t at h in cc | inr f ↦ let told : find P xs ≡ None = rw f at h in unfound_fails P xs told i e (omega (arith, l)) is ]
+    elim (cases_Bool (P x)) [
+      | inl t ↦ let bad : Some x ≡ None = rw t at h in
+          cc
+      | inr f ↦ let told : find P xs ≡ None = rw f at h in unfound_fails P xs told i e (omega (arith, l)) is
+    ]
 
 -- an element that passes where no earlier one does is found
-pub find_first : {X : Type 0} (P : X → Bool) (xs : List X) (p : ℕ) (e : X) → slice_get xs p ≡ Some e → P e ≡ true → ((j : ℕ) (f : X) → j < p → slice_get xs j ≡ Some f → P f ≡ false) → find P xs ≡ Some e
+pub find_first : {X : Type 0} (P : X → Bool) (xs : List X) (p : ℕ) (e : X) → slice_get xs p ≡ Some e → P e ≡ true
+    → ((j : ℕ) (f : X) → j < p → slice_get xs j ≡ Some f → P f ≡ false) → find P xs ≡ Some e
 find_first P [] p e h t n = cc
 find_first P (x ∷ xs) zero e h t n = let same : x ≡ e = cc in rw (ap P same ∙ t) (ap Some same)
 find_first P (x ∷ xs) (suc p) e h t n = rw (n 0 x (omega arith) refl) (find_first P xs p e h t (λ j f l k. n (suc j) f (omega arith) k))
@@ -172,7 +189,10 @@ module _ {W K : Type 0} {cmp : K → K → Ordering} (total : IsTotalOrder cmp) 
   -- a list ascends if no row is after one of a greater index
   ascends : (xs : List W) → ((i j : ℕ) (d : W) → i < j → j < length xs → Precedes (get_or xs i d) (get_or xs j d)) → Ascends xs
   ascends [] h = tt
-  ascends (x ∷ xs) h = (recursion_from_All (Precedes x) xs (λ k d l. h 0 (suc k) d (omega arith) (omega arith)), ascends xs (λ i j d l m. h (suc i) (suc j) d (omega arith) (omega arith)))
+  ascends (x ∷ xs) h = (
+    recursion_from_All (Precedes x) xs (λ k d l. h 0 (suc k) d (omega arith) (omega arith)),
+    ascends xs (λ i j d l m. h (suc i) (suc j) d (omega arith) (omega arith)),
+  )
 
   -- a sorted list ascends
   ascending : (xs : List W) → IsSorted row_cmp xs → Ascends xs
@@ -196,7 +216,8 @@ module _ {W K : Type 0} {cmp : K → K → Ordering} (total : IsTotalOrder cmp) 
       upto (inr p) back = p.1
 
   -- dedup of ascending rows, after the kept row `k`: for each row, one of its key and of no later place stays
-  keeps : (k : W) (xs : List W) → AllByRecursion (Precedes k) xs → Ascends xs → AllByRecursion (λ y. Has (Near y) (dedup_from same_key k xs)) (k ∷ xs)
+  keeps : (k : W) (xs : List W) → AllByRecursion (Precedes k) xs → Ascends xs
+      → AllByRecursion (λ y. Has (Near y) (dedup_from same_key k xs)) (k ∷ xs)
   keeps k [] before up = (inl (tied_itself total (key k), omega arith), tt)
   keeps k (x ∷ xs) before up =
       let near = keeps k xs before.1 up.1 in
@@ -204,52 +225,76 @@ module _ {W K : Type 0} {cmp : K → K → Ordering} (total : IsTotalOrder cmp) 
       elim (cases_Bool (same_key x k)) [
         | inl e ↦
             let same : dedup_from same_key k xs ≡ dedup_from same_key k (x ∷ xs) = rw e refl in
-            subst (λ ds. AllByRecursion (λ y. Has (Near y) ds) (k ∷ x ∷ xs)) same (near.0, (has_more (Near k) (Near x) (near_next k x e before.0) (dedup_from same_key k xs) near.0, near.1))
+            subst (λ ds. AllByRecursion (λ y. Has (Near y) ds) (k ∷ x ∷ xs)) same (
+              near.0,
+              (
+                has_more (Near k) (Near x) (near_next k x e before.0) (dedup_from same_key k xs) near.0,
+                near.1,
+              ),
+            )
         | inr e ↦
             let same : k ∷ dedup_from same_key x xs ≡ dedup_from same_key k (x ∷ xs) = rw e refl in
-            subst (λ ds. AllByRecursion (λ y. Has (Near y) ds) (k ∷ x ∷ xs)) same
-            (inl (tied_itself total (key k), omega arith), AllByRecursion-weaker (λ y. Has (Near y) (dedup_from same_key x xs)) (λ y. Near y k ⊎ Has (Near y) (dedup_from same_key x xs)) (λ y h. inr h) (x ∷ xs) next)
+            subst (λ ds. AllByRecursion (λ y. Has (Near y) ds) (k ∷ x ∷ xs)) same (
+              inl (tied_itself total (key k), omega arith),
+              AllByRecursion-weaker (λ y. Has (Near y) (dedup_from same_key x xs)) (λ y. Near y k
+                  ⊎ Has (Near y) (dedup_from same_key x xs)) (λ y h. inr h) (x ∷ xs) next,
+            )
       ]
 
   -- dedup of ascending rows: for each row, one of its key and of no later place stays
   kept : (xs : List W) → Ascends xs → (y : W) → Contains xs y → Has (Near y) (dedup same_key xs)
   kept [] up y c = absurd (omega (arith, c.1))
   kept (x ∷ xs) up y c =
-      subst (λ z. Has (Near z) (dedup_from same_key x xs)) c.2 (All-from_recursion (λ z. Has (Near z) (dedup_from same_key x xs)) (x ∷ xs) (keeps x xs up.0 up.1) c.0 y c.1)
+      subst (λ z. Has (Near z) (dedup_from same_key x xs)) c.2
+      (All-from_recursion (λ z. Has (Near z) (dedup_from same_key x xs)) (x ∷ xs) (keeps x xs up.0 up.1) c.0 y c.1)
 
   -- in a strictly sorted list each row has a lesser key than each later one
   rising_from : (xs : List W) → IsStrictlySortedBy (on key cmp) xs → AllPairs (λ v w. cmp (key v) (key w) ≡ Less) xs
   unfolding IsStrictlySortedBy
   rising_from [] h = λ i j d l m. absurd (omega arith)
-  rising_from (x ∷ xs) h = AllPairs-cons (λ v w. cmp (key v) (key w) ≡ Less) x xs (All-from_recursion (λ w. cmp (key x) (key w) ≡ Less) xs h.0) (rising_from xs h.1)
+  rising_from (x ∷ xs) h = AllPairs-cons (λ v w. cmp (key v) (key w) ≡ Less) x xs
+      (All-from_recursion (λ w. cmp (key x) (key w) ≡ Less) xs h.0) (rising_from xs h.1)
 
   -- `row` gives the row that an entry at a place has, if any
-  module _ (row : ℕ → EntryParts → Option W) (placed : (p : ℕ) (e : EntryParts) (w : W) → row p e ≡ Some w → place w ≡ p) (R : List EntryParts) where
+  module _ (row : ℕ → EntryParts → Option W) (placed : (p : ℕ) (e : EntryParts) (w : W) → row p e ≡ Some w
+      → place w ≡ p) (R : List EntryParts) where
     -- the rows of all entries (`raw`), sorted by key and place (`sorted`), of each key the first alone (`rows`), are an
     -- index
-    pub indexed : (raw sorted rows : List W) → AreRows row place R (length R) raw → IsPermutation raw sorted → IsSorted row_cmp sorted → rows ≡ dedup same_key sorted → IsIndex row place key cmp R rows
+    pub indexed : (raw sorted rows : List W) → AreRows row place R (length R) raw → IsPermutation raw sorted
+        → IsSorted row_cmp sorted → rows ≡ dedup same_key sorted → IsIndex row place key cmp R rows
     indexed raw sorted rows g perm up is =
         record {
-          rising = subst (AllPairs (λ v w. cmp (key v) (key w) ≡ Less)) (sym is) (rising_from (dedup same_key sorted) (IsStrictlySortedBy-dedup (on_total key total) (λ v w. refl) sorted (λ k d l m. front_upto _ _ (up k d l m))));
-          sound = subst (All (IsRowAt row place R)) (sym is) (All-dedup same_key (IsRowAt row place R) sorted (All-permutation (IsRowAt row place R) raw sorted perm g.sound));
+          rising = subst (AllPairs (λ v w. cmp (key v) (key w) ≡ Less)) (sym is)
+              (rising_from (dedup same_key sorted) (IsStrictlySortedBy-dedup (on_total key total) (λ v w. refl) sorted
+              (λ k d l m. front_upto _ _ (up k d l m))));
+          sound = subst (All (IsRowAt row place R)) (sym is)
+              (All-dedup same_key (IsRowAt row place R) sorted
+              (All-permutation (IsRowAt row place R) raw sorted perm g.sound));
           complete = λ p e w there gives.
               let here : place w ≡ p = placed p e w gives in
-              any_from (λ v. (cmp (key v) (key w) ≡ Equal) × (place v ≤ p)) rows (subst (Has (λ v. (cmp (key v) (key w) ≡ Equal) × (place v ≤ p))) (sym is)
-              (has_more (Near w) (λ v. (cmp (key v) (key w) ≡ Equal) × (place v ≤ p)) (λ v n. (n.0, omega (arith, n.1))) (dedup same_key sorted)
-              (kept sorted (ascending sorted up) w (Contains-permutation raw sorted w perm (g.complete p e w (slice_get_within R p e there) there gives)))));
+              any_from (λ v. (cmp (key v) (key w) ≡ Equal) × (place v ≤ p)) rows
+              (subst (Has (λ v. (cmp (key v) (key w) ≡ Equal) × (place v ≤ p))) (sym is)
+              (has_more (Near w) (λ v. (cmp (key v) (key w) ≡ Equal) × (place v ≤ p)) (λ v n. (n.0, omega (arith, n.1)))
+              (dedup same_key sorted)
+              (kept sorted (ascending sorted up) w
+              (Contains-permutation raw sorted w perm
+              (g.complete p e w (slice_get_within R p e there) there gives)))));
         }
 
     -- two rows of an index that have equal keys are the same
-    one_row : (rows : List W) → IsIndex row place key cmp R rows → (m i : ℕ) (u w : W) → m < length rows → i < length rows → get_or rows m u ≡ u → get_or rows i w ≡ w → cmp (key u) (key w) ≡ Equal → u ≡ w
+    one_row : (rows : List W) → IsIndex row place key cmp R rows → (m i : ℕ) (u w : W) → m < length rows
+        → i < length rows → get_or rows m u ≡ u → get_or rows i w ≡ w → cmp (key u) (key w) ≡ Equal → u ≡ w
     one_row rows ix m i u w lm li eu ew tied =
         let at_u : get_or rows i u ≡ w = get_or_from_slice_get rows i w u (slice_get-get_or rows i w li ∙ ap Some ew) in
         elim (cases_lt m i) [
           | inl before ↦
-              let less : cmp (key u) (key w) ≡ Less = ap (λ z. cmp (key u) (key z)) (sym at_u) ∙ ap (λ z. cmp (key z) (key (get_or rows i u))) (sym eu) ∙ ix.rising m i u before li in
+              let less : cmp (key u) (key w) ≡ Less = ap (λ z. cmp (key u) (key z)) (sym at_u)
+              ∙ ap (λ z. cmp (key z) (key (get_or rows i u))) (sym eu) ∙ ix.rising m i u before li in
               let bad : Less ≡ Equal = sym less ∙ tied in cc
           | inr behind ↦ elim (cases_lt i m) [
             | inl after ↦
-                let less : cmp (key w) (key u) ≡ Less = ap (λ z. cmp (key z) (key u)) (sym at_u) ∙ ap (λ z. cmp (key (get_or rows i u)) (key z)) (sym eu) ∙ ix.rising i m u after lm in
+                let less : cmp (key w) (key u) ≡ Less = ap (λ z. cmp (key z) (key u)) (sym at_u)
+                ∙ ap (λ z. cmp (key (get_or rows i u)) (key z)) (sym eu) ∙ ix.rising i m u after lm in
                 let back : cmp (key w) (key u) ≡ Equal = tied_back total (key u) (key w) tied in
                 let bad : Less ≡ Equal = sym less ∙ back in cc
             | inr not_after ↦
@@ -263,7 +308,9 @@ module _ {W K : Type 0} {cmp : K → K → Ordering} (total : IsTotalOrder cmp) 
       -- by how their keys compare with `q`, rows don't fall: first those below it, then the equal ones, then those
       -- above it
       pub rises : IsNonDecreasingBy (λ w. ordering_index (cmp (key w) q)) rows
-      rises = searchable_from_sorted total key rows q (λ k d l m. ap is_lt (total.antisymm (key (get_or rows (k + 1) d)) (key (get_or rows k d)) ∙ ap ordering_reverse (ix.rising k (k + 1) d (omega arith) m)))
+      rises = searchable_from_sorted total key rows q
+          (λ k d l m. ap is_lt (total.antisymm (key (get_or rows (k + 1) d)) (key (get_or rows k d))
+          ∙ ap ordering_reverse (ix.rising k (k + 1) d (omega arith) m)))
 
       -- an entry passes the test `P` exactly if its row has the key `q`
       module _ (P : EntryParts → Bool) (agree : (p : ℕ) (e : EntryParts) → slice_get R p ≡ Some e → P e ≡ matches cmp key q (row p e)) where

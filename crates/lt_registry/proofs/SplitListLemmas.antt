@@ -5,7 +5,8 @@ use Rattle.std.specs.List.{AllByRecursion}
 use Rattle.lt_registry.specs.Validity.{Distinct}
 
 -- each element has the property `P` if it does wherever the list is split around it
-pub all_from : {A : Type 0} (P : A → Type 0) (xs : List A) → ((b : List A) (y : A) (a : List A) → xs ≡ b ++ y ∷ a → P y) → AllByRecursion P xs
+pub all_from : {A : Type 0} (P : A → Type 0) (xs : List A) → ((b : List A) (y : A) (a : List A) → xs ≡ b ++ y ∷ a → P y)
+    → AllByRecursion P xs
 all_from P [] f = tt
 all_from P (x ∷ xs) f = (f [] x xs refl, all_from P xs (λ b y a e. f (x ∷ b) y a (ap (λ zs. x ∷ zs) e)))
 
@@ -43,12 +44,15 @@ distinct_at xs b v c d e h = distinct_there b v c d (subst Distinct e h)
 -- the facts on each element, and on each pair, for the values of a function
 
 -- each value of `f` has the property `P` if it does wherever the list is split around its element
-all_map_from : {A B : Type 0} (f : A → B) (P : B → Type 0) (xs : List A) → ((b : List A) (y : A) (a : List A) → xs ≡ b ++ y ∷ a → P (f y)) → AllByRecursion P (map f xs)
+all_map_from : {A B : Type 0} (f : A → B) (P : B → Type 0) (xs : List A)
+    → ((b : List A) (y : A) (a : List A) → xs ≡ b ++ y ∷ a → P (f y)) → AllByRecursion P (map f xs)
 all_map_from f P [] h = tt
 all_map_from f P (x ∷ xs) h = (h [] x xs refl, all_map_from f P xs (λ b y a e. h (x ∷ b) y a (ap (λ zs. x ∷ zs) e)))
 
 -- the values of `f` are distinct if the list can't be split around two elements of one value
-pub distinct_map_from : {A B : Type 0} (f : A → B) (xs : List A) → ((b : List A) (x : A) (c : List A) (y : A) (d : List A) → xs ≡ b ++ x ∷ (c ++ y ∷ d) → f x ≡ f y → ⊥) → Distinct (map f xs)
+pub distinct_map_from : {A B : Type 0} (f : A → B) (xs : List A)
+    → ((b : List A) (x : A) (c : List A) (y : A) (d : List A) → xs ≡ b ++ x ∷ (c ++ y ∷ d) → f x ≡ f y → ⊥)
+    → Distinct (map f xs)
 distinct_map_from f [] h = tt
 distinct_map_from f (x ∷ xs) h = (
   all_map_from f (λ z. z ≢ f x) xs (λ b y a e same. h [] x b y a (ap (λ zs. x ∷ zs) e) (sym same)),
@@ -56,15 +60,18 @@ distinct_map_from f (x ∷ xs) h = (
 )
 
 -- if each value of `f` has the property, that of the element `y` between `b` and `a` does
-all_map_there : {A B : Type 0} (f : A → B) (P : B → Type 0) (b : List A) (y : A) (a : List A) → AllByRecursion P (map f (b ++ y ∷ a)) → P (f y)
+all_map_there : {A B : Type 0} (f : A → B) (P : B → Type 0) (b : List A) (y : A) (a : List A)
+    → AllByRecursion P (map f (b ++ y ∷ a)) → P (f y)
 all_map_there f P [] y a h = h.0
 all_map_there f P (x ∷ b) y a h = all_map_there f P b y a h.1
 
 -- values of `f` are not distinct if two elements have one value
-distinct_map_there : {A B : Type 0} (f : A → B) (b : List A) (x : A) (c : List A) (y : A) (d : List A) → Distinct (map f (b ++ x ∷ (c ++ y ∷ d))) → f x ≡ f y → ⊥
+distinct_map_there : {A B : Type 0} (f : A → B) (b : List A) (x : A) (c : List A) (y : A) (d : List A)
+    → Distinct (map f (b ++ x ∷ (c ++ y ∷ d))) → f x ≡ f y → ⊥
 distinct_map_there f [] x c y d h e = all_map_there f (λ z. z ≢ f x) c y d h.0 (sym e)
 distinct_map_there f (z ∷ b) x c y d h e = distinct_map_there f b x c y d h.1 e
 
 -- the values of `f` are not distinct if the list is split around two elements of one value
-pub distinct_map_at : {A B : Type 0} (f : A → B) (xs b : List A) (x : A) (c : List A) (y : A) (d : List A) → xs ≡ b ++ x ∷ (c ++ y ∷ d) → Distinct (map f xs) → f x ≡ f y → ⊥
+pub distinct_map_at : {A B : Type 0} (f : A → B) (xs b : List A) (x : A) (c : List A) (y : A) (d : List A)
+    → xs ≡ b ++ x ∷ (c ++ y ∷ d) → Distinct (map f xs) → f x ≡ f y → ⊥
 distinct_map_at f xs b x c y d e h = distinct_map_there f b x c y d (subst (λ zs. Distinct (map f zs)) e h)

@@ -1,5 +1,7 @@
 -- The first of several faults, and the faults of variants.
-use Rattle.std.proofs.Common.{◌≡◌, ℕ, ◌≤◌, ◌<◌, Bool, true, false, ◌⊎◌, inl, inr, refl, sym, subst, ◌∙◌, arith, ◌+◌, ◌||◌, not, List, [], ◌∷◌, ◌++◌, length, ap, append_assoc, bytes_eq, ◌≢◌, take, drop, get_or}
+use Rattle.std.proofs.Common.{◌≡◌, ℕ, ◌≤◌, ◌<◌, Bool, true, false, ◌⊎◌, inl, inr, refl, sym, subst, ◌∙◌, arith, ◌+◌}
+use Rattle.std.proofs.Common.{◌||◌, not, List, [], ◌∷◌, ◌++◌, length, ap, append_assoc, bytes_eq, ◌≢◌, take, drop}
+use Rattle.std.proofs.Common.{get_or}
 use Rattle.std.specs.Prelude.{Result, Ok, Err, bytes_eq}
 use Rattle.std.proofs.lemmas.Bool.{or_cases, false_from_ne_true}
 use Rattle.std.proofs.lemmas.List.Elements.{recursion_from_All}
@@ -71,7 +73,8 @@ tells_same F G (Err fault) s t = first_same F G fault.kind fault.place s t
 
 -- a check that tells the first fault of `F`, or, only if `M` is true, that memory ran out, tells so of `G`, if they are
 -- the same faults
-pub tells_or_lacks_same : (F G : Faults) (M : Type 0) (a : Result (Unit {0}) ValidRefusal) → SameFaults F G → TellsOrLacks F M a → TellsOrLacks G M a
+pub tells_or_lacks_same : (F G : Faults) (M : Type 0) (a : Result (Unit {0}) ValidRefusal) → SameFaults F G
+    → TellsOrLacks F M a → TellsOrLacks G M a
 tells_or_lacks_same F G M (Ok done) s t = λ k p g. t k p (s.back k p g)
 tells_or_lacks_same F G M (Err (refusals.Fault fault)) s t = first_same F G fault.kind fault.place s t
 tells_or_lacks_same F G M (Err refusals.OutOfMemory) s t = t
@@ -85,7 +88,8 @@ first_left F G k p before first = record {
 }
 
 -- the first fault of `G` is the first of both, if `F` has none
-pub first_right : (F G : Faults) (k : ValidFaultKind) (p : ℕ) → ((l : ValidFaultKind) (q : ℕ) → F l q → ⊥) → IsFirstOf G k p → IsFirstOf (Or F G) k p
+pub first_right : (F G : Faults) (k : ValidFaultKind) (p : ℕ) → ((l : ValidFaultKind) (q : ℕ) → F l q → ⊥)
+    → IsFirstOf G k p → IsFirstOf (Or F G) k p
 first_right F G k p none first = record {
   there = inr first.there;
   leftmost = λ l q h. elim h [ inl f ↦ absurd (none l q f) | inr g ↦ first.leftmost l q g ];
@@ -106,7 +110,8 @@ pub record Part (m n : ℕ) (F : Faults) (a : Check) : Type 0 where
 
 -- a check of faults after `l` and up to `m`, and after it one of faults after `i` and up to `n`, where `m` is at most
 -- `i`: together they are a check of faults after `l` and up to `n`
-pub part_then : {l m i n : ℕ} {F G : Faults} {a b : Check} → Part l m F a → Part i n G b → l ≤ i → m ≤ i → i ≤ n → Part l n (Or F G) (and_then a b)
+pub part_then : {l m i n : ℕ} {F G : Faults} {a b : Check} → Part l m F a → Part i n G b → l ≤ i → m ≤ i → i ≤ n
+    → Part l n (Or F G) (and_then a b)
 part_then {l} {m} {i} {n} {F} {G} {a} {b} f g li mi le = record {
   past = λ k p h. elim h [ inl x ↦ f.past k p x | inr y ↦ let lt = g.past k p y in omega (arith, li, lt) ];
   upto = λ k p h. elim h [ inl x ↦ let to = f.upto k p x in omega (arith, to, mi, le) | inr y ↦ g.upto k p y ];
@@ -137,7 +142,8 @@ tells_unless true kind at = λ k p f. let bad : true ≡ false = f.cause in cc
 tells_unless false kind at = single_first kind at (false ≡ false) refl
 
 -- a fault at `p` precedes one at `q` if `p` is at most `q` and, at one place, its rank is not greater
-pub single_precede : (k l : ValidFaultKind) (p q : ℕ) (P Q : Type 0) → p ≤ q → (p ≡ q → rank_of k ≤ rank_of l) → Precede (Single k p P) (Single l q Q)
+pub single_precede : (k l : ValidFaultKind) (p q : ℕ) (P Q : Type 0) → p ≤ q → (p ≡ q → rank_of k ≤ rank_of l)
+    → Precede (Single k p P) (Single l q Q)
 single_precede k l p q P Q le ranked = record {
   left = λ a b x y f g. let e = f.placed in let h = g.placed in omega (arith, le);
   rank = λ a b x f g.
@@ -204,28 +210,40 @@ VariantFault R r here before [] k p = ⊥
 VariantFault R r here before (v ∷ after) k p = VariantHead R r here before v k p ⊎ VariantFault R r (here + 1) (before ++ v ∷ []) after k p
 
 -- the check of one variant tells the first of its faults
-variant_tells : (R : List EntryParts) (r : Bool) (here : ℕ) (before : List (List ℕ)) (v : List ℕ) → Tells (VariantHead R r here before v) (variant_check R r here before v)
+variant_tells : (R : List EntryParts) (r : Bool) (here : ℕ) (before : List (List ℕ)) (v : List ℕ)
+    → Tells (VariantHead R r here before v) (variant_check R r here before v)
 variant_tells R r here before v =
-    tells_and (Single faults.UnknownVariant here (is_registered R kinds.Variant v ≡ false)) (Single faults.DuplicateVariant here ((r || not (stands_in before v)) ≡ false))
-    (unless (is_registered R kinds.Variant v) faults.UnknownVariant here) (unless (r || not (stands_in before v)) faults.DuplicateVariant here)
-    (single_precede faults.UnknownVariant faults.DuplicateVariant here here (is_registered R kinds.Variant v ≡ false) ((r || not (stands_in before v)) ≡ false) (omega arith) (λ e. omega arith))
+    tells_and (Single faults.UnknownVariant here (is_registered R kinds.Variant v ≡ false))
+    (Single faults.DuplicateVariant here ((r || not (stands_in before v)) ≡ false))
+    (unless (is_registered R kinds.Variant v) faults.UnknownVariant here)
+    (unless (r || not (stands_in before v)) faults.DuplicateVariant here)
+    (single_precede faults.UnknownVariant faults.DuplicateVariant here here (is_registered R kinds.Variant v ≡ false)
+    ((r || not (stands_in before v)) ≡ false) (omega arith) (λ e. omega arith))
     (tells_unless (is_registered R kinds.Variant v) faults.UnknownVariant here)
     (tells_unless (r || not (stands_in before v)) faults.DuplicateVariant here)
 
 -- a fault of a variant is at the variant's place
-head_here : (R : List EntryParts) (r : Bool) (here : ℕ) (before : List (List ℕ)) (v : List ℕ) (k : ValidFaultKind) (p : ℕ) → VariantHead R r here before v k p → p ≡ here
+head_here : (R : List EntryParts) (r : Bool) (here : ℕ) (before : List (List ℕ)) (v : List ℕ) (k : ValidFaultKind) (p
+    : ℕ) → VariantHead R r here before v k p → p ≡ here
 head_here R r here before v k p (inl h) = h.placed
 head_here R r here before v k p (inr h) = h.placed
 
 -- the check of the variants `vs`, of which the first is at the place after `m`, tells the first of their faults, and
 -- each of these is at the place of a variant
-pub variants_part : (R : List EntryParts) (r : Bool) (m : ℕ) (before vs : List (List ℕ)) → Part m (m + length vs) (VariantFault R r (m + 1) before vs) (variants_check R r (m + 1) before vs)
+pub variants_part : (R : List EntryParts) (r : Bool) (m : ℕ) (before vs : List (List ℕ))
+    → Part m (m + length vs) (VariantFault R r (m + 1) before vs) (variants_check R r (m + 1) before vs)
 unfolding VariantFault variants_check
 variants_part R r m before [] = part_none m (m + 0) (VariantFault R r (m + 1) before []) (λ k p h. h)
 variants_part R r m before (v ∷ after) =
     part_then {m = m + 1} {F = VariantHead R r (m + 1) before v}
-    (record { past = λ k p h. omega (arith, head_here R r (m + 1) before v k p h); upto = λ k p h. omega (arith, head_here R r (m + 1) before v k p h); tells = variant_tells R r (m + 1) before v })
-    (subst (λ n. Part (m + 1) n (VariantFault R r (m + 1 + 1) (before ++ v ∷ []) after) (variants_check R r (m + 1 + 1) (before ++ v ∷ []) after)) (omega arith) (variants_part R r (m + 1) (before ++ v ∷ []) after))
+    (record {
+      past = λ k p h. omega (arith, head_here R r (m + 1) before v k p h);
+      upto = λ k p h. omega (arith, head_here R r (m + 1) before v k p h);
+      tells = variant_tells R r (m + 1) before v;
+    })
+    (subst (λ n. Part (m + 1) n (VariantFault R r (m + 1 + 1) (before ++ v ∷ []) after)
+    (variants_check R r (m + 1 + 1) (before ++ v ∷ []) after)) (omega arith)
+    (variants_part R r (m + 1) (before ++ v ∷ []) after))
     (omega arith) (omega arith) (omega arith)
 
 -- the fault `k` at `p` is one of a variant of `vs`, the first of which is at `here` and comes after those of `before`
@@ -237,11 +255,14 @@ pub record IsVariantAt (R : List EntryParts) (r : Bool) (here : ℕ) (before vs 
   pub fault : VariantHead R r (here + length front) (before ++ front) variant k p
 
 -- a fault of a variant stays one if its place and the list before it are replaced by equal ones
-moved : (R : List EntryParts) (r : Bool) (v : List ℕ) (k : ValidFaultKind) (p : ℕ) {m n : ℕ} {bs cs : List (List ℕ)} → m ≡ n → bs ≡ cs → VariantHead R r m bs v k p → VariantHead R r n cs v k p
-moved R r v k p {m} {n} {bs} {cs} number front f = subst (λ z. VariantHead R r z cs v k p) number (subst (λ z. VariantHead R r m z v k p) front f)
+moved : (R : List EntryParts) (r : Bool) (v : List ℕ) (k : ValidFaultKind) (p : ℕ) {m n : ℕ} {bs cs : List (List ℕ)}
+    → m ≡ n → bs ≡ cs → VariantHead R r m bs v k p → VariantHead R r n cs v k p
+moved R r v k p {m} {n} {bs} {cs} number front f = subst (λ z. VariantHead R r z cs v k p) number
+    (subst (λ z. VariantHead R r m z v k p) front f)
 
 -- a fault of a list of variants is one of a variant in the list
-pub variants_shown : (R : List EntryParts) (r : Bool) (here : ℕ) (before vs : List (List ℕ)) (k : ValidFaultKind) (p : ℕ) → VariantFault R r here before vs k p → IsVariantAt R r here before vs k p
+pub variants_shown : (R : List EntryParts) (r : Bool) (here : ℕ) (before vs : List (List ℕ)) (k : ValidFaultKind) (p
+    : ℕ) → VariantFault R r here before vs k p → IsVariantAt R r here before vs k p
 unfolding VariantFault
 variants_shown R r here before [] k p h = absurd h
 variants_shown R r here before (v ∷ after) k p (inl h) =
@@ -250,17 +271,26 @@ variants_shown R r here before (v ∷ after) k p (inl h) =
 variants_shown R r here before (v ∷ after) k p (inr h) =
     let at = variants_shown R r (here + 1) (before ++ v ∷ []) after k p h in
     let same : here + 1 + length at.front ≡ here + length (v ∷ at.front) = omega arith in
-    record { front = v ∷ at.front; variant = at.variant; after = at.after; there = ap (λ ws. v ∷ ws) at.there; fault = moved R r at.variant k p same (append_assoc before (v ∷ []) at.front) at.fault }
+    record {
+      front = v ∷ at.front;
+      variant = at.variant;
+      after = at.after;
+      there = ap (λ ws. v ∷ ws) at.there;
+      fault = moved R r at.variant k p same (append_assoc before (v ∷ []) at.front) at.fault;
+    }
 
 -- a fault of a variant is one of the list that the variant is in
-pub variants_hidden : (R : List EntryParts) (r : Bool) (here : ℕ) (before front : List (List ℕ)) (v : List ℕ) (after : List (List ℕ)) (k : ValidFaultKind) (p : ℕ) → VariantHead R r (here + length front) (before ++ front) v k p → VariantFault R r here before (front ++ v ∷ after) k p
+pub variants_hidden : (R : List EntryParts) (r : Bool) (here : ℕ) (before front : List (List ℕ)) (v : List ℕ) (after
+    : List (List ℕ)) (k : ValidFaultKind) (p : ℕ) → VariantHead R r (here + length front) (before ++ front) v k p
+    → VariantFault R r here before (front ++ v ∷ after) k p
 unfolding VariantFault
 variants_hidden R r here before [] v after k p h =
     let same : here + 0 ≡ here = omega arith in
     inl (moved R r v k p same (append-nil before) h)
 variants_hidden R r here before (u ∷ front) v after k p h =
     let same : here + length (u ∷ front) ≡ here + 1 + length front = omega arith in
-    inr (variants_hidden R r (here + 1) (before ++ u ∷ []) front v after k p (moved R r v k p same (sym (append_assoc before (u ∷ []) front)) h))
+    inr (variants_hidden R r (here + 1) (before ++ u ∷ []) front v after k p
+    (moved R r v k p same (sym (append_assoc before (u ∷ []) front)) h))
 
 -- the test that a variant doesn't repeat fails only if variants may not repeat (`r`) and this one does (`b`)
 pub repeats : (r b : Bool) → (r || not b) ≡ false → (r ≡ false) × (b ≡ true)
@@ -276,7 +306,10 @@ repeated _ _ h e = cc
 -- index `i`, whose place in the tag is `p`.
 
 -- the check of the variants from the index `i` on is `a`, that of the variant there, and then that of those after it
-variants_turn : (R : List EntryParts) (r : Bool) (p : ℕ) (vs : List (List ℕ)) (i : ℕ) (v : List ℕ) (a : Check) → i < length vs → v ≡ get_or vs i v → variant_check R r p (take i vs) v ≡ a → variants_check R r p (take i vs) (drop i vs) ≡ and_then a (variants_check R r (p + 1) (take (i + 1) vs) (drop (i + 1) vs))
+variants_turn : (R : List EntryParts) (r : Bool) (p : ℕ) (vs : List (List ℕ)) (i : ℕ) (v : List ℕ) (a : Check)
+    → i < length vs → v ≡ get_or vs i v → variant_check R r p (take i vs) v ≡ a
+    → variants_check R r p (take i vs) (drop i vs)
+    ≡ and_then a (variants_check R r (p + 1) (take (i + 1) vs) (drop (i + 1) vs))
 unfolding variants_check
 variants_turn R r p vs i v a l e told =
     ap (variants_check R r p (take i vs)) (drop_turn vs i v l e)
@@ -284,36 +317,52 @@ variants_turn R r p vs i v a l e told =
     ∙ ap (λ b. and_then b (variants_check R r (p + 1) (take (i + 1) vs) (drop (i + 1) vs))) told
 
 -- if the variant at the index `i` passes, the check is that of those after it
-pub variants_on : (R : List EntryParts) (r : Bool) (p : ℕ) (vs : List (List ℕ)) (i : ℕ) (v : List ℕ) → i < length vs → v ≡ get_or vs i v → variant_check R r p (take i vs) v ≡ Ok tt → variants_check R r p (take i vs) (drop i vs) ≡ variants_check R r (p + 1) (take (i + 1) vs) (drop (i + 1) vs)
+pub variants_on : (R : List EntryParts) (r : Bool) (p : ℕ) (vs : List (List ℕ)) (i : ℕ) (v : List ℕ) → i < length vs
+    → v ≡ get_or vs i v → variant_check R r p (take i vs) v ≡ Ok tt → variants_check R r p (take i vs) (drop i vs)
+    ≡ variants_check R r (p + 1) (take (i + 1) vs) (drop (i + 1) vs)
 variants_on R r p vs i v l e told = variants_turn R r p vs i v (Ok tt) l e told
 
 -- if the variant at the index `i` has a fault, the check answers it
-pub variants_stop : (R : List EntryParts) (r : Bool) (p : ℕ) (vs : List (List ℕ)) (i : ℕ) (v : List ℕ) (fault : ValidFault) → i < length vs → v ≡ get_or vs i v → variant_check R r p (take i vs) v ≡ Err fault → variants_check R r p (take i vs) (drop i vs) ≡ Err fault
+pub variants_stop : (R : List EntryParts) (r : Bool) (p : ℕ) (vs : List (List ℕ)) (i : ℕ) (v : List ℕ) (fault
+    : ValidFault) → i < length vs → v ≡ get_or vs i v → variant_check R r p (take i vs) v ≡ Err fault
+    → variants_check R r p (take i vs) (drop i vs) ≡ Err fault
 variants_stop R r p vs i v fault l e told = variants_turn R r p vs i v (Err fault) l e told
 
 -- past the last variant the check answers Ok
-pub variants_end : (R : List EntryParts) (r : Bool) (p : ℕ) (before vs : List (List ℕ)) (i : ℕ) → length vs ≤ i → variants_check R r p before (drop i vs) ≡ Ok tt
+pub variants_end : (R : List EntryParts) (r : Bool) (p : ℕ) (before vs : List (List ℕ)) (i : ℕ) → length vs ≤ i
+    → variants_check R r p before (drop i vs) ≡ Ok tt
 unfolding variants_check
 variants_end R r p before vs i l = ap (variants_check R r p before) (drop_all i vs l)
 
 -- of distinct variants the check is the same whether variants may repeat or not
 
 -- if none of `after` is `v` or among `before`, none of it is among `before` and `v`
-next_before : (before : List (List ℕ)) (v : List ℕ) (after : List (List ℕ)) → AllByRecursion (λ w. w ≢ v) after → AllByRecursion (λ w. stands_in before w ≡ false) after → AllByRecursion (λ w. stands_in (before ++ v ∷ []) w ≡ false) after
+next_before : (before : List (List ℕ)) (v : List ℕ) (after : List (List ℕ)) → AllByRecursion (λ w. w ≢ v) after
+    → AllByRecursion (λ w. stands_in before w ≡ false) after
+    → AllByRecursion (λ w. stands_in (before ++ v ∷ []) w ≡ false) after
 next_before before v [] d n = tt
-next_before before v (w ∷ after) d n =
-    (list_any-append (λ u. bytes_eq u w) before (v ∷ []) ∙ ap (λ b. b || stands_in (v ∷ []) w) n.0 ∙ ap (λ b. b || false) (false_from_ne_true (bytes_eq v w) (λ e. d.0 (sym ((bytes_eq-Decides v w).0 e)))), next_before before v after d.1 n.1)
+next_before before v (w ∷ after) d n = (
+  list_any-append (λ u. bytes_eq u w) before (v ∷ []) ∙ ap (λ b. b || stands_in (v ∷ []) w) n.0
+      ∙ ap (λ b. b || false) (false_from_ne_true (bytes_eq v w) (λ e. d.0 (sym ((bytes_eq-Decides v w).0 e)))),
+  next_before before v after d.1 n.1,
+)
 
 -- of distinct variants, none of which is among `before`, the check is the same whether variants may repeat or not
-differing_after : (R : List EntryParts) (p : ℕ) (before vs : List (List ℕ)) → Distinct vs → AllByRecursion (λ v. stands_in before v ≡ false) vs → variants_check R true p before vs ≡ variants_check R false p before vs
+differing_after : (R : List EntryParts) (p : ℕ) (before vs : List (List ℕ)) → Distinct vs
+    → AllByRecursion (λ v. stands_in before v ≡ false) vs → variants_check R true p before vs
+    ≡ variants_check R false p before vs
 unfolding variants_check
 differing_after R p before [] d n = refl
 differing_after R p before (v ∷ after) d n =
-    ap (and_then (variant_check R true p before v)) (differing_after R (p + 1) (before ++ v ∷ []) after d.1 (next_before before v after d.0 n.1))
-    ∙ ap (λ b. and_then (and_then (unless (is_registered R kinds.Variant v) faults.UnknownVariant p) (unless (not b) faults.DuplicateVariant p)) (variants_check R false (p + 1) (before ++ v ∷ []) after)) (sym n.0)
+    ap (and_then (variant_check R true p before v))
+    (differing_after R (p + 1) (before ++ v ∷ []) after d.1 (next_before before v after d.0 n.1))
+    ∙ ap (λ b. and_then (and_then (unless (is_registered R kinds.Variant v) faults.UnknownVariant p)
+    (unless (not b) faults.DuplicateVariant p)) (variants_check R false (p + 1) (before ++ v ∷ []) after)) (sym n.0)
 
 -- distinct variants may be checked as if variants could repeat; `d`: they are known to be distinct
-pub differing_pass : (R : List EntryParts) (r : Bool) (p : ℕ) (vs : List (List ℕ)) (d : Bool) → (d ≡ true → Distinct vs) → variants_check R (r || d) p [] vs ≡ variants_check R r p [] vs
+pub differing_pass : (R : List EntryParts) (r : Bool) (p : ℕ) (vs : List (List ℕ)) (d : Bool) → (d ≡ true → Distinct vs)
+    → variants_check R (r || d) p [] vs ≡ variants_check R r p [] vs
 differing_pass R true p vs d h = refl
-differing_pass R false p vs true h = differing_after R p [] vs (h refl) (recursion_from_All (λ v. stands_in [] v ≡ false) vs (λ k d l. refl))
+differing_pass R false p vs true h = differing_after R p [] vs (h refl)
+    (recursion_from_All (λ v. stands_in [] v ≡ false) vs (λ k d l. refl))
 differing_pass R false p vs false h = refl

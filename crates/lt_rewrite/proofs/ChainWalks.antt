@@ -1,7 +1,9 @@
 -- A walk along a chain of values, value by value. After as many values as there are records it has ended or never will.
 -- It may also stop at a record that is before its own in an order, since the chain of that one is judged too
 -- (`first_cycle`).
-use Rattle.std.proofs.Common.{◌≡◌, ◌≢◌, ℕ, zero, suc, ◌≤◌, ◌<◌, inl, inr, Bool, true, false, cond, eqb, List, [], ◌∷◌, Option, Some, None, refl, sym, ap, ◌∙◌, subst, length, slice_get, arith, ◌+◌, Result, IfOk, OnErr, not, get_or, All, MatchBool, Bor, is_some, Contains}
+use Rattle.std.proofs.Common.{◌≡◌, ◌≢◌, ℕ, zero, suc, ◌≤◌, ◌<◌, inl, inr, Bool, true, false, cond, eqb, List, [], ◌∷◌}
+use Rattle.std.proofs.Common.{Option, Some, None, refl, sym, ap, ◌∙◌, subst, length, slice_get, arith, ◌+◌, Result}
+use Rattle.std.proofs.Common.{IfOk, OnErr, not, get_or, All, MatchBool, Bor, is_some, Contains}
 use Rattle.std.specs.List.{AllByRecursion, list_any, IsDistinct}
 use Rattle.std.proofs.lemmas.Map.Steps.{length-le_from_distinct_below}
 use Rattle.std.proofs.lemmas.Bool.{or_cases, eqb-true, ne_eqb}
@@ -108,7 +110,8 @@ module _ (R : List EntryParts) (k : Kind) where
       ]
 
   -- the record that gives the first of `n` + 1 values gives none of a chain that takes at most `n`
-  keys_differ : (n : ℕ) (s : List ℕ) (a : Takes next (suc n) s) (m : ℕ) (t : List ℕ) (b : Takes next m t) → m ≤ n → AllByRecursion (λ y. eqb (key s a.0 a.1) y ≡ false) (keys m t b)
+  keys_differ : (n : ℕ) (s : List ℕ) (a : Takes next (suc n) s) (m : ℕ) (t : List ℕ) (b : Takes next m t) → m ≤ n
+      → AllByRecursion (λ y. eqb (key s a.0 a.1) y ≡ false) (keys m t b)
   keys_differ n s a zero t b h = tt
   keys_differ n s a (suc m) t b h =
       let ne : key s a.0 a.1 ≢ key t b.0 b.1 = λ e.
@@ -126,11 +129,20 @@ module _ (R : List EntryParts) (k : Kind) where
   -- a chain of values that ends takes at most as many as there are records
   pub takes_within : (s : List ℕ) → Ends next s → (n : ℕ) × (n ≤ length R) × Takes next n s
   takes_within s h =
-      let r = takes next h.0 s h.1 in
-      (r.0, omega (arith, keys_length r.0 s r.1, length-le_from_distinct_below (keys r.0 s r.1) (length R) (keys_distinct r.0 s r.1) (keys_below r.0 s r.1)), r.1)
+      let r = takes next h.0 s h.1 in (
+        r.0,
+        omega (
+          arith,
+          keys_length r.0 s r.1,
+          length-le_from_distinct_below (keys r.0 s r.1) (length R)
+              (keys_distinct r.0 s r.1) (keys_below r.0 s r.1),
+        ),
+        r.1,
+      )
 
 -- a chain that ends has ended after as many values as there are records
-pub chain_ends_within : (R : List EntryParts) (k : Kind) (s : List ℕ) → Ends (next_value R k) s → next_value R k (chase (next_value R k) (length R) s) ≡ None
+pub chain_ends_within : (R : List EntryParts) (k : Kind) (s : List ℕ) → Ends (next_value R k) s
+    → next_value R k (chase (next_value R k) (length R) s) ≡ None
 chain_ends_within R k s h =
     let f : List ℕ → Option (List ℕ) = next_value R k in
     let t = takes_within R k s h in
@@ -147,7 +159,8 @@ pub walk_ends : (f : List ℕ → Option (List ℕ)) (n : ℕ) (s d : List ℕ) 
 walk_ends f n s d e h = (n, sym e, h)
 
 -- if a value follows even after as many values as there are records, the chain has no end
-pub walk_cycles : (R : List EntryParts) (k : Kind) (s d t : List ℕ) → d ≡ chase (next_value R k) (length R) s → next_value R k d ≡ Some t → Ends (next_value R k) s → ⊥
+pub walk_cycles : (R : List EntryParts) (k : Kind) (s d t : List ℕ) → d ≡ chase (next_value R k) (length R) s
+    → next_value R k d ≡ Some t → Ends (next_value R k) s → ⊥
 walk_cycles R k s d t e h ends =
     let a : next_value R k d ≡ None = ap (next_value R k) e ∙ chain_ends_within R k s ends in cc
 
@@ -160,22 +173,26 @@ next_form R G kinds.Variant s t e = variant_value_form R G s t e
 next_form u v w s t e = cc
 
 -- each value of a chain has the form of its kind, if the start has it
-pub walk_form : (R : List EntryParts) → IsRegistry R → (k : Kind) (n : ℕ) (s t : List ℕ) → chase (next_value R k) n s ≡ t → has_form k s ≡ true → has_form k t ≡ true
+pub walk_form : (R : List EntryParts) → IsRegistry R → (k : Kind) (n : ℕ) (s t : List ℕ)
+    → chase (next_value R k) n s ≡ t → has_form k s ≡ true → has_form k t ≡ true
 walk_form R G k n s t e h =
     subst (λ x. has_form k x ≡ true) e (chase_keeps (next_value R k) (λ x. has_form k x ≡ true) (λ a b f p. next_form R G k a b f) n s h)
 
 -- the end of a chain has the form of its kind, if the start has it
-pub end_form : (R : List EntryParts) → IsRegistry R → (k : Kind) (s d : List ℕ) → EndsIn (next_value R k) s d → has_form k s ≡ true → has_form k d ≡ true
+pub end_form : (R : List EntryParts) → IsRegistry R → (k : Kind) (s d : List ℕ) → EndsIn (next_value R k) s d
+    → has_form k s ≡ true → has_form k d ≡ true
 end_form R G k s d e h = walk_form R G k e.0 s d e.1 h
 
 -- except for an extlang, whose chain begins at its replacement, an end of the kind's own chain is the one that
 -- `ChainEndsIn` asks for
-pub own_end : (R : List EntryParts) (k : Kind) (s : List ℕ) → (k ≡ kinds.Extlang → ⊥) → (r : Result (List ℕ) Cycle) → IfOk r (EndsIn (next_value R k) s) → IfOk r (ChainEndsIn R k s)
+pub own_end : (R : List EntryParts) (k : Kind) (s : List ℕ) → (k ≡ kinds.Extlang → ⊥) → (r : Result (List ℕ) Cycle)
+    → IfOk r (EndsIn (next_value R k) s) → IfOk r (ChainEndsIn R k s)
 own_end R kinds.Extlang s n r h = absurd (n refl)
 own_end t u s n r h = h
 
 -- except for an extlang, where the kind's own chain has no end, it has none as `ChainEnds` asks for it
-pub own_cycle : (R : List EntryParts) (k : Kind) (s : List ℕ) → (k ≡ kinds.Extlang → ⊥) → (r : Result (List ℕ) Cycle) → OnErr r (Ends (next_value R k) s → ⊥) → OnErr r (ChainEnds R k s → ⊥)
+pub own_cycle : (R : List EntryParts) (k : Kind) (s : List ℕ) → (k ≡ kinds.Extlang → ⊥) → (r : Result (List ℕ) Cycle)
+    → OnErr r (Ends (next_value R k) s → ⊥) → OnErr r (ChainEnds R k s → ⊥)
 own_cycle R kinds.Extlang s n r h = absurd (n refl)
 own_cycle t u s n r h = h
 
@@ -187,7 +204,9 @@ nothing_follows None = refl
 nothing_follows (Some e) = refl
 
 -- what follows by the entry `o` of a variant is its value, if that is not short
-variant_follows : (o : Option EntryParts) → option_and_then (λ w. cond (is_short w) None (Some w)) (option_and_then (λ (e : EntryParts). one_of e.value) o) ≡ option_and_then (following kinds.Variant) o
+variant_follows : (o : Option EntryParts)
+    → option_and_then (λ w. cond (is_short w) None (Some w)) (option_and_then (λ (e : EntryParts). one_of e.value) o)
+    ≡ option_and_then (following kinds.Variant) o
 variant_follows None = refl
 variant_follows (Some e) = refl
 
@@ -200,7 +219,8 @@ next_follows R kinds.Redundant s = nothing_follows (entry R kinds.Redundant s)
 next_follows t u s = refl
 
 -- the value after `s` on its chain is the one that follows by its entry `o`
-pub next_by : (R : List EntryParts) (k : Kind) (s : List ℕ) (o : Option EntryParts) → o ≡ entry R k s → next_value R k s ≡ option_and_then (following k) o
+pub next_by : (R : List EntryParts) (k : Kind) (s : List ℕ) (o : Option EntryParts) → o ≡ entry R k s
+    → next_value R k s ≡ option_and_then (following k) o
 next_by R k s o e = next_follows R k s ∙ ap (option_and_then (following k)) (sym e)
 
 -- `e` is a record of the kind `k` with the value `v`, and `s` is `n` values on from `v`
@@ -210,7 +230,8 @@ pub record IsWalk (R : List EntryParts) (e : EntryParts) (k : Kind) (v s : List 
   pub walked : s ≡ chase (next_value R k) n v
 
 -- if the chain ends from where the walk has come to, the record's chain ends
-chain_from : (R : List EntryParts) (e : EntryParts) (k : Kind) (v s : List ℕ) (n : ℕ) → IsWalk R e k v s n → Ends (next_value R k) s → HasEndingChain R e
+chain_from : (R : List EntryParts) (e : EntryParts) (k : Kind) (v s : List ℕ) (n : ℕ) → IsWalk R e k v s n
+    → Ends (next_value R k) s → HasEndingChain R e
 chain_from R e k v s n W ends w h =
     let f : List ℕ → Option (List ℕ) = next_value R k in
     let same : v ≡ w = same_Some v w (sym W.from ∙ h) in
@@ -218,25 +239,32 @@ chain_from R e k v s n W ends w h =
     subst (λ (d : Kind). Ends (next_value R d) w) W.of_kind (subst (Ends f) same (rest.0 + n, ap f (chase_plus f rest.0 n v) ∙ rest.1))
 
 -- a walk comes to a subtag without a next value: the record's chain ends
-pub ends_there : (R : List EntryParts) (e : EntryParts) (k : Kind) (v s : List ℕ) (n : ℕ) → IsWalk R e k v s n → next_value R k s ≡ None → HasEndingChain R e
+pub ends_there : (R : List EntryParts) (e : EntryParts) (k : Kind) (v s : List ℕ) (n : ℕ) → IsWalk R e k v s n
+    → next_value R k s ≡ None → HasEndingChain R e
 ends_there R e k v s n W end = chain_from R e k v s n W (0, end)
 
 -- a walk comes to a subtag whose record `met` is before `e` in an order: the chain of `e` ends if the chains of the
 -- records before it do
-pub ends_after : (R : List EntryParts) (order : Order) (e met : EntryParts) (k : Kind) (v s : List ℕ) (n : ℕ) → IsWalk R e k v s n → entry R k s ≡ Some met → place order met.number < place order e.number → EndsAfterEarlier R order e
+pub ends_after : (R : List EntryParts) (order : Order) (e met : EntryParts) (k : Kind) (v s : List ℕ) (n : ℕ)
+    → IsWalk R e k v s n → entry R k s ≡ Some met → place order met.number < place order e.number
+    → EndsAfterEarlier R order e
 ends_after R order e met k v s n W found below earlier =
     let each = entry_has R k s (λ (f : EntryParts). place order f.number < place order e.number → HasEndingChain R f) earlier met found in
     chain_from R e k v s n W
     (ends_first (next_value R k) s
     (λ t g.
-    let gives : one_of met.value ≡ Some t = sym (ap (option_and_then (λ (x : EntryParts). one_of x.value)) found) ∙ next_is_value R k s t g in
+    let gives : one_of met.value ≡ Some t = sym (ap (option_and_then (λ (x : EntryParts). one_of x.value)) found)
+    ∙ next_is_value R k s t g in
     subst (λ (d : Kind). Ends (next_value R d) t) each.1.of_kind (each.0 below t gives)))
 
 -- after as many values as there are records the record's chain ends if no value follows (`none`), and else has no end
-pub at_limit : (R : List EntryParts) (order : Order) (e : EntryParts) (k : Kind) (v s : List ℕ) (n : ℕ) → IsWalk R e k v s n → n ≡ length R → (next : Option (Bor (List ℕ))) → option_copied next ≡ next_value R k s → (none : Bool) → is_some next ≡ not none → MatchBool none (EndsAfterEarlier R order e) (HasEndingChain R e → ⊥)
+pub at_limit : (R : List EntryParts) (order : Order) (e : EntryParts) (k : Kind) (v s : List ℕ) (n : ℕ)
+    → IsWalk R e k v s n → n ≡ length R → (next : Option (Bor (List ℕ))) → option_copied next ≡ next_value R k s
+    → (none : Bool) → is_some next ≡ not none → MatchBool none (EndsAfterEarlier R order e) (HasEndingChain R e → ⊥)
 at_limit R order e k v s n W all None h true i = λ earlier. ends_there R e k v s n W (sym h)
 at_limit R order e k v s n W all (Some t) h false i =
-    λ ends. walk_cycles R k v s t.now (W.walked ∙ ap (λ m. chase (next_value R k) m v) all) (sym h) (subst (λ (d : Kind). Ends (next_value R d) v) (sym W.of_kind) (ends v W.from))
+    λ ends. walk_cycles R k v s t.now (W.walked ∙ ap (λ m. chase (next_value R k) m v) all) (sym h)
+    (subst (λ (d : Kind). Ends (next_value R d) v) (sym W.of_kind) (ends v W.from))
 at_limit t order e k v s n u all w h x i = cc
 
 -- where each record's chain ends if those of the records before it do, the chains of all records before a place `n` end
@@ -249,6 +277,8 @@ pub all_end_in_order : (R : List EntryParts) (order : Order) → All (EndsAfterE
 all_end_in_order R order h = λ k d i. h k d i (earlier_end R order h (place order (get_or R k d).number))
 
 -- in the order of the file the records before `e` are those of lower numbers
-pub file_order : (R : List EntryParts) (e : EntryParts) → All (λ (f : EntryParts). f.number < e.number → HasEndingChain R f) R → EarlierEnd R orders.File (place orders.File e.number)
+pub file_order : (R : List EntryParts) (e : EntryParts)
+    → All (λ (f : EntryParts). f.number < e.number → HasEndingChain R f) R
+    → EarlierEnd R orders.File (place orders.File e.number)
 unfolding place
 file_order R e h = h

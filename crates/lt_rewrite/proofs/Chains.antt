@@ -31,7 +31,8 @@ chase_past f n m s le e =
     ap (λ k. chase f k s) (omega arith) ∙ chase_plus f (m - n) n s ∙ chase_rests f (m - n) (chase f n s) e
 
 -- a chain has one end
-pub same_end : (f : List ℕ → Option (List ℕ)) (n m : ℕ) (s : List ℕ) → f (chase f n s) ≡ None → f (chase f m s) ≡ None → chase f n s ≡ chase f m s
+pub same_end : (f : List ℕ → Option (List ℕ)) (n m : ℕ) (s : List ℕ) → f (chase f n s) ≡ None → f (chase f m s) ≡ None
+    → chase f n s ≡ chase f m s
 same_end f n m s p q = elim (cases_lt n m) [ inl l ↦ sym (chase_past f n m s (omega arith) p) | inr l ↦ chase_past f m n s l q ]
 
 -- a chain ends, if it does so from its first value on, where there is one
@@ -54,11 +55,14 @@ end_next {f} {g} E s t h =
     sym a ∙ same_end f (E.ends s).0 (suc (E.ends t).0) s (ap f a ∙ (E.ends s).2) (ap f b ∙ (E.ends t).2) ∙ b
 
 -- what each next value keeps, every value of a chain has if its start has it
-pub chase_keeps : (f : List ℕ → Option (List ℕ)) (P : List ℕ → Type 0) → ((s t : List ℕ) → f s ≡ Some t → P s → P t) → (n : ℕ) (s : List ℕ) → P s → P (chase f n s)
+pub chase_keeps : (f : List ℕ → Option (List ℕ)) (P : List ℕ → Type 0) → ((s t : List ℕ) → f s ≡ Some t → P s → P t)
+    → (n : ℕ) (s : List ℕ) → P s → P (chase f n s)
 chase_keeps f P keeps zero s p = p
 chase_keeps f P keeps (suc n) s p =
-    by_next (f s) (λ e. subst P (sym (chase_rests f (suc n) s e)) p) (λ t e. subst P (sym (chase_next f n s t e)) (chase_keeps f P keeps n t (keeps s t e p)))
+    by_next (f s) (λ e. subst P (sym (chase_rests f (suc n) s e)) p)
+    (λ t e. subst P (sym (chase_next f n s t e)) (chase_keeps f P keeps n t (keeps s t e p)))
 
 -- what each next value keeps, the end of a chain has if its start has it
-pub end_keeps : {f : List ℕ → Option (List ℕ)} {g : List ℕ → List ℕ} → IsEnd f g → (P : List ℕ → Type 0) → ((s t : List ℕ) → f s ≡ Some t → P s → P t) → (s : List ℕ) → P s → P (g s)
+pub end_keeps : {f : List ℕ → Option (List ℕ)} {g : List ℕ → List ℕ} → IsEnd f g → (P : List ℕ → Type 0)
+    → ((s t : List ℕ) → f s ≡ Some t → P s → P t) → (s : List ℕ) → P s → P (g s)
 end_keeps {f} {g} E P keeps s p = subst P (E.ends s).1 (chase_keeps f P keeps (E.ends s).0 s p)

@@ -1,5 +1,6 @@
 -- The core normal form: each subtag at the end of its chain, and VariantLanguage steps taken.
-use Rattle.std.proofs.Common.{◌≡◌, ℕ, zero, suc, Bool, true, false, List, [], ◌∷◌, ◌++◌, Option, Some, None, refl, sym, ap, ◌∙◌, subst, length, arith, map, cond, not, is_some, filter, get_or, inl, inr}
+use Rattle.std.proofs.Common.{◌≡◌, ℕ, zero, suc, Bool, true, false, List, [], ◌∷◌, ◌++◌, Option, Some, None, refl, sym}
+use Rattle.std.proofs.Common.{ap, ◌∙◌, subst, length, arith, map, cond, not, is_some, filter, get_or, inl, inr}
 use Rattle.std.specs.List.{AllByRecursion}
 use Rattle.std.specs.Option.{option_map}
 use Rattle.std.proofs.lemmas.Bool.{cond-true, cond_both}
@@ -21,7 +22,10 @@ use Rattle.lt_rewrite.proofs.Chains.{IsEnd, end_same, end_next, end_keeps}
 use Rattle.lt_rewrite.proofs.Stars.{star_trans}
 use Rattle.lt_rewrite.proofs.Entries.{chains_end, variant_languages_final, no_language, variant_language_is}
 use Rattle.lt_rewrite.proofs.NormalForms.{IsFormOf, star_form, form_is_normal, normal_is_form}
-use Rattle.lt_rewrite.proofs.CoreSteps.{AtRest, Pick, Picked, along, by_extlang, by_region, by_script, by_variant, by_variant_language, distinct_filter, distinct_unmap, distinct_without, each_step, filter_without, language_reached, merge, one_leftmost, pick, rests, step}
+use Rattle.lt_rewrite.proofs.CoreSteps.{AtRest, Pick, Picked, along, by_extlang, by_region, by_script, by_variant}
+use Rattle.lt_rewrite.proofs.CoreSteps.{by_variant_language, distinct_filter, distinct_unmap, distinct_without}
+use Rattle.lt_rewrite.proofs.CoreSteps.{each_step, filter_without, language_reached, merge, one_leftmost, pick, rests}
+use Rattle.lt_rewrite.proofs.CoreSteps.{step}
 
 -- the variant has a language value
 pub has_variant_language : List EntryParts → List ℕ → Bool
@@ -51,7 +55,8 @@ record Led (R : List EntryParts) (c d : CoreParts) : Type 0 where
   kept : filter (staying R) d.variants ≡ filter (staying R) c.variants
 
 -- where `g` gives the ends of chains, no value follows what it makes of an optional subtag
-end_of_some : (f : List ℕ → Option (List ℕ)) (g : List ℕ → List ℕ) → IsEnd f g → (o : Option (List ℕ)) (s : List ℕ) → option_map g o ≡ Some s → f s ≡ None
+end_of_some : (f : List ℕ → Option (List ℕ)) (g : List ℕ → List ℕ) → IsEnd f g → (o : Option (List ℕ)) (s : List ℕ)
+    → option_map g o ≡ Some s → f s ≡ None
 end_of_some f g E None s e = cc
 end_of_some f g E (Some t) s e = subst (λ u. f u ≡ None) (same_Some (g t) s e) (E.ends t).2
 
@@ -71,7 +76,8 @@ module _ (R : List EntryParts) (C : MeetsCoreConditions R) where
 
   -- the language and the variants after the leftmost VariantLanguage step beside `x`, as `go` takes them further; `x`
   -- and `vs` themselves if no variant has such a step
-  abbrev taken : (List ℕ → List (List ℕ) → List ℕ × List (List ℕ)) → (x : List ℕ) (vs : List (List ℕ)) → Pick (language_beside R x) vs → List ℕ × List (List ℕ)
+  abbrev taken : (List ℕ → List (List ℕ) → List ℕ × List (List ℕ)) → (x : List ℕ) (vs : List (List ℕ))
+      → Pick (language_beside R x) vs → List ℕ × List (List ℕ)
   taken go x vs (inl p) = go (last kinds.Language p.value) (p.before ++ p.after)
   taken go x vs (inr none) = (x, vs)
 
@@ -90,7 +96,8 @@ module _ (R : List EntryParts) (C : MeetsCoreConditions R) where
 
   -- the normal form of a core, under the conditions C1 to C6
   pub normal_core : CoreParts → CoreParts
-  normal_core c = form_on c.extlangs c.language (option_map (last kinds.Script) c.script) (option_map (last kinds.Region) c.region) (map (last kinds.Variant) c.variants)
+  normal_core c = form_on c.extlangs c.language (option_map (last kinds.Script) c.script)
+      (option_map (last kinds.Region) c.region) (map (last kinds.Variant) c.variants)
 
   -- a variant without a language value has no VariantLanguage step
   none_beside : (l v : List ℕ) → language_value R v ≡ None → language_beside R l v ≡ None
@@ -103,11 +110,14 @@ module _ (R : List EntryParts) (C : MeetsCoreConditions R) where
       (λ s t h p. let n = no_language R C s t h in none_beside l t n.1 ∙ sym (none_beside l s n.0) ∙ p) v refl
 
   -- where some variant has a VariantLanguage step, the leftmost one, `q`, is taken first
-  settled_some : (n : ℕ) (x : List ℕ) (vs : List (List ℕ)) (q : Picked (language_beside R x) vs) → settled (suc n) x vs ≡ settled n (last kinds.Language q.value) (q.before ++ q.after)
+  settled_some : (n : ℕ) (x : List ℕ) (vs : List (List ℕ)) (q : Picked (language_beside R x) vs)
+      → settled (suc n) x vs ≡ settled n (last kinds.Language q.value) (q.before ++ q.after)
   settled_some n x vs q =
-      elim (pick (language_beside R x) vs) as (λ o. taken (settled n) x vs o ≡ settled n (last kinds.Language q.value) (q.before ++ q.after)) [
+      elim (pick (language_beside R x) vs) as (λ o. taken (settled n) x vs o
+      ≡ settled n (last kinds.Language q.value) (q.before ++ q.after)) [
         | inl p ↦
-            let one = one_leftmost (language_beside R x) p.before q.before p.variant q.variant p.value q.value p.after q.after (sym p.there ∙ q.there) p.has q.has p.leftmost q.leftmost in
+            let one = one_leftmost (language_beside R x) p.before q.before p.variant q.variant p.value q.value p.after
+            q.after (sym p.there ∙ q.there) p.has q.has p.leftmost q.leftmost in
             λ i. settled n (last kinds.Language (one.0 i)) (one.1 i)
         | inr none ↦
             let P : List ℕ → Type 0 = λ u. language_beside R x u ≡ None in
@@ -129,22 +139,36 @@ module _ (R : List EntryParts) (C : MeetsCoreConditions R) where
         language = λ v none has.
             ap at none ∙ ap settle (end_next (at_last kinds.Language) c.language v has) ∙ ap (λ xs. form_on xs v sc re vs) (sym none);
         script = λ s v there has.
-            ap (λ o. form_on c.extlangs c.language o re vs) (ap (option_map (last kinds.Script)) there ∙ ap Some (end_next (at_last kinds.Script) s v has));
+            ap (λ o. form_on c.extlangs c.language o re vs) (ap (option_map (last kinds.Script)) there
+            ∙ ap Some (end_next (at_last kinds.Script) s v has));
         region = λ s v there has.
-            ap (λ o. form_on c.extlangs c.language sc o vs) (ap (option_map (last kinds.Region)) there ∙ ap Some (end_next (at_last kinds.Region) s v has));
+            ap (λ o. form_on c.extlangs c.language sc o vs) (ap (option_map (last kinds.Region)) there
+            ∙ ap Some (end_next (at_last kinds.Region) s v has));
         variant = λ before v w after there has.
             ap (form_on c.extlangs c.language sc re)
-            (ap (map g) there ∙ map-append g before (v ∷ after) ∙ ap (λ u. map g before ++ u ∷ map g after) (end_next (at_last kinds.Variant) v w has) ∙ sym (map-append g before (w ∷ after)));
+            (ap (map g) there ∙ map-append g before (v ∷ after)
+            ∙ ap (λ u. map g before ++ u ∷ map g after) (end_next (at_last kinds.Variant) v w has)
+            ∙ sym (map-append g before (w ∷ after)));
         variant_language = λ before v m after none there has leftmost.
             let P : List ℕ → Type 0 = λ u. language_beside R c.language u ≡ None in
             let b = map g before in
             let a = map g after in
             let same : vs ≡ b ++ g v ∷ a = ap (map g) there ∙ map-append g before (v ∷ after) in
             let n : length vs ≡ suc (length (b ++ a)) = omega (arith, ap length same, length-append b (g v ∷ a), length-append b a) in
-            let picked : Picked (language_beside R c.language) vs = record { before = b; variant = g v; after = a; value = m; there = same; has = variant_language_last c.language v ∙ has; leftmost = all_mapped P P g (λ u h. variant_language_last c.language u ∙ h) before leftmost } in
+            let picked : Picked (language_beside R c.language) vs = record {
+              before = b;
+              variant = g v;
+              after = a;
+              value = m;
+              there = same;
+              has = variant_language_last c.language v
+                  ∙ has;
+              leftmost = all_mapped P P g (λ u h. variant_language_last c.language u ∙ h) before leftmost;
+            } in
             ap at none
             ∙ ap settle (end_same (at_last kinds.Language) c.language (variant_languages_final R C c.language v m has).final)
-            ∙ ap (λ (p : List ℕ × List (List ℕ)). core p.0 [] sc re p.1) (ap (λ k. settled k c.language vs) n ∙ settled_some (length (b ++ a)) c.language vs picked)
+            ∙ ap (λ (p : List ℕ × List (List ℕ)). core p.0 [] sc re p.1) (ap (λ k. settled k c.language vs) n
+            ∙ settled_some (length (b ++ a)) c.language vs picked)
             ∙ ap (form_on [] m sc re) (sym (map-append g before after))
             ∙ ap (λ xs. form_on xs m sc re (map g (before ++ after))) (sym none);
       })
@@ -161,60 +185,131 @@ module _ (R : List EntryParts) (C : MeetsCoreConditions R) where
 
   -- steps lead from a core without extlangs, all of whose subtags are at the ends of their chains, to what `settled`
   -- gives, from which none leads
-  settled_led : (sc re : Option (List ℕ)) → AtEnds R sc re → (n : ℕ) (x : List ℕ) (vs : List (List ℕ)) → length vs ≡ n → preferred_value R kinds.Language x ≡ None → AllByRecursion Final vs → (let p = settled n x vs in Led R (core x [] sc re vs) (core p.0 [] sc re p.1))
+  settled_led : (sc re : Option (List ℕ)) → AtEnds R sc re → (n : ℕ) (x : List ℕ) (vs : List (List ℕ)) → length vs ≡ n
+      → preferred_value R kinds.Language x ≡ None → AllByRecursion Final vs
+      → (let p = settled n x vs in Led R (core x [] sc re vs) (core p.0 [] sc re p.1))
   settled_led sc re E zero x [] l h k =
-      record { reached = done; rest = record { extlang = λ y e. cc; language = λ _. h; script = E.script; region = E.region; variant = tt; variant_language = λ _. tt }; kept = refl }
+      record {
+        reached = done;
+        rest = record {
+          extlang = λ y e. cc;
+          language = λ _. h;
+          script = E.script;
+          region = E.region;
+          variant = tt;
+          variant_language = λ _. tt;
+        };
+        kept = refl;
+      }
   settled_led sc re E zero x (v ∷ vs) l h k = cc
   settled_led sc re E (suc n) x vs l h k =
-      elim (pick (language_beside R x) vs) as (λ o. let p = taken (settled n) x vs o in Led R (core x [] sc re vs) (core p.0 [] sc re p.1)) [
+      elim (pick (language_beside R x) vs) as (λ o. let p = taken (settled n) x vs o in
+      Led R (core x [] sc re vs) (core p.0 [] sc re p.1)) [
         | inl p ↦
             let m = p.value in
             let us = p.before ++ p.after in
-            let shorter : length us ≡ n = omega (arith, l, ap length p.there, length-append p.before (p.variant ∷ p.after), length-append p.before p.after) in
-            let led : (let q = settled n (last kinds.Language m) us in Led R (core (last kinds.Language m) [] sc re us) (core q.0 [] sc re q.1)) =
-            settled_led sc re E n (last kinds.Language m) us shorter ((at_last kinds.Language).ends m).2 (all_without Final p.before p.variant p.after (subst (AllByRecursion Final) p.there k)) in
+            let shorter : length us ≡ n = omega (
+              arith,
+              l,
+              ap length p.there,
+              length-append p.before (p.variant ∷ p.after),
+              length-append p.before p.after,
+            ) in
+            let led : (let q = settled n (last kinds.Language m) us in
+            Led R (core (last kinds.Language m) [] sc re us) (core q.0 [] sc re q.1)) =
+            settled_led sc re E n (last kinds.Language m) us shorter ((at_last kinds.Language).ends m).2
+            (all_without Final p.before p.variant p.after (subst (AllByRecursion Final) p.there k)) in
             record {
               reached = onward (by_variant_language R (core x [] sc re vs) p.before p.variant m p.after refl p.there p.has p.leftmost)
-                  (star_trans (language_reached R (core m [] sc re us) (core (last kinds.Language m) [] sc re us) m (last kinds.Language m) refl refl ((at_last kinds.Language).ends m) refl) led.reached);
+                  (star_trans (language_reached R (core m [] sc re us) (core (last kinds.Language m) [] sc re us) m
+                  (last kinds.Language m) refl refl ((at_last kinds.Language).ends m) refl) led.reached);
               rest = led.rest;
-              kept = led.kept ∙ sym (ap (filter (staying R)) p.there ∙ filter_without (staying R) p.before p.variant p.after (ap not (some_variant_language x p.variant m p.has)));
+              kept = led.kept
+                  ∙ sym (ap (filter (staying R)) p.there
+                  ∙ filter_without (staying R) p.before p.variant p.after (ap not
+                  (some_variant_language x p.variant m p.has)));
             }
         | inr none ↦
-            record { reached = done; rest = record { extlang = λ y e. cc; language = λ _. h; script = E.script; region = E.region; variant = k; variant_language = λ _. none }; kept = refl }
+            record {
+              reached = done;
+              rest = record {
+                extlang = λ y e. cc;
+                language = λ _. h;
+                script = E.script;
+                region = E.region;
+                variant = k;
+                variant_language = λ _. none;
+              };
+              kept = refl;
+            }
       ]
 
   -- steps lead from a core whose script, region and variants are at the ends of their chains to its `form_on`, from
   -- which none leads
-  form_led : (xs : List (List ℕ)) (l : List ℕ) (sc re : Option (List ℕ)) (vs : List (List ℕ)) → AtEnds R sc re → AllByRecursion Final vs → Led R (core l xs sc re vs) (form_on xs l sc re vs)
+  form_led : (xs : List (List ℕ)) (l : List ℕ) (sc re : Option (List ℕ)) (vs : List (List ℕ)) → AtEnds R sc re
+      → AllByRecursion Final vs → Led R (core l xs sc re vs) (form_on xs l sc re vs)
   form_led [] l sc re vs E k =
       let end = (at_last kinds.Language).ends l in
-      let led : (let p = settled (length vs) (last kinds.Language l) vs in Led R (core (last kinds.Language l) [] sc re vs) (core p.0 [] sc re p.1)) =
+      let led : (let p = settled (length vs) (last kinds.Language l) vs in
+      Led R (core (last kinds.Language l) [] sc re vs) (core p.0 [] sc re p.1)) =
       settled_led sc re E (length vs) (last kinds.Language l) vs refl end.2 k in
-      record { reached = star_trans (language_reached R (core l [] sc re vs) (core (last kinds.Language l) [] sc re vs) l (last kinds.Language l) refl refl end refl) led.reached; rest = led.rest; kept = led.kept }
+      record {
+        reached = star_trans (language_reached R (core l [] sc re vs) (core (last kinds.Language l) [] sc re vs)
+            l (last kinds.Language l) refl refl end refl) led.reached;
+        rest = led.rest;
+        kept = led.kept;
+      }
   form_led (x ∷ []) l sc re vs E k =
-      let led : Led R (core (replacement R x) [] sc re vs) (form_on [] (replacement R x) sc re vs) = form_led [] (replacement R x) sc re vs E k in
+      let led : Led R (core (replacement R x) [] sc re vs) (form_on [] (replacement R x) sc re vs) = form_led []
+      (replacement R x) sc re vs E k in
       record { reached = onward (by_extlang R (core l (x ∷ []) sc re vs) x refl) led.reached; rest = led.rest; kept = led.kept }
   form_led (x ∷ y ∷ r) l sc re vs E k =
-      record { reached = done; rest = record { extlang = λ z e. cc; language = λ e. absurd (cc); script = E.script; region = E.region; variant = k; variant_language = λ e. absurd (cc) }; kept = refl }
+      record {
+        reached = done;
+        rest = record {
+          extlang = λ z e. cc;
+          language = λ e. absurd (cc);
+          script = E.script;
+          region = E.region;
+          variant = k;
+          variant_language = λ e. absurd (cc);
+        };
+        kept = refl;
+      }
 
   -- steps lead from a core, once its script, region and variants are at the ends of their chains, to its normal form
-  led : (c : CoreParts) → Led R (core c.language c.extlangs (option_map (last kinds.Script) c.script) (option_map (last kinds.Region) c.region) (map (last kinds.Variant) c.variants)) (normal_core c)
+  led : (c : CoreParts)
+      → Led R (core c.language c.extlangs (option_map (last kinds.Script) c.script)
+      (option_map (last kinds.Region) c.region) (map (last kinds.Variant) c.variants)) (normal_core c)
   unfolding normal_core
   led c =
-      form_led c.extlangs c.language (option_map (last kinds.Script) c.script) (option_map (last kinds.Region) c.region) (map (last kinds.Variant) c.variants)
-      (record { script = end_of_some (preferred_value R kinds.Script) (last kinds.Script) (at_last kinds.Script) c.script; region = end_of_some (preferred_value R kinds.Region) (last kinds.Region) (at_last kinds.Region) c.region })
-      (recursion_from_All Final (map (last kinds.Variant) c.variants) (All-map Final (last kinds.Variant) c.variants (λ k d h. ((at_last kinds.Variant).ends (get_or c.variants k d)).2)))
+      form_led c.extlangs c.language (option_map (last kinds.Script) c.script) (option_map (last kinds.Region) c.region)
+      (map (last kinds.Variant) c.variants)
+      (record {
+        script = end_of_some (preferred_value R kinds.Script) (last kinds.Script) (at_last kinds.Script)
+            c.script;
+        region = end_of_some (preferred_value R kinds.Region) (last kinds.Region) (at_last kinds.Region)
+            c.region;
+      })
+      (recursion_from_All Final (map (last kinds.Variant) c.variants)
+      (All-map Final (last kinds.Variant) c.variants
+      (λ k d h. ((at_last kinds.Variant).ends (get_or c.variants k d)).2)))
 
   -- steps lead an optional subtag to the end of its chain, in the core that `at` makes of it
-  part_to_end : (k : Kind) (at : Option (List ℕ) → CoreParts) → ((s t : List ℕ) → next_value R k s ≡ Some t → CoreStep R (at (Some s)) (at (Some t))) → (o : Option (List ℕ)) → Star (CoreStep R) (at o) (at (option_map (last k) o))
+  part_to_end : (k : Kind) (at : Option (List ℕ) → CoreParts)
+      → ((s t : List ℕ) → next_value R k s ≡ Some t → CoreStep R (at (Some s)) (at (Some t))) → (o : Option (List ℕ))
+      → Star (CoreStep R) (at o) (at (option_map (last k) o))
   part_to_end k at step None = done
   part_to_end k at step (Some s) = along R (next_value R k) (λ u. at (Some u)) step s (last k s) ((at_last k).ends s)
 
   -- steps lead each variant to the end of its chain, in the core that `at` makes of the variants
-  variants_to_end : (at : List (List ℕ) → CoreParts) → ((before : List (List ℕ)) (v w : List ℕ) (after : List (List ℕ)) → variant_value R v ≡ Some w → CoreStep R (at (before ++ v ∷ after)) (at (before ++ w ∷ after))) → (vs : List (List ℕ)) → Star (CoreStep R) (at vs) (at (map (last kinds.Variant) vs))
+  variants_to_end : (at : List (List ℕ) → CoreParts) → ((before : List (List ℕ)) (v w : List ℕ) (after : List (List ℕ))
+      → variant_value R v ≡ Some w → CoreStep R (at (before ++ v ∷ after)) (at (before ++ w ∷ after)))
+      → (vs : List (List ℕ)) → Star (CoreStep R) (at vs) (at (map (last kinds.Variant) vs))
   variants_to_end at step [] = done
   variants_to_end at step (v ∷ vs) =
-      star_trans (along R (variant_value R) (λ u. at (u ∷ vs)) (λ s t e. step [] s t vs e) v (last kinds.Variant v) ((at_last kinds.Variant).ends v))
+      star_trans (along R (variant_value R) (λ u. at (u ∷ vs)) (λ s t e. step [] s t vs e) v (last kinds.Variant v)
+      ((at_last kinds.Variant).ends v))
       (variants_to_end (λ us. at (last kinds.Variant v ∷ us)) (λ before s t after e. step (last kinds.Variant v ∷ before) s t after e) vs)
 
   -- `normal_core` gives the normal form: each core step keeps it, steps reach it, and none leads from it
@@ -224,9 +319,16 @@ module _ (R : List EntryParts) (C : MeetsCoreConditions R) where
     reached = λ c.
         let d : CoreParts = record c { script = option_map (last kinds.Script) c.script } in
         let e : CoreParts = record d { region = option_map (last kinds.Region) c.region } in
-        star_trans (part_to_end kinds.Script (λ o. record c { script = o }) (λ s t f. by_script R (record c { script = Some s }) s t refl f) c.script)
-        (star_trans (part_to_end kinds.Region (λ o. record d { region = o }) (λ s t f. by_region R (record d { region = Some s }) s t refl f) c.region)
-        (star_trans (variants_to_end (λ vs. record e { variants = vs }) (λ b v w a h. by_variant R (record e { variants = b ++ v ∷ a }) b v w a refl h) c.variants) (led c).reached));
+        star_trans
+        (part_to_end kinds.Script (λ o. record c { script = o })
+        (λ s t f. by_script R (record c { script = Some s }) s t refl f) c.script)
+        (star_trans
+        (part_to_end kinds.Region (λ o. record d { region = o })
+        (λ s t f. by_region R (record d { region = Some s }) s t refl f) c.region)
+        (star_trans
+        (variants_to_end (λ vs. record e { variants = vs })
+        (λ b v w a h. by_variant R (record e { variants = b ++ v ∷ a }) b v w a refl h) c.variants)
+        (led c).reached));
     rests = λ c e. rests R (normal_core c) e (led c).rest;
   }
 
@@ -238,10 +340,13 @@ module _ (R : List EntryParts) (C : MeetsCoreConditions R) where
   -- under the conditions C1 to C6 a core step keeps the core normal form
   pub steps_keep_normal_form : StepsKeepNormalForm R
   steps_keep_normal_form c d e s n =
-      subst (λ x. IsCoreNormalForm R d x) (sym (cores_formed.kept c d s) ∙ normal_is_form cores_formed c e n) (form_is_normal cores_formed d)
+      subst (λ x. IsCoreNormalForm R d x) (sym (cores_formed.kept c d s) ∙ normal_is_form cores_formed c e n)
+      (form_is_normal cores_formed d)
 
   -- cores that `at` makes of subtags `s` and `t`, whose chains both end in `e`, have one normal form
-  pub one_end_one_form : (f : List ℕ → Option (List ℕ)) (at : List ℕ → CoreParts) → ((s t : List ℕ) → f s ≡ Some t → CoreStep R (at s) (at t)) → (s t e : List ℕ) → EndsIn f s e → EndsIn f t e → normal_core (at s) ≡ normal_core (at t)
+  pub one_end_one_form : (f : List ℕ → Option (List ℕ)) (at : List ℕ → CoreParts)
+      → ((s t : List ℕ) → f s ≡ Some t → CoreStep R (at s) (at t)) → (s t e : List ℕ) → EndsIn f s e → EndsIn f t e
+      → normal_core (at s) ≡ normal_core (at t)
   one_end_one_form f at step s t e h k =
       star_form cores_formed (along R f at step s e h) ∙ sym (star_form cores_formed (along R f at step t e k))
 
@@ -262,10 +367,14 @@ module _ (R : List EntryParts) (C : MeetsCoreConditions R) where
         region = λ a v there has h. h;
         variant = λ before v w after there has h.
             let n = no_language R C v w has in
-            subst Distinct (ap (filter T) there ∙ filter_without T before v after (stays v n.0) ∙ sym (filter_without T before w after (stays w n.1))) h;
+            subst Distinct (ap (filter T) there ∙ filter_without T before v after (stays v n.0)
+            ∙ sym (filter_without T before w after (stays w n.1))) h;
         variant_language = λ before v m after none there has leftmost h.
-            let e = ap (filter T) there ∙ filter-append T before (v ∷ after) ∙ ap (λ l. filter T before ++ l) (cond-true (T v) (v ∷ filter T after) (filter T after) (some_variant_language c.language v m has)) in
-            subst Distinct (sym (filter-append T before after)) (distinct_without (filter T before) v (filter T after) (subst Distinct e h));
+            let e = ap (filter T) there ∙ filter-append T before (v ∷ after)
+            ∙ ap (λ l. filter T before ++ l) (cond-true (T v) (v ∷ filter T after) (filter T after)
+            (some_variant_language c.language v m has)) in
+            subst Distinct (sym (filter-append T before after))
+            (distinct_without (filter T before) v (filter T after) (subst Distinct e h));
       })
 
   -- a variant has a language value exactly if the end of its chain has one
@@ -282,7 +391,8 @@ module _ (R : List EntryParts) (C : MeetsCoreConditions R) where
       let g : List ℕ → List ℕ = last kinds.Variant in
       ap (λ b. cond (not b) (g x ∷ filter (staying R) (map g xs)) (filter (staying R) (map g xs))) (has_variant_language_last x)
       ∙ ap (λ l. cond (staying R x) (g x ∷ l) l) (filter_last xs)
-      ∙ elim (staying R x) as (λ b. cond b (g x ∷ map g (filter (staying R) xs)) (map g (filter (staying R) xs)) ≡ map g (cond b (x ∷ filter (staying R) xs) (filter (staying R) xs))) [ true ↦ refl | false ↦ refl ]
+      ∙ elim (staying R x) as (λ b. cond b (g x ∷ map g (filter (staying R) xs)) (map g (filter (staying R) xs))
+      ≡ map g (cond b (x ∷ filter (staying R) xs) (filter (staying R) xs))) [ true ↦ refl | false ↦ refl ]
 
   -- a core that repeats no variant with a language value repeats no variant, if its normal form repeats none
   pub form_distinct : (c : CoreParts) → VariantLanguagesOnce R c → Distinct (normal_core c).variants → Distinct c.variants

@@ -1,5 +1,7 @@
 -- Core steps come to an end, and give a proper core of a proper core.
-use Rattle.std.proofs.Common.{rules, ◌≡◌, ℕ, zero, suc, Bool, true, false, List, [], ◌∷◌, ◌++◌, Option, Some, None, refl, sym, ap, ◌∙◌, subst, length, arith, ◌≤◌, ◌+◌, ◌≢◌, not, ◌<◌, All, ◌-◌, ◌&&◌, ◌||◌, bytes_eq}
+use Rattle.std.proofs.Common.{rules, ◌≡◌, ℕ, zero, suc, Bool, true, false, List, [], ◌∷◌, ◌++◌, Option, Some, None}
+use Rattle.std.proofs.Common.{refl, sym, ap, ◌∙◌, subst, length, arith, ◌≤◌, ◌+◌, ◌≢◌, not, ◌<◌, All, ◌-◌, ◌&&◌, ◌||◌}
+use Rattle.std.proofs.Common.{bytes_eq}
 use Rattle.std.specs.Prelude.{option_to_list}
 use Rattle.std.specs.List.{AllByRecursion, list_all, sum_by}
 use Rattle.std.specs.Option.{option_map_or}
@@ -24,7 +26,8 @@ use Rattle.lt_rewrite.specs.Laws.{StepsKeepProper, ProperCoresSpellNone}
 use Rattle.lt_rewrite.proofs.PartLists.{facts_of_tests, tests_of_facts, all_without, all_replaced}
 use Rattle.lt_rewrite.proofs.Entries.{chains_end, variant_language_is, entry_has, variant_value_fits, language_value_fits}
 use Rattle.lt_rewrite.proofs.ChainWalks.{Takes, takes_unique, takes_within}
-use Rattle.lt_rewrite.proofs.Forms.{registered_entry, value_form, value_registered, replacement_form, replacement_registered, language_value_form, variant_value_form}
+use Rattle.lt_rewrite.proofs.Forms.{registered_entry, value_form, value_registered, replacement_form}
+use Rattle.lt_rewrite.proofs.Forms.{replacement_registered, language_value_form, variant_value_form}
 use Rattle.lt_rewrite.proofs.CoreSteps.{core_step_no_longer, each_step}
 
 -- Core steps come to an end: each makes a number lower.
@@ -64,7 +67,9 @@ module _ (R : List EntryParts) where
   -- variant
   pub weight : CoreParts → ℕ
   weight c =
-      sum_by (λ _. spare) c.extlangs + (after kinds.Language c.language + (of_part kinds.Script c.script + (of_part kinds.Region c.region + sum_by of_variant c.variants)))
+      sum_by (λ _. spare) c.extlangs
+      + (after kinds.Language c.language
+      + (of_part kinds.Script c.script + (of_part kinds.Region c.region + sum_by of_variant c.variants)))
 
   -- where all chains end, fewer than `spare` values follow a subtag
   after_most : All (HasEndingChain R) R → (k : Kind) (s : List ℕ) → after k s < spare
@@ -81,8 +86,10 @@ module _ (R : List EntryParts) where
       omega (arith, same, left_takes (next_value R k) (length R) a.0 t a.2 a.1, left_takes (next_value R k) (length R) b.0 s b.2 b.1)
 
   -- the sum over a list of variants, cut at the variant `v`
-  variants_with : (before : List (List ℕ)) (v : List ℕ) (vs : List (List ℕ)) → sum_by of_variant (before ++ v ∷ vs) ≡ sum_by of_variant before + (of_variant v + sum_by of_variant vs)
-  variants_with before v vs = sum_by-append of_variant before (v ∷ vs) ∙ ap (λ n. sum_by of_variant before + n) (sum_by-cons of_variant v vs)
+  variants_with : (before : List (List ℕ)) (v : List ℕ) (vs : List (List ℕ)) → sum_by of_variant (before ++ v ∷ vs)
+      ≡ sum_by of_variant before + (of_variant v + sum_by of_variant vs)
+  variants_with before v vs = sum_by-append of_variant before (v ∷ vs)
+      ∙ ap (λ n. sum_by of_variant before + n) (sum_by-cons of_variant v vs)
 
   -- where all chains end, a core step makes the weight lower
   pub weight_falls : All (HasEndingChain R) R → (c d : CoreParts) → CoreStep R c d → weight d < weight c
@@ -94,9 +101,21 @@ module _ (R : List EntryParts) where
     script = λ a v there has. omega (arith, ap (of_part kinds.Script) there, after_next C kinds.Script a v has);
     region = λ a v there has. omega (arith, ap (of_part kinds.Region) there, after_next C kinds.Region a v has);
     variant = λ before v w vs there has.
-        omega (arith, ap (sum_by of_variant) there, variants_with before v vs, variants_with before w vs, after_next C kinds.Variant v w has);
+        omega (
+          arith,
+          ap (sum_by of_variant) there,
+          variants_with before v vs,
+          variants_with before w vs,
+          after_next C kinds.Variant v w has,
+        );
     variant_language = λ before v m vs none there has leftmost.
-        omega (arith, ap (sum_by of_variant) there, variants_with before v vs, sum_by-append of_variant before vs, after_most C kinds.Language m);
+        omega (
+          arith,
+          ap (sum_by of_variant) there,
+          variants_with before v vs,
+          sum_by-append of_variant before vs,
+          after_most C kinds.Language m,
+        );
   })
 
 -- A core step on a proper core gives a proper core, and no proper core spells a grandfathered tag.
@@ -106,17 +125,38 @@ pub step_shaped : (R : List EntryParts) → IsRegistry R → (c d : CoreParts) �
 step_shaped R G c d S = each_step R c IsCore (record {
   extlang = λ x one.
       let shape : is_extlang x ≡ true = (and_parts (is_extlang x) true (ap (list_all is_extlang) (sym one) ∙ S.extlangs)).0 in
-      record { language = replacement_form R G x shape; extlangs = refl; up_to_three = omega arith; after_short = λ n. absurd (omega (arith, n)); script = S.script; region = S.region; variants = S.variants };
+      record {
+        language = replacement_form R G x shape;
+        extlangs = refl;
+        up_to_three = omega arith;
+        after_short = λ n. absurd (omega (arith, n));
+        script = S.script;
+        region = S.region;
+        variants = S.variants;
+      };
   language = λ v none has. let n = ap length none in search (rules, arith, value_form R G kinds.Language c.language v has);
   script = λ a v there has. search (rules, value_form R G kinds.Script a v has);
   region = λ a v there has. search (rules, value_form R G kinds.Region a v has);
   variant = λ before v w after there has.
       let facts = facts_of_tests is_variant (before ++ v ∷ after) (ap (list_all is_variant) (sym there) ∙ S.variants) in
-      search (rules, tests_of_facts is_variant (before ++ w ∷ after) (all_replaced (λ x. is_variant x ≡ true) before v w after facts (variant_value_form R G v w has)));
+      search (
+        rules,
+        tests_of_facts is_variant (before ++ w ∷ after)
+            (all_replaced (λ x. is_variant x ≡ true) before v w after facts (variant_value_form R G v w has)),
+      );
   variant_language = λ before v m after none there has leftmost.
       let t = (variant_language_is R c.language v m has).1 in
       let facts = facts_of_tests is_variant (before ++ v ∷ after) (ap (list_all is_variant) (sym there) ∙ S.variants) in
-      record { language = language_value_form R G v m t; extlangs = S.extlangs; up_to_three = S.up_to_three; after_short = λ n. absurd (omega (arith, ap length none, n)); script = S.script; region = S.region; variants = tests_of_facts is_variant (before ++ after) (all_without (λ x. is_variant x ≡ true) before v after facts) };
+      record {
+        language = language_value_form R G v m t;
+        extlangs = S.extlangs;
+        up_to_three = S.up_to_three;
+        after_short = λ n. absurd (omega (arith, ap length none, n));
+        script = S.script;
+        region = S.region;
+        variants = tests_of_facts is_variant (before ++ after)
+            (all_without (λ x. is_variant x ≡ true) before v after facts);
+      };
 }) d
 
 -- the subtag is registered as a variant
@@ -129,15 +169,26 @@ step_proper R C c d P = each_step R c (IsProperCore R) (record {
   extlang = λ x one.
       let fit : ExtlangsFit R c.language (x ∷ []) = subst (ExtlangsFit R c.language) one P.extlangs in
       record { language = replacement_registered R C x fit.0; extlangs = tt; script = P.script; region = P.region; variants = P.variants };
-  language = λ v none has. let fit = subst (ExtlangsFit R v) (sym none) tt in search (rules, value_registered R C kinds.Language c.language v refl has);
+  language = λ v none has. let fit = subst (ExtlangsFit R v) (sym none) tt in
+      search (rules, value_registered R C kinds.Language c.language v refl has);
   script = λ a v there has. search (rules, value_registered R C kinds.Script a v refl has);
   region = λ a v there has. search (rules, value_registered R C kinds.Region a v refl has);
   variant = λ before v w after there has.
-      search (rules, all_replaced (RegisteredVariant R) before v w after (subst (AllByRecursion (RegisteredVariant R)) there P.variants) (variant_value_fits R C v w has).0);
+      search (
+        rules,
+        all_replaced (RegisteredVariant R) before v w after
+            (subst (AllByRecursion (RegisteredVariant R)) there P.variants) (variant_value_fits R C v w has).0,
+      );
   variant_language = λ before v m after none there has leftmost.
       let t = (variant_language_is R c.language v m has).1 in
       let all = subst (AllByRecursion (RegisteredVariant R)) there P.variants in
-      record { language = language_value_fits R C v m t; extlangs = subst (ExtlangsFit R m) (sym none) tt; script = P.script; region = P.region; variants = all_without (RegisteredVariant R) before v after all };
+      record {
+        language = language_value_fits R C v m t;
+        extlangs = subst (ExtlangsFit R m) (sym none) tt;
+        script = P.script;
+        region = P.region;
+        variants = all_without (RegisteredVariant R) before v after all;
+      };
 }) d
 
 -- under the conditions C1 to C6 the law `StepsKeepProper` holds, by which a core step also keeps the form of the core
@@ -158,8 +209,12 @@ pub distinct_from_test : (xs : List (List ℕ)) → distinct_test xs ≡ true �
 unfolding distinct_test
 distinct_from_test [] h = tt
 distinct_from_test (x ∷ xs) h =
-    let p = and_parts (list_all (λ y. not (bytes_eq y x)) xs) (distinct_test xs) h in
-    (AllByRecursion-weaker (λ y. not (bytes_eq y x) ≡ true) (λ y. y ≢ x) (λ y f e. both_ways (bytes_eq y x) (not-true (bytes_eq y x) f) ((bytes_eq-Decides y x).1 e)) xs (facts_of_tests (λ y. not (bytes_eq y x)) xs p.0), distinct_from_test xs p.1)
+    let p = and_parts (list_all (λ y. not (bytes_eq y x)) xs) (distinct_test xs) h in (
+      AllByRecursion-weaker (λ y. not (bytes_eq y x) ≡ true) (λ y. y ≢ x)
+          (λ y f e. both_ways (bytes_eq y x) (not-true (bytes_eq y x) f) ((bytes_eq-Decides y x).1 e)) xs
+          (facts_of_tests (λ y. not (bytes_eq y x)) xs p.0),
+      distinct_from_test xs p.1,
+    )
 
 -- the end of a list without repeats has none
 distinct_rest : (before after : List (List ℕ)) → Distinct (before ++ after) → Distinct after
@@ -187,7 +242,9 @@ tests_hold = refl
 grandfathered_is : (list : List (List ℕ)) (number : ℕ) → IsGrandfathered list number → Distinct list × (three_at_most list ≡ false)
 unfolding of_grandfathered grandfathered_list
 grandfathered_is list number g =
-    let test = ap of_grandfathered g.same ∙ list_all-at (λ (t : List ℕ). of_grandfathered (pieces t)) grandfathered_texts (number - 1) tests_hold (omega (arith, table_length, g.first, g.last)) in
+    let test = ap of_grandfathered g.same
+    ∙ list_all-at (λ (t : List ℕ). of_grandfathered (pieces t)) grandfathered_texts (number - 1) tests_hold (omega
+    (arith, table_length, g.first, g.last)) in
     let p = and_parts (distinct_test list) (not (three_at_most list)) test in
     (distinct_from_test list p.0, not-true (three_at_most list) p.1)
 
@@ -195,10 +252,14 @@ grandfathered_is list number g =
 pub spelled_distinct : (c : CoreParts) (number : ℕ) → IsGrandfathered (spell_core c) number → Distinct c.variants
 spelled_distinct c number g =
     let d : Distinct (spell_core c) = (grandfathered_is (spell_core c) number g).0 in
-    distinct_rest (option_to_list c.region) c.variants (distinct_rest (option_to_list c.script) (option_to_list c.region ++ c.variants) (distinct_rest c.extlangs (option_to_list c.script ++ (option_to_list c.region ++ c.variants)) d.1))
+    distinct_rest (option_to_list c.region) c.variants
+    (distinct_rest (option_to_list c.script) (option_to_list c.region ++ c.variants)
+    (distinct_rest c.extlangs (option_to_list c.script ++ (option_to_list c.region ++ c.variants)) d.1))
 
 -- a language with an optional script and an optional region passes `three_at_most`
-bare_test : (l : List ℕ) (sc re : Option (List ℕ)) → option_map_or is_script sc true ≡ true → option_map_or is_region re true ≡ true → three_at_most (l ∷ (option_to_list sc ++ (option_to_list re ++ []))) ≡ true
+bare_test : (l : List ℕ) (sc re : Option (List ℕ)) → option_map_or is_script sc true ≡ true
+    → option_map_or is_region re true ≡ true → three_at_most (l ∷ (option_to_list sc ++ (option_to_list re ++ [])))
+    ≡ true
 unfolding three_at_most
 bare_test l None None s r = refl
 bare_test l (Some a) None s r = rw s refl
@@ -207,10 +268,14 @@ bare_test l (Some a) (Some b) s r = and_from (is_script a) (is_region b) s r
 
 -- a core of registered extlangs and variants that spells a grandfathered tag has an extlang or a variant as its second
 -- subtag, and this has an entry
-second_registered : (R : List EntryParts) (c : CoreParts) (number : ℕ) (xs vs : List (List ℕ)) → IsCore c → c.extlangs ≡ xs → c.variants ≡ vs → ExtlangsFit R c.language xs → AllByRecursion (λ v. is_registered R kinds.Variant v ≡ true) vs → IsGrandfathered (spell_core c) number → (e : EntryParts) × (second_entry R xs vs ≡ Some e)
+second_registered : (R : List EntryParts) (c : CoreParts) (number : ℕ) (xs vs : List (List ℕ)) → IsCore c
+    → c.extlangs ≡ xs → c.variants ≡ vs → ExtlangsFit R c.language xs
+    → AllByRecursion (λ v. is_registered R kinds.Variant v ≡ true) vs → IsGrandfathered (spell_core c) number
+    → (e : EntryParts) × (second_entry R xs vs ≡ Some e)
 second_registered R c number [] [] S ex ev fx fv g =
     let spelled : spell_core c ≡ c.language ∷ (option_to_list c.script ++ (option_to_list c.region ++ [])) =
-    ap (λ xs. c.language ∷ (xs ++ (option_to_list c.script ++ (option_to_list c.region ++ c.variants)))) ex ∙ ap (λ vs. c.language ∷ (option_to_list c.script ++ (option_to_list c.region ++ vs))) ev in
+    ap (λ xs. c.language ∷ (xs ++ (option_to_list c.script ++ (option_to_list c.region ++ c.variants)))) ex
+    ∙ ap (λ vs. c.language ∷ (option_to_list c.script ++ (option_to_list c.region ++ vs))) ev in
     let yes : three_at_most (spell_core c) ≡ true = ap three_at_most spelled ∙ bare_test c.language c.script c.region S.script S.region in
     let no : three_at_most (spell_core c) ≡ false = (grandfathered_is (spell_core c) number g).1 in
     cc
@@ -219,15 +284,18 @@ second_registered R c number (x ∷ y ∷ more) vs S ex ev fx fv g = absurd fx
 second_registered R c number [] (v ∷ vs) S ex ev fx fv g = registered_entry R kinds.Variant v fv.0
 
 -- what each record has, the entry of the second subtag has
-second_has : (R : List EntryParts) (P : EntryParts → Type 0) → All P R → (xs vs : List (List ℕ)) (e : EntryParts) → second_entry R xs vs ≡ Some e → P e
+second_has : (R : List EntryParts) (P : EntryParts → Type 0) → All P R → (xs vs : List (List ℕ)) (e : EntryParts)
+    → second_entry R xs vs ≡ Some e → P e
 second_has R P h [] [] e q = cc
 second_has R P h (x ∷ xs) vs e q = (entry_has R kinds.Extlang x P h e q).0
 second_has R P h [] (v ∷ vs) e q = (entry_has R kinds.Variant v P h e q).0
 
 -- under the condition C8 a proper core spells no grandfathered tag
-pub proper_not_grandfathered : (R : List EntryParts) → All (HasFittingGrandfathered R) R → (c : CoreParts) → IsCore c → IsProperCore R c → IsNotGrandfathered (spell_core c)
+pub proper_not_grandfathered : (R : List EntryParts) → All (HasFittingGrandfathered R) R → (c : CoreParts) → IsCore c
+    → IsProperCore R c → IsNotGrandfathered (spell_core c)
 proper_not_grandfathered R H c S P number g =
-    let en : (e : EntryParts) × (second_entry R c.extlangs c.variants ≡ Some e) = second_registered R c number c.extlangs c.variants S refl refl P.extlangs P.variants g in
+    let en : (e : EntryParts) × (second_entry R c.extlangs c.variants ≡ Some e) = second_registered R c number
+    c.extlangs c.variants S refl refl P.extlangs P.variants g in
     (second_has R (HasFittingGrandfathered R) H c.extlangs c.variants en.0 en.1).regular c number S g P (spelled_distinct c number g) en.1
 
 -- under the condition C8 the law `ProperCoresSpellNone` holds

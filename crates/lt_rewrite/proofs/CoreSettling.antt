@@ -1,5 +1,6 @@
 -- What the parts of the code that settle a core reach, and where they rest. Only the chains' ends are used.
-use Rattle.std.proofs.Common.{rules, ◌≡◌, ℕ, suc, List, [], ◌∷◌, ◌++◌, Option, Some, None, refl, sym, ap, ◌∙◌, subst, length, take, drop, arith, ◌≤◌, ◌+◌, ◌<◌, get_or, set, All, Bor}
+use Rattle.std.proofs.Common.{rules, ◌≡◌, ℕ, suc, List, [], ◌∷◌, ◌++◌, Option, Some, None, refl, sym, ap, ◌∙◌, subst}
+use Rattle.std.proofs.Common.{length, take, drop, arith, ◌≤◌, ◌+◌, ◌<◌, get_or, set, All, Bor}
 use Rattle.std.specs.List.{AllByRecursion, remove}
 use Rattle.std.specs.Option.{option_copied}
 use Rattle.std.proofs.lemmas.List.{set_split, length-set, take_all, take_more_set}
@@ -11,7 +12,8 @@ use Rattle.lt_registry.specs.declared.entries.Kind.TheVariants as kinds
 use Rattle.lt_rewrite.specs.CoreSteps.{language_beside, CoreStep, IsCoreNormalForm, EndsIn}
 use Rattle.lt_rewrite.specs.Rewriting.{Star, done, then as onward}
 use Rattle.lt_rewrite.specs.Conditions.{next_value}
-use Rattle.lt_rewrite.specs.CoreSettling.{HasFinalLanguage, HasFinalScript, HasFinalRegion, HasFinalVariants, HasNoVariantLanguage, IsFirstVariantLanguage}
+use Rattle.lt_rewrite.specs.CoreSettling.{HasFinalLanguage, HasFinalScript, HasFinalRegion, HasFinalVariants}
+use Rattle.lt_rewrite.specs.CoreSettling.{HasNoVariantLanguage, IsFirstVariantLanguage}
 use Rattle.lt_rewrite.proofs.PartLists.{round, if_some_is}
 use Rattle.lt_rewrite.proofs.Stars.{star_trans}
 use Rattle.lt_rewrite.proofs.CoreSteps.{along, by_extlang, by_variant, by_variant_language, rests, sole}
@@ -30,20 +32,26 @@ pub none_settled : (R : List EntryParts) (c : CoreParts) (n : ℕ) → n ≡ len
 none_settled R c n e = record { reached = done; others = refl; count = sym e; final = λ k d h. absurd (omega (arith, h)) }
 
 -- the variant `s` at the index `i` is replaced by the end `t` of its chain, and so one variant more is settled
-pub one_settled : (R : List EntryParts) (c d e : CoreParts) (i n : ℕ) (s t : List ℕ) (us : List (List ℕ)) → VariantsSettled R c d i n → i < n → us ≡ d.variants → s ≡ get_or us i s → EndsIn (next_value R kinds.Variant) s t → e ≡ record d { variants = set d.variants i t } → VariantsSettled R c e (i + 1) n
+pub one_settled : (R : List EntryParts) (c d e : CoreParts) (i n : ℕ) (s t : List ℕ) (us : List (List ℕ))
+    → VariantsSettled R c d i n → i < n → us ≡ d.variants → s ≡ get_or us i s → EndsIn (next_value R kinds.Variant) s t
+    → e ≡ record d { variants = set d.variants i t } → VariantsSettled R c e (i + 1) n
 one_settled R c d e i n s t us S below own at ends new =
     let vs = d.variants in
     let P : List ℕ → Type 0 = λ v. variant_value R v ≡ None in
     let within : i < length vs = omega (arith, below, S.count) in
     let is : s ≡ get_or vs i s = subst (λ us. s ≡ get_or us i s) own at in
     let with : List ℕ → CoreParts = λ u. record d { variants = take i vs ++ u ∷ drop (suc i) vs } in
-    let walk : Star (CoreStep R) (with s) (with t) = along R (variant_value R) with (λ u w f. by_variant R (with u) (take i vs) u w (drop (suc i) vs) refl f) s t ends in
+    let walk : Star (CoreStep R) (with s) (with t) = along R (variant_value R)
+    with (λ u w f. by_variant R (with u) (take i vs) u w (drop (suc i) vs) refl f) s t ends in
     subst (λ e. VariantsSettled R c e (i + 1) n) (sym new)
     (record {
-      reached = star_trans S.reached (subst (λ us. Star (CoreStep R) d (record d { variants = us })) (sym (set_split vs i t within)) (subst (λ us. Star (CoreStep R) (record d { variants = us }) (with t)) (sym (round vs i s within is)) walk));
+      reached = star_trans S.reached (subst (λ us. Star (CoreStep R) d (record d { variants = us }))
+          (sym (set_split vs i t within)) (subst (λ us. Star (CoreStep R) (record d { variants = us }) (with t))
+          (sym (round vs i s within is)) walk));
       others = ap (λ (k : CoreParts). record k { variants = set vs i t }) S.others;
       count = length-set vs i t ∙ S.count;
-      final = All-same P (take (i + 1) (set vs i t)) (take i vs ++ t ∷ []) (take_more_set vs i t within) (All-push P (take i vs) t S.final ends.2);
+      final = All-same P (take (i + 1) (set vs i t)) (take i vs ++ t ∷ []) (take_more_set vs i t within)
+          (All-push P (take i vs) t S.final ends.2);
     })
 
 -- once the index is past the last variant, the variants before it are all variants
@@ -51,11 +59,14 @@ pub all_settled : (R : List EntryParts) (c d : CoreParts) (i n : ℕ) → Varian
 all_settled R c d i n S past = take_all i d.variants (omega (arith, past, S.count))
 
 -- once the index is past the last variant, all variants are at the ends of their chains
-pub all_final : (R : List EntryParts) (c d : CoreParts) (i n : ℕ) → VariantsSettled R c d i n → n ≤ i → All (λ (v : List ℕ). variant_value R v ≡ None) d.variants
+pub all_final : (R : List EntryParts) (c d : CoreParts) (i n : ℕ) → VariantsSettled R c d i n → n ≤ i
+    → All (λ (v : List ℕ). variant_value R v ≡ None) d.variants
 all_final R c d i n S past = subst (All (λ v. variant_value R v ≡ None)) (all_settled R c d i n S past) S.final
 
 -- the Extlang step of the only extlang `x` leads from `c` to `e`, whose language `l` is the replacement of `x`
-pub extlang_reached : (R : List EntryParts) (c d e : CoreParts) (x l : List ℕ) (xs : List (List ℕ)) → xs ≡ c.extlangs → x ≡ get_or xs 0 x → length xs ≡ 1 → l ≡ replacement R x → d ≡ record c { extlangs = [] } → e ≡ record d { language = l } → Star (CoreStep R) c e
+pub extlang_reached : (R : List EntryParts) (c d e : CoreParts) (x l : List ℕ) (xs : List (List ℕ)) → xs ≡ c.extlangs
+    → x ≡ get_or xs 0 x → length xs ≡ 1 → l ≡ replacement R x → d ≡ record c { extlangs = [] }
+    → e ≡ record d { language = l } → Star (CoreStep R) c e
 extlang_reached R c d e x l xs own at one value dropped new =
     subst (λ e. Star (CoreStep R) c e) (sym (new ∙ (λ i. record (dropped i) { language = value i })))
     (onward (by_extlang R c x (sym own ∙ sole xs x at one)) done)
@@ -69,26 +80,38 @@ pub record LanguageSettled (R : List EntryParts) (c d : CoreParts) : Type 0 wher
 
 -- after the VariantLanguage step of the variant at `i`, and the steps to the end of the new language's chain, `g` is
 -- `d` but for its language and that variant
-pub others_left : (d e f g : CoreParts) (i : ℕ) (m : List ℕ) → e ≡ record d { variants = remove d.variants i } → f ≡ record e { language = m } → g ≡ record f { language = g.language } → g ≡ record d { language = g.language; variants = remove d.variants i }
+pub others_left : (d e f g : CoreParts) (i : ℕ) (m : List ℕ) → e ≡ record d { variants = remove d.variants i }
+    → f ≡ record e { language = m } → g ≡ record f { language = g.language }
+    → g ≡ record d { language = g.language; variants = remove d.variants i }
 others_left d e f g i m dropped new other =
     other ∙ ap (λ (k : CoreParts). record k { language = g.language }) (new ∙ ap (λ (k : CoreParts). record k { language = m }) dropped)
 
 -- after a VariantLanguage step from `d`, and steps to the end of the new language's chain, the language and the
 -- variants of `g` are at the ends of their chains again
-pub language_settled : (R : List EntryParts) (c d e f g : CoreParts) (i : ℕ) (m : List ℕ) → c.extlangs ≡ [] → LanguageSettled R c d → IsFirstVariantLanguage R d i m → e ≡ record d { variants = remove d.variants i } → f ≡ record e { language = m } → Star (CoreStep R) f g → HasFinalLanguage R g → g ≡ record f { language = g.language } → LanguageSettled R c g
+pub language_settled : (R : List EntryParts) (c d e f g : CoreParts) (i : ℕ) (m : List ℕ) → c.extlangs ≡ []
+    → LanguageSettled R c d → IsFirstVariantLanguage R d i m → e ≡ record d { variants = remove d.variants i }
+    → f ≡ record e { language = m } → Star (CoreStep R) f g → HasFinalLanguage R g
+    → g ≡ record f { language = g.language } → LanguageSettled R c g
 language_settled R c d e f g i m none S t dropped new after final other =
     let P : List ℕ → Type 0 = λ v. variant_value R v ≡ None in
     let left = others_left d e f g i m dropped new other in
     let vs : g.variants ≡ remove d.variants i = ap (λ (k : CoreParts). k.variants) left in
     let alone : d.extlangs ≡ [] = ap (λ (k : CoreParts). k.extlangs) S.others ∙ none in
     let step = by_variant_language R d (take i d.variants) t.variant m (drop (suc i) d.variants) alone t.there t.has t.leftmost in
-    let reached = star_trans S.reached (onward step (subst (λ (k : CoreParts). Star (CoreStep R) k g) (new ∙ ap (λ (k : CoreParts). record k { language = m }) dropped) after)) in
-    let variants = subst (All P) (sym vs) (All-append P (take i d.variants) (drop (suc i) d.variants) (All-take P i d.variants S.variants) (All-drop P (suc i) d.variants S.variants)) in
+    let reached = star_trans S.reached
+    (onward step
+    (subst (λ (k : CoreParts). Star (CoreStep R) k g)
+    (new ∙ ap (λ (k : CoreParts). record k { language = m }) dropped) after)) in
+    let variants = subst (All P) (sym vs) (All-append P (take i d.variants) (drop (suc i) d.variants)
+    (All-take P i d.variants S.variants) (All-drop P (suc i) d.variants S.variants)) in
     let others : g ≡ record c { language = g.language; variants = g.variants } = let o = S.others in cc in
     search rules
 
 -- the variant at an index is the first with a VariantLanguage step, where none before it has one
-pub first_variant_language_at : (R : List EntryParts) (c : CoreParts) (i : ℕ) (l v m : List ℕ) (vs : List (List ℕ)) (o : Option (Bor (List ℕ))) (b : Bor (List ℕ)) → vs ≡ c.variants → i < length vs → v ≡ get_or vs i v → l ≡ c.language → option_copied o ≡ language_beside R l v → o ≡ Some b → m ≡ b.now → All (λ (u : List ℕ). language_beside R c.language u ≡ None) (take i vs) → IsFirstVariantLanguage R c i m
+pub first_variant_language_at : (R : List EntryParts) (c : CoreParts) (i : ℕ) (l v m : List ℕ) (vs : List (List ℕ)) (o
+    : Option (Bor (List ℕ))) (b : Bor (List ℕ)) → vs ≡ c.variants → i < length vs → v ≡ get_or vs i v → l ≡ c.language
+    → option_copied o ≡ language_beside R l v → o ≡ Some b → m ≡ b.now
+    → All (λ (u : List ℕ). language_beside R c.language u ≡ None) (take i vs) → IsFirstVariantLanguage R c i m
 first_variant_language_at R c i l v m vs o b same h e its value found copy none =
     let P : List ℕ → Type 0 = λ u. language_beside R c.language u ≡ None in
     record {
@@ -100,7 +123,10 @@ first_variant_language_at R c i l v m vs o b same h e its value found copy none 
     }
 
 -- where neither the variant `v` at `i` nor one before it has a VariantLanguage step, none before `i` + 1 has one
-pub none_more : (R : List EntryParts) (c : CoreParts) (i : ℕ) (l v : List ℕ) (vs : List (List ℕ)) (o : Option (Bor (List ℕ))) → i < length vs → v ≡ get_or vs i v → l ≡ c.language → option_copied o ≡ language_beside R l v → o ≡ None → All (λ (u : List ℕ). language_beside R c.language u ≡ None) (take i vs) → All (λ (u : List ℕ). language_beside R c.language u ≡ None) (take (i + 1) vs)
+pub none_more : (R : List EntryParts) (c : CoreParts) (i : ℕ) (l v : List ℕ) (vs : List (List ℕ)) (o : Option
+    (Bor (List ℕ))) → i < length vs → v ≡ get_or vs i v → l ≡ c.language → option_copied o ≡ language_beside R l v
+    → o ≡ None → All (λ (u : List ℕ). language_beside R c.language u ≡ None) (take i vs)
+    → All (λ (u : List ℕ). language_beside R c.language u ≡ None) (take (i + 1) vs)
 none_more R c i l v vs o h e its value found none =
     let P : List ℕ → Type 0 = λ u. language_beside R c.language u ≡ None in
     All-more P vs i v h none (subst P e (ap (λ l. language_beside R l v) (sym its) ∙ sym value ∙ ap option_copied found))
@@ -118,10 +144,13 @@ pub record Settlings (R : List EntryParts) (c c1 c2 c3 : CoreParts) : Type 0 whe
 
 -- after the calls of `Settlings` steps on the language and the variants lead to `d`, whose variants are at the ends of
 -- their chains, as its language is if there are no extlangs: `d` is the core normal form of `c`
-pub rests_settled : (R : List EntryParts) (c c1 c2 c3 d : CoreParts) → Settlings R c c1 c2 c3 → Star (CoreStep R) c3 d → HasFinalVariants R d → (c3.extlangs ≡ [] → HasFinalLanguage R d × HasNoVariantLanguage R d) → d ≡ record c3 { language = d.language; variants = d.variants } → IsCoreNormalForm R c d
+pub rests_settled : (R : List EntryParts) (c c1 c2 c3 d : CoreParts) → Settlings R c c1 c2 c3 → Star (CoreStep R) c3 d
+    → HasFinalVariants R d → (c3.extlangs ≡ [] → HasFinalLanguage R d × HasNoVariantLanguage R d)
+    → d ≡ record c3 { language = d.language; variants = d.variants } → IsCoreNormalForm R c d
 rests_settled R c c1 c2 c3 d S last variants language other =
     let none : c3.extlangs ≡ d.extlangs = sym (ap (λ (k : CoreParts). k.extlangs) other) in
-    let script = ap (λ (k : CoreParts). k.script) other ∙ ap (λ (k : CoreParts). k.script) S.other_than_extlang ∙ ap (λ (k : CoreParts). k.script) S.other_than_region in
+    let script = ap (λ (k : CoreParts). k.script) other ∙ ap (λ (k : CoreParts). k.script) S.other_than_extlang
+    ∙ ap (λ (k : CoreParts). k.script) S.other_than_region in
     let region = ap (λ (k : CoreParts). k.region) other ∙ ap (λ (k : CoreParts). k.region) S.other_than_extlang in
     record {
       reached = star_trans S.script (star_trans S.region (star_trans S.extlang last));

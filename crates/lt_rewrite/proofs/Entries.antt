@@ -1,5 +1,6 @@
 -- What the conditions say of entries.
-use Rattle.std.proofs.Common.{◌≡◌, ℕ, ◌⊎◌, inl, inr, Bool, true, false, true≢false, cond, ◌&&◌, List, [], ◌∷◌, Option, Some, None, refl, sym, ap, ◌∙◌, subst, All, bytes_eq, find}
+use Rattle.std.proofs.Common.{◌≡◌, ℕ, ◌⊎◌, inl, inr, Bool, true, false, true≢false, cond, ◌&&◌, List, [], ◌∷◌, Option}
+use Rattle.std.proofs.Common.{Some, None, refl, sym, ap, ◌∙◌, subst, All, bytes_eq, find}
 use Rattle.std.specs.List.{AllByRecursion}
 use Rattle.std.specs.Option.{option_map_or}
 use Rattle.std.specs.Cmp.Lexicographic.{pointwise}
@@ -9,12 +10,14 @@ use Rattle.std.proofs.lemmas.Bool.{and_parts, or_cases, cases_Bool}
 use Rattle.std.proofs.lemmas.Option.{cond_some, option_and_then_some, same_Some}
 use Rattle.lt_registry.specs.Parts.{EntryParts}
 use Rattle.lt_registry.specs.Same.{same_kind}
-use Rattle.lt_registry.specs.Entries.{is_named, holds, one_of, entry, preferred_value, prefixes, has_prefix, is_short, variant_value, language_value, is_registered}
+use Rattle.lt_registry.specs.Entries.{is_named, holds, one_of, entry, preferred_value, prefixes, has_prefix, is_short}
+use Rattle.lt_registry.specs.Entries.{variant_value, language_value, is_registered}
 use Rattle.lt_registry.specs.declared.entries.Kind.{Kind}
 use Rattle.lt_registry.specs.declared.entries.EntryName.{EntryName}
 use Rattle.lt_registry.specs.declared.entries.Kind.TheVariants as kinds
 use Rattle.lt_rewrite.specs.CoreSteps.{language_beside, Ends}
-use Rattle.lt_rewrite.specs.Conditions.{next_value, HasEndingChain, HasFittingVariantValue, HasFinalPrefixes, IsFinalLanguage, MeetsCoreConditions}
+use Rattle.lt_rewrite.specs.Conditions.{next_value, HasEndingChain, HasFittingVariantValue, HasFinalPrefixes}
+use Rattle.lt_rewrite.specs.Conditions.{IsFinalLanguage, MeetsCoreConditions}
 use Rattle.lt_rewrite.proofs.Chains.{by_next, ends_first}
 
 -- kinds that pass the test `same_kind` are equal
@@ -29,7 +32,8 @@ same_kind_itself kinds.Language = refl
 same_kind_itself s = refl
 
 -- what is found has what each element has, and passes the test
-pub find_has : {A : Type 0} (P : A → Type 0) (test : A → Bool) (xs : List A) (a : A) → All P xs → find test xs ≡ Some a → P a × (test a ≡ true)
+pub find_has : {A : Type 0} (P : A → Type 0) (test : A → Bool) (xs : List A) (a : A) → All P xs → find test xs ≡ Some a
+    → P a × (test a ≡ true)
 find_has P test [] a h e = cc
 find_has P test (x ∷ xs) a h e = elim (cases_Bool (test x)) [
   | inl t ↦ let same : x ≡ a = same_Some x a (rw t at e) in (subst P same (All-head P x xs h), ap test (sym same) ∙ t)
@@ -43,14 +47,17 @@ pub record IsEntryOf (k : Kind) (s : List ℕ) (e : EntryParts) : Type 0 where
 
 -- the entry that is found by a kind and a test of its name has what each record has, is of the kind, and passes the
 -- test
-found_by : (R : List EntryParts) (k : Kind) (P : EntryParts → Type 0) → All P R → (test : EntryName → Bool) (e : EntryParts) → find (λ (e : EntryParts). same_kind e.kind k && test e.name) R ≡ Some e → P e × (e.kind ≡ k) × (test e.name ≡ true)
+found_by : (R : List EntryParts) (k : Kind) (P : EntryParts → Type 0) → All P R
+    → (test : EntryName → Bool) (e : EntryParts) → find (λ (e : EntryParts). same_kind e.kind k && test e.name) R
+    ≡ Some e → P e × (e.kind ≡ k) × (test e.name ≡ true)
 found_by R k P h test e q =
     let both = find_has P (λ (e : EntryParts). same_kind e.kind k && test e.name) R e h q in
     let parts = and_parts (same_kind e.kind k) (test e.name) both.1 in
     (both.0, same_kind_is e.kind k parts.0, parts.1)
 
 -- what each record has, the entry of a subtag has; it is of the kind, and names the subtag or holds it
-pub entry_has : (R : List EntryParts) (k : Kind) (s : List ℕ) (P : EntryParts → Type 0) → All P R → (e : EntryParts) → entry R k s ≡ Some e → P e × IsEntryOf k s e
+pub entry_has : (R : List EntryParts) (k : Kind) (s : List ℕ) (P : EntryParts → Type 0) → All P R → (e : EntryParts)
+    → entry R k s ≡ Some e → P e × IsEntryOf k s e
 entry_has R k s P h e q =
     by_next (find (λ (e : EntryParts). same_kind e.kind k && is_named s e.name) R)
     (λ n. let f = found_by R k P h (holds s) e (rw n at q) in (f.0, record { of_kind = f.1; names = inr f.2 }))
@@ -88,13 +95,15 @@ none_when true w v e = cc
 none_when false w v e = (refl, let s : w ≡ v = cc in s)
 
 -- the variant value of a variant is its preferred value, and is not short
-pub variant_value_is : (R : List EntryParts) (v w : List ℕ) → variant_value R v ≡ Some w → (preferred_value R kinds.Variant v ≡ Some w) × (is_short w ≡ false)
+pub variant_value_is : (R : List EntryParts) (v w : List ℕ) → variant_value R v ≡ Some w
+    → (preferred_value R kinds.Variant v ≡ Some w) × (is_short w ≡ false)
 variant_value_is R v w e =
     option_and_then_some (λ u. cond (is_short u) None (Some u)) (preferred_value R kinds.Variant v) w e
     (λ u p g. let q = none_when (is_short u) u w g in (p ∙ ap Some q.1, ap is_short (sym q.1) ∙ q.0))
 
 -- the language value of a variant is its preferred value, and is short
-pub language_value_is : (R : List EntryParts) (v w : List ℕ) → language_value R v ≡ Some w → (preferred_value R kinds.Variant v ≡ Some w) × (is_short w ≡ true)
+pub language_value_is : (R : List EntryParts) (v w : List ℕ) → language_value R v ≡ Some w
+    → (preferred_value R kinds.Variant v ≡ Some w) × (is_short w ≡ true)
 language_value_is R v w e =
     option_and_then_some (λ u. cond (is_short u) (Some u) None) (preferred_value R kinds.Variant v) w e
     (λ u p g. let q = cond_some (is_short u) u w g in (p ∙ ap Some q.1, ap is_short (sym q.1) ∙ q.0))
@@ -115,15 +124,18 @@ chains_end R h k s =
     subst (λ k. Ends (next_value R k) v) en.of_kind (valued_has R k s v (HasEndingChain R) h en v en.gives))
 
 -- a VariantLanguage step of `v` beside `l` to `m` needs `l` as a Prefix of `v`, and `m` as its language value
-pub variant_language_is : (R : List EntryParts) (l v m : List ℕ) → language_beside R l v ≡ Some m → (has_prefix (prefixes R kinds.Variant v) l ≡ true) × (language_value R v ≡ Some m)
+pub variant_language_is : (R : List EntryParts) (l v m : List ℕ) → language_beside R l v ≡ Some m
+    → (has_prefix (prefixes R kinds.Variant v) l ≡ true) × (language_value R v ≡ Some m)
 variant_language_is R l v m e = some_if (has_prefix (prefixes R kinds.Variant v) l) (language_value R v) m e
 
 -- where each Prefix is one subtag of which `Q` holds, `Q` holds of a language that is a Prefix
-listed_at : (l : List ℕ) (ps : List (List (List ℕ))) (Q : List ℕ → Type 0) → AllByRecursion (λ p. (k : List ℕ) × (p ≡ k ∷ []) × Q k) ps → has_prefix ps l ≡ true → Q l
+listed_at : (l : List ℕ) (ps : List (List (List ℕ))) (Q : List ℕ → Type 0)
+    → AllByRecursion (λ p. (k : List ℕ) × (p ≡ k ∷ []) × Q k) ps → has_prefix ps l ≡ true → Q l
 listed_at l [] Q h e = cc
 listed_at l (p ∷ ps) Q h e = elim (or_cases (pointwise bytes_eq p (l ∷ [])) (has_prefix ps l) e) [
   | inl t ↦
-      let same : h.0.0 ∷ [] ≡ l ∷ [] = sym h.0.1 ∙ (slice_eq-Decides bytes_eq-Decides p (l ∷ []) (pointwise bytes_eq p (l ∷ [])) refl).0 t in
+      let same : h.0.0 ∷ [] ≡ l ∷ [] = sym h.0.1
+      ∙ (slice_eq-Decides bytes_eq-Decides p (l ∷ []) (pointwise bytes_eq p (l ∷ [])) refl).0 t in
       let eq : h.0.0 ≡ l = cc in
       subst Q eq h.0.2
   | inr t ↦ listed_at l ps Q h.1 t
@@ -135,34 +147,41 @@ prefixes_at R k s e h = ap (λ (o : Option EntryParts). option_map_or (λ (e : E
 
 -- under the conditions C1 to C6 a language beside which a variant has a VariantLanguage step is registered and has no
 -- value
-pub variant_languages_final : (R : List EntryParts) → MeetsCoreConditions R → (l v m : List ℕ) → language_beside R l v ≡ Some m → IsFinalLanguage R l
+pub variant_languages_final : (R : List EntryParts) → MeetsCoreConditions R → (l v m : List ℕ)
+    → language_beside R l v ≡ Some m → IsFinalLanguage R l
 variant_languages_final R C l v m e =
     let t = variant_language_is R l v m e in
     let w = language_value_is R v m t.1 in
     let en : ValuedEntry R kinds.Variant v m = valued R kinds.Variant v m w.0 in
     let all = ((valued_has R kinds.Variant v m (HasFinalPrefixes R) C.variant_languages en) en.of_kind m en.gives w.1).1 in
-    listed_at l en.at.prefixes (IsFinalLanguage R) all (ap (λ ps. has_prefix ps l) (sym (prefixes_at R kinds.Variant v en.at en.found)) ∙ t.0)
+    listed_at l en.at.prefixes (IsFinalLanguage R) all
+    (ap (λ ps. has_prefix ps l) (sym (prefixes_at R kinds.Variant v en.at en.found)) ∙ t.0)
 
 -- the value `w` of a variant meets the condition C5
-value_fits : (R : List EntryParts) → MeetsCoreConditions R → (v w : List ℕ) → preferred_value R kinds.Variant v ≡ Some w → ((is_short w ≡ true) × (is_registered R kinds.Language w ≡ true)) ⊎ ((is_short w ≡ false) × (is_registered R kinds.Variant w ≡ true) × (language_value R w ≡ None))
+value_fits : (R : List EntryParts) → MeetsCoreConditions R → (v w : List ℕ) → preferred_value R kinds.Variant v ≡ Some w
+    → ((is_short w ≡ true) × (is_registered R kinds.Language w ≡ true))
+    ⊎ ((is_short w ≡ false) × (is_registered R kinds.Variant w ≡ true) × (language_value R w ≡ None))
 value_fits R C v w e =
     let en : ValuedEntry R kinds.Variant v w = valued R kinds.Variant v w e in
     valued_has R kinds.Variant v w (HasFittingVariantValue R) C.variants en en.of_kind w en.gives
 
 -- the variant value of a variant is registered, and has no language value
-pub variant_value_fits : (R : List EntryParts) → MeetsCoreConditions R → (v w : List ℕ) → variant_value R v ≡ Some w → (is_registered R kinds.Variant w ≡ true) × (language_value R w ≡ None)
+pub variant_value_fits : (R : List EntryParts) → MeetsCoreConditions R → (v w : List ℕ) → variant_value R v ≡ Some w
+    → (is_registered R kinds.Variant w ≡ true) × (language_value R w ≡ None)
 variant_value_fits R C v w e =
     let p = variant_value_is R v w e in
     elim (value_fits R C v w p.0) [ inl t ↦ absurd (true≢false (sym t.0 ∙ p.1)) | inr t ↦ (t.1, t.2) ]
 
 -- a language value is a registered language
-pub language_value_fits : (R : List EntryParts) → MeetsCoreConditions R → (v m : List ℕ) → language_value R v ≡ Some m → is_registered R kinds.Language m ≡ true
+pub language_value_fits : (R : List EntryParts) → MeetsCoreConditions R → (v m : List ℕ) → language_value R v ≡ Some m
+    → is_registered R kinds.Language m ≡ true
 language_value_fits R C v m e =
     let p = language_value_is R v m e in
     elim (value_fits R C v m p.0) [ inl t ↦ t.1 | inr t ↦ absurd (true≢false (sym p.1 ∙ t.0)) ]
 
 -- neither a variant with a variant value nor its value has a language value
-pub no_language : (R : List EntryParts) → MeetsCoreConditions R → (v w : List ℕ) → variant_value R v ≡ Some w → (language_value R v ≡ None) × (language_value R w ≡ None)
+pub no_language : (R : List EntryParts) → MeetsCoreConditions R → (v w : List ℕ) → variant_value R v ≡ Some w
+    → (language_value R v ≡ None) × (language_value R w ≡ None)
 no_language R C v w e =
     let p = variant_value_is R v w e in
     (rw (p.0, p.1), (variant_value_fits R C v w e).1)

@@ -1,5 +1,6 @@
 -- What a step is on the parts of an extension, and on extensions.
-use Rattle.std.proofs.Common.{◌≡◌, ℕ, ◌+◌, ◌<◌, ◌≤◌, List, Some, refl, sym, ap, ◌∙◌, length, arith, suc, false, [], ◌∷◌, None, subst, take, drop, ◌⊎◌, inl, inr, Bool, true, ◌≢◌, Ordering, get_or, set}
+use Rattle.std.proofs.Common.{◌≡◌, ℕ, ◌+◌, ◌<◌, ◌≤◌, List, Some, refl, sym, ap, ◌∙◌, length, arith, suc, false, [], ◌∷◌}
+use Rattle.std.proofs.Common.{None, subst, take, drop, ◌⊎◌, inl, inr, Bool, true, ◌≢◌, Ordering, get_or, set}
 use Rattle.std.specs.Prelude.{flat_map, codes}
 use Rattle.std.proofs.lemmas.Option.{same_Some, none-some}
 use Rattle.lt_tag.specs.Parts.{CoreParts, ExtensionParts, UForm, TForm, KeywordParts, FieldParts}
@@ -11,13 +12,16 @@ use Rattle.lt_rewrite.specs.Runs.{rank_of, kind_rank, extension_rank, SwapsBy, D
 use Rattle.lt_rewrite.specs.declared.steps.Step.{Step}
 use Rattle.lt_rewrite.proofs.CoreLaws.{step_shaped}
 use Rattle.std.proofs.lemmas.List.{set_split, take_at, get_or_default}
-use Rattle.lt_rewrite.specs.Applying.{CoreLeads, Answers, IsPlaceOf, SwapLeads, TrueLeads, UnicodeLeads, TransformLeads, ExtensionLeads, ExtensionsLeads, LeadsAt}
+use Rattle.lt_rewrite.specs.Applying.{CoreLeads, Answers, IsPlaceOf, SwapLeads, TrueLeads, UnicodeLeads, TransformLeads}
+use Rattle.lt_rewrite.specs.Applying.{ExtensionLeads, ExtensionsLeads, LeadsAt}
 use Rattle.lt_rewrite.specs.declared.steps.StepKind.{StepKind}
 use Rattle.lt_rewrite.proofs.FirstSteps.{StepAt}
 use Rattle.lt_tag.specs.Extensions.{spell_keyword, spell_u, spell_field, spell_t, transform, unicode, IsUnicode, IsTransform}
 use Rattle.lt_tag.proofs.PartsLaws.{u_unique, t_unique}
 use Rattle.lt_rewrite.specs.Orderings.{ListStep, by_swap, by_drop}
-use Rattle.lt_rewrite.specs.Extensions.{text_cmp, key_cmp, separator_cmp, singleton_cmp, UnicodeStep, on_attributes, on_keywords, on_types, on_source, on_fields, in_unicode, in_transform, inside, among}
+use Rattle.lt_rewrite.specs.Extensions.{text_cmp, key_cmp, separator_cmp, singleton_cmp, UnicodeStep, on_attributes}
+use Rattle.lt_rewrite.specs.Extensions.{on_keywords, on_types, on_source, on_fields, in_unicode, in_transform, inside}
+use Rattle.lt_rewrite.specs.Extensions.{among}
 use Rattle.lt_rewrite.proofs.PartLists.{SameCut, cut_at, cut_within, round}
 use Rattle.lt_tag.specs.Splitting.{spell_source}
 use Rattle.lt_rewrite.proofs.PartForms.{t_shaped, u_shaped}
@@ -25,15 +29,24 @@ use Rattle.lt_rewrite.specs.declared.steps.StepKind.TheVariants as steps
 use Rattle.lt_rewrite.proofs.CoreLeading.{core_low, core_rank, same_step}
 
 -- Steps on a list whose steps are swaps alone, as `SwapsBy` and as a `ListStep` with its name.
-module _ {A : Type 0} (cmp : A → A → Ordering) (swap : StepKind) (spell : A → List (List ℕ)) (start : ℕ) (xs ys : List A) (step : Step) where
+module _ {A : Type 0} (cmp : A → A → Ordering) (swap : StepKind) (spell : A → List (List ℕ)) (start : ℕ)
+    (xs ys : List A) (step : Step) where
   -- a swap by a step of the kind `swap` is a step on the list, and this is its name
   pub to_swap : SwapsBy cmp spell swap start xs step ys → (s : ListStep false cmp xs ys) × (list_label swap swap spell start s ≡ step)
-  to_swap s = (by_swap s.leads.before s.leads.first s.leads.second s.leads.after s.leads.swaps, same_step _ _ _ step s.of_kind s.leads.at s.unnumbered)
+  to_swap s = (
+    by_swap s.leads.before s.leads.first s.leads.second s.leads.after s.leads.swaps,
+    same_step _ _ _ step s.of_kind s.leads.at s.unnumbered,
+  )
 
   -- a step on the list whose name is `step` is a swap by that step
   pub as_swap : (s : ListStep false cmp xs ys) → list_label swap swap spell start s ≡ step → SwapsBy cmp spell swap start xs step ys
   as_swap (by_swap before a b after s) h =
-      subst (λ x. SwapsBy cmp spell swap start xs x ys) h (record { of_kind = refl; unnumbered = refl; leads = record { before = before; first = a; second = b; after = after; swaps = s; at = refl } })
+      subst (λ x. SwapsBy cmp spell swap start xs x ys) h
+      (record {
+        of_kind = refl;
+        unnumbered = refl;
+        leads = record { before = before; first = a; second = b; after = after; swaps = s; at = refl };
+      })
   as_swap (by_drop before a between b after o s) h = absurd cc
 
 -- What a step is on the parts of a u extension.
@@ -70,24 +83,97 @@ same_kind j k h = absurd (omega (arith, h))
 -- a step of a kind, by its name, leads from the parts `p` of a `u` extension, whose singleton is at the place `start`,
 -- to `q`
 abbrev pub Says : UnicodeKind → ℕ → UForm → Step → UForm → Type 0
-Says drop_attribute start p step q = DropsBy text_cmp one_subtag steps.DropAttribute start p.attributes step q.attributes × (q.keywords ≡ p.keywords)
-Says swap_attributes start p step q = SwapsBy text_cmp one_subtag steps.SwapAttributes start p.attributes step q.attributes × (q.keywords ≡ p.keywords)
-Says drop_keyword start p step q = DropsBy key_cmp spell_keyword steps.DropKeyword (start + length p.attributes) p.keywords step q.keywords × (q.attributes ≡ p.attributes)
-Says swap_keywords start p step q = SwapsBy key_cmp spell_keyword steps.SwapKeywords (start + length p.attributes) p.keywords step q.keywords × (q.attributes ≡ p.attributes)
+Says drop_attribute start p step q =
+    DropsBy text_cmp one_subtag steps.DropAttribute start p.attributes step q.attributes × (q.keywords ≡ p.keywords)
+Says swap_attributes start p step q =
+    SwapsBy text_cmp one_subtag steps.SwapAttributes start p.attributes step q.attributes × (q.keywords ≡ p.keywords)
+Says drop_keyword start p step q =
+    DropsBy key_cmp spell_keyword steps.DropKeyword (start + length p.attributes) p.keywords step q.keywords
+    × (q.attributes ≡ p.attributes)
+Says swap_keywords start p step q =
+    SwapsBy key_cmp spell_keyword steps.SwapKeywords (start + length p.attributes) p.keywords step q.keywords
+    × (q.attributes ≡ p.attributes)
 Says drop_true start p step q = DropsTrueBy (start + length p.attributes) p.keywords step q.keywords × (q.attributes ≡ p.attributes)
 
 -- a step on the parts of a `u` extension is of one of the kinds
 says : (start : ℕ) (p q : UForm) (s : UnicodeStep p q) → (k : UnicodeKind) × Says k start p (unicode_label start s) q
-says start p q (on_attributes (by_drop before a between b after o s) e) =
-    (drop_attribute, (record { of_kind = refl; unnumbered = refl; leads = record { before = before; first = a; between = between; second = b; after = after; drops = s; at = refl } }, e))
-says start p q (on_attributes (by_swap before a b after s) e) =
-    (swap_attributes, (record { of_kind = refl; unnumbered = refl; leads = record { before = before; first = a; second = b; after = after; swaps = s; at = refl } }, e))
-says start p q (on_keywords e (by_drop before a between b after o s)) =
-    (drop_keyword, (record { of_kind = refl; unnumbered = refl; leads = record { before = before; first = a; between = between; second = b; after = after; drops = s; at = refl } }, e))
-says start p q (on_keywords e (by_swap before a b after s)) =
-    (swap_keywords, (record { of_kind = refl; unnumbered = refl; leads = record { before = before; first = a; second = b; after = after; swaps = s; at = refl } }, e))
-says start p q (on_types e before a after s) =
-    (drop_true, (record { of_kind = refl; unnumbered = refl; leads = record { before = before; keyword = a; after = after; drops = s; at = refl } }, e))
+says start p q (on_attributes (by_drop before a between b after o s) e) = (
+  drop_attribute,
+  (
+    record {
+      of_kind = refl;
+      unnumbered = refl;
+      leads = record {
+        before = before;
+        first = a;
+        between = between;
+        second = b;
+        after = after;
+        drops = s;
+        at = refl;
+      };
+    },
+    e,
+  ),
+)
+says start p q (on_attributes (by_swap before a b after s) e) = (
+  swap_attributes,
+  (
+    record {
+      of_kind = refl;
+      unnumbered = refl;
+      leads = record { before = before; first = a; second = b; after = after; swaps = s; at = refl };
+    },
+    e,
+  ),
+)
+says start p q (on_keywords e (by_drop before a between b after o s)) = (
+  drop_keyword,
+  (
+    record {
+      of_kind = refl;
+      unnumbered = refl;
+      leads = record {
+        before = before;
+        first = a;
+        between = between;
+        second = b;
+        after = after;
+        drops = s;
+        at = refl;
+      };
+    },
+    e,
+  ),
+)
+says start p q (on_keywords e (by_swap before a b after s)) = (
+  swap_keywords,
+  (
+    record {
+      of_kind = refl;
+      unnumbered = refl;
+      leads = record { before = before; first = a; second = b; after = after; swaps = s; at = refl };
+    },
+    e,
+  ),
+)
+says start p q (on_types e before a after s) = (
+  drop_true,
+  (
+    record {
+      of_kind = refl;
+      unnumbered = refl;
+      leads = record {
+        before = before;
+        keyword = a;
+        after = after;
+        drops = s;
+        at = refl;
+      };
+    },
+    e,
+  ),
+)
 
 -- the ranks of the steps in a `u` extension, which are the same among the steps on extensions
 abbrev pub RanksU : Step → Type 0
@@ -95,7 +181,8 @@ RanksU step = (9 ≤ kind_rank step) × (kind_rank step ≤ 13) × (extension_ra
 
 -- the ranks of the steps in a `t` extension: among the steps on extensions those on its source are 13 more
 abbrev pub RanksT : Step → Type 0
-RanksT step = ((kind_rank step ≤ 6) × (13 < extension_rank step) × (extension_rank step ≡ kind_rank step + 13)) ⊎ ((kind_rank step ≡ 20) × (extension_rank step ≡ 20))
+RanksT step = ((kind_rank step ≤ 6) × (13 < extension_rank step) × (extension_rank step ≡ kind_rank step + 13))
+    ⊎ ((kind_rank step ≡ 20) × (extension_rank step ≡ 20))
 
 -- the rank of a kind of step among the steps on extensions
 abbrev pub order : StepKind → ℕ
@@ -108,11 +195,28 @@ module _ (start : ℕ) (p : UForm) (step : Step) (q : UForm) where
 
   -- a step of the kind `k` leads on from the parts `p` of a `u` extension
   pub led : (k : UnicodeKind) → Says k start p step q → UnicodeLeads start p step q
-  led drop_attribute (s, e) = (on_attributes (by_drop s.leads.before s.leads.first s.leads.between s.leads.second s.leads.after refl s.leads.drops) e, same_step _ _ _ step s.of_kind s.leads.at s.unnumbered)
-  led swap_attributes (s, e) = (on_attributes (by_swap s.leads.before s.leads.first s.leads.second s.leads.after s.leads.swaps) e, same_step _ _ _ step s.of_kind s.leads.at s.unnumbered)
-  led drop_keyword (s, e) = (on_keywords e (by_drop s.leads.before s.leads.first s.leads.between s.leads.second s.leads.after refl s.leads.drops), same_step _ _ _ step s.of_kind s.leads.at s.unnumbered)
-  led swap_keywords (s, e) = (on_keywords e (by_swap s.leads.before s.leads.first s.leads.second s.leads.after s.leads.swaps), same_step _ _ _ step s.of_kind s.leads.at s.unnumbered)
-  led drop_true (s, e) = (on_types e s.leads.before s.leads.keyword s.leads.after s.leads.drops, same_step _ _ _ step s.of_kind s.leads.at s.unnumbered)
+  led drop_attribute (s, e) = (
+    on_attributes (by_drop s.leads.before s.leads.first s.leads.between s.leads.second s.leads.after refl
+        s.leads.drops) e,
+    same_step _ _ _ step s.of_kind s.leads.at s.unnumbered,
+  )
+  led swap_attributes (s, e) = (
+    on_attributes (by_swap s.leads.before s.leads.first s.leads.second s.leads.after s.leads.swaps) e,
+    same_step _ _ _ step s.of_kind s.leads.at s.unnumbered,
+  )
+  led drop_keyword (s, e) = (
+    on_keywords e (by_drop s.leads.before s.leads.first s.leads.between s.leads.second s.leads.after refl
+        s.leads.drops),
+    same_step _ _ _ step s.of_kind s.leads.at s.unnumbered,
+  )
+  led swap_keywords (s, e) = (
+    on_keywords e (by_swap s.leads.before s.leads.first s.leads.second s.leads.after s.leads.swaps),
+    same_step _ _ _ step s.of_kind s.leads.at s.unnumbered,
+  )
+  led drop_true (s, e) = (
+    on_types e s.leads.before s.leads.keyword s.leads.after s.leads.drops,
+    same_step _ _ _ step s.of_kind s.leads.at s.unnumbered,
+  )
 
   -- the rank of a step of the kind `k` is that of the kind, and its place is after the singleton
   pub in_u : (k : UnicodeKind) → Says k start p step q → (kind_rank step ≡ u_rank k) × ((start < step.place) × RanksU step)
@@ -128,21 +232,28 @@ module _ (start : ℕ) (p : UForm) (step : Step) (q : UForm) where
   as_kind k r l = let s = said l in subst (λ j. Says j start p step q) (same_kind s.0 k (sym (in_u s.0 s.1).0 ∙ r)) s.1
 
 -- an answer whether `L` leads to `x` is one whether `M` leads to `y`, where each leads on if the other does
-pub answers_by : {A B : Type 0} (L : A → Type 0) (M : B → Type 0) (x : A) (y : B) → (L x → M y) → ((z : B) → M z → (w : A) × L w) → (r : Bool) → Answers L x r → Answers M y r
+pub answers_by : {A B : Type 0} (L : A → Type 0) (M : B → Type 0) (x : A) (y : B) → (L x → M y)
+    → ((z : B) → M z → (w : A) × L w) → (r : Bool) → Answers L x r → Answers M y r
 answers_by L M x y forth back true h = forth h
 answers_by L M x y forth back false h = λ z m. h (back z m).0 (back z m).1
 
 -- an answer about one list of the parts is one about the parts, which `g` makes of the list
-pub u_answers : {A : Type 0} (start : ℕ) (p : UForm) (step : Step) (k : UnicodeKind) (L : A → Type 0) (g : A → UForm) → kind_rank step ≡ u_rank k → ((a : A) → L a → Says k start p step (g a)) → ((q : UForm) → Says k start p step q → (a : A) × L a) → (a : A) (r : Bool) → Answers L a r → Answers (UnicodeLeads start p step) (g a) r
+pub u_answers : {A : Type 0} (start : ℕ) (p : UForm) (step : Step) (k : UnicodeKind) (L : A → Type 0) (g : A → UForm)
+    → kind_rank step ≡ u_rank k → ((a : A) → L a → Says k start p step (g a))
+    → ((q : UForm) → Says k start p step q → (a : A) × L a) → (a : A) (r : Bool) → Answers L a r
+    → Answers (UnicodeLeads start p step) (g a) r
 u_answers start p step k L g rank on off a r h =
-    answers_by L (UnicodeLeads start p step) a (g a) (λ s. led start p step (g a) k (on a s)) (λ q l. off q (as_kind start p step q k rank l)) r h
+    answers_by L (UnicodeLeads start p step) a (g a) (λ s. led start p step (g a) k (on a s))
+    (λ q l. off q (as_kind start p step q k rank l)) r h
 
 -- DropTrue steps, whose type `true` is at `place`, on keywords that begin after `start` subtags.
 module _ (start place : ℕ) (ks : List KeywordParts) where
   -- a DropTrue step is at the keyword whose key is one place to the left; its only type is `true`
-  pub true_step : (ls : List KeywordParts) → TrueLeads start place ks ls → StepAt spell_keyword (start + 1) place ks (λ i. (d : KeywordParts) → (get_or ks i d).types ≡ codes "true" ∷ [])
+  pub true_step : (ls : List KeywordParts) → TrueLeads start place ks ls
+      → StepAt spell_keyword (start + 1) place ks (λ i. (d : KeywordParts) → (get_or ks i d).types ≡ codes "true" ∷ [])
   true_step ls t =
-      let f = ap (λ l. length (flat_map spell_keyword l)) (ap (take (length t.before)) t.drops.there ∙ take_at t.before (t.keyword ∷ t.after) (length t.before) refl) in
+      let f = ap (λ l. length (flat_map spell_keyword l)) (ap (take (length t.before)) t.drops.there
+      ∙ take_at t.before (t.keyword ∷ t.after) (length t.before) refl) in
       record {
         index = length t.before;
         within = cut_within t.before t.keyword t.after ks t.drops.there;
@@ -151,7 +262,8 @@ module _ (start place : ℕ) (ks : List KeywordParts) where
       }
 
   -- a keyword whose only type is `true` has a DropTrue step
-  pub true_led : (i : ℕ) (k : KeywordParts) → i < length ks → IsPlaceOf spell_keyword (start + 1) ks i place → k ≡ get_or ks i k → k.types ≡ codes "true" ∷ [] → TrueLeads start place ks (set ks i (record k { types = [] }))
+  pub true_led : (i : ℕ) (k : KeywordParts) → i < length ks → IsPlaceOf spell_keyword (start + 1) ks i place
+      → k ≡ get_or ks i k → k.types ≡ codes "true" ∷ [] → TrueLeads start place ks (set ks i (record k { types = [] }))
   true_led i k h p e sole =
       record {
         before = take i ks;
@@ -165,12 +277,19 @@ module _ (start place : ℕ) (ks : List KeywordParts) where
 
 module _ (R : List EntryParts) (start : ℕ) (p : TForm) (step : Step) (q : TForm) where
   -- a SwapFields step on the parts of a `t` extension is one on its fields, and keeps the source
-  pub to_fields : step.kind ≡ steps.SwapFields → TransformLeads R start p step q → SwapsBy separator_cmp spell_field steps.SwapFields (start + length (spell_source p.source)) p.fields step q.fields × (q.source ≡ p.source)
+  pub to_fields : step.kind ≡ steps.SwapFields → TransformLeads R start p step q
+      → SwapsBy separator_cmp spell_field steps.SwapFields (start + length (spell_source p.source)) p.fields step
+      q.fields × (q.source ≡ p.source)
   to_fields k (on_source c d _ _ s _, h) = absurd (omega (arith, (core_rank R start c d s).most, ap kind_rank h, ap rank_of k))
-  to_fields k (on_fields e s, h) = (as_swap separator_cmp steps.SwapFields spell_field (start + length (spell_source p.source)) p.fields q.fields step s h, e)
+  to_fields k (on_fields e s, h) = (
+    as_swap separator_cmp steps.SwapFields spell_field (start + length (spell_source p.source)) p.fields q.fields
+        step s h,
+    e,
+  )
 
   -- a step on the parts of a `t` extension that is no SwapFields is one on its source
-  to_source : step.kind ≢ steps.SwapFields → (c : CoreParts) → p.source ≡ Some c → TransformLeads R start p step q → (d : CoreParts) × CoreLeads R start c step d
+  to_source : step.kind ≢ steps.SwapFields → (c : CoreParts) → p.source ≡ Some c → TransformLeads R start p step q
+      → (d : CoreParts) × CoreLeads R start c step d
   to_source k c e (on_source b d from _ s _, h) = (d, subst (λ x. CoreLeads R start x step d) (same_Some b c (sym from ∙ e)) (s, h))
   to_source k c e (on_fields f s, h) = absurd (k (as_swap separator_cmp steps.SwapFields spell_field _ p.fields q.fields step s h).of_kind)
 
@@ -181,21 +300,30 @@ module _ (R : List EntryParts) (start : ℕ) (p : TForm) (step : Step) (q : TFor
 
   -- a step in a `t` extension has one of the ranks of these, and a place after the singleton
   pub in_t : TransformLeads R start p step q → (start < step.place) × RanksT step
-  in_t (on_source c d _ _ s _, h) = (omega (arith, core_low R start c d s, ap (λ (x : Step). x.place) h), inl (omega (arith, core_rank R start c d s, ap kind_rank h, ap extension_rank h)))
+  in_t (on_source c d _ _ s _, h) = (
+    omega (arith, core_low R start c d s, ap (λ (x : Step). x.place) h),
+    inl (omega (arith, core_rank R start c d s, ap kind_rank h, ap extension_rank h)),
+  )
   in_t (on_fields e s, h) =
       let a = as_swap separator_cmp steps.SwapFields spell_field (start + length (spell_source p.source)) p.fields q.fields step s h in
       (omega (arith, a.leads.at), inr (ap rank_of a.of_kind, ap order a.of_kind))
 
 module _ (R : List EntryParts) (start : ℕ) (p : TForm) (step : Step) where
   -- an answer about a swap of fields is one about a SwapFields step on the parts
-  pub fields_answers : step.kind ≡ steps.SwapFields → step.number ≡ 0 → (xs : List FieldParts) (r : Bool) → Answers (SwapLeads separator_cmp spell_field (start + length (spell_source p.source)) step.place p.fields) xs r → Answers (TransformLeads R start p step) (record { source = p.source; fields = xs }) r
+  pub fields_answers : step.kind ≡ steps.SwapFields → step.number ≡ 0 → (xs : List FieldParts) (r : Bool)
+      → Answers (SwapLeads separator_cmp spell_field (start + length (spell_source p.source)) step.place p.fields) xs r
+      → Answers (TransformLeads R start p step) (record { source = p.source; fields = xs }) r
   fields_answers k n xs r h =
-      answers_by (SwapLeads separator_cmp spell_field (start + length (spell_source p.source)) step.place p.fields) (TransformLeads R start p step) xs (record { source = p.source; fields = xs })
-      (λ s. let l = to_swap separator_cmp steps.SwapFields spell_field (start + length (spell_source p.source)) p.fields xs step (record { of_kind = k; unnumbered = n; leads = s }) in (on_fields refl l.0, l.1))
+      answers_by (SwapLeads separator_cmp spell_field (start + length (spell_source p.source)) step.place p.fields)
+      (TransformLeads R start p step) xs (record { source = p.source; fields = xs })
+      (λ s. let l = to_swap separator_cmp steps.SwapFields spell_field (start + length (spell_source p.source)) p.fields
+      xs step (record { of_kind = k; unnumbered = n; leads = s }) in (on_fields refl l.0, l.1))
       (λ q l. (q.fields, (to_fields R start p step q k l).0.leads)) r h
 
   -- an answer about a step on the source is one about a step on the parts
-  pub source_answers : step.kind ≢ steps.SwapFields → (c : CoreParts) → p.source ≡ Some c → (d : CoreParts) (r : Bool) → Answers (CoreLeads R start c step) d r → Answers (TransformLeads R start p step) (record { source = Some d; fields = p.fields }) r
+  pub source_answers : step.kind ≢ steps.SwapFields → (c : CoreParts) → p.source ≡ Some c → (d : CoreParts) (r : Bool)
+      → Answers (CoreLeads R start c step) d r
+      → Answers (TransformLeads R start p step) (record { source = Some d; fields = p.fields }) r
   source_answers k c e d r h =
       answers_by (CoreLeads R start c step) (TransformLeads R start p step) d (record { source = Some d; fields = p.fields })
       (λ l. (on_source c d e refl l.0 refl, l.1))
@@ -213,72 +341,97 @@ of_t p = record { singleton = transform; subtags = spell_t p }
 
 module _ (R : List EntryParts) (start : ℕ) (e : ExtensionParts) (step : Step) where
   -- a step on the parts of a `u` extension is one inside the extension
-  pub unicode_changed : (p q : UForm) → e.singleton ≡ unicode → IsUnicode e.subtags p → UnicodeLeads start p step q → ExtensionLeads R start e step (of_u q)
+  pub unicode_changed : (p q : UForm) → e.singleton ≡ unicode → IsUnicode e.subtags p → UnicodeLeads start p step q
+      → ExtensionLeads R start e step (of_u q)
   unicode_changed p q u from l =
       (in_unicode p q u (sym u) from (record { shaped = u_shaped p q l.0 from.shaped; spelled = refl }) l.0, l.1)
 
   -- a step on the parts of a `t` extension is one inside the extension
-  pub transform_changed : IsRegistry R → (p q : TForm) → e.singleton ≡ transform → IsTransform e.subtags p → TransformLeads R start p step q → ExtensionLeads R start e step (of_t q)
+  pub transform_changed : IsRegistry R → (p q : TForm) → e.singleton ≡ transform → IsTransform e.subtags p
+      → TransformLeads R start p step q → ExtensionLeads R start e step (of_t q)
   transform_changed G p q t from l =
       (in_transform p q t (sym t) from (record { shaped = t_shaped R (step_shaped R G) p q l.0 from.shaped; spelled = refl }) l.0, l.1)
 
   module _ (f : ExtensionParts) where
     -- a step inside a `u` extension is one on its parts
-    pub inside_u : (p : UForm) → e.singleton ≡ unicode → IsUnicode e.subtags p → ExtensionLeads R start e step f → (q : UForm) × UnicodeLeads start p step q × (f ≡ of_u q)
-    inside_u p u from (in_unicode b q is_u kept begins to s, h) =
-        (q, subst (λ x. UnicodeLeads start x step q) (u_unique e.subtags b p begins from) (s, h), (λ i. record { singleton = (kept ∙ is_u) i; subtags = sym to.spelled i }))
+    pub inside_u : (p : UForm) → e.singleton ≡ unicode → IsUnicode e.subtags p → ExtensionLeads R start e step f
+        → (q : UForm) × UnicodeLeads start p step q × (f ≡ of_u q)
+    inside_u p u from (in_unicode b q is_u kept begins to s, h) = (
+      q,
+      subst (λ x. UnicodeLeads start x step q) (u_unique e.subtags b p begins from) (s, h),
+      (λ i. record { singleton = (kept ∙ is_u) i; subtags = sym to.spelled i }),
+    )
     inside_u p u from (in_transform b q is_t _ _ _ _, h) = absurd (omega (arith, u, is_t))
 
     -- a step inside a `t` extension is one on its parts
-    pub inside_t : (p : TForm) → e.singleton ≡ transform → IsTransform e.subtags p → ExtensionLeads R start e step f → (q : TForm) × TransformLeads R start p step q × (f ≡ of_t q)
-    inside_t p t from (in_transform b q is_t kept begins to s, h) =
-        (q, subst (λ x. TransformLeads R start x step q) (t_unique e.subtags b p begins from) (s, h), (λ i. record { singleton = (kept ∙ is_t) i; subtags = sym to.spelled i }))
+    pub inside_t : (p : TForm) → e.singleton ≡ transform → IsTransform e.subtags p → ExtensionLeads R start e step f
+        → (q : TForm) × TransformLeads R start p step q × (f ≡ of_t q)
+    inside_t p t from (in_transform b q is_t kept begins to s, h) = (
+      q,
+      subst (λ x. TransformLeads R start x step q) (t_unique e.subtags b p begins from) (s, h),
+      (λ i. record { singleton = (kept ∙ is_t) i; subtags = sym to.spelled i }),
+    )
     inside_t p t from (in_unicode b q is_u _ _ _ _, h) = absurd (omega (arith, t, is_u))
 
     -- the place of a step inside an extension is after the singleton, and its rank is one of the extension's singleton
-    pub told : ExtensionLeads R start e step f → (start < step.place) × (((e.singleton ≡ unicode) × RanksU step) ⊎ ((e.singleton ≡ transform) × RanksT step))
+    pub told : ExtensionLeads R start e step f → (start < step.place)
+        × (((e.singleton ≡ unicode) × RanksU step) ⊎ ((e.singleton ≡ transform) × RanksT step))
     told (in_unicode p q is_u _ _ _ s, h) = let r = u_ranks start p step q (s, h) in (r.0, inl (is_u, r.1))
     told (in_transform p q is_t _ _ _ s, h) = let r = in_t R start p step q (s, h) in (r.0, inr (is_t, r.1))
 
 module _ (R : List EntryParts) (start : ℕ) (es : List ExtensionParts) (step : Step) where
   -- a step inside the extension at an index is one on the extensions
-  pub leads_inside : (i : ℕ) (f : ExtensionParts) → i < length es → LeadsAt R start es step i f → ExtensionsLeads R start es step (set es i f)
+  pub leads_inside : (i : ℕ) (f : ExtensionParts) → i < length es → LeadsAt R start es step i f
+      → ExtensionsLeads R start es step (set es i f)
   leads_inside i f h l =
       let e : ExtensionParts = get_or es i f in
       let s : ExtensionLeads R (start + length (spell_extensions (take i es)) + 1) e step f = l f in
       (inside (take i es) e f (drop (suc i) es) (round es i e h (get_or_default es i f e h)) (set_split es i f h) s.0, s.1)
 
   -- a step of another kind than SwapExtensions that leads on in no extension leads on nowhere
-  pub none_inside : step.kind ≢ steps.SwapExtensions → ((i : ℕ) (f : ExtensionParts) → i < length es → LeadsAt R start es step i f → ⊥) → (fs : List ExtensionParts) → ExtensionsLeads R start es step fs → ⊥
+  pub none_inside : step.kind ≢ steps.SwapExtensions
+      → ((i : ℕ) (f : ExtensionParts) → i < length es → LeadsAt R start es step i f → ⊥) → (fs : List ExtensionParts)
+      → ExtensionsLeads R start es step fs → ⊥
   none_inside k none fs (inside before e f after there result s, h) =
       let i : ℕ = length before in
       none i f (cut_within before e after es there)
       (λ d.
-      subst (λ (b : List ExtensionParts). ExtensionLeads R (start + length (spell_extensions b) + 1) (get_or es i d) step f) (sym (ap (take i) there ∙ take_at before (e ∷ after) i refl))
-      (subst (λ (x : ExtensionParts). ExtensionLeads R (start + length (spell_extensions before) + 1) x step f) (sym (cut_at before e after es d there)) (s, h)))
+      subst (λ (b : List ExtensionParts). ExtensionLeads R (start + length (spell_extensions b) + 1) (get_or es i d)
+      step f) (sym (ap (take i) there ∙ take_at before (e ∷ after) i refl))
+      (subst (λ (x : ExtensionParts). ExtensionLeads R (start + length (spell_extensions before) + 1) x step f)
+      (sym (cut_at before e after es d there)) (s, h)))
   none_inside k none fs (among s, h) = k (as_swap singleton_cmp steps.SwapExtensions spell_extension start es fs step s h).of_kind
 
   -- a SwapExtensions step is one on the order of the extensions, since none inside an extension has its rank
-  pub to_swaps : step.kind ≡ steps.SwapExtensions → (fs : List ExtensionParts) → ExtensionsLeads R start es step fs → SwapsBy singleton_cmp spell_extension steps.SwapExtensions start es step fs
-  to_swaps k fs (inside before e f after there result s, h) = absurd (omega (arith, told R (start + length (spell_extensions before) + 1) e step f (s, h), ap rank_of k))
+  pub to_swaps : step.kind ≡ steps.SwapExtensions → (fs : List ExtensionParts) → ExtensionsLeads R start es step fs
+      → SwapsBy singleton_cmp spell_extension steps.SwapExtensions start es step fs
+  to_swaps k fs (inside before e f after there result s, h) = absurd
+      (omega (arith, told R (start + length (spell_extensions before) + 1) e step f (s, h), ap rank_of k))
   to_swaps k fs (among s, h) = as_swap singleton_cmp steps.SwapExtensions spell_extension start es fs step s h
 
   -- an answer about a swap of extensions is one about a SwapExtensions step
-  pub swaps_answers : step.kind ≡ steps.SwapExtensions → step.number ≡ 0 → (fs : List ExtensionParts) (r : Bool) → Answers (SwapLeads singleton_cmp spell_extension start step.place es) fs r → Answers (ExtensionsLeads R start es step) fs r
+  pub swaps_answers : step.kind ≡ steps.SwapExtensions → step.number ≡ 0 → (fs : List ExtensionParts) (r : Bool)
+      → Answers (SwapLeads singleton_cmp spell_extension start step.place es) fs r
+      → Answers (ExtensionsLeads R start es step) fs r
   swaps_answers k n fs r h =
       answers_by (SwapLeads singleton_cmp spell_extension start step.place es) (ExtensionsLeads R start es step) fs fs
-      (λ s. let l = to_swap singleton_cmp steps.SwapExtensions spell_extension start es fs step (record { of_kind = k; unnumbered = n; leads = s }) in (among l.0, l.1))
+      (λ s. let l = to_swap singleton_cmp steps.SwapExtensions spell_extension start es fs step
+      (record { of_kind = k; unnumbered = n; leads = s }) in (among l.0, l.1))
       (λ gs l. (gs, (to_swaps k gs l).leads)) r h
 
   -- the place of a step on extensions is after the `start` subtags before them, and its rank is not 7, that of Whole
   pub behind : (fs : List ExtensionParts) → ExtensionsLeads R start es step fs → (start < step.place) × (kind_rank step ≢ 7)
-  behind fs (inside before e f after there result s, h) = omega (arith, told R (start + length (spell_extensions before) + 1) e step f (s, h))
+  behind fs (inside before e f after there result s, h) = omega
+      (arith, told R (start + length (spell_extensions before) + 1) e step f (s, h))
   behind fs (among s, h) =
       let a = as_swap singleton_cmp steps.SwapExtensions spell_extension start es fs step s h in
       omega (arith, a.leads.at, ap rank_of a.of_kind)
 
 -- a list cut twice at one extension: a step on the extension of the one cut is one on that of the other
-pub moved : (R : List EntryParts) (start : ℕ) {before before' after after' : List ExtensionParts} {e e' f : ExtensionParts} {step : Step} → SameCut before before' e e' after after' → ExtensionLeads R (start + length (spell_extensions before') + 1) e' step f → ExtensionLeads R (start + length (spell_extensions before) + 1) e step f
+pub moved : (R : List EntryParts) (start : ℕ) {before before' after after' : List ExtensionParts} {e e' f
+    : ExtensionParts} {step : Step} → SameCut before before' e e' after after'
+    → ExtensionLeads R (start + length (spell_extensions before') + 1) e' step f
+    → ExtensionLeads R (start + length (spell_extensions before) + 1) e step f
 moved R start {before = before} {e' = e'} {f = f} {step = step} cut l =
     subst (λ x. ExtensionLeads R (start + length (spell_extensions before) + 1) x step f) (sym cut.at)
     (subst (λ b. ExtensionLeads R (start + length (spell_extensions b) + 1) e' step f) (sym cut.front) l)

@@ -1,5 +1,6 @@
 -- What the forms of entries say of names and values.
-use Rattle.std.proofs.Common.{◌≡◌, ℕ, ◌⊎◌, inl, inr, true, false, ◌&&◌, List, Option, Some, None, refl, sym, ap, ◌∙◌, subst, length, arith, IfSome, Bor}
+use Rattle.std.proofs.Common.{◌≡◌, ℕ, ◌⊎◌, inl, inr, true, false, ◌&&◌, List, Option, Some, None, refl, sym, ap, ◌∙◌}
+use Rattle.std.proofs.Common.{subst, length, arith, IfSome, Bor}
 use Rattle.std.specs.Prelude.{nat_le, is_some, unwrap_or}
 use Rattle.std.specs.Option.{option_and_then}
 use Rattle.std.proofs.lemmas.Slice.Eq.{bytes_eq-Decides}
@@ -7,7 +8,9 @@ use Rattle.std.proofs.lemmas.Bool.{and_parts, and_from, or_cases, lt-leb}
 use Rattle.lt_subtag.specs.Shapes.{is_alphabetic, is_language, is_extlang, is_variant}
 use Rattle.lt_tag.proofs.Apart.{extlang_is, variant_is}
 use Rattle.lt_registry.specs.Parts.{EntryParts}
-use Rattle.lt_registry.specs.Entries.{has_value_form, FitsValue, IsEntry, is_named, holds, one_of, entry, preferred_value, variant_value, language_value, is_registered, is_short, replacement, IsRegistry}
+use Rattle.lt_registry.specs.Entries.{has_value_form, FitsValue, IsEntry, is_named, holds, one_of, entry}
+use Rattle.lt_registry.specs.Entries.{preferred_value, variant_value, language_value, is_registered, is_short}
+use Rattle.lt_registry.specs.Entries.{replacement, IsRegistry}
 use Rattle.lt_registry.specs.declared.entries.Kind.{Kind}
 use Rattle.lt_registry.specs.declared.entries.EntryName.{EntryName}
 use Rattle.lt_registry.specs.declared.entries.EntryValue.{EntryValue}
@@ -18,7 +21,8 @@ use Rattle.lt_registry.specs.declared.entries.EntryName.TheVariants as names
 use Rattle.lt_registry.specs.declared.entries.EntryValue.TheVariants as values
 
 -- a registered subtag has an entry
-pub registered_entry : (R : List EntryParts) (k : Kind) (s : List ℕ) → is_registered R k s ≡ true → (e : EntryParts) × (entry R k s ≡ Some e)
+pub registered_entry : (R : List EntryParts) (k : Kind) (s : List ℕ) → is_registered R k s ≡ true → (e : EntryParts)
+    × (entry R k s ≡ Some e)
 registered_entry R k s h =
     (elim (entry R k s) as (λ o. is_some o ≡ true → (e : EntryParts) × (o ≡ Some e)) [ None ↦ λ e. cc | Some a ↦ λ e. (a, refl) ]) h
 
@@ -28,16 +32,21 @@ value_form_at k (Some (values.One s)) v h e = let same : s ≡ v = cc in subst (
 value_form_at k s v h e = cc
 
 -- a value has the form of its kind
-pub value_form : (R : List EntryParts) → IsRegistry R → (k : Kind) (s v : List ℕ) → preferred_value R k s ≡ Some v → has_value_form k v ≡ true
+pub value_form : (R : List EntryParts) → IsRegistry R → (k : Kind) (s v : List ℕ) → preferred_value R k s ≡ Some v
+    → has_value_form k v ≡ true
 value_form R G k s v e =
     let en : ValuedEntry R k s v = valued R k s v e in
-    subst (λ k. has_value_form k v ≡ true) en.of_kind (value_form_at en.at.kind en.at.value v (valued_has R k s v IsEntry G.forms en).value en.gives)
+    subst (λ k. has_value_form k v ≡ true) en.of_kind
+    (value_form_at en.at.kind en.at.value v (valued_has R k s v IsEntry G.forms en).value en.gives)
 
 -- what a language, script or region has as its value is registered
-pub value_registered : (R : List EntryParts) → MeetsCoreConditions R → (k : Kind) (s v : List ℕ) → has_value_of_own_kind k ≡ true → preferred_value R k s ≡ Some v → is_registered R k v ≡ true
+pub value_registered : (R : List EntryParts) → MeetsCoreConditions R → (k : Kind) (s v : List ℕ)
+    → has_value_of_own_kind k ≡ true → preferred_value R k s ≡ Some v → is_registered R k v ≡ true
 value_registered R C k s v keeps e =
     let en : ValuedEntry R k s v = valued R k s v e in
-    subst (λ k. is_registered R k v ≡ true) en.of_kind ((valued_has R k s v (HasRegisteredValue R) C.values en) (ap has_value_of_own_kind en.of_kind ∙ keeps) v en.gives)
+    subst (λ k. is_registered R k v ≡ true) en.of_kind
+    ((valued_has R k s v (HasRegisteredValue R) C.values en) (ap has_value_of_own_kind en.of_kind ∙ keeps) v
+    en.gives)
 
 -- a record that names the one subtag `t` is the entry of no other
 pub single_name : (s t : List ℕ) (n : EntryName) → n ≡ names.Single t → (is_named s n ≡ true) ⊎ (holds s n ≡ true) → t ≡ s
@@ -63,14 +72,17 @@ extlang_entry R C x h =
     record { at = en.0; found = en.1; fits = fits; same = single_name x fits.subtag en.0.name fits.single of.names }
 
 -- the replacement of an extlang is the value of its entry, or the extlang itself where there is none
-pub replacement_at : (R : List EntryParts) (x : List ℕ) (e : EntryParts) → entry R kinds.Extlang x ≡ Some e → replacement R x ≡ unwrap_or (one_of e.value) x
+pub replacement_at : (R : List EntryParts) (x : List ℕ) (e : EntryParts) → entry R kinds.Extlang x ≡ Some e
+    → replacement R x ≡ unwrap_or (one_of e.value) x
 replacement_at R x e h = ap (λ (o : Option EntryParts). unwrap_or (option_and_then (λ (f : EntryParts). one_of f.value) o) x) h
 
 -- under the conditions C1 to C6 the replacement of a registered extlang is a registered language
-pub replacement_registered : (R : List EntryParts) → MeetsCoreConditions R → (x : List ℕ) → is_registered R kinds.Extlang x ≡ true → is_registered R kinds.Language (replacement R x) ≡ true
+pub replacement_registered : (R : List EntryParts) → MeetsCoreConditions R → (x : List ℕ)
+    → is_registered R kinds.Extlang x ≡ true → is_registered R kinds.Language (replacement R x) ≡ true
 replacement_registered R C x h =
     let en : ExtlangEntry R x = extlang_entry R C x h in
-    ap (λ s. is_registered R kinds.Language s) (replacement_at R x en.at en.found ∙ ap (unwrap_or (one_of en.at.value)) (sym en.same)) ∙ en.fits.replacement_registered
+    ap (λ s. is_registered R kinds.Language s) (replacement_at R x en.at en.found
+    ∙ ap (unwrap_or (one_of en.at.value)) (sym en.same)) ∙ en.fits.replacement_registered
 
 -- an extlang, of 3 letters, has the form of a language (RFC 5646, 2.1)
 pub extlang_is_language : (x : List ℕ) → is_extlang x ≡ true → is_language x ≡ true
@@ -80,13 +92,15 @@ extlang_is_language x h =
     and_from (is_alphabetic x) (nat_le 2 (length x) && nat_le (length x) 8) p.0 (ap (λ m. nat_le 2 m && nat_le m 8) p.1)
 
 -- `x`, or the value `o` in its stead, has the form of a language, if both have it
-replacement_form_at : (x : List ℕ) (o : Option (List ℕ)) → is_language x ≡ true → ((v : List ℕ) → o ≡ Some v → is_language v ≡ true) → is_language (unwrap_or o x) ≡ true
+replacement_form_at : (x : List ℕ) (o : Option (List ℕ)) → is_language x ≡ true
+    → ((v : List ℕ) → o ≡ Some v → is_language v ≡ true) → is_language (unwrap_or o x) ≡ true
 replacement_form_at x None h f = h
 replacement_form_at x (Some v) h f = f v refl
 
 -- the replacement of an extlang has the form of a language
 pub replacement_form : (R : List EntryParts) → IsRegistry R → (x : List ℕ) → is_extlang x ≡ true → is_language (replacement R x) ≡ true
-replacement_form R G x h = replacement_form_at x (preferred_value R kinds.Extlang x) (extlang_is_language x h) (value_form R G kinds.Extlang x)
+replacement_form R G x h = replacement_form_at x (preferred_value R kinds.Extlang x) (extlang_is_language x h)
+    (value_form R G kinds.Extlang x)
 
 -- no variant is as short as a language of 2 or 3 letters
 pub variant_not_short : (v : List ℕ) → is_variant v ≡ true → is_short v ≡ false
@@ -119,10 +133,13 @@ variant_value_form R G v w e =
 -- What the forms of an entry say of its value.
 
 -- a value that has the form for the kind of an entry has it for the kind under which the entry is found
-pub form_under : (R : List EntryParts) (k : Kind) (s : List ℕ) (e : EntryParts) (v : List ℕ) → entry R k s ≡ Some e → has_value_form e.kind v ≡ true → has_value_form k v ≡ true
+pub form_under : (R : List EntryParts) (k : Kind) (s : List ℕ) (e : EntryParts) (v : List ℕ) → entry R k s ≡ Some e
+    → has_value_form e.kind v ≡ true → has_value_form k v ≡ true
 form_under R k s e v h f = subst (λ x. has_value_form x v ≡ true) (entry_of R k s e h).of_kind f
 
 -- an optional value that has the form for the kind of an entry has it for the kind under which the entry is found
-pub each_form_under : (R : List EntryParts) (k : Kind) (s : List ℕ) (e : EntryParts) (o : Option (Bor (List ℕ))) → entry R k s ≡ Some e → IfSome o (λ v. has_value_form e.kind v.now ≡ true) → IfSome o (λ v. has_value_form k v.now ≡ true)
+pub each_form_under : (R : List EntryParts) (k : Kind) (s : List ℕ) (e : EntryParts) (o : Option (Bor (List ℕ)))
+    → entry R k s ≡ Some e → IfSome o (λ v. has_value_form e.kind v.now ≡ true)
+    → IfSome o (λ v. has_value_form k v.now ≡ true)
 each_form_under R k s e None h f = f
 each_form_under R k s e (Some v) h f = form_under R k s e v.now h f

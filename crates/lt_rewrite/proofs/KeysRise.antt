@@ -1,5 +1,6 @@
 -- Keywords whose keys rise, none of which has a type `true`: no step leads from them.
-use Rattle.std.proofs.Common.{◌≡◌, ℕ, ◌<◌, Bool, true, false, not, List, [], ◌∷◌, ◌++◌, Option, Some, None, refl, sym, ap, ap₂, ◌∙◌, subst, length, arith, Ordering, Less, Equal, Greater, bytes_eq}
+use Rattle.std.proofs.Common.{◌≡◌, ℕ, ◌<◌, Bool, true, false, not, List, [], ◌∷◌, ◌++◌, Option, Some, None, refl, sym}
+use Rattle.std.proofs.Common.{ap, ap₂, ◌∙◌, subst, length, arith, Ordering, Less, Equal, Greater, bytes_eq}
 use Rattle.std.specs.Prelude.{codes}
 use Rattle.std.specs.List.{list_all, AllByRecursion}
 use Rattle.std.specs.Ordering.{ordering_reverse}
@@ -82,7 +83,8 @@ abbrev keyword : List ℕ → List (List ℕ) → KeywordParts
 keyword key types = record { key = key; types = types }
 
 -- one subtag more in front: a key that comes after `last`
-rise_key : (last : Option (List ℕ)) (s : List ℕ) (ss : List (List ℕ)) → is_key s ≡ true → comes_after last s ≡ true → Rise (Some s) ss → Rise last (s ∷ ss)
+rise_key : (last : Option (List ℕ)) (s : List ℕ) (ss : List (List ℕ)) → is_key s ≡ true → comes_after last s ≡ true
+    → Rise (Some s) ss → Rise last (s ∷ ss)
 rise_key last s ss key after r =
     let found : keywords_of (s ∷ ss) ≡ keyword s (before is_key ss) ∷ keywords_of ss = rw key refl in
     let none : before is_key (s ∷ ss) ≡ [] = rw key refl in
@@ -96,7 +98,8 @@ rise_key last s ss key after r =
     }
 
 -- one subtag more in front: a type of the key `last`, other than `true`
-rise_type : (last : List ℕ) (s : List ℕ) (ss : List (List ℕ)) → is_key s ≡ false → is_long s ≡ true → not (bytes_eq s (codes "true")) ≡ true → Rise (Some last) ss → Rise (Some last) (s ∷ ss)
+rise_type : (last : List ℕ) (s : List ℕ) (ss : List (List ℕ)) → is_key s ≡ false → is_long s ≡ true
+    → not (bytes_eq s (codes "true")) ≡ true → Rise (Some last) ss → Rise (Some last) (s ∷ ss)
 rise_type last s ss key long other r =
     let found : keywords_of (s ∷ ss) ≡ keywords_of ss = rw key refl in
     let more : before is_key (s ∷ ss) ≡ s ∷ before is_key ss = rw key refl in
@@ -110,7 +113,8 @@ rise_type last s ss key long other r =
     }
 
 -- where keys rise, there is a last key `k` after the subtag `s`, and from it on the keys of the others rise
-next_some : (last : Option (List ℕ)) (s : List ℕ) (ss : List (List ℕ)) → keys_rise last (s ∷ ss) ≡ true → (k : List ℕ) × (next_key last s ≡ Some k) × (keys_rise (Some k) ss ≡ true)
+next_some : (last : Option (List ℕ)) (s : List ℕ) (ss : List (List ℕ)) → keys_rise last (s ∷ ss) ≡ true → (k : List ℕ)
+    × (next_key last s ≡ Some k) × (keys_rise (Some k) ss ≡ true)
 next_some last s ss h = go (next_key last s) refl
   where
     go : (o : Option (List ℕ)) → next_key last s ≡ o → (k : List ℕ) × (next_key last s ≡ Some k) × (keys_rise (Some k) ss ≡ true)
@@ -124,16 +128,19 @@ rise last (s ∷ ss) h =
     let n = next_some last s ss h in
     by_key (is_key s) refl n.0 n.1 (rise (Some n.0) ss n.2)
   where
-    by_type : (o : Option (List ℕ)) → last ≡ o → is_key s ≡ false → (b : Bool) → is_type s ≡ b → (k : List ℕ) → next_key last s ≡ Some k → Rise (Some k) ss → Rise last (s ∷ ss)
+    by_type : (o : Option (List ℕ)) → last ≡ o → is_key s ≡ false → (b : Bool) → is_type s ≡ b → (k : List ℕ)
+        → next_key last s ≡ Some k → Rise (Some k) ss → Rise last (s ∷ ss)
     by_type o e key false b k n r = let bad : None ≡ Some k = rw (key, b) at n in cc
     by_type None e key true b k n r = let bad : None ≡ Some k = rw (key, b, e) at n in cc
     by_type (Some l) e key true b k n r =
         let both = and_parts (is_long s) _ b in
         let same : Some l ≡ Some k = rw (key, b, e) at n in
         let one : k ≡ l = cc in
-        subst (λ (x : Option (List ℕ)). Rise x (s ∷ ss)) (sym e) (rise_type l s ss key both.0 both.1 (subst (λ (x : List ℕ). Rise (Some x) ss) one r))
+        subst (λ (x : Option (List ℕ)). Rise x (s ∷ ss)) (sym e)
+        (rise_type l s ss key both.0 both.1 (subst (λ (x : List ℕ). Rise (Some x) ss) one r))
 
-    by_after : is_key s ≡ true → (b : Bool) → comes_after last s ≡ b → (k : List ℕ) → next_key last s ≡ Some k → Rise (Some k) ss → Rise last (s ∷ ss)
+    by_after : is_key s ≡ true → (b : Bool) → comes_after last s ≡ b → (k : List ℕ) → next_key last s ≡ Some k
+        → Rise (Some k) ss → Rise last (s ∷ ss)
     by_after key false a k n r = let bad : None ≡ Some k = rw (key, a) at n in cc
     by_after key true a k n r =
         let same : Some s ≡ Some k = rw (key, a) at n in
@@ -172,7 +179,11 @@ keys_rest ks h ls (by_drop before a between b after o s) =
 -- no step leads from attributes if there are none
 none_moves : (as' : List (List ℕ)) → as' ≡ [] → Rests (ListStep true text_cmp) as'
 none_moves as' e bs (by_swap before a b after s) = omega (arith, ap length (sym e ∙ s.there), length-append before (a ∷ b ∷ after))
-none_moves as' e bs (by_drop before a between b after o s) = omega (arith, ap length (sym e ∙ s.there), length-append before (a ∷ (between ++ b ∷ after)))
+none_moves as' e bs (by_drop before a between b after o s) = omega (
+  arith,
+  ap length (sym e ∙ s.there),
+  length-append before (a ∷ (between ++ b ∷ after)),
+)
 
 -- the parts of subtags whose keys rise are their own normal form
 pub parts_rest : (ss : List (List ℕ)) → Rise None ss → IsNormalForm UnicodeStep (parts ss) (parts ss)
@@ -187,8 +198,10 @@ parts_rest ss r = record { reached = done; at_rest = rests }
         cc
 
 -- no step leads from a `u` extension whose keys rise
-pub unicode_rests : (R : List EntryParts) (e : ExtensionParts) → IsExtensionValue e → keys_rise None e.subtags ≡ true → e.singleton ≡ unicode → Rests (ExtensionStep R) e
+pub unicode_rests : (R : List EntryParts) (e : ExtensionParts) → IsExtensionValue e → keys_rise None e.subtags ≡ true
+    → e.singleton ≡ unicode → Rests (ExtensionStep R) e
 unicode_rests R e v h u =
     let r = rise None e.subtags h in
     let found = parts_found e.subtags r v.shaped.some in
-    subst (Rests (ExtensionStep R)) (ap₂ extension (sym u) found.spelled) (unicode_settled R e (parts e.subtags) (parts e.subtags) u found (parts_rest e.subtags r)).at_rest
+    subst (Rests (ExtensionStep R)) (ap₂ extension (sym u) found.spelled)
+    (unicode_settled R e (parts e.subtags) (parts e.subtags) u found (parts_rest e.subtags r)).at_rest

@@ -18,7 +18,9 @@ unfolding is_language
 language_range s a b h k =
     let p = and_parts (length s == length a) (is_alphabetic s && (letters_le a s && letters_le s b)) k in
     let m = (and_parts (is_alphabetic a) (nat_le 2 (length a) && nat_le (length a) 8) h).1 in
-    and_from (is_alphabetic s) (nat_le 2 (length s) && nat_le (length s) 8) (and_parts (is_alphabetic s) (letters_le a s && letters_le s b) p.1).0 (ap (λ z. nat_le 2 z && nat_le z 8) (eqb-true (length s) (length a) p.0) ∙ m)
+    and_from (is_alphabetic s) (nat_le 2 (length s) && nat_le (length s) 8)
+    (and_parts (is_alphabetic s) (letters_le a s && letters_le s b) p.1).0
+    (ap (λ z. nat_le 2 z && nat_le z 8) (eqb-true (length s) (length a) p.0) ∙ m)
 
 -- a subtag that the name of a language's record names or holds has the form of a language
 language_at : (s : List ℕ) (n : EntryName) → FitsName kinds.Language n → (is_named s n ≡ true) ⊎ (holds s n ≡ true) → is_language s ≡ true

@@ -10,11 +10,13 @@ pub record IsFormOf {A : Type 0} (Step : A → A → Type 0) (form : A → A) : 
   pub rests : (a : A) → Rests Step (form a)
 
 -- `form` gives the normal form, if each step keeps it and it is a normal form of each value
-pub formed_by : {A : Type 0} {Step : A → A → Type 0} {form : A → A} → ((a b : A) → Step a b → form a ≡ form b) → ((a : A) → IsNormalForm Step a (form a)) → IsFormOf Step form
+pub formed_by : {A : Type 0} {Step : A → A → Type 0} {form : A → A} → ((a b : A) → Step a b → form a ≡ form b)
+    → ((a : A) → IsNormalForm Step a (form a)) → IsFormOf Step form
 formed_by k n = record { kept = k; reached = λ a. (n a).reached; rests = λ a. (n a).at_rest }
 
 -- what each step keeps, many steps keep
-pub star_keeps : {A : Type 0} {Step : A → A → Type 0} (P : A → Type 0) → ((a b : A) → Step a b → P a → P b) → {a b : A} → Star Step a b → P a → P b
+pub star_keeps : {A : Type 0} {Step : A → A → Type 0} (P : A → Type 0) → ((a b : A) → Step a b → P a → P b) → {a b : A}
+    → Star Step a b → P a → P b
 star_keeps P h done p = p
 star_keeps P h (then {a = a} {b = b} s r) p = star_keeps P h r (h a b s p)
 
@@ -36,7 +38,8 @@ pub form_is_normal : {A : Type 0} {Step : A → A → Type 0} {form : A → A} �
 form_is_normal F a = record { reached = F.reached a; at_rest = F.rests a }
 
 -- each normal form of a value is its form
-pub normal_is_form : {A : Type 0} {Step : A → A → Type 0} {form : A → A} → IsFormOf Step form → (a b : A) → IsNormalForm Step a b → form a ≡ b
+pub normal_is_form : {A : Type 0} {Step : A → A → Type 0} {form : A → A} → IsFormOf Step form → (a b : A)
+    → IsNormalForm Step a b → form a ≡ b
 normal_is_form F a b n = star_form F n.reached ∙ rest_is_form F b n.at_rest
 
 -- the form of a form is itself
@@ -44,22 +47,30 @@ pub form_again : {A : Type 0} {Step : A → A → Type 0} {form : A → A} → I
 form_again {form = form} F a = rest_is_form F (form a) (F.rests a)
 
 -- where `g` makes a step of each step, it makes many steps of many
-pub star_map : {A B : Type 0} {Step : A → A → Type 0} {Other : B → B → Type 0} (g : A → B) → ((a b : A) → Step a b → Other (g a) (g b)) → {a b : A} → Star Step a b → Star Other (g a) (g b)
+pub star_map : {A B : Type 0} {Step : A → A → Type 0} {Other : B → B → Type 0} (g : A → B)
+    → ((a b : A) → Step a b → Other (g a) (g b)) → {a b : A} → Star Step a b → Star Other (g a) (g b)
 star_map g h done = done
 star_map g h (then {a = a} {b = b} s r) = then (h a b s) (star_map g h r)
 
 -- what no step makes more, many steps make no more
-pub star_no_more : {A : Type 0} {Step : A → A → Type 0} (f : A → ℕ) → ((a b : A) → Step a b → f b ≤ f a) → {a b : A} → Star Step a b → f b ≤ f a
+pub star_no_more : {A : Type 0} {Step : A → A → Type 0} (f : A → ℕ) → ((a b : A) → Step a b → f b ≤ f a) → {a b : A}
+    → Star Step a b → f b ≤ f a
 star_no_more f h {a = p} r = star_keeps (λ x. f x ≤ f p) (λ a b s l. let m = h a b s in omega (arith, m, l)) r (omega arith)
 
 -- where `g` makes a step of each step while `P` holds, which each step keeps, it makes many steps of many
-pub star_map_while : {A B : Type 0} {Step : A → A → Type 0} {Other : B → B → Type 0} (P : A → Type 0) (g : A → B) → ((a b : A) → Step a b → P a → P b) → ((a b : A) → Step a b → P a → P b → Other (g a) (g b)) → {a b : A} → Star Step a b → P a → Star Other (g a) (g b)
+pub star_map_while : {A B : Type 0} {Step : A → A → Type 0} {Other : B → B → Type 0} (P : A → Type 0) (g : A → B)
+    → ((a b : A) → Step a b → P a → P b) → ((a b : A) → Step a b → P a → P b → Other (g a) (g b)) → {a b : A}
+    → Star Step a b → P a → Star Other (g a) (g b)
 star_map_while P g k h done p = done
 star_map_while P g k h (then {a = a} {b = b} s r) p = let q = k a b s p in then (h a b s p q) (star_map_while P g k h r q)
 
 -- the normal forms of two parts make that of the whole, which `make` makes of the parts, if the steps on the whole are
 -- those on its parts
-pub pair_settles : {A B C : Type 0} {One : A → A → Type 0} {Two : B → B → Type 0} {Step : C → C → Type 0} (make : A → B → C) → ((a b : A) (x : B) → One a b → Step (make a x) (make b x)) → ((a : A) (x y : B) → Two x y → Step (make a x) (make a y)) → ((a : A) (x : B) (c : C) → Step (make a x) c → ((b : A) × One a b) ⊎ ((y : B) × Two x y)) → {a b : A} {x y : B} → IsNormalForm One a b → IsNormalForm Two x y → IsNormalForm Step (make a x) (make b y)
+pub pair_settles : {A B C : Type 0} {One : A → A → Type 0} {Two : B → B → Type 0} {Step : C → C → Type 0} (make : A → B
+    → C) → ((a b : A) (x : B) → One a b → Step (make a x) (make b x))
+    → ((a : A) (x y : B) → Two x y → Step (make a x) (make a y))
+    → ((a : A) (x : B) (c : C) → Step (make a x) c → ((b : A) × One a b) ⊎ ((y : B) × Two x y)) → {a b : A} {x y : B}
+    → IsNormalForm One a b → IsNormalForm Two x y → IsNormalForm Step (make a x) (make b y)
 pair_settles make left right parts {b = b} {x = x} {y = y} n m = record {
   reached = star_trans (star_map (λ a. make a x) (λ c d s. left c d x s) n.reached) (star_map (make b) (right b) m.reached);
   at_rest = λ c s. elim (parts b y c s) [ inl t ↦ n.at_rest t.0 t.1 | inr t ↦ m.at_rest t.0 t.1 ];

@@ -12,7 +12,10 @@ abbrev field : List ℕ → List (List ℕ) → FieldParts
 field separator values = record { separator = separator; values = values }
 
 -- foo-bar-foo-nu-latn-ca-buddhist-nu-arab: attributes and keywords come in order, and of equal ones the first stays
-repeated : u_form (parts (codes "foo" ∷ codes "bar" ∷ codes "foo" ∷ []) (keyword (codes "nu") (codes "latn" ∷ []) ∷ keyword (codes "ca") (codes "buddhist" ∷ []) ∷ keyword (codes "nu") (codes "arab" ∷ []) ∷ []))
+repeated : u_form
+    (parts (codes "foo" ∷ codes "bar" ∷ codes "foo" ∷ [])
+    (keyword (codes "nu") (codes "latn" ∷ []) ∷ keyword (codes "ca") (codes "buddhist" ∷ [])
+    ∷ keyword (codes "nu") (codes "arab" ∷ []) ∷ []))
     ≡ parts (codes "bar" ∷ codes "foo" ∷ []) (keyword (codes "ca") (codes "buddhist" ∷ []) ∷ keyword (codes "nu") (codes "latn" ∷ []) ∷ [])
 repeated = refl
 
@@ -21,7 +24,8 @@ sole_true : u_form (parts [] (keyword (codes "kn") (codes "true" ∷ []) ∷ [])
 sole_true = refl
 
 -- kn-true-true keeps its types
-two_types : u_form (parts [] (keyword (codes "kn") (codes "true" ∷ codes "true" ∷ []) ∷ [])) ≡ parts [] (keyword (codes "kn") (codes "true" ∷ codes "true" ∷ []) ∷ [])
+two_types : u_form (parts [] (keyword (codes "kn") (codes "true" ∷ codes "true" ∷ []) ∷ []))
+    ≡ parts [] (keyword (codes "kn") (codes "true" ∷ codes "true" ∷ []) ∷ [])
 two_types = refl
 
 -- the attribute true stays
@@ -29,8 +33,11 @@ true_attribute : u_form (parts (codes "true" ∷ []) []) ≡ parts (codes "true"
 true_attribute = refl
 
 -- m0-names-bgn-a0-xyz-m0-aaa: fields may repeat, and keep the order of their values
-fields : sorted false separator_cmp (field (codes "m0") (codes "names" ∷ codes "bgn" ∷ []) ∷ field (codes "a0") (codes "xyz" ∷ []) ∷ field (codes "m0") (codes "aaa" ∷ []) ∷ [])
-    ≡ field (codes "a0") (codes "xyz" ∷ []) ∷ field (codes "m0") (codes "names" ∷ codes "bgn" ∷ []) ∷ field (codes "m0") (codes "aaa" ∷ []) ∷ []
+fields : sorted false separator_cmp
+    (field (codes "m0") (codes "names" ∷ codes "bgn" ∷ []) ∷ field (codes "a0") (codes "xyz" ∷ [])
+    ∷ field (codes "m0") (codes "aaa" ∷ []) ∷ [])
+    ≡ field (codes "a0") (codes "xyz" ∷ []) ∷ field (codes "m0") (codes "names" ∷ codes "bgn" ∷ [])
+    ∷ field (codes "m0") (codes "aaa" ∷ []) ∷ []
 fields = refl
 
 -- b-ccc-bbb-a-aaa: the extensions come in the order of their singletons, and keep that of their subtags

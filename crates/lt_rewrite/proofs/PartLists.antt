@@ -1,5 +1,6 @@
 -- What the steps on lists of parts keep.
-use Rattle.std.proofs.Common.{◌≡◌, ◌≢◌, ℕ, ◌≤◌, ◌<◌, ◌+◌, Bool, true, List, [], ◌∷◌, ◌++◌, Option, Some, refl, sym, ap, ap₂, ◌∙◌, subst, Ordering, length, arith, IfSome, suc, get_or, set, take, drop}
+use Rattle.std.proofs.Common.{◌≡◌, ◌≢◌, ℕ, ◌≤◌, ◌<◌, ◌+◌, Bool, true, List, [], ◌∷◌, ◌++◌, Option, Some, refl, sym, ap}
+use Rattle.std.proofs.Common.{ap₂, ◌∙◌, subst, Ordering, length, arith, IfSome, suc, get_or, set, take, drop}
 use Rattle.std.specs.Prelude.{flat_map, map}
 use Rattle.std.specs.List.{list_all, AllByRecursion}
 use Rattle.std.proofs.lemmas.List.Elements.{All-from_recursion, recursion_from_All, All-map, All-weaker}
@@ -20,31 +21,39 @@ pub tests_of_facts : {A : Type 0} (test : A → Bool) (xs : List A) → AllByRec
 tests_of_facts test xs h = list_all-from_AllPass test xs (All-from_recursion (λ x. test x ≡ true) xs h)
 
 -- where `P` of all parts of `xs` gives `P` of all of `ys`, it does so after the same parts
-all_under : {A : Type 0} (P : A → Type 0) (before xs ys : List A) → (AllByRecursion P xs → AllByRecursion P ys) → AllByRecursion P (before ++ xs) → AllByRecursion P (before ++ ys)
+all_under : {A : Type 0} (P : A → Type 0) (before xs ys : List A) → (AllByRecursion P xs → AllByRecursion P ys)
+    → AllByRecursion P (before ++ xs) → AllByRecursion P (before ++ ys)
 all_under P [] xs ys f h = f h
 all_under P (u ∷ us) xs ys f h = (h.0, all_under P us xs ys f h.1)
 
 -- what each part has, each has after two neighbours change places
-pub all_swapped : {A : Type 0} (P : A → Type 0) (before : List A) (a b : A) (after : List A) → AllByRecursion P (before ++ a ∷ b ∷ after) → AllByRecursion P (before ++ b ∷ a ∷ after)
+pub all_swapped : {A : Type 0} (P : A → Type 0) (before : List A) (a b : A) (after : List A)
+    → AllByRecursion P (before ++ a ∷ b ∷ after) → AllByRecursion P (before ++ b ∷ a ∷ after)
 all_swapped P before a b after h = all_under P before (a ∷ b ∷ after) (b ∷ a ∷ after) (λ k. (k.1.0, (k.0, k.1.1))) h
 
 -- what each part has, each has without one of them
-pub all_without : {A : Type 0} (P : A → Type 0) (before : List A) (v : A) (after : List A) → AllByRecursion P (before ++ v ∷ after) → AllByRecursion P (before ++ after)
+pub all_without : {A : Type 0} (P : A → Type 0) (before : List A) (v : A) (after : List A)
+    → AllByRecursion P (before ++ v ∷ after) → AllByRecursion P (before ++ after)
 all_without P before v after h = all_under P before (v ∷ after) after (λ k. k.1) h
 
 -- what each part has, each part has after a step
-pub all_step : {A : Type 0} (P : A → Type 0) {once : Bool} {cmp : A → A → Ordering} (xs ys : List A) → ListStep once cmp xs ys → AllByRecursion P xs → AllByRecursion P ys
-all_step P xs ys (by_swap before a b after s) h = subst (AllByRecursion P) (sym s.result) (all_swapped P before a b after (subst (AllByRecursion P) s.there h))
+pub all_step : {A : Type 0} (P : A → Type 0) {once : Bool} {cmp : A → A → Ordering} (xs ys : List A)
+    → ListStep once cmp xs ys → AllByRecursion P xs → AllByRecursion P ys
+all_step P xs ys (by_swap before a b after s) h = subst (AllByRecursion P) (sym s.result)
+    (all_swapped P before a b after (subst (AllByRecursion P) s.there h))
 all_step P xs ys (by_drop before a between b after o s) h =
     subst (AllByRecursion P) (sym s.result)
-    (all_under P before (a ∷ (between ++ b ∷ after)) (a ∷ (between ++ after)) (λ k. (k.0, all_without P between b after k.1)) (subst (AllByRecursion P) s.there h))
+    (all_under P before (a ∷ (between ++ b ∷ after)) (a ∷ (between ++ after))
+    (λ k. (k.0, all_without P between b after k.1)) (subst (AllByRecursion P) s.there h))
 
 -- a test that all parts pass, all pass after a step
-pub list_all_step : {A : Type 0} (test : A → Bool) {once : Bool} {cmp : A → A → Ordering} (xs ys : List A) → ListStep once cmp xs ys → list_all test xs ≡ true → list_all test ys ≡ true
+pub list_all_step : {A : Type 0} (test : A → Bool) {once : Bool} {cmp : A → A → Ordering} (xs ys : List A)
+    → ListStep once cmp xs ys → list_all test xs ≡ true → list_all test ys ≡ true
 list_all_step test xs ys s h = tests_of_facts test ys (all_step (λ x. test x ≡ true) xs ys s (facts_of_tests test xs h))
 
 -- what each part has, each has with `w` in the place of `v`, if `w` has it
-pub all_replaced : {A : Type 0} (P : A → Type 0) (before : List A) (v w : A) (after : List A) → AllByRecursion P (before ++ v ∷ after) → P w → AllByRecursion P (before ++ w ∷ after)
+pub all_replaced : {A : Type 0} (P : A → Type 0) (before : List A) (v w : A) (after : List A)
+    → AllByRecursion P (before ++ v ∷ after) → P w → AllByRecursion P (before ++ w ∷ after)
 all_replaced P before v w after h p = all_under P before (v ∷ after) (w ∷ after) (λ k. (p, k.1)) h
 
 -- what each part has, the one at which the list is cut has
@@ -53,11 +62,13 @@ all_middle P [] v after h = h.0
 all_middle P (u ∷ us) v after h = all_middle P us v after h.1
 
 -- where `g` makes a part with `Q` of one with `P`, it does so of all parts
-pub all_mapped : {A B : Type 0} (P : A → Type 0) (Q : B → Type 0) (g : A → B) → ((a : A) → P a → Q (g a)) → (xs : List A) → AllByRecursion P xs → AllByRecursion Q (map g xs)
+pub all_mapped : {A B : Type 0} (P : A → Type 0) (Q : B → Type 0) (g : A → B) → ((a : A) → P a → Q (g a))
+    → (xs : List A) → AllByRecursion P xs → AllByRecursion Q (map g xs)
 all_mapped P Q g h xs a = recursion_from_All Q (map g xs) (All-map Q g xs (All-weaker P (λ x. Q (g x)) h xs (All-from_recursion P xs a)))
 
 -- what `g` makes of each part has `P`, told of the parts
-pub all_unmapped : {A B : Type 0} (P : B → Type 0) (g : A → B) (xs : List A) → AllByRecursion P (map g xs) → AllByRecursion (λ x. P (g x)) xs
+pub all_unmapped : {A B : Type 0} (P : B → Type 0) (g : A → B) (xs : List A) → AllByRecursion P (map g xs)
+    → AllByRecursion (λ x. P (g x)) xs
 all_unmapped P g [] h = tt
 all_unmapped P g (x ∷ xs) h = (h.0, all_unmapped P g xs h.1)
 
@@ -67,7 +78,8 @@ empty_middle [] a after e = cc
 empty_middle (b ∷ bs) a after e = cc
 
 -- where `P` and `Q` of a part give `S`, they do so of all parts
-pub all_both : {A : Type 0} (P Q S : A → Type 0) → ((a : A) → P a → Q a → S a) → (xs : List A) → AllByRecursion P xs → AllByRecursion Q xs → AllByRecursion S xs
+pub all_both : {A : Type 0} (P Q S : A → Type 0) → ((a : A) → P a → Q a → S a) → (xs : List A) → AllByRecursion P xs
+    → AllByRecursion Q xs → AllByRecursion S xs
 all_both P Q S f [] h k = tt
 all_both P Q S f (x ∷ xs) h k = (f x h.0 k.0, all_both P Q S f xs h.1 k.1)
 
@@ -76,14 +88,17 @@ pub others_same : {A : Type 0} (x y : A) (xs ys : List A) → x ∷ xs ≡ y ∷
 others_same x y xs ys e = cc
 
 -- a step on a list makes its subtags no more
-pub spelled_step : {A : Type 0} (spell : A → List (List ℕ)) {once : Bool} {cmp : A → A → Ordering} (xs ys : List A) → ListStep once cmp xs ys → length (flat_map spell ys) ≤ length (flat_map spell xs)
+pub spelled_step : {A : Type 0} (spell : A → List (List ℕ)) {once : Bool} {cmp : A → A → Ordering} (xs ys : List A)
+    → ListStep once cmp xs ys → length (flat_map spell ys) ≤ length (flat_map spell xs)
 spelled_step spell xs ys (by_swap before a b after s) =
     rw (s.result, s.there) (simp (flat_map-append, length-append) (omega arith))
 spelled_step spell xs ys (by_drop before a between b after o s) =
     rw (s.result, s.there) (simp (flat_map-append, length-append) (omega arith))
 
 -- where one part is replaced by one with no more subtags, the list has no more
-pub spelled_replaced : {A : Type 0} (spell : A → List (List ℕ)) (before : List A) (v w : A) (after : List A) → length (spell w) ≤ length (spell v) → length (flat_map spell (before ++ w ∷ after)) ≤ length (flat_map spell (before ++ v ∷ after))
+pub spelled_replaced : {A : Type 0} (spell : A → List (List ℕ)) (before : List A) (v w : A) (after : List A)
+    → length (spell w) ≤ length (spell v) → length (flat_map spell (before ++ w ∷ after))
+    ≤ length (flat_map spell (before ++ v ∷ after))
 spelled_replaced spell before v w after h =
     simp (flat_map-append, length-append) (omega arith)
 
@@ -93,7 +108,8 @@ length_step xs ys (by_swap before a b after s) = rw (s.result, s.there) (simp le
 length_step xs ys (by_drop before a between b after o s) = rw (s.result, s.there) (simp length-append (omega arith))
 
 -- where one part is replaced by one, the list has as many parts as before
-pub length_replaced : {A : Type 0} (before : List A) (v w : A) (after : List A) → length (before ++ w ∷ after) ≡ length (before ++ v ∷ after)
+pub length_replaced : {A : Type 0} (before : List A) (v w : A) (after : List A)
+    → length (before ++ w ∷ after) ≡ length (before ++ v ∷ after)
 length_replaced before v w after = simp length-append
 
 -- a step on a list leaves at least one part
@@ -138,30 +154,43 @@ pub record SameCut {A : Type 0} (xs ys : List A) (v w : A) (us vs : List A) : Ty
 
 -- two cuts are the same, if `Q` relates what is before them, where `Q` relates no empty list and one that is not, and
 -- passes from two lists with one first part to their rests
-same_by : {A : Type 0} (Q : List A → List A → Type 0) → ((y : A) (ys : List A) → Q [] (y ∷ ys) → ⊥) → ((x : A) (xs : List A) → Q (x ∷ xs) [] → ⊥) → ((x : A) (xs ys : List A) → Q (x ∷ xs) (x ∷ ys) → Q xs ys) → (xs ys : List A) (v w : A) (us vs : List A) → xs ++ v ∷ us ≡ ys ++ w ∷ vs → Q xs ys → SameCut xs ys v w us vs
+same_by : {A : Type 0} (Q : List A → List A → Type 0) → ((y : A) (ys : List A) → Q [] (y ∷ ys) → ⊥)
+    → ((x : A) (xs : List A) → Q (x ∷ xs) [] → ⊥) → ((x : A) (xs ys : List A) → Q (x ∷ xs) (x ∷ ys) → Q xs ys)
+    → (xs ys : List A) (v w : A) (us vs : List A) → xs ++ v ∷ us ≡ ys ++ w ∷ vs → Q xs ys → SameCut xs ys v w us vs
 same_by Q l r more [] [] v w us vs e q = record { front = refl; at = let k : v ≡ w = cc in k; rest = others_same v w us vs e }
 same_by Q l r more [] (y ∷ ys) v w us vs e q = absurd (l y ys q)
 same_by Q l r more (x ∷ xs) [] v w us vs e q = absurd (r x xs q)
 same_by Q l r more (x ∷ xs) (y ∷ ys) v w us vs e q =
     let h : x ≡ y = cc in
-    let k = same_by Q l r more xs ys v w us vs (others_same x y (xs ++ v ∷ us) (ys ++ w ∷ vs) e) (more x xs ys (subst (λ z. Q (x ∷ xs) (z ∷ ys)) (sym h) q)) in
+    let k = same_by Q l r more xs ys v w us vs (others_same x y (xs ++ v ∷ us) (ys ++ w ∷ vs) e)
+    (more x xs ys (subst (λ z. Q (x ∷ xs) (z ∷ ys)) (sym h) q)) in
     record { front = ap₂ (λ z zs. z ∷ zs) h k.front; at = k.at; rest = k.rest }
 
 -- two cuts with as many parts before them are the same
-pub same_cut : {A : Type 0} (xs ys : List A) (v w : A) (us vs : List A) → xs ++ v ∷ us ≡ ys ++ w ∷ vs → length xs ≡ length ys → SameCut xs ys v w us vs
+pub same_cut : {A : Type 0} (xs ys : List A) (v w : A) (us vs : List A) → xs ++ v ∷ us ≡ ys ++ w ∷ vs
+    → length xs ≡ length ys → SameCut xs ys v w us vs
 same_cut xs ys v w us vs e l =
     same_by (λ a b. length a ≡ length b) (λ y ys h. omega arith) (λ x xs h. omega arith) (λ x xs ys h. omega arith) xs ys v w us vs e l
 
 -- two cuts with as many subtags before them are the same, if each part has a subtag
-pub same_flat : {A : Type 0} (spell : A → List (List ℕ)) → ((a : A) → spell a ≢ []) → (xs ys : List A) (v w : A) (us vs : List A) → xs ++ v ∷ us ≡ ys ++ w ∷ vs → length (flat_map spell xs) ≡ length (flat_map spell ys) → SameCut xs ys v w us vs
+pub same_flat : {A : Type 0} (spell : A → List (List ℕ)) → ((a : A) → spell a ≢ [])
+    → (xs ys : List A) (v w : A) (us vs : List A) → xs ++ v ∷ us ≡ ys ++ w ∷ vs
+    → length (flat_map spell xs) ≡ length (flat_map spell ys) → SameCut xs ys v w us vs
 same_flat spell n xs ys v w us vs e l =
     same_by (λ a b. length (flat_map spell a) ≡ length (flat_map spell b))
     (λ y ys h. omega (arith, h, some_long (spell y) (n y), length-append (spell y) (flat_map spell ys)))
     (λ x xs h. omega (arith, h, some_long (spell x) (n x), length-append (spell x) (flat_map spell xs)))
-    (λ x xs ys h. omega (arith, h, length-append (spell x) (flat_map spell xs), length-append (spell x) (flat_map spell ys))) xs ys v w us vs e l
+    (λ x xs ys h. omega (
+      arith,
+      h,
+      length-append (spell x) (flat_map spell xs),
+      length-append (spell x) (flat_map spell ys),
+    )) xs ys v w us vs e l
 
 -- the number of subtags of a list is that of those before a part, of the part, and after it
-pub flat_length : {A : Type 0} (spell : A → List (List ℕ)) (before : List A) (a : A) (between : List A) → length (flat_map spell (before ++ a ∷ between)) ≡ length (flat_map spell before) + length (spell a) + length (flat_map spell between)
+pub flat_length : {A : Type 0} (spell : A → List (List ℕ)) (before : List A) (a : A) (between : List A)
+    → length (flat_map spell (before ++ a ∷ between)) ≡ length (flat_map spell before) + length (spell a)
+    + length (flat_map spell between)
 flat_length spell before a between =
     simp (flat_map-append, length-append) (omega arith)
 
@@ -170,13 +199,17 @@ abbrev singleton_of : ExtensionParts → ℕ
 singleton_of e = e.singleton
 
 -- where each singleton occurs once, two cuts at extensions of one singleton are the same
-pub distinct_cut : (xs ys : List ExtensionParts) (v w : ExtensionParts) (us vs : List ExtensionParts) → xs ++ v ∷ us ≡ ys ++ w ∷ vs → Distinct (map (λ (e : ExtensionParts). e.singleton) (xs ++ v ∷ us)) → v.singleton ≡ w.singleton → SameCut xs ys v w us vs
+pub distinct_cut : (xs ys : List ExtensionParts) (v w : ExtensionParts) (us vs : List ExtensionParts)
+    → xs ++ v ∷ us ≡ ys ++ w ∷ vs → Distinct (map (λ (e : ExtensionParts). e.singleton) (xs ++ v ∷ us))
+    → v.singleton ≡ w.singleton → SameCut xs ys v w us vs
 distinct_cut xs ys v w us vs e d k =
     same_by (λ as' bs. (as' ++ v ∷ us ≡ bs ++ w ∷ vs) × Distinct (map singleton_of (as' ++ v ∷ us)))
     (λ y bs q.
     let others = subst (λ l. AllByRecursion (λ n. n ≢ v.singleton) (map singleton_of l)) (others_same v y us (bs ++ w ∷ vs) q.0) q.1.0 in
-    all_middle (λ (x : ExtensionParts). x.singleton ≢ v.singleton) bs w vs (all_unmapped (λ n. n ≢ v.singleton) singleton_of (bs ++ w ∷ vs) others) (sym k))
+    all_middle (λ (x : ExtensionParts). x.singleton ≢ v.singleton) bs w vs
+    (all_unmapped (λ n. n ≢ v.singleton) singleton_of (bs ++ w ∷ vs) others) (sym k))
     (λ x as' q.
     let same : x ≡ w = cc (q.0) in
-    all_middle (λ (y : ExtensionParts). y.singleton ≢ x.singleton) as' v us (all_unmapped (λ n. n ≢ x.singleton) singleton_of (as' ++ v ∷ us) q.1.0) (k ∙ ap singleton_of (sym same)))
+    all_middle (λ (y : ExtensionParts). y.singleton ≢ x.singleton) as' v us
+    (all_unmapped (λ n. n ≢ x.singleton) singleton_of (as' ++ v ∷ us) q.1.0) (k ∙ ap singleton_of (sym same)))
     (λ x as' bs q. (others_same x x (as' ++ v ∷ us) (bs ++ w ∷ vs) q.0, q.1.1)) xs ys v w us vs e (e, d)

@@ -24,19 +24,33 @@ pub same_core-Decides : (c d : CoreParts) → Decides (same_core c d) (c ≡ d)
 same_core-Decides c d =
     Decides-like (same_core c d)
     (λ p i. record { language = p.0 i; extlangs = p.1.0 i; script = p.1.1.0 i; region = p.1.1.1.0 i; variants = p.1.1.1.1 i })
-    (λ e. (ap (λ (x : CoreParts). x.language) e, (ap (λ (x : CoreParts). x.extlangs) e, (ap (λ (x : CoreParts). x.script) e, (ap (λ (x : CoreParts). x.region) e, ap (λ (x : CoreParts). x.variants) e)))))
-    (Decides-and _ _ (bytes_eq-Decides c.language d.language) (Decides-and _ _ (same_list-Decides c.extlangs d.extlangs) (Decides-and _ _ (same_option-Decides c.script d.script) (Decides-and _ _ (same_option-Decides c.region d.region) (same_list-Decides c.variants d.variants)))))
+    (λ e. (
+      ap (λ (x : CoreParts). x.language) e,
+      (
+        ap (λ (x : CoreParts). x.extlangs) e,
+        (
+          ap (λ (x : CoreParts). x.script) e,
+          (ap (λ (x : CoreParts). x.region) e, ap (λ (x : CoreParts). x.variants) e),
+        ),
+      ),
+    ))
+    (Decides-and _ _ (bytes_eq-Decides c.language d.language) (Decides-and _ _ (same_list-Decides c.extlangs d.extlangs)
+    (Decides-and _ _ (same_option-Decides c.script d.script)
+    (Decides-and _ _ (same_option-Decides c.region d.region) (same_list-Decides c.variants d.variants)))))
 
 -- the test of two extensions tells whether they are equal
 same_extension-Decides : (a b : ExtensionParts) → Decides (same_extension a b) (a ≡ b)
 same_extension-Decides a b =
-    Decides-like (same_extension a b) (λ p i. record { singleton = p.0 i; subtags = p.1 i }) (λ e. (ap (λ (x : ExtensionParts). x.singleton) e, ap (λ (x : ExtensionParts). x.subtags) e))
+    Decides-like (same_extension a b) (λ p i. record { singleton = p.0 i; subtags = p.1 i })
+    (λ e. (ap (λ (x : ExtensionParts). x.singleton) e, ap (λ (x : ExtensionParts). x.subtags) e))
     (Decides-and _ _ (Decides-eqb a.singleton b.singleton) (same_list-Decides a.subtags b.subtags))
 
 -- tags that pass the test `same_tag` are equal
 pub same_tag_is : (t u : TagForm) → same_tag t u ≡ true → t ≡ u
 same_tag_is (LangTag c es ps) (LangTag d fs qs) h =
-    let p = (Decides-and _ _ (same_core-Decides c d) (Decides-and _ _ (slice_eq-Decides same_extension-Decides es fs (pointwise same_extension es fs) refl) (same_list-Decides ps qs))).0 h in
+    let p = (Decides-and _ _ (same_core-Decides c d)
+    (Decides-and _ _ (slice_eq-Decides same_extension-Decides es fs (pointwise same_extension es fs) refl)
+    (same_list-Decides ps qs))).0 h in
     λ i. LangTag (p.0 i) (p.1.0 i) (p.1.1 i)
 same_tag_is (PrivateUse ps) (PrivateUse qs) h = ap PrivateUse ((same_list-Decides ps qs).0 h)
 same_tag_is (Grandfathered m) (Grandfathered n) h = ap Grandfathered (eqb-true m n h)

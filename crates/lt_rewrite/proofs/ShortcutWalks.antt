@@ -1,5 +1,7 @@
 -- Walks along a chain of values that pass over a part of it.
-use Rattle.std.proofs.Common.{rules, ◌≡◌, ℕ, zero, suc, ◌≤◌, ◌<◌, inl, inr, true, false, List, [], ◌∷◌, Option, Some, None, refl, sym, ap, ◌∙◌, subst, length, slice_get, arith, ◌+◌, get_or, take, All, Bor, is_some, set, Contains, ltb, ltb-true, ltb-false, length-take, Bool, ◌==◌}
+use Rattle.std.proofs.Common.{rules, ◌≡◌, ℕ, zero, suc, ◌≤◌, ◌<◌, inl, inr, true, false, List, [], ◌∷◌, Option, Some}
+use Rattle.std.proofs.Common.{None, refl, sym, ap, ◌∙◌, subst, length, slice_get, arith, ◌+◌, get_or, take, All, Bor}
+use Rattle.std.proofs.Common.{is_some, set, Contains, ltb, ltb-true, ltb-false, length-take, Bool, ◌==◌}
 use Rattle.std.specs.List.{AllWithin}
 use Rattle.std.proofs.lemmas.Bool.{cases_lt, eqb-true, not-false}
 use Rattle.std.specs.Prelude.{◌||◌, not}
@@ -37,26 +39,32 @@ pub onward_rest : (f : List ℕ → Option (List ℕ)) (n : ℕ) (s : List ℕ) 
 onward_rest f n s e = (n, omega arith, chase_rests f n s e)
 
 -- where a chain ends, no value follows what is onward by as many values as there are records
-pub onward_end : (R : List EntryParts) (k : Kind) (s t : List ℕ) → IsOnward (next_value R k) (length R) s t → Ends (next_value R k) s → next_value R k t ≡ None
+pub onward_end : (R : List EntryParts) (k : Kind) (s t : List ℕ) → IsOnward (next_value R k) (length R) s t
+    → Ends (next_value R k) s → next_value R k t ≡ None
 onward_end R k s t a ends =
     let done = chain_ends_within R k s ends in
     ap (next_value R k) (sym a.2 ∙ chase_past (next_value R k) (length R) a.0 s a.1 done) ∙ done
 
 -- if a value follows what is onward by as many values as there are records, the chain has no end
-pub onward_endless : (R : List EntryParts) (k : Kind) (s t u : List ℕ) → IsOnward (next_value R k) (length R) s t → next_value R k t ≡ Some u → Ends (next_value R k) s → ⊥
+pub onward_endless : (R : List EntryParts) (k : Kind) (s t u : List ℕ) → IsOnward (next_value R k) (length R) s t
+    → next_value R k t ≡ Some u → Ends (next_value R k) s → ⊥
 onward_endless R k s t u a e ends = let none : next_value R k t ≡ None = onward_end R k s t a ends in cc
 
 -- what is onward from a subtag has the form of the kind, if the subtag has it
-pub onward_form : (R : List EntryParts) → IsRegistry R → (k : Kind) (n : ℕ) (s t : List ℕ) → IsOnward (next_value R k) n s t → has_form k s ≡ true → has_form k t ≡ true
+pub onward_form : (R : List EntryParts) → IsRegistry R → (k : Kind) (n : ℕ) (s t : List ℕ)
+    → IsOnward (next_value R k) n s t → has_form k s ≡ true → has_form k t ≡ true
 onward_form R G k n s t a h = walk_form R G k a.0 s t a.2 h
 
 -- what holds of each other index and its number, and of the index `n` and `j`, holds of all once `j` is at `n`
-pub each_set : (P : ℕ → ℕ → Type 0) (xs : List ℕ) (n j : ℕ) → ((i k : ℕ) → (i ≡ n → ⊥) → slice_get xs i ≡ Some k → P i k) → P n j → (i k : ℕ) → slice_get (set xs n j) i ≡ Some k → P i k
+pub each_set : (P : ℕ → ℕ → Type 0) (xs : List ℕ) (n j : ℕ)
+    → ((i k : ℕ) → (i ≡ n → ⊥) → slice_get xs i ≡ Some k → P i k) → P n j → (i k : ℕ)
+    → slice_get (set xs n j) i ≡ Some k → P i k
 each_set P [] n j h p i k e = cc
 each_set P (x ∷ xs) zero j h p zero k e = let same : j ≡ k = cc in subst (P 0) same p
 each_set P (x ∷ xs) zero j h p (suc i) k e = h (suc i) k (λ z. omega (arith, z)) e
 each_set P (x ∷ xs) (suc n) j h p zero k e = h zero k (λ z. omega (arith, z)) e
-each_set P (x ∷ xs) (suc n) j h p (suc i) k e = each_set (λ m. P (suc m)) xs n j (λ m l other. h (suc m) l (λ z. other (omega (arith, z)))) p i k e
+each_set P (x ∷ xs) (suc n) j h p (suc i) k e = each_set (λ m. P (suc m)) xs n j
+    (λ m l other. h (suc m) l (λ z. other (omega (arith, z)))) p i k e
 
 -- a shortcut by `n` values is one by fewer
 shortcut_less : (R : List EntryParts) (n m i j : ℕ) → m ≤ n → IsShortcut R n i j → IsShortcut R m i j
@@ -70,7 +78,8 @@ shortcut_trans : (R : List EntryParts) (n m i j k : ℕ) → IsShortcut R n i j 
 shortcut_trans R n m i j k a b e v there follows =
     let w : LeadsTo R e.kind n v j = a e v there follows in
     let l : LeadsTo R w.entry.kind m w.value k = b w.entry w.value w.there w.follows in
-    let on : IsOnward (next_value R e.kind) m w.value l.value = subst (λ (d : Kind). IsOnward (next_value R d) m w.value l.value) w.of_kind l.onward in
+    let on : IsOnward (next_value R e.kind) m w.value l.value = subst
+    (λ (d : Kind). IsOnward (next_value R d) m w.value l.value) w.of_kind l.onward in
     let both = onward_trans (next_value R e.kind) n m v w.value l.value w.onward on in
     let kind = l.of_kind ∙ w.of_kind in
     search rules
@@ -87,19 +96,23 @@ pub record PartDoubled (R : List EntryParts) (n index : ℕ) (places : List ℕ)
   pub doubled : (i j : ℕ) → i < index → slice_get places i ≡ Some j → IsShortcut R (n + n) i j
 
 -- past the last place all shortcuts are twice as long
-pub all_doubled : (R : List EntryParts) (n index : ℕ) (places : List ℕ) → index ≡ length places → PartDoubled R n index places → LeadOn R (n + n) places
+pub all_doubled : (R : List EntryParts) (n index : ℕ) (places : List ℕ) → index ≡ length places
+    → PartDoubled R n index places → LeadOn R (n + n) places
 all_doubled R n index places is h =
     let twice = λ (i j : ℕ) (at : slice_get places i ≡ Some j). h.doubled i j (omega (arith, is, slice_get_within places i j at)) at in
     search rules
 
 -- where the shortcut at `index` leads to `j`, and the one at `j` to `k`, the one at `index` is led on to `k`
-pub one_doubled : (R : List EntryParts) (n index j k : ℕ) (places : List ℕ) → slice_get places index ≡ Some j → slice_get places j ≡ Some k → PartDoubled R n index places → PartDoubled R n (index + 1) (set places index k)
+pub one_doubled : (R : List EntryParts) (n index j k : ℕ) (places : List ℕ) → slice_get places index ≡ Some j
+    → slice_get places j ≡ Some k → PartDoubled R n index places → PartDoubled R n (index + 1) (set places index k)
 one_doubled R n index j k places at next h =
     let twice : IsShortcut R (n + n) index k = shortcut_trans R n n index j k (h.all.shortcut index j at) (h.all.shortcut j k next) in
     let within = each_set (λ i l. l < length R) places index k (λ i l other. h.all.within i l) (h.all.within j k next) in
-    let shortcut = each_set (IsShortcut R n) places index k (λ i l other. h.all.shortcut i l) (shortcut_less R (n + n) n index k (omega arith) twice) in
+    let shortcut = each_set (IsShortcut R n) places index k (λ i l other. h.all.shortcut i l)
+    (shortcut_less R (n + n) n index k (omega arith) twice) in
     let doubled = λ (i l : ℕ) (below : i < index + 1) (there : slice_get (set places index k) i ≡ Some l).
-    each_set (λ i l. i < index + 1 → IsShortcut R (n + n) i l) places index k (λ i l other there less. h.doubled i l (omega (arith, less, other)) there) (λ less. twice) i l there below in
+    each_set (λ i l. i < index + 1 → IsShortcut R (n + n) i l) places index k
+    (λ i l other there less. h.doubled i l (omega (arith, less, other)) there) (λ less. twice) i l there below in
     let one_each = length-set places index k ∙ h.all.one_each in
     search rules
 
@@ -108,7 +121,8 @@ pub entry_next : (R : List EntryParts) (k : Kind) (s : List ℕ) (e : EntryParts
 entry_next R k s e found = next_by R k s (Some e) (sym found)
 
 -- a shortcut by 1 value leads from the entry at `i` to a record whose value is onward by 1 from that of the entry
-shortcut_of : (R : List EntryParts) (i j : ℕ) (e : EntryParts) (w : List ℕ) → slice_get R i ≡ Some e → following e.kind e ≡ Some w → LeadsTo R e.kind 1 w j → IsShortcut R 1 i j
+shortcut_of : (R : List EntryParts) (i j : ℕ) (e : EntryParts) (w : List ℕ) → slice_get R i ≡ Some e
+    → following e.kind e ≡ Some w → LeadsTo R e.kind 1 w j → IsShortcut R 1 i j
 shortcut_of R i j e w at next leads f v there follows =
     let same : e ≡ f = cc in
     let own : following f.kind f ≡ Some w = subst (λ (x : EntryParts). following x.kind x ≡ Some w) same next in
@@ -116,21 +130,27 @@ shortcut_of R i j e w at next leads f v there follows =
     subst (λ x. LeadsTo R f.kind 1 x j) value (subst (λ (x : EntryParts). LeadsTo R x.kind 1 w j) same leads)
 
 -- a shortcut by 1 value leads from the entry at `i` to that of its value `w`, if a value follows `w`
-pub to_next : (R : List EntryParts) (i j : ℕ) (e next : EntryParts) (w u : List ℕ) → slice_get R i ≡ Some e → following e.kind e ≡ Some w → entry R e.kind w ≡ Some next → following next.kind next ≡ Some u → slice_get R j ≡ Some next → IsShortcut R 1 i j
+pub to_next : (R : List EntryParts) (i j : ℕ) (e next : EntryParts) (w u : List ℕ) → slice_get R i ≡ Some e
+    → following e.kind e ≡ Some w → entry R e.kind w ≡ Some next → following next.kind next ≡ Some u
+    → slice_get R j ≡ Some next → IsShortcut R 1 i j
 to_next R i j e next w u at follows found then there =
     let kind : next.kind ≡ e.kind = (entry_of R e.kind w next found).of_kind in
-    let on = onward_next (next_value R e.kind) w u (entry_next R e.kind w next found ∙ ap (λ (d : Kind). following d next) (sym kind) ∙ then) in
+    let on = onward_next (next_value R e.kind) w u (entry_next R e.kind w next found
+    ∙ ap (λ (d : Kind). following d next) (sym kind) ∙ then) in
     shortcut_of R i j e w at follows (search rules)
 
 -- a shortcut by 1 value leads from the entry at `i` to itself, if its value `w` is the end of its chain
-pub to_itself : (R : List EntryParts) (i : ℕ) (e : EntryParts) (w : List ℕ) → slice_get R i ≡ Some e → following e.kind e ≡ Some w → next_value R e.kind w ≡ None → IsShortcut R 1 i i
+pub to_itself : (R : List EntryParts) (i : ℕ) (e : EntryParts) (w : List ℕ) → slice_get R i ≡ Some e
+    → following e.kind e ≡ Some w → next_value R e.kind w ≡ None → IsShortcut R 1 i i
 to_itself R i e w at follows last =
     shortcut_of R i i e w at follows
     (record { entry = e; there = at; of_kind = refl; value = w; follows = follows; onward = onward_rest (next_value R e.kind) 1 w last })
 
 -- where the entry `next` of `w` has no value that follows, none follows `w`
-pub none_after : (R : List EntryParts) (k : Kind) (w : List ℕ) (next : EntryParts) → entry R k w ≡ Some next → following next.kind next ≡ None → next_value R k w ≡ None
-none_after R k w next found follows = entry_next R k w next found ∙ ap (λ (d : Kind). following d next) (sym (entry_of R k w next found).of_kind) ∙ follows
+pub none_after : (R : List EntryParts) (k : Kind) (w : List ℕ) (next : EntryParts) → entry R k w ≡ Some next
+    → following next.kind next ≡ None → next_value R k w ≡ None
+none_after R k w next found follows = entry_next R k w next found
+    ∙ ap (λ (d : Kind). following d next) (sym (entry_of R k w next found).of_kind) ∙ follows
 
 -- an optional value `o` that is there is a value that follows
 pub some_follows : (o : Option (Bor (List ℕ))) (r : Option (List ℕ)) → option_copied o ≡ r → is_some o ≡ true → (w : List ℕ) × (r ≡ Some w)
@@ -143,10 +163,13 @@ none_follows None r e h = sym e
 none_follows (Some v) r e h = cc
 
 -- the place `i` of the entry `e`, and the place `j` of its shortcut, are places in the registry
-pub led_to : (R es : List EntryParts) (items places : List ℕ) (i j : ℕ) (e : EntryParts) → LeadOn R (length R) places → es ≡ R → items ≡ places → slice_get es i ≡ Some e → j ≡ get_or items i j → (slice_get R i ≡ Some e) × (slice_get places i ≡ Some j) × (j < length es)
+pub led_to : (R es : List EntryParts) (items places : List ℕ) (i j : ℕ) (e : EntryParts) → LeadOn R (length R) places
+    → es ≡ R → items ≡ places → slice_get es i ≡ Some e → j ≡ get_or items i j → (slice_get R i ≡ Some e)
+    × (slice_get places i ≡ Some j) × (j < length es)
 led_to R es items places i j e h same own at read =
     let here : i < length places = omega (arith, slice_get_within es i e at, ap (λ (xs : List EntryParts). length xs) same, h.one_each) in
-    let led : slice_get places i ≡ Some j = slice_get_read places (length places) i j refl here (read ∙ ap (λ (ps : List ℕ). get_or ps i j) own) in (
+    let led : slice_get places i ≡ Some j = slice_get_read places (length places) i j refl here
+    (read ∙ ap (λ (ps : List ℕ). get_or ps i j) own) in (
       ap (λ xs. slice_get xs i) (sym same) ∙ at,
       led,
       omega (arith, h.within i j led, ap (λ (xs : List EntryParts). length xs) same),
@@ -154,7 +177,10 @@ led_to R es items places i j e h same own at read =
 
 -- the value of the record `last`, to which the shortcut leads, is onward from `s` by as many values as there are
 -- records
-pub led_far : (R es : List EntryParts) (k : Kind) (s v : List ℕ) (items places : List ℕ) (i j : ℕ) (e last : EntryParts) → LeadOn R (length R) places → es ≡ R → items ≡ places → entry R k s ≡ Some e → following k e ≡ Some v → slice_get es i ≡ Some e → j ≡ get_or items i j → last ≡ get_or es j last → (w : List ℕ) × (following k last ≡ Some w) × IsOnward (next_value R k) (length R) s w
+pub led_far : (R es : List EntryParts) (k : Kind) (s v : List ℕ) (items places : List ℕ) (i j : ℕ) (e last : EntryParts)
+    → LeadOn R (length R) places → es ≡ R → items ≡ places → entry R k s ≡ Some e → following k e ≡ Some v
+    → slice_get es i ≡ Some e → j ≡ get_or items i j → last ≡ get_or es j last → (w : List ℕ)
+    × (following k last ≡ Some w) × IsOnward (next_value R k) (length R) s w
 led_far R es k s v items places i j e last h same own found follows at read there =
     let led = led_to R es items places i j e h same own at read in
     let there : slice_get R j ≡ Some last = ap (λ xs. slice_get xs j) (sym same) ∙ slice_get_read es (length es) j last refl led.2 there in
@@ -163,17 +189,20 @@ led_far R es k s v items places i j e last h same own found follows at read ther
     let one : l.entry ≡ last = same_Some l.entry last (sym l.there ∙ there) in
     let own : following last.kind last ≡ Some l.value = subst (λ (x : EntryParts). following x.kind x ≡ Some l.value) one l.follows in
     let its : last.kind ≡ k = ap (λ (x : EntryParts). x.kind) (sym one) ∙ l.of_kind ∙ kind in
-    let on : IsOnward (next_value R k) (length R) v l.value = subst (λ (d : Kind). IsOnward (next_value R d) (length R) v l.value) kind l.onward in
+    let on : IsOnward (next_value R k) (length R) v l.value = subst
+    (λ (d : Kind). IsOnward (next_value R d) (length R) v l.value) kind l.onward in
     let next : IsOnward (next_value R k) 1 s v = onward_next (next_value R k) s v (entry_next R k s e found ∙ follows) in (
       l.value,
       ap (λ (d : Kind). following d last) (sym its) ∙ own,
-      onward_less (next_value R k) (1 + length R) (length R) s l.value (omega arith) (onward_trans (next_value R k) 1 (length R) s v l.value next on),
+      onward_less (next_value R k) (1 + length R) (length R) s l.value (omega arith)
+          (onward_trans (next_value R k) 1 (length R) s v l.value next on),
     )
 
 -- The places of records whose numbers rise.
 
 -- a record further on in the registry has a higher number
-rising_at : (R : List EntryParts) → NumbersRise R → (i k : ℕ) (c d : EntryParts) → i < k → k < length R → (get_or R i c).number < (get_or R k d).number
+rising_at : (R : List EntryParts) → NumbersRise R → (i k : ℕ) (c d : EntryParts) → i < k → k < length R
+    → (get_or R i c).number < (get_or R k d).number
 rising_at [] rise i k c d h b = absurd (omega (arith, b))
 rising_at (x ∷ xs) rise i zero c d h b = absurd (omega (arith, h))
 rising_at (x ∷ xs) rise zero (suc k) c d h b = All-from_recursion (λ (f : EntryParts). x.number < f.number) xs rise.0 k d (omega (arith, b))
@@ -192,22 +221,28 @@ there_at R i e c not_before not_after =
     ap (slice_get R) (omega (arith, not_before, not_after)) ∙ slice_get-get_or R c.0 e c.1 ∙ ap some c.2
 
 -- where the record at `i` has the number of the record `f`, `f` is at `i`
-pub numbered_there : (R : List EntryParts) → NumbersRise R → (i : ℕ) (e f : EntryParts) → slice_get R i ≡ Some e → Contains R f → e.number ≡ f.number → slice_get R i ≡ Some f
+pub numbered_there : (R : List EntryParts) → NumbersRise R → (i : ℕ) (e f : EntryParts) → slice_get R i ≡ Some e
+    → Contains R f → e.number ≡ f.number → slice_get R i ≡ Some f
 numbered_there R rise i e f there c same =
     let numbers : (get_or R i e).number ≡ (get_or R c.0 f).number =
     ap (λ (x : EntryParts). x.number) (get_or_from_slice_get R i e e there) ∙ same ∙ ap (λ (x : EntryParts). x.number) (sym c.2) in
-    there_at R i f c (λ h. omega (arith, numbers, rising_at R rise i c.0 e f h c.1)) (λ h. omega (arith, numbers, rising_at R rise c.0 i f e h (slice_get_within R i e there)))
+    there_at R i f c (λ h. omega (arith, numbers, rising_at R rise i c.0 e f h c.1))
+    (λ h. omega (arith, numbers, rising_at R rise c.0 i f e h (slice_get_within R i e there)))
 
 -- where the records at indices below `i` are those of lower numbers than `e`, `e` is at `i`
-pub first_not_lower : (R : List EntryParts) → NumbersRise R → (i : ℕ) (e : EntryParts) → Contains R e → i ≤ length R → AllWithin (λ (x : EntryParts). ltb x.number e.number ≡ true) R 0 i → AllWithin (λ (x : EntryParts). ltb x.number e.number ≡ false) R i (length R) → slice_get R i ≡ Some e
+pub first_not_lower : (R : List EntryParts) → NumbersRise R → (i : ℕ) (e : EntryParts) → Contains R e → i ≤ length R
+    → AllWithin (λ (x : EntryParts). ltb x.number e.number ≡ true) R 0 i
+    → AllWithin (λ (x : EntryParts). ltb x.number e.number ≡ false) R i (length R) → slice_get R i ≡ Some e
 first_not_lower R rise i e c within before after =
     let its : (get_or R c.0 e).number ≡ e.number = ap (λ (x : EntryParts). x.number) c.2 in
     there_at R i e c
-    (λ h. let higher = ltb-false _ _ (after i e (omega arith) (omega (arith, h, c.1))) in omega (arith, higher, rising_at R rise i c.0 e e h c.1, its))
+    (λ h. let higher = ltb-false _ _ (after i e (omega arith) (omega (arith, h, c.1))) in
+    omega (arith, higher, rising_at R rise i c.0 e e h c.1, its))
     (λ h. let lower = ltb-true _ _ (before c.0 e (omega arith) h) in omega (arith, lower, its))
 
 -- the records before one in the file are those of lower numbers
-pub lower_are_before : (P : EntryParts → Type 0) (R : List EntryParts) (i : ℕ) (e : EntryParts) → NumbersRise R → i < length R → e ≡ get_or R i e → All P (take i R) → All (λ (f : EntryParts). f.number < e.number → P f) R
+pub lower_are_before : (P : EntryParts → Type 0) (R : List EntryParts) (i : ℕ) (e : EntryParts) → NumbersRise R
+    → i < length R → e ≡ get_or R i e → All P (take i R) → All (λ (f : EntryParts). f.number < e.number → P f) R
 lower_are_before P R i e rise h is all k d within below =
     let its : e.number ≡ (get_or R i d).number = ap (λ (x : EntryParts). x.number) (is ∙ get_or_default R i e d h) in
     elim (cases_lt k i) [
@@ -216,7 +251,8 @@ lower_are_before P R i e rise h is all k d within below =
     ]
 
 -- where the chain of the record at `i` has no end, and those of all records before it end, it is the first cycle
-pub first_there : (R : List EntryParts) (i : ℕ) (e : EntryParts) → NumbersRise R → i < length R → e ≡ get_or R i e → All (HasEndingChain R) (take i R) → (HasEndingChain R e → ⊥) → IsFirstCycle R e.number
+pub first_there : (R : List EntryParts) (i : ℕ) (e : EntryParts) → NumbersRise R → i < length R → e ≡ get_or R i e
+    → All (HasEndingChain R) (take i R) → (HasEndingChain R e → ⊥) → IsFirstCycle R e.number
 first_there R i e rise h is all endless =
     let there : Contains R e = (i, h, sym is) in
     let lower = lower_are_before (HasEndingChain R) R i e rise h is all in

@@ -1,5 +1,6 @@
 -- Variants, and the places of their entries.
-use Rattle.std.proofs.Common.{◌≡◌, ◌<◌, ◌+◌, ◌++◌, ℕ, suc, List, [], ◌∷◌, Option, None, length, map, get_or, slice_get, sym, ap, ◌∙◌, arith, take, drop, set}
+use Rattle.std.proofs.Common.{◌≡◌, ◌<◌, ◌+◌, ◌++◌, ℕ, suc, List, [], ◌∷◌, Option, None, length, map, get_or, slice_get}
+use Rattle.std.proofs.Common.{sym, ap, ◌∙◌, arith, take, drop, set}
 use Rattle.std.specs.List.{remove}
 use Rattle.std.proofs.lemmas.List.{map-append, take-map, drop-map, take_more_set, length-map, get_or-map}
 use Rattle.lt_registry.specs.Parts.{EntryParts}
@@ -8,9 +9,17 @@ use Rattle.lt_registry.specs.declared.entries.Kind.TheVariants as kinds
 use Rattle.lt_rewrite.specs.VariantLanguages.{ArePlaces}
 
 -- the place of a variant is that of its entry
-pub placed_at : (R : List EntryParts) (vs : List (List ℕ)) (ps : List ℕ) (i : ℕ) (v : List ℕ) → ArePlaces R vs ps → i < length vs → v ≡ get_or vs i v → slice_get R (get_or ps i 0) ≡ entry R kinds.Variant v
+pub placed_at : (R : List EntryParts) (vs : List (List ℕ)) (ps : List ℕ) (i : ℕ) (v : List ℕ) → ArePlaces R vs ps
+    → i < length vs → v ≡ get_or vs i v → slice_get R (get_or ps i 0) ≡ entry R kinds.Variant v
 placed_at R vs ps i v h l e =
-    sym (get_or-map (slice_get R) ps i 0 None (omega (arith, l, length-map ps (slice_get R), ap (λ (os : List (Option EntryParts)). length os) h, length-map vs (entry R kinds.Variant))))
+    sym (get_or-map (slice_get R) ps i 0 None
+    (omega (
+      arith,
+      l,
+      length-map ps (slice_get R),
+      ap (λ (os : List (Option EntryParts)). length os) h,
+      length-map vs (entry R kinds.Variant),
+    )))
     ∙ ap (λ (os : List (Option EntryParts)). get_or os i None) h
     ∙ get_or-map (entry R kinds.Variant) vs i v None l
     ∙ ap (entry R kinds.Variant) (sym e)
@@ -21,12 +30,15 @@ map_remove f xs i =
     map-append f (take i xs) (drop (suc i) xs) ∙ (λ j. sym (take-map f i xs) j ++ sym (drop-map f (suc i) xs) j)
 
 -- with one variant and its place taken out, the places are those of the other variants
-pub placed_without : (R : List EntryParts) (vs : List (List ℕ)) (ps : List ℕ) (i : ℕ) → ArePlaces R vs ps → ArePlaces R (remove vs i) (remove ps i)
+pub placed_without : (R : List EntryParts) (vs : List (List ℕ)) (ps : List ℕ) (i : ℕ) → ArePlaces R vs ps
+    → ArePlaces R (remove vs i) (remove ps i)
 placed_without R vs ps i h =
     map_remove (slice_get R) ps i ∙ ap (λ (os : List (Option EntryParts)). remove os i) h ∙ sym (map_remove (entry R kinds.Variant) vs i)
 
 -- with a variant `v` set at `i` and the place `p` of its entry added, the places are those of the variants up to `i`
-pub placed_more : (R : List EntryParts) (vs : List (List ℕ)) (ps : List ℕ) (i p : ℕ) (v : List ℕ) → i < length vs → slice_get R p ≡ entry R kinds.Variant v → ArePlaces R (take i vs) ps → ArePlaces R (take (i + 1) (set vs i v)) (ps ++ p ∷ [])
+pub placed_more : (R : List EntryParts) (vs : List (List ℕ)) (ps : List ℕ) (i p : ℕ) (v : List ℕ) → i < length vs
+    → slice_get R p ≡ entry R kinds.Variant v → ArePlaces R (take i vs) ps
+    → ArePlaces R (take (i + 1) (set vs i v)) (ps ++ p ∷ [])
 placed_more R vs ps i p v h here all =
     map-append (slice_get R) ps (p ∷ [])
     ∙ (λ j. all j ++ here j ∷ [])

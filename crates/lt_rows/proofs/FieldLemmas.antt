@@ -1,7 +1,10 @@
 -- Where the first field of the rest of a row ends.
-use Rattle.std.proofs.Common.{refl, ◌≡◌, ◌≢◌, ◌≤◌, ◌<◌, ◌+◌, ◌-◌, ◌↔◌, ◌++◌, [], ◌∷◌, ◌∙◌, ℕ, zero, suc, Bool, true, false, IsTrue, List, Option, Some, None, inl, inr, length, sym, ap, arith, subst, take, drop, get_or, ne_eqb, append_assoc, append-nil, length-append, take-append-drop}
+use Rattle.std.proofs.Common.{refl, ◌≡◌, ◌≢◌, ◌≤◌, ◌<◌, ◌+◌, ◌-◌, ◌↔◌, ◌++◌, [], ◌∷◌, ◌∙◌, ℕ, zero, suc, Bool, true}
+use Rattle.std.proofs.Common.{false, IsTrue, List, Option, Some, None, inl, inr, length, sym, ap, arith, subst, take}
+use Rattle.std.proofs.Common.{drop, get_or, ne_eqb, append_assoc, append-nil, length-append, take-append-drop}
 use Rattle.std.proofs.Math.Seq.{take-append_seam, drop-append_seam, drop-length}
-use Rattle.std.proofs.lemmas.List.{append_cancel_left, append_cancel_right, drop-drop, drop-take, get_or-take, length-drop, length-take-le, take_rest}
+use Rattle.std.proofs.lemmas.List.{append_cancel_left, append_cancel_right, drop-drop, drop-take, get_or-take}
+use Rattle.std.proofs.lemmas.List.{length-drop, length-take-le, take_rest}
 use Rattle.std.proofs.lemmas.List.Elements.{All-head, All-tail}
 use Rattle.lt_rows.specs.Quotes.{IsFreeOutside, is_quoted, place_after, place_at, place_outside}
 use Rattle.lt_rows.specs.Rows.{EndsField, HasField, IsAfterField, IsEnded, IsFieldAt, IsRowField, Skips, separated, separator}
@@ -26,23 +29,31 @@ module _ (d : ℕ) where
   plain_on [] more free line = refl
   plain_on (byte ∷ field) more free line =
       let next = plain_after byte (All-head (λ (b : ℕ). b ≢ d) byte field free) (All-head (λ (b : ℕ). b ≢ 10) byte (field ++ more) line) in
-      ap (λ p. place_at d p field) next ∙ plain_on field more (All-tail (λ (b : ℕ). b ≢ d) byte field free) (All-tail (λ (b : ℕ). b ≢ 10) byte (field ++ more) line)
+      ap (λ p. place_at d p field) next
+      ∙ plain_on field more (All-tail (λ (b : ℕ). b ≢ d) byte field free) (All-tail (λ (b : ℕ). b ≢ 10) byte
+      (field ++ more) line)
 
   -- a field of a row without line feeds that begins with no quote (34) ends outside of quotes
-  closed_plain : (field more : List ℕ) → (get_or (field ++ more) 0 0 ≡ 34 → ⊥) → IsFreeOf d field → IsFreeOf 10 (field ++ more) → is_quoted (place_at d places.Fresh field) ≡ false
+  closed_plain : (field more : List ℕ) → (get_or (field ++ more) 0 0 ≡ 34 → ⊥) → IsFreeOf d field
+      → IsFreeOf 10 (field ++ more) → is_quoted (place_at d places.Fresh field) ≡ false
   closed_plain [] more first free line = refl
   closed_plain (byte ∷ field) more first free line =
       let next : place_after d places.Fresh byte ≡ places.Plain =
-      rw (ne_eqb byte 34 first) (plain_after byte (All-head (λ (b : ℕ). b ≢ d) byte field free) (All-head (λ (b : ℕ). b ≢ 10) byte (field ++ more) line)) in
-      ap is_quoted (ap (λ p. place_at d p field) next ∙ plain_on field more (All-tail (λ (b : ℕ). b ≢ d) byte field free) (All-tail (λ (b : ℕ). b ≢ 10) byte (field ++ more) line))
+      rw (ne_eqb byte 34 first) (plain_after byte (All-head (λ (b : ℕ). b ≢ d) byte field free)
+      (All-head (λ (b : ℕ). b ≢ 10) byte (field ++ more) line)) in
+      ap is_quoted (ap (λ p. place_at d p field) next
+      ∙ plain_on field more (All-tail (λ (b : ℕ). b ≢ d) byte field free) (All-tail (λ (b : ℕ). b ≢ 10) byte
+      (field ++ more) line))
 
   -- Text within quotes is followed by the quote (34) that closes it, and by a rest. If no byte `stop` of the rest is
   -- outside of quotes, none of the whole is.
-  free_quoted : (stop : ℕ) (body rest : List ℕ) → IsFreeOf 34 body → IsFreeOutside d stop places.Fresh rest → IsFreeOutside d stop places.Quoted (body ++ 34 ∷ rest)
+  free_quoted : (stop : ℕ) (body rest : List ℕ) → IsFreeOf 34 body → IsFreeOutside d stop places.Fresh rest
+      → IsFreeOutside d stop places.Quoted (body ++ 34 ∷ rest)
   free_quoted stop [] rest free more = (λ _. refl, more)
   free_quoted stop (byte ∷ body) rest free more = (
     λ _. refl,
-    rw (ne_eqb byte 34 (All-head (λ (b : ℕ). b ≢ 34) byte body free)) (free_quoted stop body rest (All-tail (λ (b : ℕ). b ≢ 34) byte body free) more),
+    rw (ne_eqb byte 34 (All-head (λ (b : ℕ). b ≢ 34) byte body free))
+        (free_quoted stop body rest (All-tail (λ (b : ℕ). b ≢ 34) byte body free) more),
   )
 
   -- a quote (34), a body without quotes, and a quote are a field that a delimiter may end
@@ -60,20 +71,24 @@ tab_end row None p = p
 tab_end row (Some i) p = (p.0, record { field = p.1; closed = tt }, p.2)
 
 -- in a rest without line feeds that begins with no quote (34), the first delimiter is where the first field ends
-pub line_end : (d : ℕ) (row : List ℕ) (end : Option ℕ) → (get_or row 0 0 ≡ 34 → ⊥) → IsFreeOf 10 row → IsPlaceOf d row end → EndsField (separators.Delimiter d) row end
+pub line_end : (d : ℕ) (row : List ℕ) (end : Option ℕ) → (get_or row 0 0 ≡ 34 → ⊥) → IsFreeOf 10 row
+    → IsPlaceOf d row end → EndsField (separators.Delimiter d) row end
 line_end d row None first line p = free_of_none d d places.Fresh row p
 line_end d row (Some i) first line p = (
   p.0,
   record {
     field = free_of_none d d places.Fresh (take i row) p.1;
-    closed = closed_plain d (take i row) (drop i row) (subst (λ (l : List ℕ). get_or l 0 0 ≡ 34 → ⊥) (sym (take-append-drop i row)) first) p.1 (subst (IsFreeOf 10) (sym (take-append-drop i row)) line);
+    closed = closed_plain d (take i row) (drop i row)
+        (subst (λ (l : List ℕ). get_or l 0 0 ≡ 34 → ⊥) (sym (take-append-drop i row)) first) p.1
+        (subst (IsFreeOf 10) (sym (take-append-drop i row)) line);
   },
   p.2,
 )
 
 -- Where the first field ends of a rest that has no line feeds and begins with no quote (34), as `quoted` tells: at the
 -- first delimiter. The rest is the first `count` bytes of a text.
-pub line_end_of : (d : ℕ) (text : List ℕ) (count : ℕ) (quoted : Bool) (end : Option ℕ) → count ≤ length text → IsTrue quoted ↔ ((0 < count) × (get_or text 0 0 ≡ 34)) → quoted ≡ false
+pub line_end_of : (d : ℕ) (text : List ℕ) (count : ℕ) (quoted : Bool) (end : Option ℕ) → count ≤ length text
+    → IsTrue quoted ↔ ((0 < count) × (get_or text 0 0 ≡ 34)) → quoted ≡ false
     → IsFreeOf 10 (take count text) → IsPlaceOf d (take count text) end → EndsField (separators.Delimiter d) (take count text) end
 line_end_of d text count quoted end within tells is line p = line_end d (take count text) end (first count tells) line p
   where
@@ -84,7 +99,8 @@ line_end_of d text count quoted end within tells is line p = line_end d (take co
         let bad : true ≡ false = sym yes ∙ is in cc
 
 -- a rest that begins with a field and a separator: its first field ends behind that field
-pub end_by_parts : (S : Separator) (row field more : List ℕ) → IsEnded S field → row ≡ field ++ separator S ∷ more → EndsField S row (Some (length field))
+pub end_by_parts : (S : Separator) (row field more : List ℕ) → IsEnded S field → row ≡ field ++ separator S ∷ more
+    → EndsField S row (Some (length field))
 end_by_parts S row field more ended split =
     let front : take (length field) row ≡ field = ap (take (length field)) split ∙ take-append_seam field (separator S ∷ more) in
     let through = split ∙ sym (append_assoc field (separator S ∷ []) more) in
@@ -143,38 +159,53 @@ module _ (d : ℕ) (text : List ℕ) (count : ℕ) (some : 0 < count) (le : coun
   pub quoted_last : within + 2 ≡ count → EndsField (separators.Delimiter d) row None
   quoted_last last =
       let none : drop (within + 1) tail ≡ [] = ap (λ n. drop n tail) (omega (arith, last, tail_long)) ∙ drop-length tail in
-      subst (IsRowField (separators.Delimiter d)) (sym (row_is ∙ ap (λ l. (34 ∷ body ++ 34 ∷ []) ++ l) none ∙ append-nil (34 ∷ body ++ 34 ∷ []))) ended.field
+      subst (IsRowField (separators.Delimiter d))
+      (sym (row_is ∙ ap (λ l. (34 ∷ body ++ 34 ∷ []) ++ l) none ∙ append-nil (34 ∷ body ++ 34 ∷ []))) ended.field
 
   -- where a delimiter follows the quote that closes, it ends the field
   pub quoted_more : within + 2 < count → get_or text (within + 2) 0 ≡ d → EndsField (separators.Delimiter d) row (Some (within + 2))
   quoted_more below is =
       let inside : within + 2 < length row = omega (arith, below, row_long) in
-      let front : take (within + 2) row ≡ 34 ∷ body ++ 34 ∷ [] = ap (λ n. take n row) (sym field_long) ∙ ap (take (length (34 ∷ body ++ 34 ∷ []))) row_is ∙ take-append_seam (34 ∷ body ++ 34 ∷ []) (drop (within + 1) tail) in
-      (inside, subst (IsEnded (separators.Delimiter d)) (sym front) ended, split_there d row (within + 2) inside (get_or-take count text (within + 2) 0 below ∙ is))
+      let front : take (within + 2) row ≡ 34 ∷ body ++ 34 ∷ [] = ap (λ n. take n row) (sym field_long)
+      ∙ ap (take (length (34 ∷ body ++ 34 ∷ []))) row_is
+      ∙ take-append_seam (34 ∷ body ++ 34 ∷ []) (drop (within + 1) tail) in (
+        inside,
+        subst (IsEnded (separators.Delimiter d)) (sym front) ended,
+        split_there d row (within + 2) inside
+            (get_or-take count text (within + 2) 0 below ∙ is),
+      )
 
 -- ---- fields that are skipped
 
 -- what is left of a row behind `at`, as slices of the text whose first `count` bytes are the row, is the row without
 -- its first `at` bytes
-pub left_is : (text : List ℕ) (count at : ℕ) → at ≤ count → take (count - at) (take (length text - at) (drop at text)) ≡ drop at (take count text)
-left_is text count at le = ap (take (count - at)) (take_rest text at) ∙ sym (drop-take at (count - at) text) ∙ ap (λ n. drop at (take n text)) (omega (arith, le))
+pub left_is : (text : List ℕ) (count at : ℕ) → at ≤ count → take (count - at) (take (length text - at) (drop at text))
+    ≡ drop at (take count text)
+left_is text count at le = ap (take (count - at)) (take_rest text at) ∙ sym (drop-take at (count - at) text)
+    ∙ ap (λ n. drop at (take n text)) (omega (arith, le))
 
 -- one field more is skipped: it begins at `at`, has `end` bytes, and a separator ends it
-pub skips_one : (S : Separator) (before at end : ℕ) (row : List ℕ) → Skips S before row (drop at row) → EndsField S (drop at row) (Some end) → (at + (end + 1) ≤ length row) × Skips S (before + 1) row (drop (at + (end + 1)) row)
+pub skips_one : (S : Separator) (before at end : ℕ) (row : List ℕ) → Skips S before row (drop at row)
+    → EndsField S (drop at row) (Some end) → (at + (end + 1) ≤ length row)
+    × Skips S (before + 1) row (drop (at + (end + 1)) row)
 skips_one S before at end row s e = (
   omega (arith, e.0, length-drop at row),
-  subst (Skips S (before + 1) row) (drop-drop (end + 1) at row) (skips_more S before row (drop at row) (take end (drop at row)) (drop (end + 1) (drop at row)) s e.1 e.2),
+  subst (Skips S (before + 1) row) (drop-drop (end + 1) at row)
+      (skips_more S before row (drop at row) (take end (drop at row)) (drop (end + 1) (drop at row)) s e.1 e.2),
 )
 
 -- ---- a field by its places
 
 -- what is before the place `start`, where the rest begins, is the skipped fields with their separators
-front_skipped : (S : Separator) (before start : ℕ) (row : List ℕ) → start ≤ length row → (s : Skips S before row (drop start row)) → take start row ≡ separated S s.before
+front_skipped : (S : Separator) (before start : ℕ) (row : List ℕ) → start ≤ length row
+    → (s : Skips S before row (drop start row)) → take start row ≡ separated S s.before
 front_skipped S before start row inside s =
     append_cancel_right (take start row) (separated S s.before) (drop start row) (take-append-drop start row ∙ s.row_is)
 
 -- a field at the front of the rest, which begins at `start`, has the skipped fields before it
-field_there : (S : Separator) (before start : ℕ) (row field after : List ℕ) → start ≤ length row → Skips S before row (drop start row) → IsRowField S field → IsAfterField S field after → drop start row ≡ field ++ after
+field_there : (S : Separator) (before start : ℕ) (row field after : List ℕ) → start ≤ length row
+    → Skips S before row (drop start row) → IsRowField S field → IsAfterField S field after
+    → drop start row ≡ field ++ after
     → HasField S before row (take start row) field after
 field_there S before start row field after inside s one ends split = record {
   before = s.before;
@@ -187,7 +218,9 @@ field_there S before start row field after inside s one ends split = record {
 }
 
 -- a field that begins at `start`, behind skipped ones, and that a separator ends, ends `end` bytes further on
-pub field_ended : (S : Separator) (before start end : ℕ) (row : List ℕ) → start ≤ length row → Skips S before row (drop start row) → EndsField S (drop start row) (Some end) → IsFieldAt S before row start (start + end)
+pub field_ended : (S : Separator) (before start end : ℕ) (row : List ℕ) → start ≤ length row
+    → Skips S before row (drop start row) → EndsField S (drop start row) (Some end)
+    → IsFieldAt S before row start (start + end)
 field_ended S before start end row inside s e =
     let rest = drop start row in
     let field : take (start + end - start) rest ≡ take end rest = ap (λ n. take n rest) (omega arith) in
@@ -197,11 +230,13 @@ field_ended S before start end row inside s e =
     record {
       ordered = omega arith;
       inside = omega (arith, e.0, length-drop start row);
-      at = rw (field, after) (field_there S before start row (take end rest) (drop end rest) inside s e.1.field (inr (drop (end + 1) rest, e.1.closed, after_is)) (sym (take-append-drop end rest)));
+      at = rw (field, after) (field_there S before start row (take end rest) (drop end rest) inside s e.1.field
+          (inr (drop (end + 1) rest, e.1.closed, after_is)) (sym (take-append-drop end rest)));
     }
 
 -- a field that begins at `start`, behind skipped ones, and that no separator ends, goes to the end of the row
-pub field_last : (S : Separator) (before start count : ℕ) (row : List ℕ) → count ≡ length row → start ≤ count → Skips S before row (drop start row) → IsRowField S (drop start row) → IsFieldAt S before row start count
+pub field_last : (S : Separator) (before start count : ℕ) (row : List ℕ) → count ≡ length row → start ≤ count
+    → Skips S before row (drop start row) → IsRowField S (drop start row) → IsFieldAt S before row start count
 field_last S before start count row is inside s one =
     let rest = drop start row in
     let field : take (count - start) rest ≡ rest = ap (λ n. take (n - start) rest) is ∙ take_rest row start in

@@ -1,5 +1,6 @@
 -- A text that no line feed outside of quotes parts, and that does not end within quotes, is a record of the grammar.
-use Rattle.std.proofs.Common.{refl, ◌≡◌, ◌≢◌, ◌++◌, [], ◌∷◌, ◌∙◌, ◌⊎◌, ℕ, true, false, List, sym, ap, subst, inl, inr, append_assoc, ne_eqb, ◌==◌, ◌||◌, if◌then◌else◌}
+use Rattle.std.proofs.Common.{refl, ◌≡◌, ◌≢◌, ◌++◌, [], ◌∷◌, ◌∙◌, ◌⊎◌, ℕ, true, false, List, sym, ap, subst, inl, inr}
+use Rattle.std.proofs.Common.{append_assoc, ne_eqb, ◌==◌, ◌||◌, if◌then◌else◌}
 use Rattle.std.specs.List.{AllByRecursion}
 use Rattle.std.proofs.lemmas.Bool.{cases_eq, eq-eqb}
 use Rattle.lt_rows.specs.Quotes.{IsFreeOutside, is_quoted, place_after, place_at, place_outside}
@@ -65,13 +66,21 @@ module _ (d : ℕ) (unquoted : d ≢ 34) where
 
   -- a text that begins with a field is a record
   as_record : (text : List ℕ) → HasPlainField text ⊎ HasQuote text → IsCsvRecord d text
-  as_record text (inl p) = record { first = p.plain; others = p.others.fields; is_first = inl p.is_plain; are_others = p.others.each; text_is = p.text_is ∙ ap (λ l. p.plain ++ l) p.others.text_is }
+  as_record text (inl p) = record {
+    first = p.plain;
+    others = p.others.fields;
+    is_first = inl p.is_plain;
+    are_others = p.others.each;
+    text_is = p.text_is ∙ ap (λ l. p.plain ++ l) p.others.text_is;
+  }
   as_record text (inr q) = record {
     first = 34 ∷ q.has.body ++ 34 ∷ q.has.rest;
     others = q.has.others.fields;
     is_first = inr (record { body = q.has.body; rest = q.has.rest; field_is = refl; is_body = q.has.is_body; is_rest = q.has.is_rest });
     are_others = q.has.others.each;
-    text_is = q.text_is ∙ ap (λ l. 34 ∷ l) (q.has.text_is ∙ ap (λ l. q.has.body ++ 34 ∷ (q.has.rest ++ l)) q.has.others.text_is ∙ sym (append_assoc q.has.body (34 ∷ q.has.rest) (further d q.has.others.fields)));
+    text_is = q.text_is
+        ∙ ap (λ l. 34 ∷ l) (q.has.text_is ∙ ap (λ l. q.has.body ++ 34 ∷ (q.has.rest ++ l)) q.has.others.text_is
+        ∙ sym (append_assoc q.has.body (34 ∷ q.has.rest) (further d q.has.others.fields)));
   }
 
   -- a delimiter in front of a text that begins with a field: further fields
@@ -82,7 +91,8 @@ module _ (d : ℕ) (unquoted : d ≢ 34) where
 
   -- after a delimiter outside of quotes a field begins
   pub outside_delimiter : place_outside d d ≡ places.Fresh
-  outside_delimiter = elim (d == 10) as (λ t. (if t || (d == d) then places.Fresh else places.Plain) ≡ places.Fresh) [ true ↦ refl | false ↦ ap (λ t. if t then places.Fresh else places.Plain) (eq-eqb d d refl) ]
+  outside_delimiter = elim (d == 10) as (λ t. (if t || (d == d) then places.Fresh else places.Plain) ≡ places.Fresh)
+      [ true ↦ refl | false ↦ ap (λ t. if t then places.Fresh else places.Plain) (eq-eqb d d refl) ]
 
   -- after a byte outside of quotes that is neither a delimiter nor a line feed (10), a field goes on plain
   pub outside_other : (byte : ℕ) → byte ≢ d → byte ≢ 10 → place_outside d byte ≡ places.Plain
@@ -96,7 +106,13 @@ module _ (d : ℕ) (unquoted : d ≢ 34) where
   parsed places.Fresh (byte ∷ text) free closed = elim (cases_eq byte 34) [
     | inl quote ↦
         let next : place_after d places.Fresh byte ≡ places.Quoted = rw quote refl in
-        inr (record { inner = text; text_is = ap (λ b. b ∷ text) quote; has = parsed places.Quoted text (subst (λ p. IsFreeOutside d 10 p text) next free.1) (subst (λ p. is_quoted (place_at d p text) ≡ false) next closed) })
+        inr (record {
+          inner = text;
+          text_is = ap (λ b. b ∷ text) quote;
+          has = parsed places.Quoted text
+              (subst (λ p. IsFreeOutside d 10 p text) next free.1)
+              (subst (λ p. is_quoted (place_at d p text) ≡ false) next closed);
+        })
     | inr other ↦ inl (elim (cases_eq byte d) [
       | inl same ↦
           let next : place_after d places.Fresh byte ≡ places.Fresh = rw (ne_eqb byte 34 other, same) outside_delimiter in
@@ -105,13 +121,22 @@ module _ (d : ℕ) (unquoted : d ≢ 34) where
             more = byte ∷ text;
             text_is = refl;
             is_plain = tt;
-            others = rw same (from_delimiter text (parsed places.Fresh text (subst (λ p. IsFreeOutside d 10 p text) next free.1) (subst (λ p. is_quoted (place_at d p text) ≡ false) next closed)));
+            others = rw same
+                (from_delimiter text (parsed places.Fresh text (subst (λ p. IsFreeOutside d 10 p text) next free.1)
+                (subst (λ p. is_quoted (place_at d p text) ≡ false) next closed)));
           }
       | inr differ ↦
           let feed : byte ≢ 10 = λ e. let bad : false ≡ true = free.0 e in cc in
           let next : place_after d places.Fresh byte ≡ places.Plain = rw (ne_eqb byte 34 other) (outside_other byte differ feed) in
-          let p = parsed places.Plain text (subst (λ p. IsFreeOutside d 10 p text) next free.1) (subst (λ p. is_quoted (place_at d p text) ≡ false) next closed) in
-          record { plain = byte ∷ p.plain; more = p.more; text_is = ap (λ l. byte ∷ l) p.text_is; is_plain = (other, (differ, feed, p.is_plain)); others = p.others }
+          let p = parsed places.Plain text (subst (λ p. IsFreeOutside d 10 p text) next free.1)
+          (subst (λ p. is_quoted (place_at d p text) ≡ false) next closed) in
+          record {
+            plain = byte ∷ p.plain;
+            more = p.more;
+            text_is = ap (λ l. byte ∷ l) p.text_is;
+            is_plain = (other, (differ, feed, p.is_plain));
+            others = p.others;
+          }
     ])
   ]
   parsed places.Plain (byte ∷ text) free closed = elim (cases_eq byte d) [
@@ -122,20 +147,38 @@ module _ (d : ℕ) (unquoted : d ≢ 34) where
           more = byte ∷ text;
           text_is = refl;
           is_plain = tt;
-          others = rw same (from_delimiter text (parsed places.Fresh text (subst (λ p. IsFreeOutside d 10 p text) next free.1) (subst (λ p. is_quoted (place_at d p text) ≡ false) next closed)));
+          others = rw same
+              (from_delimiter text (parsed places.Fresh text (subst (λ p. IsFreeOutside d 10 p text) next free.1)
+              (subst (λ p. is_quoted (place_at d p text) ≡ false) next closed)));
         }
     | inr differ ↦
         let feed : byte ≢ 10 = λ e. let bad : false ≡ true = free.0 e in cc in
         let next : place_after d places.Plain byte ≡ places.Plain = outside_other byte differ feed in
-        let p = parsed places.Plain text (subst (λ p. IsFreeOutside d 10 p text) next free.1) (subst (λ p. is_quoted (place_at d p text) ≡ false) next closed) in
-        record { plain = byte ∷ p.plain; more = p.more; text_is = ap (λ l. byte ∷ l) p.text_is; is_plain = (differ, feed, p.is_plain); others = p.others }
+        let p = parsed places.Plain text (subst (λ p. IsFreeOutside d 10 p text) next free.1)
+        (subst (λ p. is_quoted (place_at d p text) ≡ false) next closed) in
+        record {
+          plain = byte ∷ p.plain;
+          more = p.more;
+          text_is = ap (λ l. byte ∷ l) p.text_is;
+          is_plain = (differ, feed, p.is_plain);
+          others = p.others;
+        }
   ]
   parsed places.Quoted (byte ∷ text) free closed = elim (cases_eq byte 34) [
     | inl quote ↦
         let next : place_after d places.Quoted byte ≡ places.Fresh = rw quote refl in
-        let after = parsed places.Fresh text (subst (λ p. IsFreeOutside d 10 p text) next free.1) (subst (λ p. is_quoted (place_at d p text) ≡ false) next closed) in
+        let after = parsed places.Fresh text (subst (λ p. IsFreeOutside d 10 p text) next free.1)
+        (subst (λ p. is_quoted (place_at d p text) ≡ false) next closed) in
         elim after [
-          | inl p ↦ record { body = []; rest = p.plain; more = p.more; text_is = rw quote (ap (λ l. 34 ∷ l) p.text_is); is_body = tt; is_rest = p.is_plain; others = p.others }
+          | inl p ↦ record {
+            body = [];
+            rest = p.plain;
+            more = p.more;
+            text_is = rw quote (ap (λ l. 34 ∷ l) p.text_is);
+            is_body = tt;
+            is_rest = p.is_plain;
+            others = p.others;
+          }
           | inr q ↦ record {
             body = 34 ∷ 34 ∷ q.has.body;
             rest = q.has.rest;
@@ -148,8 +191,17 @@ module _ (d : ℕ) (unquoted : d ≢ 34) where
         ]
     | inr other ↦
         let next : place_after d places.Quoted byte ≡ places.Quoted = rw (ne_eqb byte 34 other) refl in
-        let p = parsed places.Quoted text (subst (λ p. IsFreeOutside d 10 p text) next free.1) (subst (λ p. is_quoted (place_at d p text) ≡ false) next closed) in
-        record { body = byte ∷ p.body; rest = p.rest; more = p.more; text_is = ap (λ l. byte ∷ l) p.text_is; is_body = body-cons byte p.body other p.is_body; is_rest = p.is_rest; others = p.others }
+        let p = parsed places.Quoted text (subst (λ p. IsFreeOutside d 10 p text) next free.1)
+        (subst (λ p. is_quoted (place_at d p text) ≡ false) next closed) in
+        record {
+          body = byte ∷ p.body;
+          rest = p.rest;
+          more = p.more;
+          text_is = ap (λ l. byte ∷ l) p.text_is;
+          is_body = body-cons byte p.body other p.is_body;
+          is_rest = p.is_rest;
+          others = p.others;
+        }
   ]
 
   -- a text whose line feeds (10) are all within quotes, and whose end is not, is a record of the grammar

@@ -1,5 +1,7 @@
 -- The places of a byte among 64, as the bits of a number.
-use Rattle.std.proofs.Common.{◌≡◌, ◌≢◌, ◌≤◌, ◌<◌, ◌+◌, ◌-◌, ◌==◌, ◌++◌, ◌↔◌, ◌∙◌, ℕ, Bool, true, false, List, Some, None, inl, inr, length, map, cond, refl, sym, ap, arith, bit_or, count_by, subst, take, drop, get_or, take-add, take-append-drop}
+use Rattle.std.proofs.Common.{◌≡◌, ◌≢◌, ◌≤◌, ◌<◌, ◌+◌, ◌-◌, ◌==◌, ◌++◌, ◌↔◌, ◌∙◌, ℕ, Bool, true, false, List, Some}
+use Rattle.std.proofs.Common.{None, inl, inr, length, map, cond, refl, sym, ap, arith, bit_or, count_by, subst, take}
+use Rattle.std.proofs.Common.{drop, get_or, take-add, take-append-drop}
 use Rattle.std.specs.Int.{bit_at}
 use Rattle.std.specs.Simd.Lanes.{mask_l}
 use Rattle.std.proofs.lemmas.Bool.{cases_eq, cases_lt, eq-eqb, eqb-true}
@@ -41,8 +43,12 @@ bits_of_front byte count text all bits short long each below =
       short = omega (arith, row_long, short);
       each = λ k. (
         λ set.
-            let low = (below k).0 set in
-            (omega arith, omega (arith, low.0, row_long), get_or-take count text k 0 low.0 ∙ (each k (omega (arith, low.0, short))).0 low.1),
+            let low = (below k).0 set in (
+              omega arith,
+              omega (arith, low.0, row_long),
+              get_or-take count text k 0 low.0
+                  ∙ (each k (omega (arith, low.0, short))).0 low.1,
+            ),
         λ there.
             let low : k < count = omega (arith, there.1, row_long) in
             (below k).1 (low, (each k (omega (arith, low, short))).1 (sym (get_or-take count text k 0 low) ∙ there.2)),
@@ -73,11 +79,13 @@ module _ (byte start : ℕ) (row : List ℕ) (bits : ℕ) (are : AreBitsFrom byt
     free_to : IsFreeOf byte (take (end - start) left)
     free_to =
         let long : length left ≡ length row - start = length-drop start row in
-        let short : length (take (end - start) left) ≡ end - start = length-take-le (end - start) left (omega (arith, lowest_there.0, lowest_there.1, long)) in
+        let short : length (take (end - start) left) ≡ end - start = length-take-le (end - start) left
+        (omega (arith, lowest_there.0, lowest_there.1, long)) in
         All-from_get_or (λ other. other ≢ byte) (take (end - start) left) 0
         (λ k inside e.
         let low : start + k < end = omega (arith, inside, short, lowest_there.0) in
-        let is : get_or row (start + k) 0 ≡ byte = sym (get_or-drop start row k 0) ∙ sym (get_or-take (end - start) left k 0 (omega (arith, inside, short))) ∙ e in
+        let is : get_or row (start + k) 0 ≡ byte = sym (get_or-drop start row k 0)
+        ∙ sym (get_or-take (end - start) left k 0 (omega (arith, inside, short))) ∙ e in
         absurd (omega (arith, below (start + k) low, (are.each (start + k)).1 (omega arith, omega (arith, low, lowest_there.1), is))))
 
     -- the place of the lowest bit is the byte's next place from `start` on
@@ -85,7 +93,8 @@ module _ (byte start : ℕ) (row : List ℕ) (bits : ℕ) (are : AreBitsFrom byt
     lowest_next =
         let inside : end - start < length left = omega (arith, lowest_there.0, lowest_there.1, length-drop start row) in
         let there : start + (end - start) ≡ end = omega (arith, lowest_there.0) in
-        let here : get_or left (end - start) 0 ≡ byte = get_or-drop start row (end - start) 0 ∙ ap (λ n. get_or row n 0) there ∙ lowest_there.2 in
+        let here : get_or left (end - start) 0 ≡ byte = get_or-drop start row (end - start) 0
+        ∙ ap (λ n. get_or row n 0) there ∙ lowest_there.2 in
         (lowest_there.0, (inside, free_to, split_there byte left (end - start) inside here))
 
     -- the bits without the lowest, `rest`, tell where the byte is behind the place of the lowest
@@ -129,7 +138,8 @@ free_block byte at text bits room inside each none free =
     (λ k within e.
     let is : get_or text k 0 ≡ byte = sym (get_or-take (at + 64) text k 0 (omega (arith, within, short))) ∙ e in
     elim (cases_lt k at) [
-      | inl low ↦ All-get_or (λ other. other ≢ byte) (take at text) k 0 (omega (arith, low, length-take-le at text inside)) free (get_or-take at text k 0 low ∙ is)
+      | inl low ↦ All-get_or (λ other. other ≢ byte) (take at text) k 0
+          (omega (arith, low, length-take-le at text inside)) free (get_or-take at text k 0 low ∙ is)
       | inr high ↦
           let there : at + (k - at) ≡ k = omega (arith, high) in
           none (k - at) ((each (k - at) (omega (arith, within, short, high))).1
@@ -141,7 +151,9 @@ pub free_of_rest : (byte front : ℕ) (text : List ℕ) → front ≤ length tex
     → IsFreeOf byte text ↔ IsFreeOf byte (take (length text - front) (drop front text))
 free_of_rest byte front text inside free = (
   λ whole. subst (IsFreeOf byte) (sym (take_rest text front)) (All-drop (λ other. other ≢ byte) front text whole),
-  λ rest. subst (IsFreeOf byte) (take-append-drop front text) (All-append (λ other. other ≢ byte) (take front text) (drop front text) free (subst (IsFreeOf byte) (take_rest text front) rest)),
+  λ rest. subst (IsFreeOf byte) (take-append-drop front text)
+      (All-append (λ other. other ≢ byte) (take front text) (drop front text) free
+      (subst (IsFreeOf byte) (take_rest text front) rest)),
 )
 
 -- ---- how often a byte is there
@@ -154,17 +166,38 @@ module _ (byte at : ℕ) (text : List ℕ) (inside : at ≤ length text) where
 
   -- the byte is `count` times in the counted bytes and `more` times in the rest: together that is how often it is in
   -- the text
-  pub count_rest : (count more : ℕ) → count ≡ count_by is_it (take at text) → more ≡ count_by is_it (take (length text - at) (drop at text)) → count + more ≡ count_by is_it text
+  pub count_rest : (count more : ℕ) → count ≡ count_by is_it (take at text)
+      → more ≡ count_by is_it (take (length text - at) (drop at text)) → count + more ≡ count_by is_it text
   count_rest count more front rest =
-      omega (arith, front, rest ∙ ap (count_by is_it) (take_rest text at), sum_by-append (λ other. cond (is_it other) 1 0) (take at text) (drop at text), ap (count_by is_it) (take-append-drop at text))
+      omega (
+        arith,
+        front,
+        rest ∙ ap (count_by is_it) (take_rest text at),
+        sum_by-append (λ other. cond (is_it other) 1 0) (take at text) (drop at text),
+        ap (count_by is_it) (take-append-drop at text),
+      )
 
   -- the byte is `count` times in the counted bytes and `more` times in the next 64: together that is how often it is in
   -- the first `at` + 64
   pub count_block : (count more : ℕ) → 64 ≤ length text - at → count ≡ count_by is_it (take at text)
-      → more ≡ count_by is_it (take 64 (take (length text - at) (drop at text))) → (more ≤ 64) × (count + more ≡ count_by is_it (take (at + 64) text))
+      → more ≡ count_by is_it (take 64 (take (length text - at) (drop at text))) → (more ≤ 64)
+      × (count + more ≡ count_by is_it (take (at + 64) text))
   count_block count more room front block =
       let both : take at text ++ take 64 (drop at text) ≡ take (at + 64) text = sym (take-add at 64 text) in
       let is : more ≡ count_by is_it (take 64 (drop at text)) = block ∙ ap (λ l. count_by is_it (take 64 l)) (take_rest text at) in (
-        omega (arith, is, count_by-le-length is_it (take 64 (drop at text)), length-take-le 64 (drop at text) (omega (arith, room, length-drop at text))),
-        omega (arith, front, is, sum_by-append (λ other. cond (is_it other) 1 0) (take at text) (take 64 (drop at text)), ap (count_by is_it) both),
+        omega (
+          arith,
+          is,
+          count_by-le-length is_it (take 64 (drop at text)),
+          length-take-le 64 (drop at text)
+              (omega (arith, room, length-drop at text)),
+        ),
+        omega (
+          arith,
+          front,
+          is,
+          sum_by-append (λ other. cond (is_it other) 1 0) (take at text)
+              (take 64 (drop at text)),
+          ap (count_by is_it) both,
+        ),
       )

@@ -1,5 +1,6 @@
 -- What a row is answered by.
-use Rattle.std.proofs.Common.{refl, ◌≡◌, ◌≢◌, ◌≤◌, ◌+◌, ◌-◌, ◌++◌, [], ◌∷◌, ◌∙◌, ℕ, false, List, length, sym, ap, arith, subst, take, drop, append_assoc, length-append, take-append-drop}
+use Rattle.std.proofs.Common.{refl, ◌≡◌, ◌≢◌, ◌≤◌, ◌+◌, ◌-◌, ◌++◌, [], ◌∷◌, ◌∙◌, ℕ, false, List, length, sym, ap, arith}
+use Rattle.std.proofs.Common.{subst, take, drop, append_assoc, length-append, take-append-drop}
 use Rattle.std.proofs.Math.Seq.{take-append_seam, drop-append_seam}
 use Rattle.std.proofs.lemmas.List.{drop-take, length-drop, length-take-le}
 use Rattle.std.specs.List.{AllByRecursion}
@@ -24,9 +25,11 @@ closed_row (separators.Delimiter d) row free = closed_of_free d places.Fresh row
 
 -- A row without quotes (34) from `start` on, where a field begins, ends outside of quotes. The row is the first `count`
 -- bytes of a text.
-pub closed_rest : (d start count : ℕ) (text : List ℕ) → start ≤ count → IsFreeOf 34 (take (count - start) (take (length text - start) (drop start text)))
+pub closed_rest : (d start count : ℕ) (text : List ℕ) → start ≤ count
+    → IsFreeOf 34 (take (count - start) (take (length text - start) (drop start text)))
     → is_quoted (place_at d places.Fresh (drop start (take count text))) ≡ false
-closed_rest d start count text le free = closed_of_free d places.Fresh (drop start (take count text)) refl (subst (IsFreeOf 34) (left_is text count start le) free)
+closed_rest d start count text le free = closed_of_free d places.Fresh (drop start (take count text)) refl
+    (subst (IsFreeOf 34) (left_is text count start le) free)
 
 -- the part of a row from `start` on, as a slice of the text whose first `count` bytes are the row
 pub rest_slice : (start count : ℕ) (text : List ℕ) → start ≤ count → take (count - start) (drop start text) ≡ drop start (take count text)
@@ -40,13 +43,15 @@ module _ (d : ℕ) (unquoted : d ≢ 34) where
   fresh_after [] rest each = refl
   fresh_after (field ∷ fields) rest each =
       let others = separated (separators.Delimiter d) fields in
-      let next : place_after d (place_at d places.Fresh field) d ≡ places.Fresh = after_other d (place_at d places.Fresh field) d each.0.closed unquoted ∙ outside_delimiter d unquoted in
+      let next : place_after d (place_at d places.Fresh field) d ≡ places.Fresh =
+      after_other d (place_at d places.Fresh field) d each.0.closed unquoted ∙ outside_delimiter d unquoted in
       ap (place_at d places.Fresh) (append_assoc field (d ∷ others) rest) ∙ place_at-append d places.Fresh field (d ∷ others ++ rest)
       ∙ ap (λ p. place_at d p (others ++ rest)) next ∙ fresh_after fields rest each.1
 
   -- the place at the end of a row is that at the end of what is left behind skipped fields, read from where a field
   -- begins
-  pub open_from : (before : ℕ) (row rest : List ℕ) → Skips (separators.Delimiter d) before row rest → place_at d places.Fresh row ≡ place_at d places.Fresh rest
+  pub open_from : (before : ℕ) (row rest : List ℕ) → Skips (separators.Delimiter d) before row rest
+      → place_at d places.Fresh row ≡ place_at d places.Fresh rest
   open_from before row rest s = ap (place_at d places.Fresh) s.row_is ∙ fresh_after s.before rest s.each
 
 -- ---- texts of fields
@@ -63,14 +68,17 @@ cut_in_three row a b c start end split first last =
     (front, rw (long, rest) (take-append_seam b c), rw (whole, through) (drop-append_seam (a ++ b) c))
 
 -- `place` is where the text of a field is, by the places `start` and `end` of the field and the length of its quotes
-pub text_there : (S : Separator) (before : ℕ) (row : List ℕ) (start end : ℕ) (quotes text : List ℕ) (place : TextAt) → IsFieldAt S before row start end
-    → IsTextIn S (take (end - start) (drop start row)) quotes text → place.start ≡ start + length quotes → place.end ≡ place.start + length text → HasTextAt S before row place
+pub text_there : (S : Separator) (before : ℕ) (row : List ℕ) (start end : ℕ) (quotes text : List ℕ) (place : TextAt)
+    → IsFieldAt S before row start end
+    → IsTextIn S (take (end - start) (drop start row)) quotes text → place.start ≡ start + length quotes
+    → place.end ≡ place.start + length text → HasTextAt S before row place
 text_there S before row start end quotes text place f is first last =
     let front = take start row in
     let after = drop end row in
     let field = take (end - start) (drop start row) in
     let parts : (front ++ ((quotes ++ text) ++ quotes)) ++ after ≡ (front ++ quotes) ++ (text ++ (quotes ++ after)) = simp append_assoc in
-    let split : row ≡ (front ++ quotes) ++ (text ++ (quotes ++ after)) = f.at.row_is ∙ ap (λ l. (front ++ l) ++ after) is.field_is ∙ parts in
+    let split : row ≡ (front ++ quotes) ++ (text ++ (quotes ++ after)) = f.at.row_is
+    ∙ ap (λ l. (front ++ l) ++ after) is.field_is ∙ parts in
     let front_long : length front ≡ start = length-take-le start row (omega (arith, f.ordered, f.inside)) in
     let begins : place.start ≡ length (front ++ quotes) = omega (arith, first, front_long, length-append front quotes) in
     let cut = cut_in_three row (front ++ quotes) text (quotes ++ after) place.start place.end split begins last in
@@ -83,18 +91,34 @@ text_there S before row start end quotes text place f is first last =
       text = text;
       is_text = is;
       ordered = omega (arith, last);
-      inside = omega (arith, last, begins, ap length split, length-append (front ++ quotes) (text ++ (quotes ++ after)), length-append text (quotes ++ after));
+      inside = omega (
+        arith,
+        last,
+        begins,
+        ap length split,
+        length-append (front ++ quotes) (text ++ (quotes ++ after)),
+        length-append text (quotes ++ after),
+      );
       front_is = cut.0;
       text_is = cut.1;
       after_is = cut.2;
     }
 
 -- a field's quote at its front, if it has one, and its text end within the row
-pub text_inside : (S : Separator) (row : List ℕ) (start end : ℕ) (quotes text : List ℕ) → start ≤ end → end ≤ length row → IsTextIn S (take (end - start) (drop start row)) quotes text
+pub text_inside : (S : Separator) (row : List ℕ) (start end : ℕ) (quotes text : List ℕ) → start ≤ end → end ≤ length row
+    → IsTextIn S (take (end - start) (drop start row)) quotes text
     → start + length quotes + length text ≤ length row
 text_inside S row start end quotes text ordered inside is =
     let long = ap length is.field_is ∙ length-append (quotes ++ text) quotes in
-    omega (arith, long, length-append quotes text, length-take-le (end - start) (drop start row) (omega (arith, ordered, inside, length-drop start row)), ordered, inside)
+    omega (
+      arith,
+      long,
+      length-append quotes text,
+      length-take-le (end - start) (drop start row)
+          (omega (arith, ordered, inside, length-drop start row)),
+      ordered,
+      inside,
+    )
 
 -- ---- looks
 
@@ -109,7 +133,8 @@ line_feeds separators.Tab row plain = absurd plain
 line_feeds (separators.Delimiter d) row plain = plain.1
 
 -- a field that has `before` others before it begins where they are skipped
-pub field_skips : (S : Separator) (before : ℕ) (row : List ℕ) (start end : ℕ) → IsFieldAt S before row start end → Skips S before row (drop start row)
+pub field_skips : (S : Separator) (before : ℕ) (row : List ℕ) (start end : ℕ) → IsFieldAt S before row start end
+    → Skips S before row (drop start row)
 field_skips S before row start end f = record {
   before = f.at.before;
   each = f.at.each;

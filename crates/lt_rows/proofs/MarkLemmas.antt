@@ -1,5 +1,6 @@
 -- What the first bytes of a text say of its byte order mark.
-use Rattle.std.proofs.Common.{◌≡◌, ◌≢◌, ◌<◌, ◌++◌, ◌∷◌, ◌==◌, ◌∙◌, ◌⊎◌, ℕ, List, [], Bool, true, length, ap, refl, subst, arith, append_assoc, append-nil, length-append, drop, take, inl, inr, All}
+use Rattle.std.proofs.Common.{◌≡◌, ◌≢◌, ◌<◌, ◌++◌, ◌∷◌, ◌==◌, ◌∙◌, ◌⊎◌, ℕ, List, [], Bool, true, length, ap, refl}
+use Rattle.std.proofs.Common.{subst, arith, append_assoc, append-nil, length-append, drop, take, inl, inr, All}
 use Rattle.std.specs.Cmp.Lexicographic.{pointwise}
 use Rattle.std.proofs.lemmas.Slice.Eq.{starts_is}
 use Rattle.std.proofs.lemmas.Bool.{cases_eq}
@@ -36,7 +37,8 @@ begins_append (byte ∷ mark) (other ∷ front) more h =
     ]
 
 -- where a text can't become a mark, more bytes behind it change nothing of its mark
-pub split_more : (front mark rest more : List ℕ) → (MayBeMark front → ⊥) → SplitsMark front mark rest → SplitsMark (front ++ more) mark (rest ++ more)
+pub split_more : (front mark rest more : List ℕ) → (MayBeMark front → ⊥) → SplitsMark front mark rest
+    → SplitsMark (front ++ more) mark (rest ++ more)
 split_more front mark rest more none s = record {
   whole = ap (λ (l : List ℕ). l ++ more) s.whole ∙ append_assoc mark rest more;
   is_mark = elim s.is_mark [
@@ -47,11 +49,14 @@ split_more front mark rest more none s = record {
 
 -- where a text can't become a mark, more bytes behind it give it no mark of UTF-16
 pub wide_more : (front more : List ℕ) → (MayBeMark front → ⊥) → (IsWide front → ⊥) → IsWide (front ++ more) → ⊥
-wide_more front more none narrow (inl b) = elim (begins_append big_mark front more b) [ inl there ↦ narrow (inl there) | inr short ↦ none (inr (inl short)) ]
-wide_more front more none narrow (inr b) = elim (begins_append little_mark front more b) [ inl there ↦ narrow (inr there) | inr short ↦ none (inr (inr short)) ]
+wide_more front more none narrow (inl b) = elim (begins_append big_mark front more b)
+    [ inl there ↦ narrow (inl there) | inr short ↦ none (inr (inl short)) ]
+wide_more front more none narrow (inr b) = elim (begins_append little_mark front more b)
+    [ inl there ↦ narrow (inr there) | inr short ↦ none (inr (inr short)) ]
 
 -- the answer of `starts_with`, which compares byte by byte, is whether the text begins with `front`
-pub begins_is : (text front : List ℕ) (r : Bool) → r ≡ pointwise ◌==◌ front (take (length front) text) → (r ≡ true → Begins front text) × (Begins front text → r ≡ true)
+pub begins_is : (text front : List ℕ) (r : Bool) → r ≡ pointwise ◌==◌ front (take (length front) text)
+    → (r ≡ true → Begins front text) × (Begins front text → r ≡ true)
 begins_is text front r is =
     let s = starts_is Decides-eqb text front r is in
     (λ e. (drop (length front) text, s.0 e), λ b. s.1 b.0 b.1)
@@ -73,21 +78,27 @@ short_unmarked text s = record {
 
 -- a text that may become a mark has no mark of UTF-16 yet
 pub short_narrow : (text : List ℕ) → MayBeMark text → IsWide text → ⊥
-short_narrow text (inl s) (inl b) = let bad : 239 ≡ 254 = head (s.2 ∙ ap (λ (l : List ℕ). l ++ s.0 ∷ s.1) b.1) in absurd (omega (arith, bad))
-short_narrow text (inl s) (inr b) = let bad : 239 ≡ 255 = head (s.2 ∙ ap (λ (l : List ℕ). l ++ s.0 ∷ s.1) b.1) in absurd (omega (arith, bad))
+short_narrow text (inl s) (inl b) = let bad : 239 ≡ 254 = head (s.2 ∙ ap (λ (l : List ℕ). l ++ s.0 ∷ s.1) b.1) in
+    absurd (omega (arith, bad))
+short_narrow text (inl s) (inr b) = let bad : 239 ≡ 255 = head (s.2 ∙ ap (λ (l : List ℕ). l ++ s.0 ∷ s.1) b.1) in
+    absurd (omega (arith, bad))
 short_narrow text (inr (inl s)) (inl b) = absurd (omega (arith, short_length big_mark text s, ap length b.1, length-append big_mark b.0))
 short_narrow text (inr (inl s)) (inr b) = absurd (omega (arith, short_length big_mark text s, ap length b.1, length-append little_mark b.0))
 short_narrow text (inr (inr s)) (inl b) = absurd (omega (arith, short_length little_mark text s, ap length b.1, length-append big_mark b.0))
-short_narrow text (inr (inr s)) (inr b) = absurd (omega (arith, short_length little_mark text s, ap length b.1, length-append little_mark b.0))
+short_narrow text (inr (inr s)) (inr b) = absurd
+    (omega (arith, short_length little_mark text s, ap length b.1, length-append little_mark b.0))
 
 -- a front of a text without line feeds (10) has none
 free_front : (text more : List ℕ) → All (λ (byte : ℕ). byte ≢ 10) (text ++ more) → All (λ (byte : ℕ). byte ≢ 10) text
 free_front [] more free = λ k d lt. absurd (omega (arith, lt))
-free_front (byte ∷ text) more free = All-cons (λ (b : ℕ). b ≢ 10) byte text (All-head (λ (b : ℕ). b ≢ 10) byte (text ++ more) free) (free_front text more (All-tail (λ (b : ℕ). b ≢ 10) byte (text ++ more) free))
+free_front (byte ∷ text) more free = All-cons (λ (b : ℕ). b ≢ 10) byte text
+    (All-head (λ (b : ℕ). b ≢ 10) byte (text ++ more) free)
+    (free_front text more (All-tail (λ (b : ℕ). b ≢ 10) byte (text ++ more) free))
 
 -- a text of two bytes that are no line feed (10) has none
 two_free : (a b : ℕ) → a ≢ 10 → b ≢ 10 → All (λ (byte : ℕ). byte ≢ 10) (a ∷ b ∷ [])
-two_free a b one two = All-cons (λ (c : ℕ). c ≢ 10) a (b ∷ []) one (All-cons (λ (c : ℕ). c ≢ 10) b [] two (λ k d lt. absurd (omega (arith, lt))))
+two_free a b one two = All-cons (λ (c : ℕ). c ≢ 10) a (b ∷ []) one
+    (All-cons (λ (c : ℕ). c ≢ 10) b [] two (λ k d lt. absurd (omega (arith, lt))))
 
 -- the beginning of a mark without line feeds (10) has none
 short_free : (mark text : List ℕ) → All (λ (byte : ℕ). byte ≢ 10) mark → IsShortOf mark text → All (λ (byte : ℕ). byte ≢ 10) text
@@ -95,9 +106,13 @@ short_free mark text free s = free_front text (s.0 ∷ s.1) (subst (All (λ (byt
 
 -- a text that may become a mark has no line feed (10)
 pub short_one_line : (text : List ℕ) → MayBeMark text → All (λ (byte : ℕ). byte ≢ 10) text
-short_one_line text (inl s) = short_free utf8_mark text (All-cons (λ (c : ℕ). c ≢ 10) 239 (187 ∷ 191 ∷ []) (λ e. absurd (omega (arith, e))) (two_free 187 191 (λ e. absurd (omega (arith, e))) (λ e. absurd (omega (arith, e))))) s
-short_one_line text (inr (inl s)) = short_free big_mark text (two_free 254 255 (λ e. absurd (omega (arith, e))) (λ e. absurd (omega (arith, e)))) s
-short_one_line text (inr (inr s)) = short_free little_mark text (two_free 255 254 (λ e. absurd (omega (arith, e))) (λ e. absurd (omega (arith, e)))) s
+short_one_line text (inl s) = short_free utf8_mark text
+    (All-cons (λ (c : ℕ). c ≢ 10) 239 (187 ∷ 191 ∷ []) (λ e. absurd (omega (arith, e)))
+    (two_free 187 191 (λ e. absurd (omega (arith, e))) (λ e. absurd (omega (arith, e))))) s
+short_one_line text (inr (inl s)) = short_free big_mark text
+    (two_free 254 255 (λ e. absurd (omega (arith, e))) (λ e. absurd (omega (arith, e)))) s
+short_one_line text (inr (inr s)) = short_free little_mark text
+    (two_free 255 254 (λ e. absurd (omega (arith, e))) (λ e. absurd (omega (arith, e)))) s
 
 -- ---- a text has a mark or none
 

@@ -1,5 +1,6 @@
 -- Where a byte is among the first bytes of a text, of which more are looked at.
-use Rattle.std.proofs.Common.{◌≡◌, ◌≢◌, ◌≤◌, ◌<◌, ◌+◌, ◌==◌, ◌||◌, ◌++◌, ◌∷◌, ◌∙◌, ℕ, List, length, sym, ap, arith, subst, take, drop, get_or, add-one, take-append-drop, inl, inr, refl}
+use Rattle.std.proofs.Common.{◌≡◌, ◌≢◌, ◌≤◌, ◌<◌, ◌+◌, ◌==◌, ◌||◌, ◌++◌, ◌∷◌, ◌∙◌, ℕ, List, length, sym, ap, arith}
+use Rattle.std.proofs.Common.{subst, take, drop, get_or, add-one, take-append-drop, inl, inr, refl}
 use Rattle.std.proofs.Math.Seq.{drop-cons}
 use Rattle.std.proofs.lemmas.Bool.{eq-eqb, eqb-true, or_cases}
 use Rattle.std.proofs.Math.Bool.{or-true}
@@ -9,7 +10,8 @@ use Rattle.memchr.specs.Find.{Nowhere, NoneBefore, Passes, is_byte, is_byte2}
 use Rattle.lt_rows.specs.Splitting.{IsFreeOf, IsNear}
 
 -- a text is split at a place i where the byte is
-pub split_there : (byte : ℕ) (text : List ℕ) (i : ℕ) → i < length text → get_or text i 0 ≡ byte → text ≡ take i text ++ byte ∷ drop (i + 1) text
+pub split_there : (byte : ℕ) (text : List ℕ) (i : ℕ) → i < length text → get_or text i 0 ≡ byte
+    → text ≡ take i text ++ byte ∷ drop (i + 1) text
 split_there byte text i below is =
     sym (take-append-drop i text) ∙ ap (λ l. take i text ++ l) (rw (add-one, drop-cons text i 0 below, is) refl)
 
@@ -37,12 +39,14 @@ module _ (count : ℕ) (text near : List ℕ) (is : IsNear count text near) wher
       let short : length (take stop (take count text)) ≡ stop = length-take-le stop (take count text) (omega (arith, le, row_long)) in
       All-from_get_or (λ other. other ≢ byte) (take stop (take count text)) 0
       (λ k inside e. none k (omega arith) (omega (arith, inside, short))
-      (eq-eqb (get_or near k 0) byte (sym (byte_is k (omega (arith, inside, short, le))) ∙ sym (get_or-take stop (take count text) k 0 (omega (arith, inside, short))) ∙ e)))
+      (eq-eqb (get_or near k 0) byte (sym (byte_is k (omega (arith, inside, short, le)))
+      ∙ sym (get_or-take stop (take count text) k 0 (omega (arith, inside, short))) ∙ e)))
 
   -- where the place `stop` is not among the first `count`, the byte is nowhere among them
   none_at_all : (byte stop : ℕ) → count ≤ stop → Nowhere (Passes (is_byte byte) near) 0 stop → IsFreeOf byte (take count text)
   none_at_all byte stop le none =
-      subst (IsFreeOf byte) (take-take count count text (omega arith)) (none_to byte count (omega arith) (λ k low high. none k low (omega (arith, high, le))))
+      subst (IsFreeOf byte) (take-take count count text (omega arith))
+      (none_to byte count (omega arith) (λ k low high. none k low (omega (arith, high, le))))
 
   -- where the byte is nowhere in `near`, it is nowhere among the first `count`
   pub none_near : (byte : ℕ) → Nowhere (Passes (is_byte byte) near) 0 (length near) → IsFreeOf byte (take count text)
@@ -54,7 +58,8 @@ module _ (count : ℕ) (text near : List ℕ) (is : IsNear count text near) wher
 
   -- where the byte is first at a place i of `near` among the first `count`, the first `count` are split there
   pub place_near : (byte i : ℕ) → i < count → NoneBefore (Passes (is_byte byte) near) 0 (length near) i → Passes (is_byte byte) near i
-      → (i < length (take count text)) × IsFreeOf byte (take i (take count text)) × (take count text ≡ take i (take count text) ++ byte ∷ drop (i + 1) (take count text))
+      → (i < length (take count text)) × IsFreeOf byte (take i (take count text))
+      × (take count text ≡ take i (take count text) ++ byte ∷ drop (i + 1) (take count text))
   place_near byte i below first passes =
       let within : i < length (take count text) = omega (arith, below, row_long) in (
         within,
@@ -83,7 +88,8 @@ module _ (count : ℕ) (text near : List ℕ) (is : IsNear count text near) wher
     neither_near none = (none_near one (first_of (length near) none), none_near other (second_of (length near) none))
 
     -- where the first of the two is at a place i of `near` behind the first `count`, neither is among them
-    pub neither_before : (i : ℕ) → count ≤ i → NoneBefore either 0 (length near) i → IsFreeOf one (take count text) × IsFreeOf other (take count text)
+    pub neither_before : (i : ℕ) → count ≤ i → NoneBefore either 0 (length near) i → IsFreeOf one (take count text)
+        × IsFreeOf other (take count text)
     neither_before i far first = (none_at_all one i far (first_of i first.before), none_at_all other i far (second_of i first.before))
 
     -- where one of the two is at a place i among the first `count`, those are not free of both
@@ -91,6 +97,8 @@ module _ (count : ℕ) (text near : List ℕ) (is : IsNear count text near) wher
     either_near i below passes free =
         let within : i < length (take count text) = omega (arith, below, row_long) in
         elim (or_cases (get_or near i 0 == one) (get_or near i 0 == other) passes) [
-          | inl is_one ↦ All-get_or (λ b. b ≢ one) (take count text) i 0 within free.0 (byte_is i below ∙ eqb-true (get_or near i 0) one is_one)
-          | inr is_other ↦ All-get_or (λ b. b ≢ other) (take count text) i 0 within free.1 (byte_is i below ∙ eqb-true (get_or near i 0) other is_other)
+          | inl is_one ↦ All-get_or (λ b. b ≢ one) (take count text) i 0 within free.0 (byte_is i below
+              ∙ eqb-true (get_or near i 0) one is_one)
+          | inr is_other ↦ All-get_or (λ b. b ≢ other) (take count text) i 0 within free.1 (byte_is i below
+              ∙ eqb-true (get_or near i 0) other is_other)
         ]

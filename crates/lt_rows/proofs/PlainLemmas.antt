@@ -1,5 +1,6 @@
 -- Rows in which each separator parts fields.
-use Rattle.std.proofs.Common.{◌≡◌, ◌≢◌, ◌≤◌, ◌<◌, ◌+◌, ◌-◌, ◌==◌, [], ◌∷◌, ◌∙◌, ℕ, zero, suc, List, Option, Some, None, inl, inr, length, sym, ap, arith, subst, take, drop, get_or}
+use Rattle.std.proofs.Common.{◌≡◌, ◌≢◌, ◌≤◌, ◌<◌, ◌+◌, ◌-◌, ◌==◌, [], ◌∷◌, ◌∙◌, ℕ, zero, suc, List, Option, Some, None}
+use Rattle.std.proofs.Common.{inl, inr, length, sym, ap, arith, subst, take, drop, get_or}
 use Rattle.std.proofs.lemmas.Bool.{eq-eqb, eqb-true, cases_Bool}
 use Rattle.std.proofs.lemmas.List.{get_or-drop, get_or-take, length-drop, length-take-le, take_rest}
 use Rattle.std.proofs.lemmas.List.Elements.{All-drop, All-from_get_or}
@@ -65,12 +66,14 @@ module _ (byte count start : ℕ) (text near : List ℕ) (is : IsNear count text
       let short : length (take (stop - start) left) ≡ stop - start = length-take-le (stop - start) left (omega (arith, below, left_long)) in
       All-from_get_or (λ other. other ≢ byte) (take (stop - start) left) 0
       (λ k inside e. none (start + k) (omega arith) (omega (arith, inside, short))
-      (eq-eqb (get_or near (start + k) 0) byte (sym (byte_there k (omega (arith, inside, short, below))) ∙ sym (get_or-take (stop - start) left k 0 (omega (arith, inside, short))) ∙ e)))
+      (eq-eqb (get_or near (start + k) 0) byte (sym (byte_there k (omega (arith, inside, short, below)))
+      ∙ sym (get_or-take (stop - start) left k 0 (omega (arith, inside, short))) ∙ e)))
 
   -- where the byte is nowhere up to the end of the row, all that is left is free of it
   none_left : (stop : ℕ) → count ≤ stop → Nowhere has start stop → IsFreeOf byte left
   none_left stop far none =
-      let whole : take (count - start) left ≡ left = ap (λ n. take (n - start) left) (sym (row_long count text near is)) ∙ take_rest row start in
+      let whole : take (count - start) left ≡ left = ap (λ n. take (n - start) left) (sym (row_long count text near is))
+      ∙ take_rest row start in
       subst (IsFreeOf byte) whole (free_to count (omega arith) (λ k low high. none k low (omega (arith, high, far))))
 
   -- where the byte is first at the place `end` of the row, that is its next place
@@ -78,24 +81,29 @@ module _ (byte count start : ℕ) (text near : List ℕ) (is : IsNear count text
   at_place end stop below first passes =
       let inside : end - start < length left = omega (arith, below, first.low, left_long) in
       let there : start + (end - start) ≡ end = omega (arith, first.low) in
-      let here : get_or left (end - start) 0 ≡ byte = byte_there (end - start) (omega (arith, there, below)) ∙ ap (λ n. get_or near n 0) there ∙ eqb-true (get_or near end 0) byte passes in
+      let here : get_or left (end - start) 0 ≡ byte = byte_there (end - start) (omega (arith, there, below))
+      ∙ ap (λ n. get_or near n 0) there ∙ eqb-true (get_or near end 0) byte passes in
       (first.low, (inside, free_to end (omega (arith, below)) first.before, split_there byte left (end - start) inside here))
 
   -- the list of places begins with one in the row: it is the next
-  pub next_inside : (end : ℕ) (rest : List ℕ) → end < count → places_from (is_byte byte) near start (length near - start) ≡ end ∷ rest → IsNextPlace byte start row (Some end)
+  pub next_inside : (end : ℕ) (rest : List ℕ) → end < count
+      → places_from (is_byte byte) near start (length near - start) ≡ end ∷ rest → IsNextPlace byte start row (Some end)
   next_inside end rest below e =
       let first = first_from byte near start (length near - start) end rest e in
       at_place end (start + (length near - start)) below first.0 first.1
 
   -- the list of places begins with one behind the row: there is no next
-  pub next_far : (end : ℕ) (rest : List ℕ) → count ≤ end → places_from (is_byte byte) near start (length near - start) ≡ end ∷ rest → IsNextPlace byte start row None
+  pub next_far : (end : ℕ) (rest : List ℕ) → count ≤ end → places_from (is_byte byte) near start (length near - start)
+      ≡ end ∷ rest → IsNextPlace byte start row None
   next_far end rest far e =
       let first = first_from byte near start (length near - start) end rest e in
       none_left end far first.0.before
 
   -- the list of places is empty: there is no next
   pub next_none : places_from (is_byte byte) near start (length near - start) ≡ [] → IsNextPlace byte start row None
-  next_none e = none_left (start + (length near - start)) (omega (arith, is.1, is.2, ap length is.3, length-take-le is.0 text is.2)) (none_from byte near start (length near - start) e)
+  next_none e = none_left (start + (length near - start))
+      (omega (arith, is.1, is.2, ap length is.3, length-take-le is.0 text is.2))
+      (none_from byte near start (length near - start) e)
 
 -- the list of a byte's places without the first is the list of its places behind the first
 pub places_on : (byte start end : ℕ) (near rest : List ℕ) → places_from (is_byte byte) near start (length near - start) ≡ end ∷ rest
@@ -113,10 +121,12 @@ no_quote [] free e = absurd (omega (arith, e))
 no_quote (byte ∷ row) free e = free 0 0 (omega arith) e
 
 -- in what is left of a plain row, the first separator is where the first field ends
-pub plain_end : (S : Separator) (start : ℕ) (row : List ℕ) (end : Option ℕ) → IsPlain S row → IsPlaceOf (rows.separator S) (drop start row) end → EndsField S (drop start row) end
+pub plain_end : (S : Separator) (start : ℕ) (row : List ℕ) (end : Option ℕ) → IsPlain S row
+    → IsPlaceOf (rows.separator S) (drop start row) end → EndsField S (drop start row) end
 plain_end separators.Tab start row end plain p = tab_end (drop start row) end p
 plain_end (separators.Delimiter d) start row end plain p =
-    line_end d (drop start row) end (no_quote (drop start row) (All-drop (λ byte. byte ≢ 34) start row plain.1)) (All-drop (λ byte. byte ≢ 10) start row plain.0) p
+    line_end d (drop start row) end (no_quote (drop start row) (All-drop (λ byte. byte ≢ 34) start row plain.1))
+    (All-drop (λ byte. byte ≢ 10) start row plain.0) p
 
 -- lemmas on a plain row, of which `before` fields are skipped, and what is left begins at `start`
 module _ (S : Separator) (before start : ℕ) (row : List ℕ) (plain : IsPlain S row) (s : Skips S before row (drop start row)) where
@@ -125,10 +135,12 @@ module _ (S : Separator) (before start : ℕ) (row : List ℕ) (plain : IsPlain 
   ends_there end p = plain_end S start row (Some (end - start)) plain p.1
 
   -- one field more is skipped, up to the next separator
-  pub one_more : (end : ℕ) → IsNextPlace (rows.separator S) start row (Some end) → (end + 1 ≤ length row) × Skips S (before + 1) row (drop (end + 1) row)
+  pub one_more : (end : ℕ) → IsNextPlace (rows.separator S) start row (Some end) → (end + 1 ≤ length row)
+      × Skips S (before + 1) row (drop (end + 1) row)
   one_more end p =
       let there : start + (end - start + 1) ≡ end + 1 = omega (arith, p.0) in
-      subst (λ (n : ℕ). (n ≤ length row) × Skips S (before + 1) row (drop n row)) there (skips_one S before start (end - start) row s (ends_there end p))
+      subst (λ (n : ℕ). (n ≤ length row) × Skips S (before + 1) row (drop n row)) there
+      (skips_one S before start (end - start) row s (ends_there end p))
 
   -- no separator is left: a field with `wanted` others before it, which are more, is not in the row
   pub no_more : (wanted : ℕ) → before < wanted → IsNextPlace (rows.separator S) start row None → HasFewer S wanted row
@@ -141,5 +153,6 @@ module _ (S : Separator) (before start : ℕ) (row : List ℕ) (plain : IsPlain 
       subst (IsFieldAt S before row start) there (field_ended S before start (end - start) row inside s (ends_there end p))
 
   -- no separator is left: the field that begins there goes to the end of the row
-  pub field_to_end : (count : ℕ) → count ≡ length row → start ≤ count → IsNextPlace (rows.separator S) start row None → IsFieldAt S before row start count
+  pub field_to_end : (count : ℕ) → count ≡ length row → start ≤ count → IsNextPlace (rows.separator S) start row None
+      → IsFieldAt S before row start count
   field_to_end count is inside p = field_last S before start count row is inside s (plain_end S start row None plain p)

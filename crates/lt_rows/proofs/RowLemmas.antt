@@ -1,7 +1,9 @@
 -- What is within quotes, records, and the fields of a row.
 use Rattle.std.specs.List.{AllByRecursion}
 use Rattle.std.proofs.Math.Bool.{and-false}
-use Rattle.std.proofs.Common.{refl, ◌≡◌, ◌≢◌, ◌<◌, ◌+◌, ◌-◌, ◌==◌, ◌++◌, [], ◌∷◌, ◌∙◌, ℕ, true, false, List, length, sym, ap, arith, suc, subst, take, get_or, All, ◌||◌, if◌then◌else◌, ne_eqb, append_assoc, length-append}
+use Rattle.std.proofs.Common.{refl, ◌≡◌, ◌≢◌, ◌<◌, ◌+◌, ◌-◌, ◌==◌, ◌++◌, [], ◌∷◌, ◌∙◌, ℕ, true, false, List, length}
+use Rattle.std.proofs.Common.{sym, ap, arith, suc, subst, take, get_or, All, ◌||◌, if◌then◌else◌, ne_eqb, append_assoc}
+use Rattle.std.proofs.Common.{length-append}
 use Rattle.std.proofs.lemmas.List.{take_more}
 use Rattle.std.proofs.lemmas.List.Elements.{All-head, All-tail}
 use Rattle.lt_jar.specs.Lines.{begin_first}
@@ -14,7 +16,8 @@ use Rattle.lt_rows.specs.declared.rows.Separator.{Separator}
 -- lemmas on CSV with this delimiter
 module _ (delimiter : ℕ) where
   -- the place after a text and more: the text leads to a place, and the more from there to the last
-  pub place_at-append : (place : Place) (text more : List ℕ) → place_at delimiter place (text ++ more) ≡ place_at delimiter (place_at delimiter place text) more
+  pub place_at-append : (place : Place) (text more : List ℕ) → place_at delimiter place (text ++ more)
+      ≡ place_at delimiter (place_at delimiter place text) more
   place_at-append place [] more = refl
   place_at-append place (byte ∷ text) more = place_at-append (place_after delimiter place byte) text more
 
@@ -26,10 +29,13 @@ module _ (delimiter : ℕ) where
 
   -- behind a byte that is outside of quotes and is no quote, the place is outside of quotes too
   pub outside_closed : (byte : ℕ) → is_quoted (place_outside delimiter byte) ≡ false
-  outside_closed byte = elim ((byte == 10) || (byte == delimiter)) as (λ t. is_quoted (if t then places.Fresh else places.Plain) ≡ false) [ true ↦ refl | false ↦ refl ]
+  outside_closed byte =
+      elim ((byte == 10) || (byte == delimiter)) as (λ t. is_quoted (if t then places.Fresh else places.Plain) ≡ false)
+      [ true ↦ refl | false ↦ refl ]
 
   -- outside of quotes, the place after a byte that is no quote (34) depends on this byte alone
-  pub after_other : (place : Place) (byte : ℕ) → is_quoted place ≡ false → byte ≢ 34 → place_after delimiter place byte ≡ place_outside delimiter byte
+  pub after_other : (place : Place) (byte : ℕ) → is_quoted place ≡ false → byte ≢ 34
+      → place_after delimiter place byte ≡ place_outside delimiter byte
   after_other places.Fresh byte closed other = rw (ne_eqb byte 34 other) refl
   after_other places.Plain byte closed other = refl
   after_other places.Quoted byte closed other = let bad : true ≡ false = closed in cc
@@ -43,7 +49,8 @@ module _ (delimiter : ℕ) where
       let first = after_other place byte closed (All-head (λ (b : ℕ). b ≢ 34) byte (next ∷ text) free) in
       let more : length (byte ∷ next ∷ text) - 1 ≡ suc (length text) = omega arith in
       let less : length (next ∷ text) - 1 ≡ length text = omega arith in
-      let rest = place_of_free (place_after delimiter place byte) (next ∷ text) (ap is_quoted first ∙ outside_closed byte) (All-tail (λ (b : ℕ). b ≢ 34) byte (next ∷ text) free) (omega arith) in
+      let rest = place_of_free (place_after delimiter place byte) (next ∷ text) (ap is_quoted first
+      ∙ outside_closed byte) (All-tail (λ (b : ℕ). b ≢ 34) byte (next ∷ text) free) (omega arith) in
       rw more (rw less at rest)
 
   -- within quotes, a text without quotes stays within them
@@ -58,13 +65,15 @@ module _ (delimiter : ℕ) where
   place_past_quote place text front after split = ap (place_at delimiter place) split ∙ place_at-append place front (34 ∷ after)
 
   -- where no byte `stop` is outside of quotes in a text, nor in more bytes behind it, none is in both together
-  pub free-append : (stop : ℕ) (place : Place) (text more : List ℕ) → IsFreeOutside delimiter stop place text → IsFreeOutside delimiter stop (place_at delimiter place text) more
+  pub free-append : (stop : ℕ) (place : Place) (text more : List ℕ) → IsFreeOutside delimiter stop place text
+      → IsFreeOutside delimiter stop (place_at delimiter place text) more
       → IsFreeOutside delimiter stop place (text ++ more)
   free-append stop place [] more h k = k
   free-append stop place (byte ∷ text) more h k = (h.0, free-append stop (place_after delimiter place byte) text more h.1 k)
 
   -- a text without the byte `stop` has none outside of quotes
-  pub free_of_none : (stop : ℕ) (place : Place) (text : List ℕ) → All (λ (byte : ℕ). byte ≢ stop) text → IsFreeOutside delimiter stop place text
+  pub free_of_none : (stop : ℕ) (place : Place) (text : List ℕ) → All (λ (byte : ℕ). byte ≢ stop) text
+      → IsFreeOutside delimiter stop place text
   free_of_none stop place [] h = tt
   free_of_none stop place (byte ∷ text) h = (
     λ e. absurd (All-head (λ (b : ℕ). b ≢ stop) byte text h e),
@@ -72,46 +81,61 @@ module _ (delimiter : ℕ) where
   )
 
   -- a byte that is no line feed (10) outside of quotes is the front of the text's first record
-  begins : (place : Place) (byte : ℕ) (text : List ℕ) → (byte ≡ 10 → is_quoted place ≡ true) → records_from delimiter place (byte ∷ text) ≡ begin_first byte (records_from delimiter (place_after delimiter place byte) text)
+  begins : (place : Place) (byte : ℕ) (text : List ℕ) → (byte ≡ 10 → is_quoted place ≡ true)
+      → records_from delimiter place (byte ∷ text)
+      ≡ begin_first byte (records_from delimiter (place_after delimiter place byte) text)
   begins places.Quoted byte text h = rw (and-false (byte == 10)) refl
   begins places.Fresh byte text h = rw (ne_eqb byte 10 (λ e. let bad : false ≡ true = h e in cc)) refl
   begins places.Plain byte text h = rw (ne_eqb byte 10 (λ e. let bad : false ≡ true = h e in cc)) refl
 
   -- a text without line feeds (10) outside of quotes, which ends outside of them, is a record if a line feed follows
   -- it
-  pub records_from-ended : (place : Place) (text rest : List ℕ) → IsFreeOutside delimiter 10 place text → is_quoted (place_at delimiter place text) ≡ false
+  pub records_from-ended : (place : Place) (text rest : List ℕ) → IsFreeOutside delimiter 10 place text
+      → is_quoted (place_at delimiter place text) ≡ false
       → records_from delimiter place (text ++ 10 ∷ rest) ≡ text ∷ records_from delimiter places.Fresh rest
   records_from-ended place [] rest h closed = rw closed refl
   records_from-ended place (byte ∷ text) rest h closed =
-      begins place byte (text ++ 10 ∷ rest) h.0 ∙ ap (begin_first byte) (records_from-ended (place_after delimiter place byte) text rest h.1 closed)
+      begins place byte (text ++ 10 ∷ rest) h.0
+      ∙ ap (begin_first byte) (records_from-ended (place_after delimiter place byte) text rest h.1 closed)
 
   -- a text without line feeds (10) outside of quotes, at least one byte, is one record
-  pub records_from-last : (place : Place) (text : List ℕ) → IsFreeOutside delimiter 10 place text → 0 < length text → records_from delimiter place text ≡ text ∷ []
+  pub records_from-last : (place : Place) (text : List ℕ) → IsFreeOutside delimiter 10 place text → 0 < length text
+      → records_from delimiter place text ≡ text ∷ []
   records_from-last place [] h some = absurd (omega arith)
   records_from-last place (byte ∷ []) h some = begins place byte [] h.0
   records_from-last place (byte ∷ next ∷ text) h some =
-      begins place byte (next ∷ text) h.0 ∙ ap (begin_first byte) (records_from-last (place_after delimiter place byte) (next ∷ text) h.1 (omega arith))
+      begins place byte (next ∷ text) h.0
+      ∙ ap (begin_first byte) (records_from-last (place_after delimiter place byte) (next ∷ text) h.1 (omega arith))
 
   -- ---- the turns of a loop over bytes
 
   -- the place after the first i + 1 bytes: that after the first i, and then after one byte more
-  pub place_next : (place : Place) (text : List ℕ) (i : ℕ) → i < length text → place_at delimiter place (take (i + 1) text) ≡ place_after delimiter (place_at delimiter place (take i text)) (get_or text i 0)
-  place_next place text i below = ap (place_at delimiter place) (take_more text i 0 below) ∙ place_at-append place (take i text) (get_or text i 0 ∷ [])
+  pub place_next : (place : Place) (text : List ℕ) (i : ℕ) → i < length text
+      → place_at delimiter place (take (i + 1) text)
+      ≡ place_after delimiter (place_at delimiter place (take i text)) (get_or text i 0)
+  place_next place text i below = ap (place_at delimiter place) (take_more text i 0 below)
+      ∙ place_at-append place (take i text) (get_or text i 0 ∷ [])
 
   -- with one byte more no `stop` is outside of quotes, if that byte is no `stop`, or is within quotes
   pub free_next : (stop : ℕ) (text : List ℕ) (i : ℕ) → i < length text → IsFreeOutside delimiter stop places.Fresh (take i text)
-      → (get_or text i 0 ≡ stop → is_quoted (place_at delimiter places.Fresh (take i text)) ≡ true) → IsFreeOutside delimiter stop places.Fresh (take (i + 1) text)
+      → (get_or text i 0 ≡ stop → is_quoted (place_at delimiter places.Fresh (take i text)) ≡ true)
+      → IsFreeOutside delimiter stop places.Fresh (take (i + 1) text)
   free_next stop text i below free inside =
-      subst (IsFreeOutside delimiter stop places.Fresh) (sym (take_more text i 0 below)) (free-append stop places.Fresh (take i text) (get_or text i 0 ∷ []) free (inside, tt))
+      subst (IsFreeOutside delimiter stop places.Fresh) (sym (take_more text i 0 below))
+      (free-append stop places.Fresh (take i text) (get_or text i 0 ∷ []) free (inside, tt))
 
   -- from outside of quotes, a text without quotes ends outside of them
-  pub closed_of_free : (place : Place) (text : List ℕ) → is_quoted place ≡ false → All (λ (byte : ℕ). byte ≢ 34) text → is_quoted (place_at delimiter place text) ≡ false
+  pub closed_of_free : (place : Place) (text : List ℕ) → is_quoted place ≡ false → All (λ (byte : ℕ). byte ≢ 34) text
+      → is_quoted (place_at delimiter place text) ≡ false
   closed_of_free place [] closed free = closed
   closed_of_free place (byte ∷ text) closed free =
-      closed_of_free (place_after delimiter place byte) text (ap is_quoted (after_other place byte closed (All-head (λ (b : ℕ). b ≢ 34) byte text free)) ∙ outside_closed byte) (All-tail (λ (b : ℕ). b ≢ 34) byte text free)
+      closed_of_free (place_after delimiter place byte) text
+      (ap is_quoted (after_other place byte closed (All-head (λ (b : ℕ). b ≢ 34) byte text free))
+      ∙ outside_closed byte) (All-tail (λ (b : ℕ). b ≢ 34) byte text free)
 
   -- where a text ends outside of quotes, a byte `stop` behind it is outside of quotes
-  pub not_free : (stop : ℕ) (place : Place) (text more : List ℕ) → is_quoted (place_at delimiter place text) ≡ false → IsFreeOutside delimiter stop place (text ++ stop ∷ more) → ⊥
+  pub not_free : (stop : ℕ) (place : Place) (text more : List ℕ) → is_quoted (place_at delimiter place text) ≡ false
+      → IsFreeOutside delimiter stop place (text ++ stop ∷ more) → ⊥
   not_free stop place [] more closed free = let bad : true ≡ false = sym (free.0 refl) ∙ closed in cc
   not_free stop place (byte ∷ text) more closed free = not_free stop (place_after delimiter place byte) text more closed free.1
 
@@ -121,16 +145,21 @@ each-last P [] x h one = (one, tt)
 each-last P (y ∷ xs) x h one = (h.0, each-last P xs x h.1 one)
 
 -- one field more, with the separator that ends it, after others
-separated-append : (S : Separator) (fields : List (List ℕ)) (field : List ℕ) → separated S (fields ++ field ∷ []) ≡ separated S fields ++ (field ++ separator S ∷ [])
+separated-append : (S : Separator) (fields : List (List ℕ)) (field : List ℕ) → separated S (fields ++ field ∷ [])
+    ≡ separated S fields ++ (field ++ separator S ∷ [])
 separated-append S [] field = refl
-separated-append S (f ∷ fields) field = rw (separated-append S fields field, append_assoc f (separator S ∷ separated S fields) (field ++ separator S ∷ [])) refl
+separated-append S (f ∷ fields) field = rw (
+  separated-append S fields field,
+  append_assoc f (separator S ∷ separated S fields) (field ++ separator S ∷ []),
+) refl
 
 -- no field is skipped, and the whole row is left
 pub skips_none : (S : Separator) (row : List ℕ) → Skips S 0 row row
 skips_none S row = record { before = []; each = tt; number = refl; row_is = refl }
 
 -- one field more is skipped, which a separator ends in what is left; `after` is left then
-pub skips_more : (S : Separator) (count : ℕ) (row rest field after : List ℕ) → Skips S count row rest → IsEnded S field → rest ≡ field ++ separator S ∷ after → Skips S (count + 1) row after
+pub skips_more : (S : Separator) (count : ℕ) (row rest field after : List ℕ) → Skips S count row rest → IsEnded S field
+    → rest ≡ field ++ separator S ∷ after → Skips S (count + 1) row after
 skips_more S count row rest field after s one split = record {
   before = s.before ++ field ∷ [];
   each = each-last (IsEnded S) s.before field s.each one;
@@ -139,7 +168,8 @@ skips_more S count row rest field after s one split = record {
 }
 
 -- where what is left is one field, and only `count` are skipped, a row has no field with `wanted` others before it
-pub skips_last : (S : Separator) (count wanted : ℕ) (row rest : List ℕ) → Skips S count row rest → IsRowField S rest → count < wanted → HasFewer S wanted row
+pub skips_last : (S : Separator) (count wanted : ℕ) (row rest : List ℕ) → Skips S count row rest → IsRowField S rest
+    → count < wanted → HasFewer S wanted row
 skips_last S count wanted row rest s one few = record {
   before = s.before;
   last = rest;

@@ -1,5 +1,6 @@
 -- A text that is looked through from one place of a byte to the next.
-use Rattle.std.proofs.Common.{◌≡◌, ◌≤◌, ◌+◌, ◌-◌, ◌++◌, [], ◌∷◌, ◌∙◌, ℕ, true, false, List, length, sym, ap, arith, subst, take, drop, append_assoc, length-append, take-append-drop}
+use Rattle.std.proofs.Common.{◌≡◌, ◌≤◌, ◌+◌, ◌-◌, ◌++◌, [], ◌∷◌, ◌∙◌, ℕ, true, false, List, length, sym, ap, arith}
+use Rattle.std.proofs.Common.{subst, take, drop, append_assoc, length-append, take-append-drop}
 use Rattle.std.proofs.Math.Seq.{take-append_seam}
 use Rattle.std.proofs.lemmas.List.{length-take-le, take_rest}
 use Rattle.lt_rows.specs.Quotes.{IsFreeOutside, is_quoted, place_after, place_at}
@@ -44,21 +45,28 @@ module _ (delimiter stop : ℕ) (text : List ℕ) (passed : ℕ) (front after : 
 
     -- before it no `stop` is outside of quotes
     free_before : IsFreeOutside delimiter stop places.Fresh (take passed text ++ front)
-    free_before = free-append delimiter stop places.Fresh (take passed text) front free (free_of_none delimiter stop (place_at delimiter places.Fresh (take passed text)) front none)
+    free_before = free-append delimiter stop places.Fresh (take passed text) front free
+        (free_of_none delimiter stop (place_at delimiter places.Fresh (take passed text)) front none)
 
     -- outside of quotes, the text is split at that `stop`
-    pub split_there : is_quoted (place_at delimiter place front) ≡ false → IsFreeOutside delimiter stop places.Fresh (take (passed + length front) text)
+    pub split_there : is_quoted (place_at delimiter place front) ≡ false
+        → IsFreeOutside delimiter stop places.Fresh (take (passed + length front) text)
         × (is_quoted (place_at delimiter places.Fresh (take (passed + length front) text)) ≡ false)
         × (text ≡ take (passed + length front) text ++ stop ∷ after)
     split_there closed = rw before (free_before, ap is_quoted at ∙ closed, whole)
 
     -- the place behind that `stop`
-    pub place_past : place_after delimiter (place_at delimiter place front) stop ≡ place_at delimiter places.Fresh (take (passed + length front + 1) text)
-    place_past = ap (λ p. place_after delimiter p stop) (sym at) ∙ sym (place_at-append delimiter places.Fresh (take passed text ++ front) (stop ∷ [])) ∙ ap (place_at delimiter places.Fresh) (sym through)
+    pub place_past : place_after delimiter (place_at delimiter place front) stop
+        ≡ place_at delimiter places.Fresh (take (passed + length front + 1) text)
+    place_past = ap (λ p. place_after delimiter p stop) (sym at)
+        ∙ sym (place_at-append delimiter places.Fresh (take passed text ++ front) (stop ∷ []))
+        ∙ ap (place_at delimiter places.Fresh) (sym through)
 
     -- within quotes, that `stop` is passed as well
-    pub free_past : is_quoted (place_at delimiter place front) ≡ true → IsFreeOutside delimiter stop places.Fresh (take (passed + length front + 1) text)
-    free_past quoted = rw through (free-append delimiter stop places.Fresh (take passed text ++ front) (stop ∷ []) free_before (λ e. ap is_quoted at ∙ quoted, tt))
+    pub free_past : is_quoted (place_at delimiter place front) ≡ true
+        → IsFreeOutside delimiter stop places.Fresh (take (passed + length front + 1) text)
+    free_past quoted = rw through (free-append delimiter stop places.Fresh (take passed text ++ front) (stop ∷ [])
+        free_before (λ e. ap is_quoted at ∙ quoted, tt))
 
   -- the bytes up to that `stop` are in the text
   pub inside_past : passed + length front + 1 ≤ length text
@@ -68,5 +76,7 @@ module _ (delimiter stop : ℕ) (text : List ℕ) (passed : ℕ) (front after : 
 pub free_to_end : (delimiter stop : ℕ) (text : List ℕ) (passed : ℕ) → IsFreeOutside delimiter stop places.Fresh (take passed text)
     → IsFreeOf stop (take (length text - passed) (drop passed text)) → IsFreeOutside delimiter stop places.Fresh text
 free_to_end delimiter stop text passed free none =
-    subst (IsFreeOutside delimiter stop places.Fresh) (take-append-drop passed text) (free-append delimiter stop places.Fresh (take passed text) (drop passed text) free
-    (free_of_none delimiter stop (place_at delimiter places.Fresh (take passed text)) (drop passed text) (subst (IsFreeOf stop) (take_rest text passed) none)))
+    subst (IsFreeOutside delimiter stop places.Fresh) (take-append-drop passed text)
+    (free-append delimiter stop places.Fresh (take passed text) (drop passed text) free
+    (free_of_none delimiter stop (place_at delimiter places.Fresh (take passed text)) (drop passed text)
+    (subst (IsFreeOf stop) (take_rest text passed) none)))

@@ -1,5 +1,6 @@
 -- When a device failed in a run of calls, and what the turns of a loop that writes a text keep.
-use Rattle.std.proofs.Common.{◌≡◌, ◌<◌, ◌⊎◌, ℕ, subst, ◌+◌, ◌-◌, ◌++◌, List, Option, Result, Ok, Err, IfOk, IfErr, append_assoc, take-append-drop, take, drop, length, sym, ap, ◌∙◌}
+use Rattle.std.proofs.Common.{◌≡◌, ◌<◌, ◌⊎◌, ℕ, subst, ◌+◌, ◌-◌, ◌++◌, List, Option, Result, Ok, Err, IfOk, IfErr}
+use Rattle.std.proofs.Common.{append_assoc, take-append-drop, take, drop, length, sym, ap, ◌∙◌}
 use Rattle.lt_jar.specs.Devices.{HasFailed, failures_of, greatest_count, inner_of}
 use Rattle.lt_jar.specs.declared.devices.Device.{Device}
 use Rattle.std.proofs.lemmas.Result.{IfErr-weaker, IfOk-weaker}
@@ -12,7 +13,8 @@ use Rattle.lt_stream.specs.declared.faults.ToolFault.{ToolFault}
 use Rattle.lt_stream.specs.declared.faults.ToolFault.TheVariants as faults
 
 -- a device that fails in a call, and didn't before it, has failed since `start`
-pub failed_from : {T : Type 0} (start before after : Device T) → failures_of before ≡ failures_of start → HasFailed before after → HasFailed start after
+pub failed_from : {T : Type 0} (start before after : Device T) → failures_of before ≡ failures_of start
+    → HasFailed before after → HasFailed start after
 failed_from start before after same failed = subst (λ (n : ℕ). (n < failures_of after) ⊎ (failures_of after ≡ greatest_count)) same failed
 
 -- From a to b the first `at` bytes of a text were appended, and from b to c the next n. So from a to c the first `at` +
@@ -24,8 +26,10 @@ appends_more a b c text at n first second =
     (Appends-trans a b c _ _ first (subst (λ (l : List ℕ). Appends b c (take n l)) (take_rest text at) second))
 
 -- what a loop that writes a text gives, once the first `at` bytes of it are written: the whole text, or a failed write
-pub wrote_front : {W : Type 0} (contents : W → Option (List ℕ)) (text : List ℕ) (at : ℕ) (before after : Device W) (r : Result (Unit {0}) ToolFault) → Appends (contents (inner_of before)) (contents (inner_of after)) (take at text)
-    → IfOk r (λ _. (take at text ≡ text) × (failures_of after ≡ failures_of before)) → IfErr r (λ f. (f ≡ faults.Write) × HasFailed before after) → WritesText contents text before after r
+pub wrote_front : {W : Type 0} (contents : W → Option (List ℕ)) (text : List ℕ) (at : ℕ) (before after : Device W) (r
+    : Result (Unit {0}) ToolFault) → Appends (contents (inner_of before)) (contents (inner_of after)) (take at text)
+    → IfOk r (λ _. (take at text ≡ text) × (failures_of after ≡ failures_of before))
+    → IfErr r (λ f. (f ≡ faults.Write) × HasFailed before after) → WritesText contents text before after r
 wrote_front contents text at before after r appends done stopped = record {
   written = take at text;
   appends = appends;
@@ -35,13 +39,22 @@ wrote_front contents text at before after r appends done stopped = record {
 }
 
 -- one text is written, and then another: they are written as one
-pub wrote_more : {W : Type 0} (contents : W → Option (List ℕ)) (text more : List ℕ) (before between after : Device W) (r : Result (Unit {0}) ToolFault)
-    → WritesText contents text before between (Ok tt) → WritesText contents more between after r → WritesText contents (text ++ more) before after r
+pub wrote_more : {W : Type 0} (contents : W → Option (List ℕ)) (text more : List ℕ) (before between after : Device W)
+    (r : Result (Unit {0}) ToolFault)
+    → WritesText contents text before between (Ok tt) → WritesText contents more between after r
+    → WritesText contents (text ++ more) before after r
 wrote_more contents text more before between after r w m = record {
   written = w.written ++ m.written;
   appends = Appends-trans _ _ _ _ _ w.appends m.appends;
-  front = (m.front.0, ap (λ (l : List ℕ). l ++ more) (sym w.done.0) ∙ ap (λ (l : List ℕ). w.written ++ l) m.front.1 ∙ sym (append_assoc w.written m.written m.front.0));
-  done = IfOk-weaker r _ _ (λ _ h. (ap (λ (l : List ℕ). l ++ m.written) w.done.0 ∙ ap (λ (l : List ℕ). text ++ l) h.0, h.1 ∙ w.done.1)) m.done;
+  front = (
+    m.front.0,
+    ap (λ (l : List ℕ). l ++ more) (sym w.done.0) ∙ ap (λ (l : List ℕ). w.written ++ l) m.front.1
+        ∙ sym (append_assoc w.written m.written m.front.0),
+  );
+  done = IfOk-weaker r _ _ (λ _ h. (
+    ap (λ (l : List ℕ). l ++ m.written) w.done.0 ∙ ap (λ (l : List ℕ). text ++ l) h.0,
+    h.1 ∙ w.done.1,
+  )) m.done;
   stopped = IfErr-weaker r _ _ (λ _ h. (h.0, failed_from before between after w.done.1 h.1)) m.stopped;
 }
 

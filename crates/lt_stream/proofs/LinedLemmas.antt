@@ -1,5 +1,6 @@
 -- What is taken of lines that come in pieces, and what answers them.
-use Rattle.std.proofs.Common.{◌≡◌, ◌≢◌, ◌≤◌, ◌<◌, ◌-◌, ◌++◌, ◌∷◌, ◌∙◌, inl, inr, ℕ, List, [], Option, Ok, Err, length, take, sym, ap, refl, subst, arith, append_assoc, append-nil, length-append}
+use Rattle.std.proofs.Common.{◌≡◌, ◌≢◌, ◌≤◌, ◌<◌, ◌-◌, ◌++◌, ◌∷◌, ◌∙◌, inl, inr, ℕ, List, [], Option, Ok, Err, length}
+use Rattle.std.proofs.Common.{take, sym, ap, refl, subst, arith, append_assoc, append-nil, length-append}
 use Rattle.std.proofs.KnownBytes.{Appends-nil, Appends-trans}
 use Rattle.std.proofs.lemmas.List.Elements.{All-append, All-nil}
 use Rattle.lt_jar.specs.Lines.{IsOneLine, lines_of, whole_lines}
@@ -32,7 +33,8 @@ few_lines (line ∷ lines) = omega (arith, few_lines lines, length-append (line 
 -- one run, from the output `start`, whose lines are answered by what was `first` at its beginning
 module _ {A W : Type 0} (Q : A → Answered A) (first : A) (longest : ℕ) (contents : W → Option (List ℕ)) (start : Device W) where
   -- at first nothing is read, kept or answered
-  pub taken_none : (state : Lined A) → 0 < longest → state.kept.items ≡ [] → state.owed.items ≡ [] → Q first state.answers [] [] → IsTaken (Q first) longest contents start start [] state
+  pub taken_none : (state : Lined A) → 0 < longest → state.kept.items ≡ [] → state.owed.items ≡ []
+      → Q first state.answers [] [] → IsTaken (Q first) longest contents start start [] state
   taken_none state some kept owed answered = record {
     during = record {
       some = some;
@@ -51,7 +53,8 @@ module _ {A W : Type 0} (Q : A → Answered A) (first : A) (longest : ℕ) (cont
   }
 
   -- a further part of a line is read and kept
-  pub during_part : (now : Device W) (bytes part : List ℕ) (old new : Lined A) → IsOneLine part → KeepsMore longest part old new → IsDuring (Q first) longest contents start now bytes old
+  pub during_part : (now : Device W) (bytes part : List ℕ) (old new : Lined A) → IsOneLine part
+      → KeepsMore longest part old new → IsDuring (Q first) longest contents start now bytes old
       → IsDuring (Q first) longest contents start now (bytes ++ part) new
   during_part now bytes part old new one k t = record {
     some = t.some;
@@ -63,12 +66,14 @@ module _ {A W : Type 0} (Q : A → Answered A) (first : A) (longest : ℕ) (cont
     cut = ap (λ (l : List ℕ). l ++ part) t.cut ∙ append_assoc (whole_lines t.lines) t.last part;
     each_one = t.each_one;
     last_one = All-append IsNoFeed t.last part t.last_one one;
-    kept = kept_front longest old.kept.items t.last part new.kept.items t.kept (k.kept ∙ ap (λ (n : ℕ). old.kept.items ++ take (longest - n) part) old.kept.ok.0);
+    kept = kept_front longest old.kept.items t.last part new.kept.items t.kept
+        (k.kept ∙ ap (λ (n : ℕ). old.kept.items ++ take (longest - n) part) old.kept.ok.0);
     answered = rw (k.same, k.owed) t.answered;
   }
 
   -- a line feed (10) is read, and the line that it ends is answered
-  pub during_feed : (now : Device W) (bytes : List ℕ) (old new : Lined A) → EndsLine Q longest old new → IsDuring (Q first) longest contents start now bytes old
+  pub during_feed : (now : Device W) (bytes : List ℕ) (old new : Lined A) → EndsLine Q longest old new
+      → IsDuring (Q first) longest contents start now bytes old
       → IsDuring (Q first) longest contents start now (bytes ++ 10 ∷ []) new
   during_feed now bytes old new e t = record {
     some = t.some;
@@ -77,15 +82,18 @@ module _ {A W : Type 0} (Q : A → Answered A) (first : A) (longest : ℕ) (cont
     same = t.same;
     lines = t.lines ++ t.last ∷ [];
     last = [];
-    cut = ap (λ (l : List ℕ). l ++ 10 ∷ []) t.cut ∙ append_assoc (whole_lines t.lines) t.last (10 ∷ []) ∙ sym (whole_last t.lines t.last) ∙ sym (append-nil (whole_lines (t.lines ++ t.last ∷ [])));
+    cut = ap (λ (l : List ℕ). l ++ 10 ∷ []) t.cut ∙ append_assoc (whole_lines t.lines) t.last (10 ∷ [])
+        ∙ sym (whole_last t.lines t.last) ∙ sym (append-nil (whole_lines (t.lines ++ t.last ∷ [])));
     each_one = each-last IsOneLine t.lines t.last t.each_one t.last_one;
     last_one = All-nil IsNoFeed;
     kept = e.emptied ∙ sym (take_none longest [] refl);
-    answered = rw (e.takes.grown, ← append_assoc t.written old.owed.items e.takes.part) (e.takes.taken t.last t.last_one t.kept first t.lines (t.written ++ old.owed.items) t.answered);
+    answered = rw (e.takes.grown, ← append_assoc t.written old.owed.items e.takes.part)
+        (e.takes.taken t.last t.last_one t.kept first t.lines (t.written ++ old.owed.items) t.answered);
   }
 
   -- some of the answers that wait are written
-  pub during_written : (now after : Device W) (bytes : List ℕ) (old new : Lined A) → WritesOwed contents old new now after (Ok tt) → IsDuring (Q first) longest contents start now bytes old
+  pub during_written : (now after : Device W) (bytes : List ℕ) (old new : Lined A)
+      → WritesOwed contents old new now after (Ok tt) → IsDuring (Q first) longest contents start now bytes old
       → IsDuring (Q first) longest contents start after bytes new
   during_written now after bytes old new w t = record {
     some = t.some;
@@ -103,7 +111,8 @@ module _ {A W : Type 0} (Q : A → Answered A) (first : A) (longest : ℕ) (cont
 
   -- what was written, and a front of the answers that wait, is a front of the answers to all lines, whatever bytes
   -- follow
-  begun_during : (now : Device W) (bytes more part : List ℕ) (state : Lined A) (t : IsDuring (Q first) longest contents start now bytes state) → IsFrontOf part state.owed.items → IsBegun (Q first) (bytes ++ more) (t.written ++ part)
+  begun_during : (now : Device W) (bytes more part : List ℕ) (state : Lined A) (t : IsDuring (Q first) longest contents
+      start now bytes state) → IsFrontOf part state.owed.items → IsBegun (Q first) (bytes ++ more) (t.written ++ part)
   begun_during now bytes more part state t front = record {
     lines = t.lines;
     others = lines_of (t.last ++ more);
@@ -116,16 +125,20 @@ module _ {A W : Type 0} (Q : A → Answered A) (first : A) (longest : ℕ) (cont
   }
 
   -- memory runs out: what was written is a front of the answers, whatever bytes follow
-  pub during_lacks : (now : Device W) (bytes more : List ℕ) (state : Lined A) → IsDuring (Q first) longest contents start now bytes state → IsCutOff (Q first) contents start now (bytes ++ more) faults.OutOfMemory
+  pub during_lacks : (now : Device W) (bytes more : List ℕ) (state : Lined A)
+      → IsDuring (Q first) longest contents start now bytes state
+      → IsCutOff (Q first) contents start now (bytes ++ more) faults.OutOfMemory
   during_lacks now bytes more state t = record {
     written = t.written;
     appends = t.appends;
-    begun = subst (IsBegun (Q first) (bytes ++ more)) (append-nil t.written) (begun_during now bytes more [] state t (state.owed.items, refl));
+    begun = subst (IsBegun (Q first) (bytes ++ more)) (append-nil t.written)
+        (begun_during now bytes more [] state t (state.owed.items, refl));
     stop = inr (refl, t.same);
   }
 
   -- a write fails: what was written is a front of the answers, whatever bytes follow
-  pub during_fails : (now last : Device W) (bytes more : List ℕ) (state new : Lined A) (f : ToolFault) → IsDuring (Q first) longest contents start now bytes state → WritesOwed contents state new now last (Err f)
+  pub during_fails : (now last : Device W) (bytes more : List ℕ) (state new : Lined A) (f : ToolFault)
+      → IsDuring (Q first) longest contents start now bytes state → WritesOwed contents state new now last (Err f)
       → IsCutOff (Q first) contents start last (bytes ++ more) f
   during_fails now last bytes more state new f t w = record {
     written = t.written ++ w.part;
@@ -137,14 +150,27 @@ module _ {A W : Type 0} (Q : A → Answered A) (first : A) (longest : ℕ) (cont
   -- ---- the end
 
   -- where nothing is kept, the lines of the bytes are those that are answered
-  lines_during : (now : Device W) (bytes : List ℕ) (state : Lined A) (t : IsDuring (Q first) longest contents start now bytes state) → state.kept.items ≡ [] → lines_of bytes ≡ t.lines
-  lines_during now bytes state t none = rw (t.cut, lines_of-whole t.lines t.last t.each_one, nothing_kept longest state.kept.items t.last t.some t.kept none) (append-nil t.lines)
+  lines_during : (now : Device W) (bytes : List ℕ) (state : Lined A) (t : IsDuring (Q first) longest contents start now
+      bytes state) → state.kept.items ≡ [] → lines_of bytes ≡ t.lines
+  lines_during now bytes state t none = rw (
+    t.cut,
+    lines_of-whole t.lines t.last t.each_one,
+    nothing_kept longest state.kept.items t.last t.some t.kept none,
+  ) (append-nil t.lines)
 
   -- where something is kept, the last line has no line feed, and one behind it would give the bytes no further line
-  last_ended : (now : Device W) (bytes : List ℕ) (state : Lined A) → IsDuring (Q first) longest contents start now bytes state → (state.kept.items ≡ [] → ⊥) → lines_of (bytes ++ 10 ∷ []) ≡ lines_of bytes
+  last_ended : (now : Device W) (bytes : List ℕ) (state : Lined A)
+      → IsDuring (Q first) longest contents start now bytes state → (state.kept.items ≡ [] → ⊥)
+      → lines_of (bytes ++ 10 ∷ []) ≡ lines_of bytes
   last_ended now bytes state t some =
       let long : 0 < length t.last = last_length t.last t.kept in
-      rw (t.cut, append_assoc (whole_lines t.lines) t.last (10 ∷ []), lines_of-whole t.lines (t.last ++ 10 ∷ []) t.each_one, lines_of-whole t.lines t.last t.each_one)
+      rw (
+        t.cut,
+        append_assoc (whole_lines t.lines) t.last (10 ∷ []),
+        lines_of-whole t.lines (t.last ++ 10 ∷ [])
+            t.each_one,
+        lines_of-whole t.lines t.last t.each_one,
+      )
       (rw (lines_of-ended t.last [] t.last_one, lines_of-last t.last t.last_one long) refl)
     where
       last_length : (last : List ℕ) → state.kept.items ≡ take longest last → 0 < length last
@@ -152,7 +178,9 @@ module _ {A W : Type 0} (Q : A → Answered A) (first : A) (longest : ℕ) (cont
       last_length (byte ∷ last) is = omega arith
 
   -- where nothing is kept, all lines of the bytes are answered
-  answered_during : (now : Device W) (bytes : List ℕ) (state : Lined A) → IsDuring (Q first) longest contents start now bytes state → state.kept.items ≡ [] → IsAnswered (Q first) contents start now bytes state
+  answered_during : (now : Device W) (bytes : List ℕ) (state : Lined A)
+      → IsDuring (Q first) longest contents start now bytes state → state.kept.items ≡ []
+      → IsAnswered (Q first) contents start now bytes state
   answered_during now bytes state t none = record {
     written = t.written;
     appends = t.appends;
@@ -161,14 +189,17 @@ module _ {A W : Type 0} (Q : A → Answered A) (first : A) (longest : ℕ) (cont
   }
 
   -- once a line that is kept is answered as the last, all lines of the bytes are
-  pub answered_last : (now : Device W) (bytes : List ℕ) (old new : Lined A) → EndsLast Q longest old new → IsDuring (Q first) longest contents start now bytes old → IsAnswered (Q first) contents start now bytes new
+  pub answered_last : (now : Device W) (bytes : List ℕ) (old new : Lined A) → EndsLast Q longest old new
+      → IsDuring (Q first) longest contents start now bytes old → IsAnswered (Q first) contents start now bytes new
   answered_last now bytes old new (inl none) t = rw none.1 (answered_during now bytes old t none.0)
   answered_last now bytes old new (inr some) t =
       let a = answered_during now (bytes ++ 10 ∷ []) new (during_feed now bytes old new some.1 t) some.1.emptied in
       record { written = a.written; appends = a.appends; same = a.same; answered = rw (last_ended now bytes old t some.0) at a.answered }
 
   -- the answers that wait are written: all lines are answered, and all answers written
-  pub answered_all : (now after : Device W) (bytes : List ℕ) (state new : Lined A) → IsAnswered (Q first) contents start now bytes state → WritesOwed contents state new now after (Ok tt) → new.owed.items ≡ []
+  pub answered_all : (now after : Device W) (bytes : List ℕ) (state new : Lined A)
+      → IsAnswered (Q first) contents start now bytes state → WritesOwed contents state new now after (Ok tt)
+      → new.owed.items ≡ []
       → IsAll (Q first) contents start after bytes new.answers
   answered_all now after bytes state new a w none = record {
     written = a.written ++ w.part;
@@ -178,7 +209,8 @@ module _ {A W : Type 0} (Q : A → Answered A) (first : A) (longest : ℕ) (cont
   }
 
   -- a write of the answers that wait fails at the end: what was written is a front of the answers
-  pub answered_fails : (now last : Device W) (bytes : List ℕ) (state new : Lined A) (f : ToolFault) → IsAnswered (Q first) contents start now bytes state → WritesOwed contents state new now last (Err f)
+  pub answered_fails : (now last : Device W) (bytes : List ℕ) (state new : Lined A) (f : ToolFault)
+      → IsAnswered (Q first) contents start now bytes state → WritesOwed contents state new now last (Err f)
       → IsCutOff (Q first) contents start last bytes f
   answered_fails now last bytes state new f a w = record {
     written = a.written ++ w.part;

@@ -1,5 +1,6 @@
 -- What is kept of a line that comes in pieces.
-use Rattle.std.proofs.Common.{◌≡◌, ◌<◌, ◌+◌, ◌-◌, ◌==◌, ◌++◌, ◌∙◌, inl, inr, ℕ, List, [], true, false, length, take, sym, ap, arith, append-nil}
+use Rattle.std.proofs.Common.{◌≡◌, ◌<◌, ◌+◌, ◌-◌, ◌==◌, ◌++◌, ◌∙◌, inl, inr, ℕ, List, [], true, false, length, take}
+use Rattle.std.proofs.Common.{sym, ap, arith, append-nil}
 use Rattle.std.proofs.lemmas.Bool.{eqb-true, eqb-false}
 use Rattle.std.proofs.lemmas.Bool.Decides.{leb_tells}
 use Rattle.std.proofs.lemmas.List.{take_all, length-take, length-take-le, nil_from_length, take-append-le}
@@ -18,7 +19,8 @@ pub take_none : (longest : ℕ) (items : List ℕ) → items ≡ [] → take lon
 take_none longest items none = take_all longest items (omega (arith, ap length none)) ∙ none
 
 -- the first `longest` bytes of a line: those of what came before, and of a further part as many as there is room for
-pub kept_front : (longest : ℕ) (kept last part new : List ℕ) → kept ≡ take longest last → new ≡ kept ++ take (longest - length kept) part → new ≡ take longest (last ++ part)
+pub kept_front : (longest : ℕ) (kept last part new : List ℕ) → kept ≡ take longest last
+    → new ≡ kept ++ take (longest - length kept) part → new ≡ take longest (last ++ part)
 kept_front longest kept last part new is e = elim (leb_tells (length last) longest) [
   | inl short ↦
       let all : kept ≡ last = is ∙ take_all longest last short.1 in
@@ -33,4 +35,5 @@ kept_front longest kept last part new is e = elim (leb_tells (length last) longe
 
 -- a line of which nothing is kept has no bytes, as at least one would be kept
 pub nothing_kept : (longest : ℕ) (kept last : List ℕ) → 0 < longest → kept ≡ take longest last → kept ≡ [] → last ≡ []
-nothing_kept longest kept last some is none = nil_from_length last (omega (arith, some, ap length (sym is ∙ none), length-take longest last))
+nothing_kept longest kept last some is none = nil_from_length last
+    (omega (arith, some, ap length (sym is ∙ none), length-take longest last))

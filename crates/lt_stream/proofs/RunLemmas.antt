@@ -1,5 +1,6 @@
 -- What the turns of a run over pieces keep, and how it ends.
-use Rattle.std.proofs.Common.{◌≡◌, ◌≤◌, ◌<◌, ◌+◌, ◌*◌, ◌++◌, ◌∙◌, inl, inr, ℕ, List, [], Option, None, Result, Ok, Err, length, refl, sym, subst, arith, append-nil, length-append}
+use Rattle.std.proofs.Common.{◌≡◌, ◌≤◌, ◌<◌, ◌+◌, ◌*◌, ◌++◌, ◌∙◌, inl, inr, ℕ, List, [], Option, None, Result, Ok, Err}
+use Rattle.std.proofs.Common.{length, refl, sym, subst, arith, append-nil, length-append}
 use Rattle.std.specs.Io.KnownBytes.{Consumes, IsAtEnd, Keeps}
 use Rattle.std.proofs.KnownBytes.{Consumes-kept, Consumes-nil, Consumes-trans}
 use Rattle.lt_jar.specs.Devices.{HasFailed, failures_of, inner_of, last_given_of, one_more, reads_of}
@@ -26,7 +27,8 @@ pub record RunTurn {I O P : Type 0} (T : RunFact O P) (remaining : I → Option 
   pub failures : failures_of input' ≡ failures_of input
 
 -- at first no read is made
-pub run_first : {I O P : Type 0} (T : RunFact O P) (remaining : I → Option (List ℕ)) (input : Device I) (start : O) (state : P) → T start start [] state
+pub run_first : {I O P : Type 0} (T : RunFact O P) (remaining : I → Option (List ℕ)) (input : Device I) (start
+    : O) (state : P) → T start start [] state
     → RunTurn T remaining input input start start state 0
 run_first T remaining input start state first = record {
   read = [];
@@ -40,7 +42,8 @@ run_first T remaining input start state first = record {
 }
 
 -- there is no memory for a piece: the run ends before a read
-pub run_lacks : {I O P A : Type 0} (T : RunFact O P) (S F : EndFact O P A) (remaining : I → Option (List ℕ)) (input : Device I) (start : O) (state : P) → T start start [] state
+pub run_lacks : {I O P A : Type 0} (T : RunFact O P) (S F : EndFact O P A) (remaining : I
+    → Option (List ℕ)) (input : Device I) (start : O) (state : P) → T start start [] state
     → RunsPieces T S F remaining input input start start state (Err faults.OutOfMemory)
 run_lacks T S F remaining input start state first = record {
   read = [];
@@ -52,14 +55,22 @@ run_lacks T S F remaining input start state first = record {
 }
 
 -- one turn of a run: T is true while it goes on, S where a piece ends it, and F where the reader has no more
-module _ {I O P A : Type 0} (T : P → RunFact O P) (S F : P → EndFact O P A) (remaining : I → Option (List ℕ)) (input before : Device I) (first : P) (start now : O)
+module _ {I O P A : Type 0} (T : P → RunFact O P) (S F : P → EndFact O P A) (remaining : I → Option (List ℕ))
+    (input before : Device I) (first : P) (start now : O)
     (state : P) (turn : ℕ) (t : RunTurn (T first) remaining input before start now state turn) where
   -- the bytes that were read, and those of one piece more, are few enough
   pub run_room : (count : ℕ) → turn < most_reads → count ≤ 65536 → HasRoom T count now state
-  run_room count few short = record { first = first; start = start; read = t.read; taken = t.taken; few = omega (arith, t.most, few, short) }
+  run_room count few short = record {
+    first = first;
+    start = start;
+    read = t.read;
+    taken = t.taken;
+    few = omega (arith, t.most, few, short);
+  }
 
   -- one piece more is read and taken
-  pub run_next : (after : Device I) (last : O) (new : P) (piece : List ℕ) → ReadsPiece remaining before after piece → 0 < length piece → length piece ≤ 65536 → 0 < last_given_of after
+  pub run_next : (after : Device I) (last : O) (new : P) (piece : List ℕ) → ReadsPiece remaining before after piece
+      → 0 < length piece → length piece ≤ 65536 → 0 < last_given_of after
       → TakesPiece T S piece now last state new (Ok None) → RunTurn (T first) remaining input after start last new (turn + 1)
   run_next after last new piece r some short gave takes =
       let n = length-append t.read piece in
@@ -75,7 +86,8 @@ module _ {I O P A : Type 0} (T : P → RunFact O P) (S F : P → EndFact O P A) 
       }
 
   -- one piece more is read, and ends the run
-  pub run_stopped : (after : Device I) (last : O) (new : P) (piece : List ℕ) (r : Result A ToolFault) → turn < most_reads → ReadsPiece remaining before after piece
+  pub run_stopped : (after : Device I) (last : O) (new : P) (piece : List ℕ) (r : Result A ToolFault)
+      → turn < most_reads → ReadsPiece remaining before after piece
       → S first start last (t.read ++ piece) new r → RunsPieces (T first) (S first) (F first) remaining input after start last new r
   run_stopped after last new piece r few reads stops = record {
     read = t.read ++ piece;
@@ -87,7 +99,8 @@ module _ {I O P A : Type 0} (T : P → RunFact O P) (S F : P → EndFact O P A) 
   }
 
   -- the reader has no more bytes, and the run ends
-  pub run_finished : (after : Device I) (last : O) (new : P) (r : Result A ToolFault) → turn < most_reads → ReadsPiece remaining before after [] → IsAtEnd (remaining (inner_of after))
+  pub run_finished : (after : Device I) (last : O) (new : P) (r : Result A ToolFault) → turn < most_reads
+      → ReadsPiece remaining before after [] → IsAtEnd (remaining (inner_of after))
       → FinishesPieces T F now last state new r → RunsPieces (T first) (S first) (F first) remaining input after start last new r
   run_finished after last new r few reads end finishes = record {
     read = t.read ++ [];
@@ -95,11 +108,19 @@ module _ {I O P A : Type 0} (T : P → RunFact O P) (S F : P → EndFact O P A) 
     consumes = Consumes-trans _ _ _ _ _ t.consumes reads.consumes;
     calls = read_more input before after turn t.calls reads.calls;
     bounded = omega (arith, few);
-    ends = inl (record { end = end; same = reads.failures ∙ t.failures; finished = subst (λ (l : List ℕ). F first start last l new r) (sym (append-nil t.read)) (finishes first start t.read t.taken) });
+    ends = inl
+        (record {
+          end = end;
+          same = reads.failures
+              ∙ t.failures;
+          finished = subst (λ (l : List ℕ). F first start last l new r) (sym (append-nil t.read))
+              (finishes first start t.read t.taken);
+        });
   }
 
   -- the read fails, and the run ends
-  pub run_failed : (after : Device I) → turn < most_reads → Keeps (remaining (inner_of before)) (remaining (inner_of after)) → reads_of after ≡ one_more (reads_of before)
+  pub run_failed : (after : Device I) → turn < most_reads
+      → Keeps (remaining (inner_of before)) (remaining (inner_of after)) → reads_of after ≡ one_more (reads_of before)
       → HasFailed before after → RunsPieces (T first) (S first) (F first) remaining input after start now state (Err faults.Read)
   run_failed after few kept more failed = record {
     read = t.read;
@@ -111,7 +132,8 @@ module _ {I O P A : Type 0} (T : P → RunFact O P) (S F : P → EndFact O P A) 
   }
 
   -- all reads are made, and the run ends
-  pub run_turns : turn ≡ most_reads → RunsPieces (T first) (S first) (F first) remaining input before start now state (Err faults.TooManyTurns)
+  pub run_turns : turn ≡ most_reads
+      → RunsPieces (T first) (S first) (F first) remaining input before start now state (Err faults.TooManyTurns)
   run_turns all = record {
     read = t.read;
     reads = turn;

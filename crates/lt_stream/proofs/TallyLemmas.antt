@@ -1,5 +1,6 @@
 -- One line more that was refused.
-use Rattle.std.proofs.Common.{◌≡◌, ◌≤◌, ◌<◌, ◌+◌, ◌++◌, ◌∷◌, ◌∙◌, inl, inr, ℕ, zero, suc, List, [], true, false, Some, None, cond, length, min, nat_lt, sym, ap, refl, subst, arith, get_or, set}
+use Rattle.std.proofs.Common.{◌≡◌, ◌≤◌, ◌<◌, ◌+◌, ◌++◌, ◌∷◌, ◌∙◌, inl, inr, ℕ, zero, suc, List, [], true, false, Some}
+use Rattle.std.proofs.Common.{None, cond, length, min, nat_lt, sym, ap, refl, subst, arith, get_or, set}
 use Rattle.std.specs.List.{AllByRecursion, IsDistinct, count_by, find, position, position_or_len}
 use Rattle.std.specs.Option.{option_or}
 use Rattle.std.specs.Set.{is_member}
@@ -25,23 +26,28 @@ differs : (a b : List ℕ) → bytes_eq a b ≡ false → bytes_eq b a ≡ false
 differs a b other = nat_list_eq_equiv.symm b a ∙ other
 
 -- how many of these lines and one line more a fault refused
-count_more : (fault : List ℕ) (lines : List Refused) (line : Refused) → count_by (is_by fault) (lines ++ line ∷ []) ≡ count_by (is_by fault) lines + cond (is_by fault line) 1 0
+count_more : (fault : List ℕ) (lines : List Refused) (line : Refused) → count_by (is_by fault) (lines ++ line ∷ [])
+    ≡ count_by (is_by fault) lines + cond (is_by fault line) 1 0
 count_more fault lines line =
     sum_by-append (λ (l : Refused). cond (is_by fault l) 1 0) lines (line ∷ [])
-    ∙ ap (λ n. count_by (is_by fault) lines + n) (elim (is_by fault line) as (λ t. 0 + cond t 1 0 ≡ cond t 1 0) [ true ↦ refl | false ↦ refl ])
+    ∙ ap (λ n. count_by (is_by fault) lines + n) (elim (is_by fault line) as (λ t. 0 + cond t 1 0 ≡ cond t 1 0)
+    [ true ↦ refl | false ↦ refl ])
 
 -- the tally of another fault is right with one line more too
-stays : (lines : List Refused) (line : Refused) (tally : Tally) → bytes_eq tally.fault.items line.fault ≡ false → IsTally lines tally → IsTally (lines ++ line ∷ []) tally
+stays : (lines : List Refused) (line : Refused) (tally : Tally) → bytes_eq tally.fault.items line.fault ≡ false
+    → IsTally lines tally → IsTally (lines ++ line ∷ []) tally
 stays lines line tally other h = record {
   count = h.count ∙ sym (count_more tally.fault.items lines line ∙ rw other (omega arith));
   earliest = h.earliest;
-  is_earliest = find-append (is_by tally.fault.items) lines (line ∷ []) ∙ ap (λ f. option_or f (find (is_by tally.fault.items) (line ∷ []))) h.is_earliest;
+  is_earliest = find-append (is_by tally.fault.items) lines (line ∷ [])
+      ∙ ap (λ f. option_or f (find (is_by tally.fault.items) (line ∷ []))) h.is_earliest;
   number = h.number;
   text = h.text;
 }
 
 -- the tallies of other faults are right with one line more too
-others_stay : (lines : List Refused) (line : Refused) (tallies : List Tally) → AllByRecursion (λ fault. bytes_eq line.fault fault ≡ false) (faults_of tallies)
+others_stay : (lines : List Refused) (line : Refused) (tallies : List Tally)
+    → AllByRecursion (λ fault. bytes_eq line.fault fault ≡ false) (faults_of tallies)
     → AllByRecursion (IsTally lines) tallies → AllByRecursion (IsTally (lines ++ line ∷ [])) tallies
 others_stay lines line [] other h = tt
 others_stay lines line (tally ∷ tallies) other h =
@@ -52,12 +58,16 @@ abbrev pub with_count : Tally → ℕ → Tally
 with_count tally count = record { fault = tally.fault; lines = count; first = tally.first; text = tally.text }
 
 -- the tally of the fault of one line more is right with one more counted
-grows : (lines : List Refused) (line : Refused) (tally : Tally) (count : ℕ) → bytes_eq line.fault tally.fault.items ≡ true → count ≡ tally.lines + 1
+grows : (lines : List Refused) (line : Refused) (tally : Tally) (count : ℕ) → bytes_eq line.fault tally.fault.items
+    ≡ true → count ≡ tally.lines + 1
     → IsTally lines tally → IsTally (lines ++ line ∷ []) (with_count tally count)
 grows lines line tally count same more h = record {
-  count = more ∙ ap (λ n. n + 1) h.count ∙ sym (count_more tally.fault.items lines line ∙ rw (nat_list_eq_equiv.symm tally.fault.items line.fault, same) refl);
+  count = more ∙ ap (λ n. n + 1) h.count
+      ∙ sym (count_more tally.fault.items lines line
+      ∙ rw (nat_list_eq_equiv.symm tally.fault.items line.fault, same) refl);
   earliest = h.earliest;
-  is_earliest = find-append (is_by tally.fault.items) lines (line ∷ []) ∙ ap (λ f. option_or f (find (is_by tally.fault.items) (line ∷ []))) h.is_earliest;
+  is_earliest = find-append (is_by tally.fault.items) lines (line ∷ [])
+      ∙ ap (λ f. option_or f (find (is_by tally.fault.items) (line ∷ []))) h.is_earliest;
   number = h.number;
   text = h.text;
 }
@@ -65,14 +75,18 @@ grows lines line tally count same more h = record {
 -- With one line more the tally at the place of its fault is right with one more counted, and the other tallies are
 -- right as they are. d is any tally, given for places behind the last.
 each_grows : (lines : List Refused) (line : Refused) (tallies : List Tally) (place count : ℕ) (d : Tally) → place < length tallies
-    → bytes_eq line.fault (get_or tallies place d).fault.items ≡ true → ((k : ℕ) → k < place → bytes_eq line.fault (get_or tallies k d).fault.items ≡ false)
+    → bytes_eq line.fault (get_or tallies place d).fault.items ≡ true
+    → ((k : ℕ) → k < place → bytes_eq line.fault (get_or tallies k d).fault.items ≡ false)
     → IsDistinct bytes_eq (faults_of tallies) → count ≡ (get_or tallies place d).lines + 1
-    → AllByRecursion (IsTally lines) tallies → AllByRecursion (IsTally (lines ++ line ∷ [])) (set tallies place (with_count (get_or tallies place d) count))
+    → AllByRecursion (IsTally lines) tallies
+    → AllByRecursion (IsTally (lines ++ line ∷ [])) (set tallies place (with_count (get_or tallies place d) count))
 each_grows lines line [] place count d at same before once more h = absurd (omega (arith, at))
 each_grows lines line (tally ∷ tallies) zero count d at same before once more h =
     let name : line.fault ≡ tally.fault.items = (bytes_eq-Decides line.fault tally.fault.items).0 same in (
       grows lines line tally count same more h.0,
-      others_stay lines line tallies (subst (λ (f : List ℕ). AllByRecursion (λ fault. bytes_eq f fault ≡ false) (faults_of tallies)) (sym name) (IsDistinct-head bytes_eq tally.fault.items (faults_of tallies) once)) h.1,
+      others_stay lines line tallies
+          (subst (λ (f : List ℕ). AllByRecursion (λ fault. bytes_eq f fault ≡ false) (faults_of tallies)) (sym name)
+          (IsDistinct-head bytes_eq tally.fault.items (faults_of tallies) once)) h.1,
     )
 each_grows lines line (tally ∷ tallies) (suc place) count d at same before once more h = (
   stays lines line tally (differs line.fault tally.fault.items (before 0 (omega arith))) h.0,
@@ -85,32 +99,40 @@ same_faults : (tallies : List Tally) (place count : ℕ) (d : Tally) → place <
     → faults_of (set tallies place (with_count (get_or tallies place d) count)) ≡ faults_of tallies
 same_faults [] place count d at = absurd (omega (arith, at))
 same_faults (tally ∷ tallies) zero count d at = refl
-same_faults (tally ∷ tallies) (suc place) count d at = ap (λ l. tally.fault.items ∷ l) (same_faults tallies place count d (omega (arith, at)))
+same_faults (tally ∷ tallies) (suc place) count d at = ap (λ l. tally.fault.items ∷ l)
+    (same_faults tallies place count d (omega (arith, at)))
 
 -- the fault of the tally at a place is a member of the faults of the tallies
-is_there : (fault : List ℕ) (tallies : List Tally) (place : ℕ) (d : Tally) → place < length tallies → bytes_eq fault (get_or tallies place d).fault.items ≡ true
+is_there : (fault : List ℕ) (tallies : List Tally) (place : ℕ) (d : Tally) → place < length tallies
+    → bytes_eq fault (get_or tallies place d).fault.items ≡ true
     → is_member bytes_eq (faults_of tallies) fault ≡ true
 is_there fault [] place d at same = absurd (omega (arith, at))
-is_there fault (tally ∷ tallies) zero d at same = or_left (bytes_eq fault tally.fault.items) (is_member bytes_eq (faults_of tallies) fault) same
+is_there fault (tally ∷ tallies) zero d at same = or_left (bytes_eq fault tally.fault.items)
+    (is_member bytes_eq (faults_of tallies) fault) same
 is_there fault (tally ∷ tallies) (suc place) d at same =
-    or_right (bytes_eq fault tally.fault.items) (is_member bytes_eq (faults_of tallies) fault) (is_there fault tallies place d (omega (arith, at)) same)
+    or_right (bytes_eq fault tally.fault.items) (is_member bytes_eq (faults_of tallies) fault)
+    (is_there fault tallies place d (omega (arith, at)) same)
 
 -- what is true of each line, and of one more, is true of all
-all_more : (P : Refused → Type 0) (lines : List Refused) (line : Refused) → AllByRecursion P lines → P line → AllByRecursion P (lines ++ line ∷ [])
+all_more : (P : Refused → Type 0) (lines : List Refused) (line : Refused) → AllByRecursion P lines → P line
+    → AllByRecursion P (lines ++ line ∷ [])
 all_more P [] line h last = (last, tt)
 all_more P (l ∷ lines) line h last = (h.0, all_more P lines line h.1 last)
 
 -- a tally counts no more lines than there are
-fits : (lines : List Refused) (tallies : List Tally) (place : ℕ) (d : Tally) → place < length tallies → AreTallies lines tallies → (get_or tallies place d).lines ≤ length lines
+fits : (lines : List Refused) (tallies : List Tally) (place : ℕ) (d : Tally) → place < length tallies
+    → AreTallies lines tallies → (get_or tallies place d).lines ≤ length lines
 fits lines tallies place d at t = by_each tallies place at t.each
   where
-    by_each : (some : List Tally) (place : ℕ) → place < length some → AllByRecursion (IsTally lines) some → (get_or some place d).lines ≤ length lines
+    by_each : (some : List Tally) (place : ℕ) → place < length some → AllByRecursion (IsTally lines) some
+        → (get_or some place d).lines ≤ length lines
     by_each [] place at h = absurd (omega (arith, at))
     by_each (tally ∷ some) zero at h = omega (arith, h.0.count, count_by-le-length (is_by tally.fault.items) lines)
     by_each (tally ∷ some) (suc place) at h = by_each some place (omega (arith, at)) h.1
 
 -- the names of the faults of these lines and of one more
-names_more : (names : List (List ℕ)) (lines : List Refused) (line : Refused) → names_from names (lines ++ line ∷ []) ≡ with_name (names_from names lines) line.fault
+names_more : (names : List (List ℕ)) (lines : List Refused) (line : Refused) → names_from names (lines ++ line ∷ [])
+    ≡ with_name (names_from names lines) line.fault
 names_more names [] line = refl
 names_more names (l ∷ lines) line = names_more (with_name names l.fault) lines line
 
@@ -138,13 +160,15 @@ counted lines line tallies place count tally found is counts room t =
 -- where the search finds no tally of a fault, all are of other faults
 unless_there : (fault : List ℕ) (tallies : List Tally) → position (λ (tally : Tally). bytes_eq fault tally.fault.items) tallies ≡ None
     → AllByRecursion (λ other. bytes_eq fault other ≡ false) (faults_of tallies)
-unless_there fault tallies none = elim (cases_Bool (nat_lt (position_or_len (λ (tally : Tally). bytes_eq fault tally.fault.items) tallies) (length tallies))) [
-  | inl there ↦
-      let bad : Some (position_or_len (λ (tally : Tally). bytes_eq fault tally.fault.items) tallies) ≡ None =
-      sym (ap (λ t. cond t (Some (position_or_len (λ (tally : Tally). bytes_eq fault tally.fault.items) tallies)) None) there) ∙ none in
-      cc
-  | inr far ↦ each_far tallies (ltb-false _ _ far)
-]
+unless_there fault tallies none =
+    elim (cases_Bool (nat_lt (position_or_len (λ (tally : Tally). bytes_eq fault tally.fault.items) tallies)
+    (length tallies))) [
+      | inl there ↦
+          let bad : Some (position_or_len (λ (tally : Tally). bytes_eq fault tally.fault.items) tallies) ≡ None =
+          sym (ap (λ t. cond t (Some (position_or_len (λ (tally : Tally). bytes_eq fault tally.fault.items) tallies)) None) there) ∙ none in
+          cc
+      | inr far ↦ each_far tallies (ltb-false _ _ far)
+    ]
   where
     each_far : (some : List Tally) → length some ≤ position_or_len (λ (tally : Tally). bytes_eq fault tally.fault.items) some
         → AllByRecursion (λ other. bytes_eq fault other ≡ false) (faults_of some)
@@ -154,17 +178,20 @@ unless_there fault tallies none = elim (cases_Bool (nat_lt (position_or_len (λ 
           let here : length (tally ∷ some) ≤ 0 = rw same at far in
           absurd (omega (arith, here))
       | inr other ↦
-          let later : length (tally ∷ some) ≤ 1 + position_or_len (λ (tally : Tally). bytes_eq fault tally.fault.items) some = rw other at far in
+          let later : length (tally ∷ some)
+          ≤ 1 + position_or_len (λ (tally : Tally). bytes_eq fault tally.fault.items) some = rw other at far in
           (other, each_far some (omega (arith, later)))
     ]
 
 -- where all faults differ from a fault, it is none of them
-no_member : (fault : List ℕ) (faults : List (List ℕ)) → AllByRecursion (λ other. bytes_eq fault other ≡ false) faults → is_member bytes_eq faults fault ≡ false
+no_member : (fault : List ℕ) (faults : List (List ℕ)) → AllByRecursion (λ other. bytes_eq fault other ≡ false) faults
+    → is_member bytes_eq faults fault ≡ false
 no_member fault [] h = refl
 no_member fault (other ∷ faults) h = rw (h.0, no_member fault faults h.1) refl
 
 -- a fault that has no tally refused no line, so its first line is none
-no_line : (fault : List ℕ) (faults : List (List ℕ)) (lines : List Refused) → is_member bytes_eq faults fault ≡ false → AllByRecursion (λ line. is_member bytes_eq faults line.fault ≡ true) lines
+no_line : (fault : List ℕ) (faults : List (List ℕ)) (lines : List Refused) → is_member bytes_eq faults fault ≡ false
+    → AllByRecursion (λ line. is_member bytes_eq faults line.fault ≡ true) lines
     → (count_by (is_by fault) lines ≡ 0) × (find (is_by fault) lines ≡ None)
 no_line fault faults [] none h = (refl, refl)
 no_line fault faults (line ∷ lines) none h =
@@ -175,7 +202,8 @@ no_line fault faults (line ∷ lines) none h =
     (rw other later.0, rw other later.1)
 
 -- one line more, whose fault has no tally: a tally that begins with it is put last
-pub begun : (lines : List Refused) (line : Refused) (tallies : List Tally) (tally : Tally) → position (λ (other : Tally). bytes_eq line.fault other.fault.items) tallies ≡ None
+pub begun : (lines : List Refused) (line : Refused) (tallies : List Tally) (tally : Tally)
+    → position (λ (other : Tally). bytes_eq line.fault other.fault.items) tallies ≡ None
     → tally.fault.items ≡ line.fault → tally.lines ≡ 1 → tally.first ≡ line.number → tally.text.items ≡ line.text
     → AreTallies lines tallies → AreTallies (lines ++ line ∷ []) (tallies ++ tally ∷ [])
 begun lines line tallies tally none name one number text t =
@@ -199,7 +227,8 @@ begun lines line tallies tally none name one number text t =
       order = names ∙ sym (names_more [] lines line ∙ rw (← t.order, absent) refl);
     }
   where
-    tallies_more : (some : List Tally) → AllByRecursion (IsTally (lines ++ line ∷ [])) some → IsTally (lines ++ line ∷ []) tally → AllByRecursion (IsTally (lines ++ line ∷ [])) (some ++ tally ∷ [])
+    tallies_more : (some : List Tally) → AllByRecursion (IsTally (lines ++ line ∷ [])) some
+        → IsTally (lines ++ line ∷ []) tally → AllByRecursion (IsTally (lines ++ line ∷ [])) (some ++ tally ∷ [])
     tallies_more [] h last = (last, tt)
     tallies_more (other ∷ some) h last = (h.0, tallies_more some h.1 last)
 

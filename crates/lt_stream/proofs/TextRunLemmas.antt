@@ -17,7 +17,8 @@ use Rattle.lt_stream.proofs.LineRunLemmas.{IsBetween, Ways, between, ended}
 use Rattle.lt_stream.proofs.TextLemmas.{narrow_now, no_lines, split_now}
 
 -- these bytes are a mark, which is passed over, and a text, whose lines are answered up to the last line feed
-record IsSplit {A W : Type 0} (Q : Answered A) (contents : W → Option (List ℕ)) (start now : Device W) (bytes : List ℕ) (answers : A) : Type 0 where
+record IsSplit {A W : Type 0} (Q : Answered A) (contents : W → Option (List ℕ)) (start now : Device W) (bytes : List ℕ)
+    (answers : A) : Type 0 where
   pub mark : List ℕ
   pub text : List ℕ
   pub split : SplitsMark bytes mark text
@@ -25,9 +26,11 @@ record IsSplit {A W : Type 0} (Q : Answered A) (contents : W → Option (List �
   pub between : IsBetween Q contents start now text answers
 
 -- how a run over a text ends; names with ' are of the devices after it
-module _ {A I W : Type 0} (Q : Answered A) (longest : ℕ) (remaining : I → Option (List ℕ)) (contents : W → Option (List ℕ)) (input input' : Device I) (output output' : Device W) (state : Text A) where
+module _ {A I W : Type 0} (Q : Answered A) (longest : ℕ) (remaining : I → Option (List ℕ))
+    (contents : W → Option (List ℕ)) (input input' : Device I) (output output' : Device W) (state : Text A) where
   -- while the first bytes wait, they are a text without line feeds, of which no line is answered
-  waiting_between : (bytes : List ℕ) → IsWaiting Q longest contents output output' bytes state → IsBetween Q contents output output' bytes state.lined.answers
+  waiting_between : (bytes : List ℕ) → IsWaiting Q longest contents output output' bytes state
+      → IsBetween Q contents output output' bytes state.lined.answers
   waiting_between bytes w =
       let d = w.taken.during in
       let answered = rw (no_lines d.lines d.last d.cut, w.taken.emptied, append-nil d.written) at d.answered in
@@ -35,18 +38,50 @@ module _ {A I W : Type 0} (Q : Answered A) (longest : ℕ) (remaining : I → Op
         written = d.written;
         appends = d.appends;
         same = d.same;
-        begun = record { lines = []; others = lines_of bytes; cut = refl; answers = state.lined.answers; all = d.written; answered = answered; rest = []; front = sym (append-nil d.written) };
-        owed = record { lines = []; last = bytes; cut = refl; each_one = tt; last_one = short_one_line bytes w.may_be; answered = answered };
+        begun = record {
+          lines = [];
+          others = lines_of bytes;
+          cut = refl;
+          answers = state.lined.answers;
+          all = d.written;
+          answered = answered;
+          rest = [];
+          front = sym (append-nil d.written);
+        };
+        owed = record {
+          lines = [];
+          last = bytes;
+          cut = refl;
+          each_one = tt;
+          last_one = short_one_line bytes w.may_be;
+          answered = answered;
+        };
       }
 
   -- between two pieces the bytes are a mark and a text
-  text_split : (bytes : List ℕ) → IsTakenText Q longest contents output output' bytes state → IsSplit Q contents output output' bytes state.lined.answers
+  text_split : (bytes : List ℕ) → IsTakenText Q longest contents output output' bytes state
+      → IsSplit Q contents output output' bytes state.lined.answers
   text_split bytes (inl p) =
-      record { mark = p.mark; text = p.text; split = split_now bytes p.mark p.text p.split; narrow = narrow_now bytes p.narrow; between = between Q longest contents output output' p.text state.lined p.taken }
-  text_split bytes (inr w) = record { mark = []; text = bytes; split = short_unmarked bytes w.may_be; narrow = short_narrow bytes w.may_be; between = waiting_between bytes w }
+      record {
+        mark = p.mark;
+        text = p.text;
+        split = split_now bytes p.mark p.text p.split;
+        narrow = narrow_now bytes p.narrow;
+        between = between Q longest contents output output' p.text state.lined
+            p.taken;
+      }
+  text_split bytes (inr w) = record {
+    mark = [];
+    text = bytes;
+    split = short_unmarked bytes w.may_be;
+    narrow = short_narrow bytes w.may_be;
+    between = waiting_between bytes w;
+  }
 
   -- a run over the lines of the text ends as one over the text
-  ends_after : (reads : ℕ) (read text written : List ℕ) (answers : A) (r : Result (Unit {0}) ToolFault) → EndsAs Q remaining input input' output output' reads read text written answers r → EndsAfterMark Q remaining input input' output output' reads read text written answers r
+  ends_after : (reads : ℕ) (read text written : List ℕ) (answers : A) (r : Result (Unit {0}) ToolFault)
+      → EndsAs Q remaining input input' output output' reads read text written answers r
+      → EndsAfterMark Q remaining input input' output output' reads read text written answers r
   ends_after reads read text written answers (Ok u) e = e
   ends_after reads read text written answers (Err faults.Read) e = e
   ends_after reads read text written answers (Err faults.Write) e = e
@@ -57,9 +92,13 @@ module _ {A I W : Type 0} (Q : Answered A) (longest : ℕ) (remaining : I → Op
   ends_after reads read text written answers (Err faults.Utf16) e = absurd e
 
   -- a run over pieces that answered r
-  module _ (r : Result (Unit {0}) ToolFault) (p : RunsPieces (IsTakenText Q longest contents) (λ start now read _ end. StopsText Q contents start now read end) (FinishesText Q contents) remaining input input' output output' state r) where
+  module _ (r : Result (Unit {0}) ToolFault)
+      (p : RunsPieces (IsTakenText Q longest contents) (λ start now read _ end. StopsText Q contents start now read end)
+      (FinishesText Q contents) remaining input input' output output' state r) where
     -- it ends in a way in which a run over lines does
-    run_text : (mark text : List ℕ) → SplitsMark p.read mark text → (IsWide p.read → (r ≡ Err faults.Utf16) ⊎ (r ≡ Err faults.OutOfMemory)) → Ways Q remaining contents input input' output output' state.lined p.reads p.read text r
+    run_text : (mark text : List ℕ) → SplitsMark p.read mark text
+        → (IsWide p.read → (r ≡ Err faults.Utf16) ⊎ (r ≡ Err faults.OutOfMemory))
+        → Ways Q remaining contents input input' output output' state.lined p.reads p.read text r
         → RunsOverText Q remaining contents input input' output output' state.lined.answers r
     run_text mark text split narrow way =
         let e = ended Q remaining contents input input' output output' state.lined p.reads p.read text r way in
@@ -82,12 +121,17 @@ module _ {A I W : Type 0} (Q : Answered A) (longest : ℕ) (remaining : I → Op
         }
 
     -- it ends between two pieces
-    run_between : IsTakenText Q longest contents output output' p.read state → ((text : List ℕ) → IsBetween Q contents output output' text state.lined.answers → Ways Q remaining contents input input' output output' state.lined p.reads p.read text r)
+    run_between : IsTakenText Q longest contents output output' p.read state
+        → ((text : List ℕ) → IsBetween Q contents output output' text state.lined.answers
+        → Ways Q remaining contents input input' output output' state.lined p.reads p.read text r)
         → RunsOverText Q remaining contents input input' output output' state.lined.answers r
-    run_between t way = let s = text_split p.read t in run_text s.mark s.text s.split (λ wide. absurd (s.narrow wide)) (way s.text s.between)
+    run_between t way = let s = text_split p.read t in run_text s.mark s.text s.split (λ wide. absurd (s.narrow wide))
+        (way s.text s.between)
 
     -- the bytes begin with a mark of UTF-16
-    run_wide : (f : ToolFault) → r ≡ Err f → failures_of input' ≡ failures_of input → IsStoppedWide Q output output' p.read f → RunsOverText Q remaining contents input input' output output' state.lined.answers r
+    run_wide : (f : ToolFault) → r ≡ Err f → failures_of input' ≡ failures_of input
+        → IsStoppedWide Q output output' p.read f
+        → RunsOverText Q remaining contents input input' output output' state.lined.answers r
     run_wide f is same w =
         let s = split_of p.read in
         let fault : r ≡ Err faults.Utf16 = is ∙ ap (λ (e : ToolFault). Err e) w.named in
@@ -110,22 +154,50 @@ module _ {A I W : Type 0} (Q : Answered A) (longest : ℕ) (remaining : I → Op
         }
 
   -- a run over the pieces of a text is a run over the lines of the text
-  pub runs_text : (r : Result (Unit {0}) ToolFault) → RunsPieces (IsTakenText Q longest contents) (λ start now read _ end. StopsText Q contents start now read end) (FinishesText Q contents) remaining input input' output output' state r
+  pub runs_text : (r : Result (Unit {0}) ToolFault)
+      → RunsPieces (IsTakenText Q longest contents) (λ start now read _ end. StopsText Q contents start now read
+      end) (FinishesText Q contents) remaining input input' output output' state r
       → RunsOverText Q remaining contents input input' output output' state.lined.answers r
   runs_text (Ok u) p = elim p.ends [
-    | inl f ↦ let a = f.finished in run_text (Ok u) p a.mark a.text a.split (λ wide. absurd (a.narrow wide)) (inl (record { end = f.end; same = f.same; finished = a.all }))
+    | inl f ↦ let a = f.finished in run_text (Ok u) p a.mark a.text a.split (λ wide. absurd (a.narrow wide))
+        (inl (record { end = f.end; same = f.same; finished = a.all }))
     | inr (inl s) ↦ absurd s.stopped
     | inr (inr (inl s)) ↦ run_between (Ok u) p s.taken (λ _ b. inr (inr (inl (record { fault = s.fault; failed = s.failed; taken = b }))))
-    | inr (inr (inr (inl s))) ↦ run_between (Ok u) p s.taken (λ _ b. inr (inr (inr (inl (record { fault = s.fault; same = s.same; all_made = s.all_made; gave_bytes = s.gave_bytes; last_gave = s.last_gave; taken = b })))))
-    | inr (inr (inr (inr s))) ↦ run_between (Ok u) p s.taken (λ _ b. inr (inr (inr (inr (record { fault = s.fault; same = s.same; taken = b })))))
+    | inr (inr (inr (inl s))) ↦ run_between (Ok u) p s.taken
+        (λ _ b. inr
+        (inr (inr
+        (inl (record {
+          fault = s.fault;
+          same = s.same;
+          all_made = s.all_made;
+          gave_bytes = s.gave_bytes;
+          last_gave = s.last_gave;
+          taken = b;
+        })))))
+    | inr (inr (inr (inr s))) ↦ run_between (Ok u) p s.taken
+        (λ _ b. inr (inr (inr (inr (record { fault = s.fault; same = s.same; taken = b })))))
   ]
   runs_text (Err f) p = elim p.ends [
-    | inl e ↦ let c = e.finished in run_text (Err f) p c.mark c.text c.split (λ wide. inr (ap (λ (e : ToolFault). Err e) (c.narrow wide))) (inl (record { end = e.end; same = e.same; finished = c.cut }))
+    | inl e ↦ let c = e.finished in
+        run_text (Err f) p c.mark c.text c.split (λ wide. inr (ap (λ (e : ToolFault). Err e) (c.narrow wide)))
+        (inl (record { end = e.end; same = e.same; finished = c.cut }))
     | inr (inl s) ↦ elim s.stopped [
-      | inl c ↦ run_text (Err f) p c.mark c.text c.split (λ wide. inr (ap (λ (e : ToolFault). Err e) (c.narrow wide))) (inr (inl (record { same = s.same; stopped = c.cut })))
+      | inl c ↦ run_text (Err f) p c.mark c.text c.split (λ wide. inr (ap (λ (e : ToolFault). Err e) (c.narrow wide)))
+          (inr (inl (record { same = s.same; stopped = c.cut })))
       | inr wide ↦ run_wide (Err f) p f refl s.same wide
     ]
     | inr (inr (inl s)) ↦ run_between (Err f) p s.taken (λ _ b. inr (inr (inl (record { fault = s.fault; failed = s.failed; taken = b }))))
-    | inr (inr (inr (inl s))) ↦ run_between (Err f) p s.taken (λ _ b. inr (inr (inr (inl (record { fault = s.fault; same = s.same; all_made = s.all_made; gave_bytes = s.gave_bytes; last_gave = s.last_gave; taken = b })))))
-    | inr (inr (inr (inr s))) ↦ run_between (Err f) p s.taken (λ _ b. inr (inr (inr (inr (record { fault = s.fault; same = s.same; taken = b })))))
+    | inr (inr (inr (inl s))) ↦ run_between (Err f) p s.taken
+        (λ _ b. inr
+        (inr (inr
+        (inl (record {
+          fault = s.fault;
+          same = s.same;
+          all_made = s.all_made;
+          gave_bytes = s.gave_bytes;
+          last_gave = s.last_gave;
+          taken = b;
+        })))))
+    | inr (inr (inr (inr s))) ↦ run_between (Err f) p s.taken
+        (λ _ b. inr (inr (inr (inr (record { fault = s.fault; same = s.same; taken = b })))))
   ]

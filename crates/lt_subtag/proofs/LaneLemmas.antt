@@ -1,5 +1,6 @@
 -- From the mask of one load to the bytes that pass a test, and the select of two vectors that were computed from it.
-use Rattle.std.proofs.Common.{◌≡◌, ℕ, ◌+◌, ◌%◌, ◌^◌, ◌<◌, ◌≤◌, eqb, Bool, true, not, List, [], ◌∷◌, map, length, get_or, cond, Fits, w8, refl, ap, ap₂, ◌∙◌, arith}
+use Rattle.std.proofs.Common.{◌≡◌, ℕ, ◌+◌, ◌%◌, ◌^◌, ◌<◌, ◌≤◌, eqb, Bool, true, not, List, [], ◌∷◌, map, length, get_or}
+use Rattle.std.proofs.Common.{cond, Fits, w8, refl, ap, ap₂, ◌∙◌, arith}
 use Rattle.std.proofs.lemmas.Bool.{agree_below, agree_below_at, eqb-true}
 use Rattle.std.proofs.lemmas.Simd.{map-map, mask_l-mod, first_set_mask_l, length-chunk, chunk-fits, below_from_Fits, zip2_of_maps}
 use Rattle.std.proofs.lemmas.List.{length-map}
@@ -22,9 +23,11 @@ front_agrees f g all [] h = refl
 front_agrees f g all (x ∷ xs) h = ap₂ (λ t n. cond t (1 + n) 0) (agree_below_at f g 256 x all h.0) (front_agrees f g all xs h.1)
 
 -- functions that agree below 256 make the same lanes of a list of bytes
-pub lanes_agree : (f g : ℕ → ℕ) → agree_below (λ x. eqb (f x) (g x)) (λ _. true) 256 ≡ true → (v : List ℕ) → Each1 (λ x. x < 256) v → map f v ≡ map g v
+pub lanes_agree : (f g : ℕ → ℕ) → agree_below (λ x. eqb (f x) (g x)) (λ _. true) 256 ≡ true → (v : List ℕ)
+    → Each1 (λ x. x < 256) v → map f v ≡ map g v
 lanes_agree f g all [] h = refl
-lanes_agree f g all (x ∷ xs) h = ap₂ (λ y ys. y ∷ ys) (eqb-true _ _ (agree_below_at (λ x. eqb (f x) (g x)) (λ _. true) 256 x all h.0)) (lanes_agree f g all xs h.1)
+lanes_agree f g all (x ∷ xs) h = ap₂ (λ y ys. y ∷ ys)
+    (eqb-true _ _ (agree_below_at (λ x. eqb (f x) (g x)) (λ _. true) 256 x all h.0)) (lanes_agree f g all xs h.1)
 
 -- lane by lane of v: g where f has its top bit (bit 7) set, else h
 select_is : (f g h : ℕ → ℕ) (v : List ℕ) → sel_l (map (top 7) (map f v)) (map g v) (map h v) ≡ map (λ x. cond (top 7 (f x)) (g x) (h x)) v
@@ -35,7 +38,8 @@ select_is f g h (x ∷ xs) = ap (λ r. cond (top 7 (f x)) (g x) (h x) ∷ r) (se
 -- else h
 pub selected : (f g h : ℕ → ℕ) (v : List ℕ) {a b c : List ℕ} → a ≡ map f v → b ≡ map g v → c ≡ map h v
     → sel_l (map (top 7) a) b c ≡ map (λ x. cond (top 7 (f x)) (g x) (h x)) v
-selected f g h v {a} {b} {c} p q r = ap (λ x. sel_l (map (top 7) x) b c) p ∙ ap₂ (λ y z. sel_l (map (top 7) (map f v)) y z) q r ∙ select_is f g h v
+selected f g h v {a} {b} {c} p q r = ap (λ x. sel_l (map (top 7) x) b c) p
+    ∙ ap₂ (λ y z. sel_l (map (top 7) (map f v)) y z) q r ∙ select_is f g h v
 
 -- the lanes of a load, the n bytes of d from index i on, are below 256
 pub bytes_of : (i n : ℕ) (d : List ℕ) → ((k : ℕ) → Fits w8 (get_or d k 0)) → Each1 (λ x. x < 256) (chunk i n d)
@@ -50,5 +54,7 @@ front_of q d i n r z room few fits found f lanes all =
     let v = chunk i n d in
     let long = length-chunk i n d room in
     let stops : ℕ → Bool = λ x. top 7 (f x) in
-    let mask = ap (λ l. mask_l l % 2 ^ 64) (ap (map (top 7)) lanes ∙ map-map (top 7) f v) ∙ mask_l-mod (map stops v) 64 (omega (arith, length-map v stops, long)) in
-    found ∙ ap (λ m. first_set m n) mask ∙ first_set_mask_l stops v n long few ∙ front_agrees (λ x. not (stops x)) q all v (bytes_of i n d fits)
+    let mask = ap (λ l. mask_l l % 2 ^ 64) (ap (map (top 7)) lanes ∙ map-map (top 7) f v)
+    ∙ mask_l-mod (map stops v) 64 (omega (arith, length-map v stops, long)) in
+    found ∙ ap (λ m. first_set m n) mask ∙ first_set_mask_l stops v n long few
+    ∙ front_agrees (λ x. not (stops x)) q all v (bytes_of i n d fits)

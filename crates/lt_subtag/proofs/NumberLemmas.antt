@@ -1,5 +1,6 @@
 -- The numbers of subtags are in their order.
-use Rattle.std.proofs.Common.{◌≡◌, ℕ, zero, suc, ◌+◌, ◌-◌, ◌*◌, ◌^◌, ◌<◌, ◌≤◌, eqb, true, List, [], ◌∷◌, ◌++◌, length, replicate, get_or, refl, sym, ap, ◌∙◌, arith, inl, inr}
+use Rattle.std.proofs.Common.{◌≡◌, ℕ, zero, suc, ◌+◌, ◌-◌, ◌*◌, ◌^◌, ◌<◌, ◌≤◌, eqb, true, List, [], ◌∷◌, ◌++◌, length}
+use Rattle.std.proofs.Common.{replicate, get_or, refl, sym, ap, ◌∙◌, arith, inl, inr}
 use Rattle.std.specs.Prelude.{nat_eq}
 use Rattle.std.specs.List.{list_all, AllByRecursion}
 use Rattle.std.specs.Ordering.{nat_cmp, is_eq, ordering_then}
@@ -35,7 +36,8 @@ AreBytes bs = AllByRecursion (λ (b : ℕ). b < 256) bs
 filled_bytes : (s : List ℕ) (n : ℕ) → list_all is_subtag_byte s ≡ true → AreBytes (s ++ replicate n 0)
 filled_bytes [] zero h = tt
 filled_bytes [] (suc n) h = (omega arith, filled_bytes [] n h)
-filled_bytes (b ∷ s) n h = let both = and_parts (is_subtag_byte b) (list_all is_subtag_byte s) h in ((byte_bounds b both.0).1, filled_bytes s n both.1)
+filled_bytes (b ∷ s) n h = let both = and_parts (is_subtag_byte b) (list_all is_subtag_byte s) h in
+    ((byte_bounds b both.0).1, filled_bytes s n both.1)
 
 -- what is at an index of a list of bytes is below 256; past its end it is 0
 byte_below : (bs : List ℕ) (i : ℕ) → AreBytes bs → get_or bs i 0 < 256
@@ -60,11 +62,13 @@ through v (b ∷ bs) = through (v * 256 + b) bs
 -- the smaller of two numbers u and v stays the smaller, whatever equally many bytes follow each
 through_below : (u v : ℕ) (s t : List ℕ) → u < v → length s ≡ length t → AreBytes s → through u s < through v t
 through_below u v [] [] low one are = low
-through_below u v (x ∷ s) (y ∷ t) low one are = through_below (u * 256 + x) (v * 256 + y) s t (omega (arith, low, are.0)) (omega (arith, one)) are.1
+through_below u v (x ∷ s) (y ∷ t) low one are = through_below (u * 256 + x) (v * 256 + y) s t
+    (omega (arith, low, are.0)) (omega (arith, one)) are.1
 through_below u v _ _ low one are = absurd (omega (arith, one))
 
 -- the order of two lists of equally many bytes is that of the numbers they make after the same number u
-through_ordered : (u : ℕ) (s t : List ℕ) → length s ≡ length t → AreBytes s → AreBytes t → slice_cmp nat_cmp s t ≡ nat_cmp (through u s) (through u t)
+through_ordered : (u : ℕ) (s t : List ℕ) → length s ≡ length t → AreBytes s → AreBytes t
+    → slice_cmp nat_cmp s t ≡ nat_cmp (through u s) (through u t)
 through_ordered u [] [] one are too = nat_cmp_is u u Equal refl
 through_ordered u (x ∷ s) (y ∷ t) one are too =
     let rest : length s ≡ length t = omega (arith, one) in
@@ -87,16 +91,21 @@ through_ordered u (x ∷ s) (y ∷ t) one are too =
 through_ordered u _ _ one are too = absurd (omega (arith, one))
 
 -- m zeros after s and n after t, up to one length, keep their order: no subtag has a zero, which comes before any byte
-filled_ordered : (s t : List ℕ) (m n : ℕ) → list_all is_subtag_byte s ≡ true → list_all is_subtag_byte t ≡ true → length s + m ≡ length t + n
+filled_ordered : (s t : List ℕ) (m n : ℕ) → list_all is_subtag_byte s ≡ true → list_all is_subtag_byte t ≡ true
+    → length s + m ≡ length t + n
     → slice_cmp nat_cmp s t ≡ slice_cmp nat_cmp (s ++ replicate m 0) (t ++ replicate n 0)
 filled_ordered [] [] zero zero h k one = refl
-filled_ordered [] [] (suc m) (suc n) h k one = filled_ordered [] [] m n h k (omega (arith, one)) ∙ ap (λ o. ordering_then o (slice_cmp nat_cmp (replicate m 0) (replicate n 0))) (nat_cmp_is 0 0 Equal refl)
+filled_ordered [] [] (suc m) (suc n) h k one = filled_ordered [] [] m n h k (omega (arith, one))
+    ∙ ap (λ o. ordering_then o (slice_cmp nat_cmp (replicate m 0) (replicate n 0))) (nat_cmp_is 0 0 Equal refl)
 filled_ordered [] (y ∷ t) (suc m) n h k one =
-    ap (λ o. ordering_then o (slice_cmp nat_cmp (replicate m 0) (t ++ replicate n 0))) (nat_cmp_is 0 y Less (byte_bounds y (and_parts (is_subtag_byte y) (list_all is_subtag_byte t) k).0).0)
+    ap (λ o. ordering_then o (slice_cmp nat_cmp (replicate m 0) (t ++ replicate n 0)))
+    (nat_cmp_is 0 y Less (byte_bounds y (and_parts (is_subtag_byte y) (list_all is_subtag_byte t) k).0).0)
 filled_ordered (x ∷ s) [] m (suc n) h k one =
-    ap (λ o. ordering_then o (slice_cmp nat_cmp (s ++ replicate m 0) (replicate n 0))) (nat_cmp_is x 0 Greater (byte_bounds x (and_parts (is_subtag_byte x) (list_all is_subtag_byte s) h).0).0)
+    ap (λ o. ordering_then o (slice_cmp nat_cmp (s ++ replicate m 0) (replicate n 0)))
+    (nat_cmp_is x 0 Greater (byte_bounds x (and_parts (is_subtag_byte x) (list_all is_subtag_byte s) h).0).0)
 filled_ordered (x ∷ s) (y ∷ t) m n h k one =
-    ap (ordering_then (nat_cmp x y)) (filled_ordered s t m n (and_parts (is_subtag_byte x) _ h).1 (and_parts (is_subtag_byte y) _ k).1 (omega (arith, one)))
+    ap (ordering_then (nat_cmp x y)) (filled_ordered s t m n (and_parts (is_subtag_byte x) _ h).1
+    (and_parts (is_subtag_byte y) _ k).1 (omega (arith, one)))
 filled_ordered _ _ m n h k one = absurd (omega (arith, one))
 
 -- the eight padded bytes one by one: past the end of s they are 0
@@ -114,7 +123,8 @@ number_through s l = rw (filled_by_index s l) (omega arith)
 pub numbers_ordered : (s t : List ℕ) → IsFew s → IsFew t → slice_cmp nat_cmp s t ≡ nat_cmp (number s) (number t)
 numbers_ordered s t h k =
     filled_ordered s t (8 - length s) (8 - length t) h.bytes k.bytes (omega (arith, h.few, k.few))
-    ∙ through_ordered 0 (padded s) (padded t) (length_padded s h.few ∙ sym (length_padded t k.few)) (filled_bytes s (8 - length s) h.bytes) (filled_bytes t (8 - length t) k.bytes)
+    ∙ through_ordered 0 (padded s) (padded t) (length_padded s h.few ∙ sym (length_padded t k.few)) (filled_bytes s
+    (8 - length s) h.bytes) (filled_bytes t (8 - length t) k.bytes)
     ∙ ap (λ n. nat_cmp n (through 0 (padded t))) (sym (number_through s h.few)) ∙ ap (nat_cmp (number s)) (sym (number_through t k.few))
 
 -- subtags are equal exactly if their numbers are

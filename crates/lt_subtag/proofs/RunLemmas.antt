@@ -1,8 +1,10 @@
 -- What the run of letters and digits at the front says of a piece.
-use Rattle.std.proofs.Common.{◌≡◌, ℕ, zero, suc, ◌∷◌, ◌++◌, ◌<◌, ◌≤◌, ◌-◌, Bool, true, false, List, length, take, get_or, replicate, refl, sym, ap, ◌∙◌, subst, arith}
+use Rattle.std.proofs.Common.{◌≡◌, ℕ, zero, suc, ◌∷◌, ◌++◌, ◌<◌, ◌≤◌, ◌-◌, Bool, true, false, List, length, take}
+use Rattle.std.proofs.Common.{get_or, replicate, refl, sym, ap, ◌∙◌, subst, arith}
 use Rattle.std.specs.List.{list_all, prefix_len}
 use Rattle.std.specs.Char.{is_ascii_alphanumeric, to_ascii_lowercase}
-use Rattle.std.proofs.lemmas.List.{length-take-le, length-append, length-replicate, get_or-take, get_or_append_left, take-take, take_at, take_all, map-append, length-map}
+use Rattle.std.proofs.lemmas.List.{length-take-le, length-append, length-replicate, get_or-take, get_or_append_left}
+use Rattle.std.proofs.lemmas.List.{take-take, take_at, take_all, map-append, length-map}
 use Rattle.std.proofs.lemmas.List.Folds.{list_all_at}
 use Rattle.std.proofs.lemmas.List.Sums.{list_all-from_AllPass, prefix_len_passes, prefix_len_stops, prefix_len-le-length}
 use Rattle.std.proofs.lemmas.List.Elements.{All-from_get_or}
@@ -27,16 +29,20 @@ front_padded : (s : List ℕ) → length s ≤ 8 → take (length s) (take 8 (pa
 front_padded s few = take-take (length s) 8 (padded s) few ∙ take_at s (replicate (8 - length s) 0) (length s) refl
 
 -- r is the number of letters and digits at the front of the padded piece s; if s ends by there, all its bytes are such
-pub padded_passes : (s : List ℕ) (r : ℕ) → length s ≤ 8 → r ≡ prefix_len is_ascii_alphanumeric (take 8 (padded s)) → length s ≤ r → list_all is_ascii_alphanumeric s ≡ true
+pub padded_passes : (s : List ℕ) (r : ℕ) → length s ≤ 8 → r ≡ prefix_len is_ascii_alphanumeric (take 8 (padded s))
+    → length s ≤ r → list_all is_ascii_alphanumeric s ≡ true
 padded_passes s r few is le =
-    subst (λ xs. list_all is_ascii_alphanumeric xs ≡ true) (front_padded s few) (run_passes is_ascii_alphanumeric (take 8 (padded s)) (length s) (omega arith))
+    subst (λ xs. list_all is_ascii_alphanumeric xs ≡ true) (front_padded s few)
+    (run_passes is_ascii_alphanumeric (take 8 (padded s)) (length s) (omega arith))
 
 -- if r ends before s does, a byte of s is neither a letter nor a digit
-pub padded_fails : (s : List ℕ) (r : ℕ) → length s ≤ 8 → r ≡ prefix_len is_ascii_alphanumeric (take 8 (padded s)) → r < length s → list_all is_ascii_alphanumeric s ≡ false
+pub padded_fails : (s : List ℕ) (r : ℕ) → length s ≤ 8 → r ≡ prefix_len is_ascii_alphanumeric (take 8 (padded s))
+    → r < length s → list_all is_ascii_alphanumeric s ≡ false
 padded_fails s r few is lt =
     let v = take 8 (padded s) in
     let long = length-take-le 8 (padded s) (omega (arith, length_padded s few)) in
-    let stop = subst (λ k. is_ascii_alphanumeric (get_or v k 0) ≡ false) (sym is) (prefix_len_stops is_ascii_alphanumeric v 0 (omega arith)) in
+    let stop = subst (λ k. is_ascii_alphanumeric (get_or v k 0) ≡ false) (sym is)
+    (prefix_len_stops is_ascii_alphanumeric v 0 (omega arith)) in
     let at = get_or-take 8 (padded s) r 0 (omega arith) ∙ get_or_append_left s (replicate (8 - length s) 0) 0 r lt in
     list_all_at is_ascii_alphanumeric s r 0 lt (subst (λ x. is_ascii_alphanumeric x ≡ false) at stop)
 

@@ -72,10 +72,12 @@ unfolding is_subtag
 piece_folds p h = grind (arith, nat_tests, length-map p to_ascii_lowercase, bytes_to_lower p)
 
 -- pieces that are each read as a subtag are subtags in lower case
-pieces_folded : (ps : List (List ℕ)) → ((i : ℕ) → i < length ps → IsOk (subtag_of (slice_index_or ps i []))) → list_all is_subtag (map folded ps) ≡ true
+pieces_folded : (ps : List (List ℕ)) → ((i : ℕ) → i < length ps → IsOk (subtag_of (slice_index_or ps i [])))
+    → list_all is_subtag (map folded ps) ≡ true
 pieces_folded [] h = refl
 pieces_folded (p ∷ ps) h =
-    and_from (is_subtag (folded p)) (list_all is_subtag (map folded ps)) (piece_folds p (h 0 (omega arith))) (pieces_folded ps (λ i n. h (suc i) (omega arith)))
+    and_from (is_subtag (folded p)) (list_all is_subtag (map folded ps)) (piece_folds p (h 0 (omega arith)))
+    (pieces_folded ps (λ i n. h (suc i) (omega arith)))
 
 -- the list of a text is one of subtags if each piece is read as a subtag
 pub from_HasList : (text : List ℕ) → HasList text → list_all is_subtag (list_of text) ≡ true

@@ -1,5 +1,6 @@
 -- A list is spelled by one tag at most.
-use Rattle.std.proofs.Common.{◌≡◌, ℕ, ◌≤◌, ◌<◌, ◌-◌, Bool, true, false, ◌&&◌, not, zero, suc, List, [], ◌∷◌, length, refl, sym, ap, ◌∙◌, arith, eqb}
+use Rattle.std.proofs.Common.{◌≡◌, ℕ, ◌≤◌, ◌<◌, ◌-◌, Bool, true, false, ◌&&◌, not, zero, suc, List, [], ◌∷◌, length}
+use Rattle.std.proofs.Common.{refl, sym, ap, ◌∙◌, arith, eqb}
 use Rattle.std.specs.Prelude.{slice_index_or, ◌↔◌}
 use Rattle.std.specs.List.{list_all, join_with_byte}
 use Rattle.std.proofs.lemmas.Bool.{and_parts}
@@ -30,14 +31,16 @@ unfolding grandfathered_texts
 table_differs = refl
 
 -- a text that differs from each text of a list is at no index of it
-no_later : (t : List ℕ) (ts : List (List ℕ)) (i : ℕ) → list_all (λ (u : List ℕ). not (pointwise eqb t u)) ts ≡ true → i < length ts → t ≡ slice_index_or ts i [] → ⊥
+no_later : (t : List ℕ) (ts : List (List ℕ)) (i : ℕ) → list_all (λ (u : List ℕ). not (pointwise eqb t u)) ts ≡ true
+    → i < length ts → t ≡ slice_index_or ts i [] → ⊥
 no_later t ts i h n e =
     let other = list_all-at (λ (u : List ℕ). not (pointwise eqb t u)) ts i h n in
     let whole = (bytes_decides t (slice_index_or ts i [])).1 e in
     cc
 
 -- in a list whose texts differ a text is at one index alone
-one_place : (ts : List (List ℕ)) (i j : ℕ) → all_differ ts ≡ true → i < length ts → j < length ts → slice_index_or ts i [] ≡ slice_index_or ts j [] → i ≡ j
+one_place : (ts : List (List ℕ)) (i j : ℕ) → all_differ ts ≡ true → i < length ts → j < length ts
+    → slice_index_or ts i [] ≡ slice_index_or ts j [] → i ≡ j
 one_place [] i j h m n e = absurd (omega arith)
 one_place (t ∷ ts) zero zero h m n e = refl
 one_place (t ∷ ts) zero (suc j) h m n e = absurd (no_later t ts j (and_parts _ (all_differ ts) h).0 (omega arith) e)
@@ -50,7 +53,8 @@ unfolding grandfathered_list
 one_list a b first last low high e =
     let texts : slice_index_or grandfathered_texts (a - 1) [] ≡ slice_index_or grandfathered_texts (b - 1) [] =
     sym (join_pieces _) ∙ ap (join_with_byte 45) e ∙ join_pieces _ in
-    let place : a - 1 ≡ b - 1 = one_place grandfathered_texts (a - 1) (b - 1) table_differs (omega (arith, table_length)) (omega (arith, table_length)) texts in
+    let place : a - 1 ≡ b - 1 = one_place grandfathered_texts (a - 1) (b - 1) table_differs
+    (omega (arith, table_length)) (omega (arith, table_length)) texts in
     omega arith
 
 -- a list is that of one grandfathered tag at most
@@ -71,7 +75,8 @@ table_no_x = refl
 no_private : (subtags : List (List ℕ)) (number : ℕ) → 1 ≤ number → number ≤ 26 → x_subtag ∷ subtags ≡ grandfathered_list number → ⊥
 unfolding grandfathered_list
 no_private subtags number first last e =
-    let none = list_all-at (λ (t : List ℕ). not (x_first (pieces t))) grandfathered_texts (number - 1) table_no_x (omega (arith, table_length)) in
+    let none = list_all-at (λ (t : List ℕ). not (x_first (pieces t))) grandfathered_texts (number - 1) table_no_x
+    (omega (arith, table_length)) in
     let some = ap x_first (sym e) in
     cc
 

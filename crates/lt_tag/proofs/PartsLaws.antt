@@ -7,7 +7,8 @@ use Rattle.lt_subtag.specs.Shapes.{is_key, is_separator}
 use Rattle.lt_tag.specs.Parts.{CoreParts, ExtensionParts, KeywordParts, UForm, TForm}
 use Rattle.lt_tag.specs.Spelling.{spell_core, IsCore, IsExtension, is_extension_subtag}
 use Rattle.lt_tag.specs.Extensions.{spell_u, IsU, IsUnicode, spell_t, IsT, IsTransform}
-use Rattle.lt_tag.specs.Splitting.{before, keywords_of, fields_of, core_of_list, source_of_list, has_values, unicode_of, with_fields, transform_of}
+use Rattle.lt_tag.specs.Splitting.{before, keywords_of, fields_of, core_of_list, source_of_list, has_values, unicode_of}
+use Rattle.lt_tag.specs.Splitting.{with_fields, transform_of}
 use Rattle.lt_tag.proofs.ListLemmas.{chosen}
 use Rattle.lt_tag.proofs.PartsLemmas.{u_extension, u_again, u_found, core_found, core_again, t_again, t_found, IsFound}
 use Rattle.std.proofs.lemmas.Bool.Decides.{nat_tests}
@@ -54,13 +55,15 @@ unfolding unicode_of
 u_forward ss p h =
     let test : (nat_lt 0 (length ss) && list_all is_extension_subtag ss) ≡ true = grind (arith, nat_tests) in
     let e : u_form (before is_key ss) (keywords_of ss) ≡ p = grind (arith, nat_tests) in
-    u_found ss p (grind (arith, nat_tests)) (grind (arith, nat_tests)) (ap (λ (z : UForm). z.attributes) (sym e)) (ap (λ (z : UForm). z.keywords) (sym e))
+    u_found ss p (grind (arith, nat_tests)) (grind (arith, nat_tests)) (ap (λ (z : UForm). z.attributes) (sym e))
+    (ap (λ (z : UForm). z.keywords) (sym e))
 
 -- of what parts with their forms spell, `unicode_of` gives these parts
 u_backward : (p : UForm) → IsU p → unicode_of (spell_u p) ≡ Some p
 unfolding unicode_of
 u_backward p h =
-    let test : (nat_lt 0 (length (spell_u p)) && list_all is_extension_subtag (spell_u p)) ≡ true = and_from _ _ (lt-ltb 0 (length (spell_u p)) h.some) (u_extension p h) in
+    let test : (nat_lt 0 (length (spell_u p)) && list_all is_extension_subtag (spell_u p)) ≡ true = and_from _ _
+    (lt-ltb 0 (length (spell_u p)) h.some) (u_extension p h) in
     rw (test, (u_again p h).0, (u_again p h).1) refl
 
 -- `unicode_of` gives parts exactly if they have their forms and spell the subtags
@@ -69,7 +72,8 @@ u_decided ss p = (u_forward ss p, λ k. ap unicode_of (sym k.spelled) ∙ u_back
 
 -- o is the source that is found in the subtags before the first separator. If p has this source and the fields of the
 -- subtags, which have values, the parts p are found in the subtags.
-t_at : (ss : List (List ℕ)) (p : TForm) (o : Option (Option CoreParts)) → source_of_list (before is_separator ss) ≡ o → option_map (with_fields (fields_of ss)) o ≡ Some p → list_all has_values (fields_of ss) ≡ true → 0 < length ss
+t_at : (ss : List (List ℕ)) (p : TForm) (o : Option (Option CoreParts)) → source_of_list (before is_separator ss) ≡ o
+    → option_map (with_fields (fields_of ss)) o ≡ Some p → list_all has_values (fields_of ss) ≡ true → 0 < length ss
     → IsFound ss p
 t_at ss p None e h v n = cc
 t_at ss p (Some source) e h v n =
@@ -81,7 +85,8 @@ t_forward : (ss : List (List ℕ)) (p : TForm) → transform_of ss ≡ Some p �
 unfolding transform_of
 t_forward ss p h =
     elim (chosen (nat_lt 0 (length ss) && list_all has_values (fields_of ss)) _ _ _ h) [
-      | inl a ↦ t_found ss p (t_at ss p (source_of_list (before is_separator ss)) refl a.1 (grind (arith, nat_tests, a.0)) (grind (arith, nat_tests, a.0)))
+      | inl a ↦ t_found ss p (t_at ss p (source_of_list (before is_separator ss)) refl a.1
+          (grind (arith, nat_tests, a.0)) (grind (arith, nat_tests, a.0)))
       | inr a ↦ let impossible : None ≡ Some p = a.1 in cc
     ]
 
@@ -90,7 +95,8 @@ t_backward : (p : TForm) → IsT p → transform_of (spell_t p) ≡ Some p
 unfolding transform_of
 t_backward p h =
     let again = t_again p h in
-    let test : (nat_lt 0 (length (spell_t p)) && list_all has_values (fields_of (spell_t p))) ≡ true = and_from _ _ (lt-ltb 0 (length (spell_t p)) again.some) again.values in
+    let test : (nat_lt 0 (length (spell_t p)) && list_all has_values (fields_of (spell_t p))) ≡ true = and_from _ _
+    (lt-ltb 0 (length (spell_t p)) again.some) again.values in
     rw (test, again.source, again.fields) refl
 
 -- `transform_of` gives parts exactly if they have their forms and spell the subtags

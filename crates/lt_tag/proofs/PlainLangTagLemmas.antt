@@ -1,5 +1,6 @@
 -- Which lists are those of langtags without extensions and private use.
-use Rattle.std.proofs.Common.{◌≡◌, ◌↔◌, ℕ, ◌≤◌, ◌<◌, ◌+◌, Bool, true, false, not, List, [], ◌∷◌, ◌++◌, length, get_or, refl, sym, ap, ◌∙◌, arith, IsTrue, IfSome, IfNone, is_some}
+use Rattle.std.proofs.Common.{◌≡◌, ◌↔◌, ℕ, ◌≤◌, ◌<◌, ◌+◌, Bool, true, false, not, List, [], ◌∷◌, ◌++◌, length, get_or}
+use Rattle.std.proofs.Common.{refl, sym, ap, ◌∙◌, arith, IsTrue, IfSome, IfNone, is_some}
 use Rattle.std.specs.Prelude.{Option, Some, None, option_map}
 use Rattle.std.proofs.lemmas.List.{length-append}
 use Rattle.lt_subtag.specs.Shapes.{is_language}
@@ -21,8 +22,10 @@ grown_room : (core : CoreParts) (s : List ℕ) → option_map room_of (grown cor
 unfolding grown
 grown_room core s = by core.script core.region core.variants (length-append core.variants (s ∷ [])) (length-append core.extlangs (s ∷ []))
   where
-    by : (sc r : Option (List ℕ)) (vs : List (List ℕ)) → length (vs ++ s ∷ []) ≡ length vs + 1 → length (core.extlangs ++ s ∷ []) ≡ length core.extlangs + 1
-        → option_map room_of (grown (core_of core.language core.extlangs sc r vs) s) ≡ room_after (room_of (core_of core.language core.extlangs sc r vs)) s
+    by : (sc r : Option (List ℕ)) (vs : List (List ℕ)) → length (vs ++ s ∷ []) ≡ length vs + 1
+        → length (core.extlangs ++ s ∷ []) ≡ length core.extlangs + 1
+        → option_map room_of (grown (core_of core.language core.extlangs sc r vs) s)
+        ≡ room_after (room_of (core_of core.language core.extlangs sc r vs)) s
     by None None [] n m = grind (arith, nat_tests)
     by (Some x) None [] n m = grind (arith, nat_tests)
     by sc (Some x) vs n m = grind (arith, nat_tests)
@@ -36,9 +39,16 @@ pub record HasRoom (subtags others : List (List ℕ)) (i : ℕ) (room : Room) : 
   pub left : room_of core ≡ room
 
 -- the core of the language alone, which `left` extlangs may follow
-pub room_begin : (subtags others : List (List ℕ)) (language : List ℕ) → subtags ≡ language ∷ others → is_language language ≡ true → (left : ℕ) → left ≡ extlangs_left (of_language language) → HasRoom subtags others 0 (rooms.Extlangs left)
+pub room_begin : (subtags others : List (List ℕ)) (language : List ℕ) → subtags ≡ language ∷ others
+    → is_language language ≡ true → (left : ℕ) → left ≡ extlangs_left (of_language language)
+    → HasRoom subtags others 0 (rooms.Extlangs left)
 room_begin subtags others language split first left e =
-    record { core = of_language language; so_far = source_begin subtags others language (of_language language) split first refl; left = ap rooms.Extlangs (sym e) }
+    record {
+      core = of_language language;
+      so_far = source_begin subtags others language (of_language language) split
+          first refl;
+      left = ap rooms.Extlangs (sym e);
+    }
 
 -- if `room_of` gives r of a core that may be missing, the core is there, and r is what may come after it
 mapped_some : (o : Option CoreParts) (r : Room) → option_map room_of o ≡ Some r → (core : CoreParts) × (o ≡ Some core) × (room_of core ≡ r)
@@ -51,7 +61,8 @@ mapped_none None h = refl
 mapped_none (Some core) h = cc
 
 -- the subtag s, at index i of the others, may follow: `next` may follow it
-pub room_more : (subtags others : List (List ℕ)) (i : ℕ) (s : List ℕ) (room next : Room) → HasRoom subtags others i room → i < length others → s ≡ get_or others i s → room_after room s ≡ Some next → HasRoom subtags others (i + 1) next
+pub room_more : (subtags others : List (List ℕ)) (i : ℕ) (s : List ℕ) (room next : Room) → HasRoom subtags others i room
+    → i < length others → s ≡ get_or others i s → room_after room s ≡ Some next → HasRoom subtags others (i + 1) next
 room_more subtags others i s room next h within read after =
     let m = mapped_some (grown h.core s) next (grown_room h.core s ∙ ap (λ r. room_after r s) h.left ∙ after) in
     record { core = m.0; so_far = source_more subtags others i s h.core m.0 h.so_far within read m.1; left = m.2 }
@@ -67,18 +78,24 @@ no_langtag : (subtags : List (List ℕ)) → source_of_list subtags ≡ None →
 no_langtag subtags h p = source_none subtags h p.core ((core_decided subtags p.core).1 (p.shaped, p.spelled))
 
 -- the subtag s, at index i of the others, may not follow: the subtags are no langtag
-pub stops : (subtags others : List (List ℕ)) (i : ℕ) (s : List ℕ) (room : Room) → HasRoom subtags others i room → i < length others → s ≡ get_or others i s → room_after room s ≡ None → IsPlainLangTag subtags → ⊥
+pub stops : (subtags others : List (List ℕ)) (i : ℕ) (s : List ℕ) (room : Room) → HasRoom subtags others i room
+    → i < length others → s ≡ get_or others i s → room_after room s ≡ None → IsPlainLangTag subtags → ⊥
 stops subtags others i s room h within read after =
-    no_langtag subtags (source_stop subtags others i s h.core h.so_far within read (mapped_none (grown h.core s) (grown_room h.core s ∙ ap (λ r. room_after r s) h.left ∙ after)))
+    no_langtag subtags (source_stop subtags others i s h.core h.so_far within read
+    (mapped_none (grown h.core s) (grown_room h.core s ∙ ap (λ r. room_after r s) h.left ∙ after)))
 
 -- subtags that are a source spell that core
-core_from_source : (subtags : List (List ℕ)) (core : CoreParts) → source_of_list subtags ≡ Some (Some core) → core_of_list subtags ≡ Some core
+core_from_source : (subtags : List (List ℕ)) (core : CoreParts) → source_of_list subtags ≡ Some (Some core)
+    → core_of_list subtags ≡ Some core
 core_from_source [] core h = cc
 core_from_source (s ∷ ss) core h = grind (arith, nat_tests)
 
 -- All subtags may follow. So they are a langtag exactly if they are not those of a grandfathered tag. `number` is that
 -- tag's number, if there is such a tag, and b tells that there is none.
-pub ends_plain : (subtags others : List (List ℕ)) (i : ℕ) (room : Room) → HasRoom subtags others i room → length others ≤ i → (number : Option ℕ) → IfSome number (λ n. IsGrandfathered subtags n) → IfNone number (IsNotGrandfathered subtags) → (b : Bool) → is_some number ≡ not b → IsTrue b ↔ IsPlainLangTag subtags
+pub ends_plain : (subtags others : List (List ℕ)) (i : ℕ) (room : Room) → HasRoom subtags others i room
+    → length others ≤ i → (number : Option ℕ) → IfSome number (λ n. IsGrandfathered subtags n)
+    → IfNone number (IsNotGrandfathered subtags) → (b : Bool) → is_some number ≡ not b → IsTrue b
+    ↔ IsPlainLangTag subtags
 ends_plain subtags others i room h n None some none b e =
     let k = (core_decided subtags h.core).0 (core_from_source subtags h.core (source_end subtags others i h.core h.so_far n)) in
     ((λ _. record { core = h.core; shaped = k.0; spelled = k.1; other = none }), (λ _. not-false b (sym e)))

@@ -5,11 +5,13 @@ use Rattle.std.specs.List.{list_all, AllByRecursion}
 use Rattle.std.proofs.lemmas.Bool.{and_from}
 use Rattle.std.specs.Option.{option_map_or}
 use Rattle.lt_subtag.specs.Bytes.{is_subtag, is_subtag_byte}
-use Rattle.lt_subtag.specs.Shapes.{is_alphabetic, is_language, is_extlang, is_script, is_region, is_variant, is_singleton, is_numeric, is_separator}
+use Rattle.lt_subtag.specs.Shapes.{is_alphabetic, is_language, is_extlang, is_script, is_region, is_variant}
+use Rattle.lt_subtag.specs.Shapes.{is_singleton, is_numeric, is_separator}
 use Rattle.lt_tag.specs.Parts.{CoreParts, ExtensionParts, TagForm, LangTag, PrivateUse, Grandfathered}
 use Rattle.lt_tag.specs.Lists.{pieces}
 use Rattle.lt_tag.specs.Grandfathered.{grandfathered_texts, grandfathered_list}
-use Rattle.lt_tag.specs.Spelling.{spell_core, spell_extension, spell_extensions, spell_private, x_subtag, is_extension_subtag, IsCore, IsExtension, IsPrivate}
+use Rattle.lt_tag.specs.Spelling.{spell_core, spell_extension, spell_extensions, spell_private, x_subtag}
+use Rattle.lt_tag.specs.Spelling.{is_extension_subtag, IsCore, IsExtension, IsPrivate}
 use Rattle.lt_tag.specs.WellFormed.{spell, IsTag}
 use Rattle.lt_tag.proofs.ListLemmas.{list_all-append}
 use Rattle.lt_tag.proofs.Apart.{extlang_is, script_is, region_is}
@@ -17,7 +19,8 @@ use Rattle.lt_tag.proofs.TagLemmas.{list_all-at, table_length}
 use Rattle.std.proofs.lemmas.Bool.Decides.{nat_tests}
 
 -- if p implies q, q holds of each element of a list of which p does
-pub all_weaker : {X : Type 0} (p q : X → Bool) → ((x : X) → p x ≡ true → q x ≡ true) → (xs : List X) → list_all p xs ≡ true → list_all q xs ≡ true
+pub all_weaker : {X : Type 0} (p q : X → Bool) → ((x : X) → p x ≡ true → q x ≡ true) → (xs : List X)
+    → list_all p xs ≡ true → list_all q xs ≡ true
 all_weaker p q w [] h = refl
 all_weaker p q w (x ∷ xs) h = grind (arith, nat_tests, w x, all_weaker p q w xs)
 
@@ -88,7 +91,10 @@ region_part : (s : List ℕ) → is_region s ≡ true → IsPart s
 region_part s h =
     elim (region_is s h) [
       | inl x ↦ letters_part s x.0 (omega (arith, x.1)) (omega (arith, x.1))
-      | inr x ↦ record { long = subtag_from s (digits_bytes s x.0) (omega (arith, x.1)) (omega (arith, x.1)); no_separator = ap not (length_no_separator s (λ e. omega (arith, x.1, e))) }
+      | inr x ↦ record {
+        long = subtag_from s (digits_bytes s x.0) (omega (arith, x.1)) (omega (arith, x.1));
+        no_separator = ap not (length_no_separator s (λ e. omega (arith, x.1, e)));
+      }
     ]
 
 -- a variant has 2 to 8 letters or digits, and is no separator
@@ -96,16 +102,21 @@ variant_part : (s : List ℕ) → is_variant s ≡ true → IsPart s
 unfolding is_variant
 variant_part s h =
     let long : 4 ≤ length s = grind (arith, nat_tests) in
-    record { long = record { subtag = grind (arith, nat_tests); long = omega arith }; no_separator = ap not (length_no_separator s (λ e. omega (arith, long, e))) }
+    record {
+      long = record { subtag = grind (arith, nat_tests); long = omega arith };
+      no_separator = ap not (length_no_separator s (λ e. omega (arith, long, e)));
+    }
 
 -- a test that holds of each subtag that has 2 to 8 letters or digits and is no separator
 module _ (test : List ℕ → Bool) (holds : (s : List ℕ) → IsPart s → test s ≡ true) where
   -- it holds of each subtag of a shape whose subtags have 2 to 8 letters or digits and are no separators
-  all_of : (shape : List ℕ → Bool) → ((s : List ℕ) → shape s ≡ true → IsPart s) → (ss : List (List ℕ)) → list_all shape ss ≡ true → list_all test ss ≡ true
+  all_of : (shape : List ℕ → Bool) → ((s : List ℕ) → shape s ≡ true → IsPart s) → (ss : List (List ℕ))
+      → list_all shape ss ≡ true → list_all test ss ≡ true
   all_of shape part ss h = all_weaker shape test (λ s k. holds s (part s k)) ss h
 
   -- it holds of a subtag of such a shape, if there is one
-  one_of : (shape : List ℕ → Bool) → ((s : List ℕ) → shape s ≡ true → IsPart s) → (o : Option (List ℕ)) → option_map_or shape o true ≡ true → list_all test (option_to_list o) ≡ true
+  one_of : (shape : List ℕ → Bool) → ((s : List ℕ) → shape s ≡ true → IsPart s) → (o : Option (List ℕ))
+      → option_map_or shape o true ≡ true → list_all test (option_to_list o) ≡ true
   one_of shape part None h = refl
   one_of shape part (Some s) h = rw (holds s (part s h)) refl
 
@@ -119,11 +130,13 @@ module _ (test : List ℕ → Bool) (holds : (s : List ℕ) → IsPart s → tes
       (all_of is_variant variant_part core.variants k.variants))))
 
 -- a test that holds of each subtag of 2 to 8 letters or digits holds of each subtag of a shaped core
-pub core_all : (test : List ℕ → Bool) → ((s : List ℕ) → IsLong s → test s ≡ true) → (core : CoreParts) → IsCore core → list_all test (spell_core core) ≡ true
+pub core_all : (test : List ℕ → Bool) → ((s : List ℕ) → IsLong s → test s ≡ true) → (core : CoreParts) → IsCore core
+    → list_all test (spell_core core) ≡ true
 core_all test holds = core_parts test (λ s p. holds s p.long)
 
 -- each of the list that extensions spell is a subtag
-extensions_subtags : (extensions : List ExtensionParts) → AllByRecursion IsExtension extensions → list_all is_subtag (spell_extensions extensions) ≡ true
+extensions_subtags : (extensions : List ExtensionParts) → AllByRecursion IsExtension extensions
+    → list_all is_subtag (spell_extensions extensions) ≡ true
 unfolding is_extension_subtag is_singleton
 extensions_subtags [] k = refl
 extensions_subtags (e ∷ es) k =
@@ -151,7 +164,9 @@ pub tag_subtags : (tag : TagForm) → IsTag tag → list_all is_subtag (spell ta
 unfolding grandfathered_list
 tag_subtags (LangTag core extensions private) k =
     list_all-append is_subtag (spell_core core) _ (core_all is_subtag (λ s l. l.subtag) core k.0.shaped_core)
-    (list_all-append is_subtag (spell_extensions extensions) _ (extensions_subtags extensions k.0.shaped_extensions) (private_subtags private k.0.shaped_private))
+    (list_all-append is_subtag (spell_extensions extensions) _ (extensions_subtags extensions k.0.shaped_extensions)
+    (private_subtags private k.0.shaped_private))
 tag_subtags (PrivateUse subtags) k = and_from (is_subtag x_subtag) _ x_is k.shaped_private
 tag_subtags (Grandfathered number) k =
-    list_all-at (λ (t : List ℕ). list_all is_subtag (pieces t)) grandfathered_texts (number - 1) table_subtags (omega (arith, table_length, k.0, k.1))
+    list_all-at (λ (t : List ℕ). list_all is_subtag (pieces t)) grandfathered_texts (number - 1) table_subtags
+    (omega (arith, table_length, k.0, k.1))

@@ -31,7 +31,8 @@ module _ (mark : List ℕ → Bool) where
   before_onward (s ∷ ss) = grind (arith, nat_tests, before_onward ss)
 
   -- a front without a mark is before the first mark of the whole
-  pub before-append : (front rest : List (List ℕ)) → list_all (λ (s : List ℕ). not (mark s)) front ≡ true → before mark (front ++ rest) ≡ front ++ before mark rest
+  pub before-append : (front rest : List (List ℕ)) → list_all (λ (s : List ℕ). not (mark s)) front ≡ true
+      → before mark (front ++ rest) ≡ front ++ before mark rest
   before-append [] rest h = refl
   before-append (s ∷ front) rest h = grind (arith, nat_tests, before-append front rest)
 
@@ -56,12 +57,14 @@ fields-onward [] = refl
 fields-onward (s ∷ ss) = grind (arith, nat_tests, fields-onward ss)
 
 -- a front without a key adds no keyword
-pub keywords-append : (front rest : List (List ℕ)) → list_all (λ (s : List ℕ). not (is_key s)) front ≡ true → keywords_of (front ++ rest) ≡ keywords_of rest
+pub keywords-append : (front rest : List (List ℕ)) → list_all (λ (s : List ℕ). not (is_key s)) front ≡ true
+    → keywords_of (front ++ rest) ≡ keywords_of rest
 keywords-append [] rest h = refl
 keywords-append (s ∷ front) rest h = grind (arith, nat_tests, keywords-append front rest)
 
 -- a front without a separator adds no field
-pub fields-append : (front rest : List (List ℕ)) → list_all (λ (s : List ℕ). not (is_separator s)) front ≡ true → fields_of (front ++ rest) ≡ fields_of rest
+pub fields-append : (front rest : List (List ℕ)) → list_all (λ (s : List ℕ). not (is_separator s)) front ≡ true
+    → fields_of (front ++ rest) ≡ fields_of rest
 fields-append [] rest h = refl
 fields-append (s ∷ front) rest h = grind (arith, nat_tests, fields-append front rest)
 
@@ -96,7 +99,9 @@ pub keywords-again : (ks : List KeywordParts) → AllByRecursion IsKeyword ks �
 keywords-again [] h = refl
 keywords-again (k ∷ ks) h =
     let rest = flat_map spell_keyword ks in
-    let types : before is_key (k.types ++ rest) ≡ k.types = rw (before-append is_key k.types rest (no_keys k.types h.0.types), before-keywords ks h.1) (append-nil k.types) in
+    let types : before is_key (k.types ++ rest) ≡ k.types =
+    rw (before-append is_key k.types rest (no_keys k.types h.0.types), before-keywords ks h.1)
+    (append-nil k.types) in
     rw (h.0.key, types, keywords-append k.types rest (no_keys k.types h.0.types), keywords-again ks h.1) refl
 
 -- fields are found again in what they spell
@@ -104,7 +109,9 @@ pub fields-again : (fs : List FieldParts) → AllByRecursion IsField fs → fiel
 fields-again [] h = refl
 fields-again (f ∷ fs) h =
     let rest = flat_map spell_field fs in
-    let values : before is_separator (f.values ++ rest) ≡ f.values = rw (before-append is_separator f.values rest (no_separators f.values h.0.values), before-fields fs h.1) (append-nil f.values) in
+    let values : before is_separator (f.values ++ rest) ≡ f.values =
+    rw (before-append is_separator f.values rest (no_separators f.values h.0.values), before-fields fs h.1)
+    (append-nil f.values) in
     rw (h.0.separator, values, fields-append f.values rest (no_separators f.values h.0.values), fields-again fs h.1) refl
 
 -- the index of the first mark, or the length where there is none: what the code computes is `position_or_len`
@@ -127,16 +134,22 @@ pub record AreKeywords (all done : List KeywordParts) (rest : List (List ℕ)) :
   pub whole : done ++ keywords_of rest ≡ all
 
 -- no keyword is read: the subtags from the first key on are left
-pub keywords_begin : (ss rest : List (List ℕ)) (done : List KeywordParts) → done ≡ [] → rest ≡ onward is_key ss → AreKeywords (keywords_of ss) done rest
+pub keywords_begin : (ss rest : List (List ℕ)) (done : List KeywordParts) → done ≡ [] → rest ≡ onward is_key ss
+    → AreKeywords (keywords_of ss) done rest
 keywords_begin ss rest done e r =
     record { at_key = rw r (before_onward is_key ss); whole = rw (e, r) (keywords-onward ss) }
 
 -- `key` and `types`, the subtags up to the next key, are one keyword more; the subtags `after` are left
-pub keywords_next : (all done more : List KeywordParts) (rest : List (List ℕ)) (key : List ℕ) (others types after : List (List ℕ)) → AreKeywords all done rest → rest ≡ key ∷ others
-    → types ≡ before is_key others → after ≡ onward is_key others → more ≡ done ++ record { key = key; types = types } ∷ [] → AreKeywords all more after
+pub keywords_next : (all done more : List KeywordParts) (rest : List (List ℕ)) (key : List ℕ) (others types after : List
+    (List ℕ)) → AreKeywords all done rest → rest ≡ key ∷ others
+    → types ≡ before is_key others → after ≡ onward is_key others
+    → more ≡ done ++ record { key = key; types = types } ∷ [] → AreKeywords all more after
 keywords_next all done more rest key others types after h split t a m =
     let keyed : is_key key ≡ true = marked is_key key others (rw split at h.at_key) in
-    record { at_key = rw a (before_onward is_key others); whole = rw (m, t, a, append_assoc done, keywords-onward others) (rw (split, keyed) at h.whole) }
+    record {
+      at_key = rw a (before_onward is_key others);
+      whole = rw (m, t, a, append_assoc done, keywords-onward others) (rw (split, keyed) at h.whole);
+    }
 
 -- no subtag is left: the keywords so far are all
 pub keywords_end : (all done : List KeywordParts) (rest : List (List ℕ)) → AreKeywords all done rest → length rest ≡ 0 → done ≡ all
@@ -155,7 +168,8 @@ pub record AreFields (all done : List FieldParts) (rest : List (List ℕ)) : Typ
   pub values : list_all has_values done ≡ true
 
 -- no field is read: the subtags from the first separator on are left
-pub fields_begin : (ss rest : List (List ℕ)) (done : List FieldParts) → done ≡ [] → rest ≡ onward is_separator ss → AreFields (fields_of ss) done rest
+pub fields_begin : (ss rest : List (List ℕ)) (done : List FieldParts) → done ≡ [] → rest ≡ onward is_separator ss
+    → AreFields (fields_of ss) done rest
 fields_begin ss rest done e r =
     record { at_separator = rw r (before_onward is_separator ss); whole = rw (e, r) (fields-onward ss); values = rw e refl }
 
@@ -165,23 +179,28 @@ fields_split : (separator : List ℕ) (others : List (List ℕ)) → before is_s
 fields_split separator others h = rw (marked is_separator separator others h) refl
 
 -- `separator` and `values`, the subtags up to the next separator, are one field more; the subtags `after` are left
-pub fields_next : (all done more : List FieldParts) (rest : List (List ℕ)) (separator : List ℕ) (others values after : List (List ℕ)) → AreFields all done rest → rest ≡ separator ∷ others
-    → values ≡ before is_separator others → after ≡ onward is_separator others → are_values values ≡ true → more ≡ done ++ record { separator = separator; values = values } ∷ [] → AreFields all more after
+pub fields_next : (all done more : List FieldParts) (rest : List (List ℕ)) (separator : List ℕ) (others values after
+    : List (List ℕ)) → AreFields all done rest → rest ≡ separator ∷ others
+    → values ≡ before is_separator others → after ≡ onward is_separator others → are_values values ≡ true
+    → more ≡ done ++ record { separator = separator; values = values } ∷ [] → AreFields all more after
 fields_next all done more rest separator others values after h split t a good m =
     let whole : done ++ fields_of (separator ∷ others) ≡ all = rw split at h.whole in
     record {
       at_separator = rw a (before_onward is_separator others);
-      whole = rw (m, t, a, append_assoc done, fields-onward others) (rw (fields_split separator others (rw split at h.at_separator)) at whole);
+      whole = rw (m, t, a, append_assoc done, fields-onward others)
+          (rw (fields_split separator others (rw split at h.at_separator)) at whole);
       values = rw m (list_all-more has_values done (record { separator = separator; values = values }) h.values good);
     }
 
 -- one field without values, or with a bad one, among others: not all fields have values
-all_fail : (done rest : List FieldParts) (first : FieldParts) → has_values first ≡ false → list_all has_values (done ++ first ∷ rest) ≡ false
+all_fail : (done rest : List FieldParts) (first : FieldParts) → has_values first ≡ false
+    → list_all has_values (done ++ first ∷ rest) ≡ false
 all_fail [] rest first h = grind (arith, nat_tests)
 all_fail (d ∷ done) rest first h = grind (arith, nat_tests, all_fail done rest first h)
 
 -- the next field has no values, or a bad one: not all fields have values
-pub fields_fail : (all done : List FieldParts) (rest : List (List ℕ)) (separator : List ℕ) (others values : List (List ℕ)) → AreFields all done rest → rest ≡ separator ∷ others
+pub fields_fail : (all done : List FieldParts) (rest : List (List ℕ)) (separator : List ℕ) (others values : List
+    (List ℕ)) → AreFields all done rest → rest ≡ separator ∷ others
     → values ≡ before is_separator others → are_values values ≡ false → list_all has_values all ≡ false
 fields_fail all done rest separator others values h split t bad =
     let whole : done ++ fields_of (separator ∷ others) ≡ all = rw split at h.whole in
@@ -189,6 +208,7 @@ fields_fail all done rest separator others values h split t bad =
     rw (← whole, fields_split separator others (rw split at h.at_separator)) (all_fail done (fields_of others) _ fails)
 
 -- no subtag is left: the fields so far are all, and have values
-pub fields_end : (all done : List FieldParts) (rest : List (List ℕ)) → AreFields all done rest → length rest ≡ 0 → (done ≡ all) × (list_all has_values done ≡ true)
+pub fields_end : (all done : List FieldParts) (rest : List (List ℕ)) → AreFields all done rest → length rest ≡ 0
+    → (done ≡ all) × (list_all has_values done ≡ true)
 fields_end all done [] h n = (sym (append-nil done) ∙ h.whole, h.values)
 fields_end all done (s ∷ ss) h n = absurd (omega arith)

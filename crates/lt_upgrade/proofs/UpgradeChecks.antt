@@ -1,6 +1,8 @@
 -- What decides the conditions on an upgrade that speak of one record after another. The first record that does not
 -- meet one is the lowest at fault.
-use Rattle.std.proofs.Common.{◌≡◌, ◌↔◌, ℕ, Bool, true, false, ◌&&◌, cond, List, [], ◌∷◌, length, Option, Some, None, refl, sym, ap, ◌∙◌, subst, ◌<◌, IsTrue, is_some, bytes_eq, inl, inr, ◌+◌, ◌-◌, All, arith, Contains, slice_index_or}
+use Rattle.std.proofs.Common.{◌≡◌, ◌↔◌, ℕ, Bool, true, false, ◌&&◌, cond, List, [], ◌∷◌, length, Option, Some, None}
+use Rattle.std.proofs.Common.{refl, sym, ap, ◌∙◌, subst, ◌<◌, IsTrue, is_some, bytes_eq, inl, inr, ◌+◌, ◌-◌, All, arith}
+use Rattle.std.proofs.Common.{Contains, slice_index_or}
 use Rattle.std.specs.Cmp.{both_ways}
 use Rattle.std.specs.List.{list_all}
 use Rattle.std.specs.Option.{option_and_then, option_map_or, unwrap_or}
@@ -8,13 +10,15 @@ use Rattle.std.proofs.lemmas.Bool.{and_parts, and_from}
 use Rattle.std.proofs.lemmas.List.Folds.{Any-from_list_any, list_any_at}
 use Rattle.std.proofs.lemmas.Slice.Eq.{bytes_eq-Decides}
 use Rattle.lt_registry.specs.Parts.{EntryParts}
-use Rattle.lt_registry.specs.Entries.{preferred_value, one_of, entry, is_short, is_registered, language_value, has_prefix, FitsName, IsEntry, is_whole_kind, tag_of, whole_value, NumbersRise}
+use Rattle.lt_registry.specs.Entries.{preferred_value, one_of, entry, is_short, is_registered, language_value}
+use Rattle.lt_registry.specs.Entries.{has_prefix, FitsName, IsEntry, is_whole_kind, tag_of, whole_value, NumbersRise}
 use Rattle.lt_registry.specs.Same.{same_list}
 use Rattle.lt_registry.specs.declared.entries.Kind.{Kind}
 use Rattle.lt_rewrite.specs.CoreSteps.{EndsIn}
 use Rattle.lt_rewrite.specs.Conditions.{next_value, HasFittingGrandfathered}
 use Rattle.lt_rewrite.specs.ChainEnds.{ChainEnds, ChainEndsIn}
-use Rattle.lt_upgrade.specs.Upgrade.{SameEnd, KeepsKind, KeepsEnds, IsSameExtlang, IsSameVariantLanguage, HadVariantLanguage, MeetInCanonical, MeetsUpgrade, records_of, upgrade_rank_of}
+use Rattle.lt_upgrade.specs.Upgrade.{SameEnd, KeepsKind, KeepsEnds, IsSameExtlang, IsSameVariantLanguage}
+use Rattle.lt_upgrade.specs.Upgrade.{HadVariantLanguage, MeetInCanonical, MeetsUpgrade, records_of, upgrade_rank_of}
 use Rattle.lt_upgrade.specs.UpgradeChecking.{is_among, IsFirstAtUpgradeFault, MeetsUpgradeBelow}
 use Rattle.lt_check.proofs.Deciding.{Decides-true, Decides-list, Decides-all}
 use Rattle.lt_check.proofs.RecordChecks.{one_end}
@@ -44,15 +48,19 @@ use Rattle.lt_upgrade.specs.declared.upgrades.TheConstants.{IN_ORDER}
 
 -- `d` and `e` are the ends of the chains from `s` and `t`, and `b` is whether they are equal: it tells whether the
 -- chains end in one subtag
-pub ends_compared : (R : List EntryParts) (k : Kind) → (k ≡ kinds.Extlang → ⊥) → (s t d e : List ℕ) (b : Bool) → ChainEndsIn R k s d → ChainEndsIn R k t e → b ≡ bytes_eq d e → IsTrue b ↔ SameEnd (next_value R k) s t
+pub ends_compared : (R : List EntryParts) (k : Kind) → (k ≡ kinds.Extlang → ⊥) → (s t d e : List ℕ) (b : Bool)
+    → ChainEndsIn R k s d → ChainEndsIn R k t e → b ≡ bytes_eq d e → IsTrue b ↔ SameEnd (next_value R k) s t
 ends_compared R kinds.Extlang n s t d e b h i same = absurd (n refl)
 ends_compared R k n s t d e b h i same = (
-  (λ x. let y : d ≡ e = (bytes_eq-Decides d e).0 (sym same ∙ x) in record { end = d; left = h; right = subst (EndsIn (next_value R k) t) (sym y) i }),
-  (λ (a : SameEnd (next_value R k) s t). same ∙ (bytes_eq-Decides d e).1 (one_end (next_value R k) s d a.end h a.left ∙ sym (one_end (next_value R k) t e a.end i a.right))),
+  (λ x. let y : d ≡ e = (bytes_eq-Decides d e).0 (sym same ∙ x) in
+      record { end = d; left = h; right = subst (EndsIn (next_value R k) t) (sym y) i }),
+  (λ (a : SameEnd (next_value R k) s t). same ∙ (bytes_eq-Decides d e).1 (one_end (next_value R k) s d a.end h a.left
+      ∙ sym (one_end (next_value R k) t e a.end i a.right))),
 )
 
 -- where the chain from `t` has no end, the chains from `s` and `t` do not end in one subtag
-pub endless_apart : (R : List EntryParts) (k : Kind) → (k ≡ kinds.Extlang → ⊥) → (s t : List ℕ) → (ChainEnds R k t → ⊥) → IsTrue false ↔ SameEnd (next_value R k) s t
+pub endless_apart : (R : List EntryParts) (k : Kind) → (k ≡ kinds.Extlang → ⊥) → (s t : List ℕ) → (ChainEnds R k t → ⊥)
+    → IsTrue false ↔ SameEnd (next_value R k) s t
 endless_apart R kinds.Extlang n s t endless = absurd (n refl)
 endless_apart R k n s t endless = (
   (λ x. cc),
@@ -61,7 +69,9 @@ endless_apart R k n s t endless = (
 
 -- `b` tells whether the chains from the subtag `s` of a record and from its older value `v` end in one: so whether it
 -- meets U2
-pub ends_kept : (B : List EntryParts) (e : EntryParts) (s v : List ℕ) (b : Bool) → e.name ≡ names.Single s → Some v ≡ one_of e.value → KeepsKind e.kind v → IsTrue b ↔ SameEnd (next_value B e.kind) s v → IsTrue b ↔ KeepsEnds B e
+pub ends_kept : (B : List EntryParts) (e : EntryParts) (s v : List ℕ) (b : Bool) → e.name ≡ names.Single s
+    → Some v ≡ one_of e.value → KeepsKind e.kind v → IsTrue b ↔ SameEnd (next_value B e.kind) s v → IsTrue b
+    ↔ KeepsEnds B e
 ends_kept B e s v b n o k h = (
   (λ x t w m p _.
       let a : s ≡ t = cc in
@@ -72,7 +82,10 @@ ends_kept B e s v b n o k h = (
 
 -- the newer registry has the extlang `s` in the record `f`, with the same Prefix: `b`, whether the chains from the
 -- older and the newer replacement end in one language, tells whether it is the same extlang
-pub extlang_compared : (B : List EntryParts) (e f : EntryParts) (s old new : List ℕ) (b : Bool) → Some f ≡ entry B kinds.Extlang s → f.prefixes ≡ e.prefixes → old ≡ unwrap_or (one_of e.value) s → new ≡ unwrap_or (one_of f.value) s → IsTrue b ↔ SameEnd (next_value B kinds.Language) old new → IsTrue b ↔ IsSameExtlang B e s
+pub extlang_compared : (B : List EntryParts) (e f : EntryParts) (s old new : List ℕ) (b : Bool)
+    → Some f ≡ entry B kinds.Extlang s → f.prefixes ≡ e.prefixes → old ≡ unwrap_or (one_of e.value) s
+    → new ≡ unwrap_or (one_of f.value) s → IsTrue b ↔ SameEnd (next_value B kinds.Language) old new → IsTrue b
+    ↔ IsSameExtlang B e s
 extlang_compared B e f s old new b there same o n h = (
   (λ x. record { newer = f; there = sym there; prefixes = same; ends = rw (← o, ← n) (h.0 x) }),
   (λ (k : IsSameExtlang B e s).
@@ -83,47 +96,71 @@ extlang_compared B e f s old new b there same o n h = (
 -- sets of Prefixes
 
 -- where each Prefix of one subtag of `ps` is among `qs`, each language that is a Prefix in `ps` is one in `qs`
-within_of : (ps qs : List (List (List ℕ))) → list_all (is_among qs) ps ≡ true → (l : List ℕ) → has_prefix ps l ≡ true → has_prefix qs l ≡ true
+within_of : (ps qs : List (List (List ℕ))) → list_all (is_among qs) ps ≡ true → (l : List ℕ) → has_prefix ps l ≡ true
+    → has_prefix qs l ≡ true
 within_of ps qs all l h =
     let found = Any-from_list_any (λ p. same_list p (l ∷ [])) ps h in
-    let among = (Decides-all (λ p. is_among qs p ≡ true) (is_among qs) (λ p. Decides-true (is_among qs p)) ps).0 all found.0 found.1 found.2 in
+    let among = (Decides-all (λ p. is_among qs p ≡ true) (is_among qs) (λ p. Decides-true (is_among qs p)) ps).0 all
+    found.0 found.1 found.2 in
     ap (is_among qs) (sym (found.3 ∙ (Decides-list found.1 (l ∷ [])).0 found.4)) ∙ among
 
 -- where each language that is a Prefix in `ps` is one in `qs`, each Prefix of one subtag of `ps` is among `qs`
-of_within : (ps qs : List (List (List ℕ))) → ((l : List ℕ) → has_prefix ps l ≡ true → has_prefix qs l ≡ true) → list_all (is_among qs) ps ≡ true
-of_within ps qs h = (Decides-all (λ p. is_among qs p ≡ true) (is_among qs) (λ p. Decides-true (is_among qs p)) ps).1 (λ k d n. one k d n (slice_index_or ps k d) refl)
+of_within : (ps qs : List (List (List ℕ))) → ((l : List ℕ) → has_prefix ps l ≡ true → has_prefix qs l ≡ true)
+    → list_all (is_among qs) ps ≡ true
+of_within ps qs h = (Decides-all (λ p. is_among qs p ≡ true) (is_among qs) (λ p. Decides-true (is_among qs p)) ps).1
+    (λ k d n. one k d n (slice_index_or ps k d) refl)
   where
-    one : (k : ℕ) (d : List (List ℕ)) → k < length ps → (p : List (List ℕ)) → slice_index_or ps k d ≡ p → is_among qs (slice_index_or ps k d) ≡ true
-    one k d n (l ∷ []) e = ap (is_among qs) e ∙ h l (list_any_at (λ p. same_list p (l ∷ [])) ps k d n ((Decides-list (slice_index_or ps k d) (l ∷ [])).1 e))
+    one : (k : ℕ) (d : List (List ℕ)) → k < length ps → (p : List (List ℕ)) → slice_index_or ps k d ≡ p
+        → is_among qs (slice_index_or ps k d) ≡ true
+    one k d n (l ∷ []) e = ap (is_among qs) e
+        ∙ h l (list_any_at (λ p. same_list p (l ∷ [])) ps k d n ((Decides-list (slice_index_or ps k d) (l ∷ [])).1 e))
     one k d n _ e = ap (is_among qs) e
 
 -- `r`, whether the Prefixes of one subtag are among each other both ways, tells whether they are the same; `a` is the
 -- first way
-pub languages_compared : (ps qs : List (List (List ℕ))) (a r : Bool) → list_all (is_among qs) ps ≡ a → r ≡ (a && list_all (is_among ps) qs) → IsTrue r ↔ ((l : List ℕ) → has_prefix ps l ≡ has_prefix qs l)
+pub languages_compared : (ps qs : List (List (List ℕ))) (a r : Bool) → list_all (is_among qs) ps ≡ a
+    → r ≡ (a && list_all (is_among ps) qs) → IsTrue r ↔ ((l : List ℕ) → has_prefix ps l ≡ has_prefix qs l)
 languages_compared ps qs a r first second =
     let same : r ≡ (list_all (is_among qs) ps && list_all (is_among ps) qs) = rw first second in (
       (λ h l.
           let both = and_parts (list_all (is_among qs) ps) (list_all (is_among ps) qs) (sym same ∙ h) in
           both_ways (has_prefix ps l) (has_prefix qs l) (within_of ps qs both.0 l) (within_of qs ps both.1 l)),
-      (λ f. same ∙ and_from (list_all (is_among qs) ps) (list_all (is_among ps) qs) (of_within ps qs (λ l h. sym (f l) ∙ h)) (of_within qs ps (λ l h. f l ∙ h))),
+      (λ f. same
+          ∙ and_from (list_all (is_among qs) ps) (list_all (is_among ps) qs) (of_within ps qs (λ l h. sym (f l)
+          ∙ h)) (of_within qs ps (λ l h. f l ∙ h))),
     )
 
 -- the newer registry gives the variant `s`, in the record `f`, the language `w`, and the same Prefixes of one subtag:
 -- `b`, whether the chains from the older language `v` and from `w` end in one, tells whether U4 is met
-pub variant_language_compared : (B : List EntryParts) (e f : EntryParts) (s v w : List ℕ) (b : Bool) → Some f ≡ entry B kinds.Variant s → Some w ≡ one_of f.value → is_short w ≡ true → ((l : List ℕ) → has_prefix f.prefixes l ≡ has_prefix e.prefixes l) → IsTrue b ↔ SameEnd (next_value B kinds.Language) v w → IsTrue b ↔ IsSameVariantLanguage B e s v
+pub variant_language_compared : (B : List EntryParts) (e f : EntryParts) (s v w : List ℕ) (b : Bool)
+    → Some f ≡ entry B kinds.Variant s → Some w ≡ one_of f.value → is_short w ≡ true
+    → ((l : List ℕ) → has_prefix f.prefixes l ≡ has_prefix e.prefixes l) → IsTrue b
+    ↔ SameEnd (next_value B kinds.Language) v w → IsTrue b ↔ IsSameVariantLanguage B e s v
 variant_language_compared B e f s v w b there gives short same h =
     let short_of : List ℕ → Option (List ℕ) = λ x. cond (is_short x) (Some x) None in
-    let has : language_value B s ≡ Some w = ap (λ o. option_and_then short_of (option_and_then (λ (x : EntryParts). one_of x.value) o)) (sym there) ∙ ap (option_and_then short_of) (sym gives) ∙ ap (λ b. cond b (Some w) None) short in (
-      (λ x. record { newer = w; has = has; prefixes = λ l. ap (λ o. has_prefix (option_map_or (λ (e : EntryParts). e.prefixes) o []) l) (sym there) ∙ same l; ends = h.0 x }),
+    let has : language_value B s ≡ Some w =
+    ap (λ o. option_and_then short_of (option_and_then (λ (x : EntryParts). one_of x.value) o)) (sym there)
+    ∙ ap (option_and_then short_of) (sym gives) ∙ ap (λ b. cond b (Some w) None) short in (
+      (λ x. record {
+        newer = w;
+        has = has;
+        prefixes = λ l. ap (λ o. has_prefix (option_map_or (λ (e : EntryParts). e.prefixes) o []) l) (sym there)
+            ∙ same l;
+        ends = h.0 x;
+      }),
       (λ (k : IsSameVariantLanguage B e s v).
           let is : k.newer ≡ w = cc (k.has, has) in
           h.1 (subst (λ z. SameEnd (preferred_value B kinds.Language) v z) is k.ends)),
     )
 
 -- the older registry has the variant `s`: `b`, whether it has a language as its value there, tells whether U5 is met
-pub had_compared : (A : List EntryParts) (e : EntryParts) (s v : List ℕ) (b : Bool) → e.kind ≡ kinds.Variant → e.name ≡ names.Single s → one_of e.value ≡ Some v → is_short v ≡ true → is_registered A kinds.Variant s ≡ true → b ≡ is_some (language_value A s) → IsTrue b ↔ HadVariantLanguage A e
+pub had_compared : (A : List EntryParts) (e : EntryParts) (s v : List ℕ) (b : Bool) → e.kind ≡ kinds.Variant
+    → e.name ≡ names.Single s → one_of e.value ≡ Some v → is_short v ≡ true → is_registered A kinds.Variant s ≡ true
+    → b ≡ is_some (language_value A s) → IsTrue b ↔ HadVariantLanguage A e
 had_compared A e s v b k n o short there same = (
-  (λ x t w _ m _ _ _. let a : s ≡ t = cc in subst (λ z. (y : List ℕ) × (language_value A z ≡ Some y)) a ((elim (language_value A s) as (λ o. is_some o ≡ true → (y : List ℕ) × (o ≡ Some y)) [ None ↦ λ h. cc | Some y ↦ λ h. (y, refl) ]) (sym same ∙ x))),
+  (λ x t w _ m _ _ _. let a : s ≡ t = cc in subst (λ z. (y : List ℕ) × (language_value A z ≡ Some y)) a
+      ((elim (language_value A s) as (λ o. is_some o ≡ true → (y : List ℕ) × (o ≡ Some y))
+      [ None ↦ λ h. cc | Some y ↦ λ h. (y, refl) ]) (sym same ∙ x))),
   (λ f. same ∙ ap is_some (f s v k n o short there).1),
 )
 
@@ -138,7 +175,12 @@ module _ (R : List EntryParts) (C : IsChecked R) where
   -- both
   pub forms_compared : (t u : TagForm) (answer : Bool) → IsEquivalenceAnswer R t u answer → IsTrue answer ↔ MeetInCanonical R t u
   forms_compared t u answer a = (
-    (λ h. record { tag = a.first; canonical = a.first_form.canonical; left = a.first_form.reached; right = subst (IsReached R u) (sym (a.equal.0 h)) a.second_form.reached }),
+    (λ h. record {
+      tag = a.first;
+      canonical = a.first_form.canonical;
+      left = a.first_form.reached;
+      right = subst (IsReached R u) (sym (a.equal.0 h)) a.second_form.reached;
+    }),
     (λ (m : MeetInCanonical R t u).
         a.equal.1
         (sym (form_is_end R C t a.first a.first_form) ∙ canonical_end t m.tag m.canonical m.left
@@ -146,16 +188,19 @@ module _ (R : List EntryParts) (C : IsChecked R) where
   )
 
   -- a tag without repeats that reaches a canonical tag is refused only for memory
-  not_refused : (t c : TagForm) (refusal : Refusal) → RepeatsNoVariant t → (refusal ≡ refusals.OutOfMemory → ⊥) → IsCanonical R c → IsReached R t c → IsRefusedWith R t refusal → ⊥
+  not_refused : (t c : TagForm) (refusal : Refusal) → RepeatsNoVariant t → (refusal ≡ refusals.OutOfMemory → ⊥)
+      → IsCanonical R c → IsReached R t c → IsRefusedWith R t refusal → ⊥
   not_refused t c (refusals.Invalid fault) d n K r h =
-      let P : IsProper R t = star_keeps (λ x. IsProper R x → IsProper R t) (λ a b (s : TagStep R a b) held p. held s.from) r (λ p. p) K.valid.proper in
+      let P : IsProper R t = star_keeps (λ x. IsProper R x → IsProper R t)
+      (λ a b (s : TagStep R a b) held p. held s.from) r (λ p. p) K.valid.proper in
       (valid_law R t P.tag).0 (record { proper = P; distinct = d }) fault.kind fault.place h.there
   not_refused t c (refusals.ReplacementRepeats v) d n K r h =
       repeats_at_end R C t h.valid h.repeats (subst RepeatsNoVariant (sym (canonical_end t c K r)) K.valid.distinct)
   not_refused t c refusals.OutOfMemory d n K r h = n refl
 
   -- of two tags without repeats one is refused, and not for memory: no canonical tag is reached from both
-  pub refused_apart : (t u : TagForm) (refusal : Refusal) → RepeatsNoVariant t → RepeatsNoVariant u → (refusal ≡ refusals.OutOfMemory → ⊥) → IsFirstRefusal R t u refusal → IsTrue false ↔ MeetInCanonical R t u
+  pub refused_apart : (t u : TagForm) (refusal : Refusal) → RepeatsNoVariant t → RepeatsNoVariant u
+      → (refusal ≡ refusals.OutOfMemory → ⊥) → IsFirstRefusal R t u refusal → IsTrue false ↔ MeetInCanonical R t u
   refused_apart t u refusal dt du n h = (
     (λ x. cc),
     (λ (m : MeetInCanonical R t u). absurd (elim h [
@@ -165,7 +210,8 @@ module _ (R : List EntryParts) (C : IsChecked R) where
   )
 
   -- the tag of a whole record with a value is valid, and can be replaced whole
-  whole_replaced : (e : EntryParts) → Contains R e → (t u : TagForm) → e.name ≡ names.Whole t → tag_of e.value ≡ Some u → IsValid R t × CanBeReplacedWhole t
+  whole_replaced : (e : EntryParts) → Contains R e → (t u : TagForm) → e.name ≡ names.Whole t → tag_of e.value ≡ Some u
+      → IsValid R t × CanBeReplacedWhole t
   whole_replaced e c t u n o = by e.kind refl fits.0
     where
       fits : FitsName e.kind (names.Whole t)
@@ -183,7 +229,8 @@ module _ (R : List EntryParts) (C : IsChecked R) where
       by _ k h = cc
 
   -- neither the tag of a whole record nor its value repeats a variant
-  pub whole_distinct : (e : EntryParts) → Contains R e → (t u : TagForm) → e.name ≡ names.Whole t → tag_of e.value ≡ Some u → RepeatsNoVariant t × RepeatsNoVariant u
+  pub whole_distinct : (e : EntryParts) → Contains R e → (t u : TagForm) → e.name ≡ names.Whole t
+      → tag_of e.value ≡ Some u → RepeatsNoVariant t × RepeatsNoVariant u
   whole_distinct e c t u n o =
       ((whole_replaced e c t u n o).0.distinct, (All-contains (HasValidWhole R) R e C.passes.valid_whole c t u n o).0.valid.distinct)
 
@@ -194,12 +241,14 @@ module _ (R : List EntryParts) (C : IsChecked R) where
       let v = whole_replaced w.at (whole_has R t u (Contains R) (All-contains_itself R) w) t u w.named w.gives in
       let p = value_plain R C t u e in
       let n = core_normal R C p.core in
-      let form = value_canonical R C t u (core_alone (core_end R C p.core)) v.1 v.0 e (record { core = p.core; form = core_end R C p.core; from = p.is; to = refl; normal = n }) in
+      let form = value_canonical R C t u (core_alone (core_end R C p.core)) v.1 v.0 e
+      (record { core = p.core; form = core_end R C p.core; from = p.is; to = refl; normal = n }) in
       record {
         tag = core_alone (core_end R C p.core);
         canonical = form.canonical;
         left = form.reached;
-        right = subst (λ x. IsReached R x (core_alone (core_end R C p.core))) (sym p.is) (cores_reached R C n.reached [] [] (subst (IsProper R) p.is p.valid.proper));
+        right = subst (λ x. IsReached R x (core_alone (core_end R C p.core))) (sym p.is)
+            (cores_reached R C n.reached [] [] (subst (IsProper R) p.is p.valid.proper));
       }
 
 -- ---- the lowest record at fault
@@ -209,13 +258,17 @@ abbrev pub EachBefore : List EntryParts → List EntryParts → UpgradeCondition
 EachBefore A B condition i = (k : ℕ) (d : EntryParts) → k < i → MeetsUpgrade condition A B (slice_index_or (records_of condition A B) k d)
 
 -- where each before index `i` meets the condition `k` and the record `e` there does not, `e` is the lowest at fault
-pub lowest_of : (A B : List EntryParts) (k : UpgradeCondition) (i : ℕ) (e : EntryParts) (number : ℕ) → NumbersRise (records_of k A B) → IsAt (records_of k A B) i e → number ≡ e.number
+pub lowest_of : (A B : List EntryParts) (k : UpgradeCondition) (i : ℕ) (e : EntryParts) (number : ℕ)
+    → NumbersRise (records_of k A B) → IsAt (records_of k A B) i e → number ≡ e.number
     → EachBefore A B k i → (MeetsUpgrade k A B e → ⊥) → IsFirstAtUpgradeFault A B k number
 lowest_of A B k i e number rising a is before fails = record {
   fault = record { entry = e; there = contains_at (records_of k A B) i e a; numbered = sym is; fails = fails };
   first = λ other f. elim (below_or_not other number) [
     | inl l ↦
-        absurd (f.fails (subst (MeetsUpgrade k A B) f.there.2 (before f.there.0 f.entry (lower_before (records_of k A B) rising i f.there.0 e f.entry a (record { within = f.there.1; there = f.there.2 }) (omega (arith, l, is, f.numbered))))))
+        absurd (f.fails
+        (subst (MeetsUpgrade k A B) f.there.2
+        (before f.there.0 f.entry (lower_before (records_of k A B) rising i f.there.0 e f.entry a
+        (record { within = f.there.1; there = f.there.2 }) (omega (arith, l, is, f.numbered))))))
     | inr m ↦ m
   ];
 }
@@ -229,10 +282,12 @@ place_of _ = refl
 
 -- where the first `i` conditions are met, and the next one is, those with ranks below the next after it are met
 pub one_more : (A B : List EntryParts) (i : ℕ) → MeetsUpgradeBelow (i + 1) A B
-    → All (MeetsUpgrade (slice_index_or IN_ORDER i upgrades.StaysRegistered) A B) (records_of (slice_index_or IN_ORDER i upgrades.StaysRegistered) A B) → MeetsUpgradeBelow (i + 1 + 1) A B
+    → All (MeetsUpgrade (slice_index_or IN_ORDER i upgrades.StaysRegistered) A B) (records_of
+    (slice_index_or IN_ORDER i upgrades.StaysRegistered) A B) → MeetsUpgradeBelow (i + 1 + 1) A B
 one_more A B i lower meets other m = elim (below_or_not (upgrade_rank_of other) (i + 1)) [
   | inl l ↦ lower other l
   | inr n ↦
       let here : i ≡ upgrade_rank_of other - 1 = omega (arith, m, n) in
-      subst (λ j. All (MeetsUpgrade j A B) (records_of j A B)) (ap (λ j. slice_index_or IN_ORDER j upgrades.StaysRegistered) here ∙ place_of other) meets
+      subst (λ j. All (MeetsUpgrade j A B) (records_of j A B))
+      (ap (λ j. slice_index_or IN_ORDER j upgrades.StaysRegistered) here ∙ place_of other) meets
 ]

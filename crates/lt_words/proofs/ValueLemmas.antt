@@ -1,5 +1,6 @@
 -- The values of positionals.
-use Rattle.std.proofs.Common.{◌≡◌, ◌<◌, ◌∙◌, ℕ, Bool, true, false, List, [], ◌∷◌, Option, Some, None, map, sym, ap, refl, subst, slice_index, ◌==◌, if◌then◌else◌, le-leb}
+use Rattle.std.proofs.Common.{◌≡◌, ◌<◌, ◌∙◌, ℕ, Bool, true, false, List, [], ◌∷◌, Option, Some, None, map, sym, ap}
+use Rattle.std.proofs.Common.{refl, subst, slice_index, ◌==◌, if◌then◌else◌, le-leb}
 use Rattle.std.specs.Char.{digit_value, is_ascii_digit}
 use Rattle.std.specs.Str.Parse.{AllDigits}
 use Rattle.std.proofs.lemmas.Str.Parse.{digit_from_value}
@@ -16,7 +17,8 @@ use Rattle.lt_words.specs.declared.subcommands.Subcommand.{Subcommand}
 use Rattle.lt_words.specs.declared.subcommands.Subcommand.TheVariants as sub
 
 -- where a positional has no value among the matches `rows`, no texts are the values given for it
-pub no_texts : (rows : List Row) (positional : Text) → first_of positional rows ≡ None → (texts : List Text) → AreGiven rows (positional ∷ []) texts → ⊥
+pub no_texts : (rows : List Row) (positional : Text) → first_of positional rows ≡ None → (texts : List Text)
+    → AreGiven rows (positional ∷ []) texts → ⊥
 no_texts rows positional none [] given = let e = given.each in cc
 no_texts rows positional none (text ∷ texts) given = let e = given.each in cc
 
@@ -31,7 +33,8 @@ given_first rows first others (text ∷ more) given =
     (text, more, record { each = ap (λ (o : Option Text). o ∷ []) one }, record { each = rest }, refl)
 
 -- the value of a first positional, and those of others, are the values given for all of them
-pub given_more : (rows : List Row) (first : Text) (others : List Text) (text : Text) (more : List Text) → AreGiven rows (first ∷ []) (text ∷ []) → AreGiven rows others more
+pub given_more : (rows : List Row) (first : Text) (others : List Text) (text : Text) (more : List Text)
+    → AreGiven rows (first ∷ []) (text ∷ []) → AreGiven rows others more
     → AreGiven rows (first ∷ others) (text ∷ more)
 given_more rows first others text more one rest =
     let e = one.each in
@@ -39,7 +42,8 @@ given_more rows first others text more one rest =
     record { each = cc }
 
 -- positionals lack a value where the first of them does; `f` is the fault
-pub lacks_first : (rows : List Row) (first : Text) (others : List Text) (f : WordsFault) → LacksValue rows (first ∷ []) f → LacksValue rows (first ∷ others) f
+pub lacks_first : (rows : List Row) (first : Text) (others : List Text) (f : WordsFault)
+    → LacksValue rows (first ∷ []) f → LacksValue rows (first ∷ others) f
 lacks_first rows first others (fault.Help text) lacks = lacks
 lacks_first rows first others (fault.Version text) lacks = lacks
 lacks_first rows first others (fault.Usage said) lacks = λ texts given.
@@ -47,7 +51,8 @@ lacks_first rows first others (fault.Usage said) lacks = λ texts given.
 lacks_first rows first others fault.OutOfMemory lacks = tt
 
 -- positionals lack a value where one after the first does; `f` is the fault
-pub lacks_other : (rows : List Row) (first : Text) (others : List Text) (f : WordsFault) → LacksValue rows others f → LacksValue rows (first ∷ others) f
+pub lacks_other : (rows : List Row) (first : Text) (others : List Text) (f : WordsFault) → LacksValue rows others f
+    → LacksValue rows (first ∷ others) f
 lacks_other rows first others (fault.Help text) lacks = lacks
 lacks_other rows first others (fault.Version text) lacks = lacks
 lacks_other rows first others (fault.Usage said) lacks = λ texts given.
@@ -58,14 +63,16 @@ lacks_other rows first others fault.OutOfMemory lacks = tt
 
 -- A step through the digits of `all`. If its bytes are digits exactly if those of `rest` are, and `rest` begins with a
 -- digit `d`, they are digits exactly if those of `more` are, which follow `d`.
-pub digits_next : (all rest more : List ℕ) (d : ℕ) → rest ≡ d ∷ more → digit_value d < 10 → (AllDigits 10 all → AllDigits 10 rest) × (AllDigits 10 rest → AllDigits 10 all)
+pub digits_next : (all rest more : List ℕ) (d : ℕ) → rest ≡ d ∷ more → digit_value d < 10
+    → (AllDigits 10 all → AllDigits 10 rest) × (AllDigits 10 rest → AllDigits 10 all)
     → (AllDigits 10 all → AllDigits 10 more) × (AllDigits 10 more → AllDigits 10 all)
 digits_next all rest more d is digit same =
     (λ a. (subst (AllDigits 10) is (same.0 a)).1, λ m. same.1 (subst (AllDigits 10) (sym is) (digit, m)))
 
 -- where `rest`, what is left of `all` after some digits, begins with a byte `d` that is no digit, `all` has not
 -- digits alone
-pub no_digit : (all rest more : List ℕ) (d : ℕ) → rest ≡ d ∷ more → is_ascii_digit d ≡ false → (AllDigits 10 all → AllDigits 10 rest) → AllDigits 10 all → ⊥
+pub no_digit : (all rest more : List ℕ) (d : ℕ) → rest ≡ d ∷ more → is_ascii_digit d ≡ false
+    → (AllDigits 10 all → AllDigits 10 rest) → AllDigits 10 all → ⊥
 no_digit all rest more d is other same a =
     let inside = digit_from_value d (subst (AllDigits 10) is (same a)).0 in
     let digit : is_ascii_digit d ≡ true = rw (le-leb 48 d inside.0, le-leb d 57 inside.1) refl in
@@ -157,7 +164,8 @@ named_values s rows command n =
     )
 
 -- a subcommand whose positionals lack a value names no command; `f` is the fault
-pub lacks_named : (s : Subcommand) (rows : List Row) (f : WordsFault) → LacksValue rows (positionals_of s) f → NamesNone (Some (name_of s, rows)) f
+pub lacks_named : (s : Subcommand) (rows : List Row) (f : WordsFault) → LacksValue rows (positionals_of s) f
+    → NamesNone (Some (name_of s, rows)) f
 lacks_named s rows (fault.Help text) lacks = lacks
 lacks_named s rows (fault.Version text) lacks = lacks
 lacks_named s rows (fault.Usage text) lacks = λ command n. lacks n.texts (named_values s rows command n).1

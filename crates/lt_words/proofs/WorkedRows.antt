@@ -64,7 +64,8 @@ abbrev csv : List Text → List Text
 csv words = codes "langtag" ∷ codes "csv" ∷ words
 
 -- a delimiter after its option, at the end of the words
-delimiter-read : read_as (codes "C") (csv (codes "R" ∷ codes "2" ∷ codes "--delimiter" ∷ codes ";" ∷ [])) ≡ Some (codes "csv", Some (codes ";"))
+delimiter-read : read_as (codes "C") (csv (codes "R" ∷ codes "2" ∷ codes "--delimiter" ∷ codes ";" ∷ []))
+    ≡ Some (codes "csv", Some (codes ";"))
 unfolding clap_on_literals read_as
 delimiter-read = refl
 
@@ -116,7 +117,8 @@ values_as : Text → List Text → Option (Text × List Text)
 values_as name words = option_map (λ found. (found.0, values_given name found.1)) (subcommand_of langtag words)
 
 -- the words that are left are the ranges, also with a flag between them
-ranges-read : values_as (codes "RANGE") (match (codes "R" ∷ codes "de" ∷ codes "--extended" ∷ codes "*-CH" ∷ [])) ≡ Some (codes "match", codes "de" ∷ codes "*-CH" ∷ [])
+ranges-read : values_as (codes "RANGE") (match (codes "R" ∷ codes "de" ∷ codes "--extended" ∷ codes "*-CH" ∷ []))
+    ≡ Some (codes "match", codes "de" ∷ codes "*-CH" ∷ [])
 unfolding clap_on_literals values_as
 ranges-read = refl
 
@@ -126,7 +128,8 @@ unfolding clap_on_literals
 ranges-right = refl
 
 -- `match` has a flag for extended filtering
-extended-read : read_as (codes "extended") (match (codes "R" ∷ codes "de" ∷ codes "--extended" ∷ [])) ≡ Some (codes "match", Some (codes "true"))
+extended-read : read_as (codes "extended") (match (codes "R" ∷ codes "de" ∷ codes "--extended" ∷ []))
+    ≡ Some (codes "match", Some (codes "true"))
 unfolding clap_on_literals read_as
 extended-read = refl
 
@@ -136,7 +139,8 @@ unfolding clap_on_literals values_as
 range-missing = refl
 
 -- a header after its option is read as it
-header-read : read_as (codes "HEADER") (match (codes "--accept" ∷ codes "de, en;q=0.5" ∷ codes "R" ∷ [])) ≡ Some (codes "match", Some (codes "de, en;q=0.5"))
+header-read : read_as (codes "HEADER") (match (codes "--accept" ∷ codes "de, en;q=0.5" ∷ codes "R" ∷ []))
+    ≡ Some (codes "match", Some (codes "de, en;q=0.5"))
 unfolding clap_on_literals read_as
 header-read = refl
 
@@ -150,7 +154,8 @@ abbrev show : List Text → List Text
 show words = codes "langtag" ∷ codes "show" ∷ words
 
 -- the words that are left are the tags, also after a flag
-tags-read : values_as (codes "TAG") (show (codes "R" ∷ codes "--json" ∷ codes "zh-yue" ∷ codes "en" ∷ [])) ≡ Some (codes "show", codes "zh-yue" ∷ codes "en" ∷ [])
+tags-read : values_as (codes "TAG") (show (codes "R" ∷ codes "--json" ∷ codes "zh-yue" ∷ codes "en" ∷ []))
+    ≡ Some (codes "show", codes "zh-yue" ∷ codes "en" ∷ [])
 unfolding clap_on_literals values_as
 tags-read = refl
 

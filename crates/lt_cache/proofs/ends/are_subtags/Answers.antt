@@ -9,6 +9,7 @@ use Rattle.lt_cache.proofs.ends.are_subtags.Goals as goal
 pub returns : goal.returns
 returns c =
     all_from_yields_List (λ (s : List ℕ). is_subtag (folded s)) _ _ c.all.result c.all.ensures.ran
-    (YieldsList-from_slice_split _ (λ (b : ℕ). b == 45) c.args.text.now c.split.ensures.rest c.split.ensures.done c.split.ensures.closure (λ x r q k. search (rules, tests)))
+    (YieldsList-from_slice_split _ (λ (b : ℕ). b == 45) c.args.text.now c.split.ensures.rest c.split.ensures.done
+    c.split.ensures.closure (λ x r q k. search (rules, tests)))
     (λ x b q k. search (rules, tests))
     ∙ simp list_all-map

@@ -6,4 +6,5 @@ use Rattle.lt_cache.proofs.keyword_ends.append_keywords.Given as goal
 
 -- the subtags of the keywords so far are at the end
 abbrev pub invariant-loop-keyword : goal.invariant-loop-keyword
-invariant-loop-keyword l = l.texts.items ≡ l.initial.texts.items ++ flat_map hyphened (flat_map spell_keyword (take l.keyword-index l.keywords))
+invariant-loop-keyword l = l.texts.items ≡ l.initial.texts.items ++ flat_map hyphened (flat_map spell_keyword
+    (take l.keyword-index l.keywords))

@@ -9,7 +9,8 @@ use Rattle.lt_cache.proofs.keyword_ends.read_keywords.Given as goal
 
 -- the keywords so far, and what is left, are the text
 abbrev pub invariant-loop-rest : goal.invariant-loop-rest
-invariant-loop-rest l = (flat_map spell_keyword l.keywords.items ++ map folded (pieces_left l.rest) ≡ list_of l.fn.text) × AllByRecursion IsKeyword l.keywords.items
+invariant-loop-rest l = (flat_map spell_keyword l.keywords.items ++ map folded (pieces_left l.rest) ≡ list_of l.fn.text)
+    × AllByRecursion IsKeyword l.keywords.items
 
 -- a turn takes one of the pieces that are left
 abbrev pub decreases-loop-rest : goal.decreases-loop-rest

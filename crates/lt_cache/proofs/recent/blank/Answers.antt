@@ -7,7 +7,8 @@ use Rattle.lt_cache.proofs.recent.blank.Goals as goal
 -- a turn adds one empty place more
 pub loop-place-preserved : goal.loop-place-preserved
 loop-place-preserved c =
-    c.in_ok-push.ensures.items ∙ ap (λ (places : List (Option Kept)). places ++ None ∷ []) c.loop-place.invariant ∙ replicate_more c.loop-place._place None
+    c.in_ok-push.ensures.items ∙ ap (λ (places : List (Option Kept)). places ++ None ∷ []) c.loop-place.invariant
+    ∙ replicate_more c.loop-place._place None
 
 -- there were 8,192 turns, so there are 8,192 places, all empty
 pub returns : goal.returns

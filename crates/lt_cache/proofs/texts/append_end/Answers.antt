@@ -5,4 +5,5 @@ use Rattle.lt_cache.proofs.texts.append_end.Goals as goal
 -- the normal form of the keywords is what follows each canonical core with this end
 pub returns-in-Ok-Some-clause-appended : goal.returns-in-Ok-Some-clause-appended
 returns-in-Ok-Some-clause-appended c = λ ok.
-    keywords_append c.args.end.now c.in-Ok-Some.text.items c.args.texts.now.items c.extend_from_slice.new.self.items (search rules) (search rules)
+    keywords_append c.args.end.now c.in-Ok-Some.text.items c.args.texts.now.items c.extend_from_slice.new.self.items
+    (search rules) (search rules)

@@ -7,5 +7,7 @@ returns-clause-appended g c = λ _.
     let R = g.L.Lookup.listed c.args.checked.now in
     let told = c.in-Ok-true.ensures {u = tt} in
     let parts = c.in-Some.ensures {u = tt} in
-    end_appended R c.append_front.ensures.checked c.in-Some.front.now c.in-Some.end.now c.args.text.now c.args.texts.now.items c.append_front.new.texts.items c.append_end.new.texts.items
-    (told.exact.0 c.in-Ok-true.field-0-test) parts.whole parts.short (told.appended c.in-Ok-true.field-0-test) (c.append_end.ensures.appended c.if-not-append_end.false)
+    end_appended R c.append_front.ensures.checked c.in-Some.front.now c.in-Some.end.now c.args.text.now
+    c.args.texts.now.items c.append_front.new.texts.items c.append_end.new.texts.items
+    (told.exact.0 c.in-Ok-true.field-0-test) parts.whole parts.short (told.appended c.in-Ok-true.field-0-test)
+    (c.append_end.ensures.appended c.if-not-append_end.false)

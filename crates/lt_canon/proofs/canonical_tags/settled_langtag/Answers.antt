@@ -4,5 +4,7 @@ use Rattle.lt_canon.proofs.canonical_tags.settled_langtag.Goals as goal
 -- the core repeats no variant, and this is the first that a source repeats, so a refusal names it
 pub returns-in-Some-clause-refusal : goal.returns-in-Some-clause-refusal
 returns-in-Some-clause-refusal g c =
-    source_refused (g.L.Lookup.listed c.args.table.now) c.requires.checked c.args.core c.settle_core.new.core c.args.extensions.items c.settle_extensions.new.extensions.items c.args.private.items c.in-Some.variant c.requires.valid c.in_ok-settle_core.ensures.form c.in_ok-settle_extensions.ensures.ok
+    source_refused (g.L.Lookup.listed c.args.table.now) c.requires.checked c.args.core c.settle_core.new.core
+    c.args.extensions.items c.settle_extensions.new.extensions.items c.args.private.items c.in-Some.variant
+    c.requires.valid c.in_ok-settle_core.ensures.form c.in_ok-settle_extensions.ensures.ok
     (rw (c.in-Some.is, c.deref.ensures.value) at c.in_ok-variant.ensures)

@@ -12,11 +12,14 @@ loop-lines-init g c =
 pub loop-lines-preserved : goal.loop-lines-preserved
 loop-lines-preserved g c =
     let line = rw c.if-branch.true at (c.in_ok-append_line.ensures {u = tt}).line in
-    given_step c.in_ok-left.left c.loop-lines.left c.append_line.new.self [] c.loop-lines.lines.items c.append_line.new.lines.items c.loop-lines.invariant line
+    given_step c.in_ok-left.left c.loop-lines.left c.append_line.new.self [] c.loop-lines.lines.items
+    c.append_line.new.lines.items c.loop-lines.invariant line
 
 -- the line of the end is given, so the lines are those of the whole explanation
 pub returns-clause-written : goal.returns-clause-written
 returns-clause-written g c =
     let line = rw c.if-branch.false at (c.in_ok-append_line.ensures {u = tt}).line in
-    let all = given_all c.in_ok-left.left c.loop-lines.left c.append_line.new.self [] c.loop-lines.lines.items c.append_line.new.lines.items c.loop-lines.invariant line in
-    whole_text (g.L.Lookup.listed c.args.checked.now) c.args.text.now c.append_line.new.lines.items c.in_ok-left.left (c.in_ok-left.ensures {u = tt}).whole all
+    let all = given_all c.in_ok-left.left c.loop-lines.left c.append_line.new.self [] c.loop-lines.lines.items
+    c.append_line.new.lines.items c.loop-lines.invariant line in
+    whole_text (g.L.Lookup.listed c.args.checked.now) c.args.text.now c.append_line.new.lines.items c.in_ok-left.left
+    (c.in_ok-left.ensures {u = tt}).whole all

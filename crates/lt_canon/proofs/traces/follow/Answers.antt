@@ -7,4 +7,8 @@ use Rattle.lt_canon.proofs.traces.follow.Goals as goal
 pub loop-index-preserved : goal.loop-index-preserved
 loop-index-preserved g c =
     let on = (c.in-Ok.ensures {u = tt}).ok in
-    record { led = trace_here (g.L.Lookup.listed c.args.table.now) c.args.tag.now c.args.steps.now c.loop-index.index (step_at kinds.Extlang 0 0) c.loop-index.here c.in-Ok.next c.loop-index-test.true c.loop-index.invariant.led on; proper = on.0.to }
+    record {
+      led = trace_here (g.L.Lookup.listed c.args.table.now) c.args.tag.now c.args.steps.now c.loop-index.index
+          (step_at kinds.Extlang 0 0) c.loop-index.here c.in-Ok.next c.loop-index-test.true c.loop-index.invariant.led on;
+      proper = on.0.to;
+    }

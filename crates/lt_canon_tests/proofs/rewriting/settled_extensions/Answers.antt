@@ -13,11 +13,14 @@ settle-requires-clause-singletons c =
     let R : List EntryParts = c.args.table.now in
     let t : TagForm = c.in_ok-tag.tag in
     let valid : IsValid R t = (valid_law R t c.extensions.ensures.tag).1 c.in_ok-judge.ensures in
-    subst (λ (es : List ExtensionParts). Distinct (map (λ (e : ExtensionParts). e.singleton) es)) (sym (c.in_ok-extensions.ensures ∙ c.extensions.ensures.value)) (can_settle R t valid.proper.parts).singletons
+    subst (λ (es : List ExtensionParts). Distinct (map (λ (e : ExtensionParts). e.singleton) es))
+    (sym (c.in_ok-extensions.ensures ∙ c.extensions.ensures.value)) (can_settle R t valid.proper.parts).singletons
 
 pub settle-requires-clause-transforms : goal.settle-requires-clause-transforms
 settle-requires-clause-transforms c =
     let R : List EntryParts = c.args.table.now in
     let t : TagForm = c.in_ok-tag.tag in
     let valid : IsValid R t = (valid_law R t c.extensions.ensures.tag).1 c.in_ok-judge.ensures in
-    subst (λ (es : List ExtensionParts). AllByRecursion (λ (e : ExtensionParts). e.singleton ≡ transform → (p : TForm) × IsTransform e.subtags p) es) (sym (c.in_ok-extensions.ensures ∙ c.extensions.ensures.value)) (can_settle R t valid.proper.parts).transforms
+    subst (λ (es : List ExtensionParts). AllByRecursion (λ (e : ExtensionParts). e.singleton ≡ transform → (p : TForm)
+    × IsTransform e.subtags p) es) (sym (c.in_ok-extensions.ensures ∙ c.extensions.ensures.value))
+    (can_settle R t valid.proper.parts).transforms

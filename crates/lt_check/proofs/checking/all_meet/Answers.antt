@@ -2,7 +2,8 @@ use Rattle.lt_check.specs.Checking.{MeetsByRecord}
 use Rattle.lt_check.proofs.FirstFaults.{all_met, before_more, item_at}
 use Rattle.lt_check.proofs.Judging.{bare_meets, meets_by_record}
 use Rattle.lt_check.proofs.checking.all_meet.Goals as goal
-use Rattle.lt_check.proofs.checking.all_meet.Goals.{else-not-is_bare-via-then-not-is_bare+else-not-meets_each, else-not-is_bare-via-else-not-is_bare}
+use Rattle.lt_check.proofs.checking.all_meet.Goals.{else-not-is_bare-via-then-not-is_bare+else-not-meets_each}
+use Rattle.lt_check.proofs.checking.all_meet.Goals.{else-not-is_bare-via-else-not-is_bare}
 
 -- a turn has one entry more: a bare one meets each of these conditions, any other was looked at
 pub loop-entry-preserved : goal.loop-entry-preserved
@@ -18,4 +19,5 @@ loop-entry-preserved g c = λ condition is.
 
 -- no entry is left, so all entries meet each of these conditions
 pub returns : goal.returns
-returns g c = λ _ condition is. all_met _ _ condition _ c.entries-entry-items.ensures.value c.loop-entry-test.false (c.loop-entry.invariant condition is)
+returns g c = λ _ condition is. all_met _ _ condition _ c.entries-entry-items.ensures.value c.loop-entry-test.false
+    (c.loop-entry.invariant condition is)

@@ -9,7 +9,9 @@ lowest_fault-requires-clause-lower g c = lower_at _ _ c.loop-condition-test.true
 
 -- a turn without a finding has one condition more that all records meet (two, where C10 is judged with C11)
 pub loop-condition-preserved : goal.loop-condition-preserved
-loop-condition-preserved g c = rw (add-one c.loop-condition.condition-index) (subst (IsVerdictBelow (rank_at (suc c.loop-condition.condition-index)) (g.L.Lookup.listed c.args.table.now)) c.in_default.is c.in_ok-finding.ensures)
+loop-condition-preserved g c = rw (add-one c.loop-condition.condition-index)
+    (subst (IsVerdictBelow (rank_at (suc c.loop-condition.condition-index)) (g.L.Lookup.listed c.args.table.now))
+    c.in_default.is c.in_ok-finding.ensures)
 
 -- all conditions were judged, and all records meet them
 pub returns : goal.returns

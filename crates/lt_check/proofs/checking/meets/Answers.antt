@@ -4,7 +4,9 @@ use Rattle.lt_check.proofs.checking.meets.Goals as goal
 -- the condition is decided record by record, and each such condition has an arm above
 pub unreachable-requires : goal.unreachable-requires
 unreachable-requires g c =
-    not_by_record c.args.condition c.requires.by_record c.in_default.not-RegisteredValue c.in_default.not-EndingChain c.in_default.not-FittingExtlang c.in_default.not-FittingVariantValue c.in_default.not-FinalPrefixes c.in_default.not-LangtagPrefixes c.in_default.not-ValidWhole c.in_default.not-NoRangeValue
+    not_by_record c.args.condition c.requires.by_record c.in_default.not-RegisteredValue c.in_default.not-EndingChain
+    c.in_default.not-FittingExtlang c.in_default.not-FittingVariantValue c.in_default.not-FinalPrefixes
+    c.in_default.not-LangtagPrefixes c.in_default.not-ValidWhole c.in_default.not-NoRangeValue
 
 -- the test tells whether the record meets C9
 pub returns-in-ValidWhole : goal.returns-in-ValidWhole

@@ -1,6 +1,7 @@
 use Rattle.std.proofs.Common.{◌∙◌, sym}
 use Rattle.lt_check.proofs.checking.meets_each.Goals as goal
-use Rattle.lt_check.proofs.checking.meets_each.Goals.{then-has_fitting_prefixes, else-has_fitting_prefixes, then-has_fitting_value, else-has_fitting_value}
+use Rattle.lt_check.proofs.checking.meets_each.Goals.{then-has_fitting_prefixes, else-has_fitting_prefixes}
+use Rattle.lt_check.proofs.checking.meets_each.Goals.{then-has_fitting_value, else-has_fitting_value}
 
 -- the tests of value, Prefixes and whole tag held, so if the last holds too, each condition is met
 pub returns-then-has_valid_whole : goal.returns-then-has_valid_whole

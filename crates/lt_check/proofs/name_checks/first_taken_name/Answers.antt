@@ -7,7 +7,9 @@ use Rattle.lt_check.proofs.name_checks.first_taken_name.Goals as goal
 -- the records with lower numbers are the entries before this one, and the flags of their subtags are set
 pub is_new-requires-clause-flags : goal.is_new-requires-clause-flags
 is_new-requires-clause-flags g c =
-    marked_at _ c.entries-entry-items.ensures.rising _ _ _ (item_at _ _ _ _ c.entries-entry-items.ensures.value c.loop-entry-test.true c.entry-item.is) c.loop-entry.invariant.flags
+    marked_at _ c.entries-entry-items.ensures.rising _ _ _
+    (item_at _ _ _ _ c.entries-entry-items.ensures.value c.loop-entry-test.true c.entry-item.is)
+    c.loop-entry.invariant.flags
 
 -- all entries before have names of their own, and this one hasn't, so it is the lowest at fault
 pub returns-then-not-branch : goal.returns-then-not-branch
@@ -15,7 +17,11 @@ returns-then-not-branch g c =
     let rising = c.entries-entry-items.ensures.rising in
     let at = item_at _ _ _ _ c.entries-entry-items.ensures.value c.loop-entry-test.true c.entry-item.is in
     found_fault _ rising conditions.OwnName _ _ _ at c.number-number.ensures.value c.loop-entry.invariant.before
-    (λ own. cc (c.if-not-branch.true, c.in_ok-is_new.ensures.new.1 ((new_own _ _ _ at rising c.loop-entry.seen c.loop-entry.invariant.seen _ refl).1 own)))
+    (λ own. cc (
+      c.if-not-branch.true,
+      c.in_ok-is_new.ensures.new.1
+          ((new_own _ _ _ at rising c.loop-entry.seen c.loop-entry.invariant.seen _ refl).1 own),
+    ))
 
 -- a turn has one entry more with a name of its own; its flag is set, or its range is among those seen
 pub loop-entry-preserved : goal.loop-entry-preserved
@@ -23,7 +29,9 @@ loop-entry-preserved g c =
     let rising = c.entries-entry-items.ensures.rising in
     let at = item_at _ _ _ _ c.entries-entry-items.ensures.value c.loop-entry-test.true c.entry-item.is in
     record {
-      before = before_more _ conditions.OwnName _ _ at c.loop-entry.invariant.before ((new_own _ _ _ at rising c.loop-entry.seen c.loop-entry.invariant.seen _ refl).0 (c.in_ok-is_new.ensures.new.0 c.if-not-branch.false));
+      before = before_more _ conditions.OwnName _ _ at c.loop-entry.invariant.before
+          ((new_own _ _ _ at rising c.loop-entry.seen c.loop-entry.invariant.seen _ refl).0
+          (c.in_ok-is_new.ensures.new.0 c.if-not-branch.false));
       flags = marked_next _ _ _ _ _ at c.loop-entry.invariant.flags c.in_ok-is_new.ensures.flags;
       seen = seen_more _ _ _ at c.loop-entry.seen c.is_new.new.seen c.loop-entry.invariant.seen c.in_ok-is_new.ensures.seen;
     }
@@ -31,4 +39,6 @@ loop-entry-preserved g c =
 -- no entry is left, so all entries have names of their own
 pub returns : goal.returns
 returns g c =
-    all_met c.entries-entry-items.result.now (g.L.Lookup.listed c.args.table.now) conditions.OwnName c.loop-entry.entry-index c.entries-entry-items.ensures.value c.loop-entry-test.false c.loop-entry.invariant.before
+    all_met c.entries-entry-items.result.now (g.L.Lookup.listed c.args.table.now) conditions.OwnName
+    c.loop-entry.entry-index c.entries-entry-items.ensures.value c.loop-entry-test.false
+    c.loop-entry.invariant.before

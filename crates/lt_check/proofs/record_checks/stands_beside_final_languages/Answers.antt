@@ -9,6 +9,7 @@ pub returns-then-not-is_empty : goal.returns-then-not-is_empty
 returns-then-not-is_empty g c =
     let R = g.L.Lookup.listed c.args.table.now in
     let valued = c.in-Variant-Some in
-    beside_compared R c.args.entry.now valued.value.now c.have_final_languages.result (sym valued.ensures.value) (sym valued.ensures'.value) (sym c.is_short.ensures ∙ c.if-is_short.true)
+    beside_compared R c.args.entry.now valued.value.now c.have_final_languages.result (sym valued.ensures.value)
+    (sym valued.ensures'.value) (sym c.is_short.ensures ∙ c.if-is_short.true)
     (ap (λ (ps : List (List (List ℕ))). length ps == 0) (sym c.prefixes.ensures.value) ∙ sym c.is_empty.ensures ∙ c.if-not-is_empty.true)
     (c.have_final_languages.ensures ∙ ap (list_all (is_final_prefix R)) c.prefixes-then-not-is_empty.ensures.value)

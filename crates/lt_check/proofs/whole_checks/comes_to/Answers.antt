@@ -11,7 +11,8 @@ settled-requires-clause-proper g c = c.requires.proper _ c.in-Some.ensures.value
 -- the form is the tag's own core, of which nothing is asked, or it is the end already
 pub returns-then-eq : goal.returns-then-eq
 returns-then-eq g c =
-    let comes = elim c.then-eq.branch as (λ _. c.in_ok-form.form ≢ c.in-Some.core.now → ComesTo (g.L.Lookup.listed c.args.table.now) c.in_ok-form.form c.args.end.now) [
+    let comes = elim c.then-eq.branch as (λ _. c.in_ok-form.form ≢ c.in-Some.core.now
+    → ComesTo (g.L.Lookup.listed c.args.table.now) c.in_ok-form.form c.args.end.now) [
       | then-eq-via-then-eq w ↦ λ moved. absurd (moved ((same_verdict _ _ _ c.eq.ensures).0 w.if-eq.true))
       | then-eq-via-else-eq+then-eq-2 w ↦ λ moved. inl ((same_verdict _ _ _ w.eq-else-eq.ensures).0 w.if-eq-2.true)
     ] in
@@ -28,11 +29,15 @@ returns-in_ok-settled-in-Some-plain_value_of g c =
     let apart = differ _ _ _ c.eq-else-eq.ensures c.if-eq-2.false in
     let reaches = same_verdict _ _ _ c.eq-in-Some-plain_value_of.ensures in
     at_form _ c.requires.lower _ _ _ _ c.in-Some.ensures.value c.in_ok-form.ensures.normal _
-    (by_value _ c.requires.lower _ _ _ _ _ moved apart c.in-Some-plain_value_of.ensures c.in_ok-settled-in-Some-plain_value_of.ensures.normal _ reaches)
+    (by_value _ c.requires.lower _ _ _ _ _ moved apart c.in-Some-plain_value_of.ensures
+    c.in_ok-settled-in-Some-plain_value_of.ensures.normal _ reaches)
 
 -- the form is neither the core nor the end, and has no value: so it does not come to the end
 pub returns-in-None : goal.returns-in-None
 returns-in-None g c =
     let moved = differ _ _ _ c.eq.ensures c.if-eq.false in
-    let apart = differ _ _ _ c.eq-else-eq.ensures c.if-eq-2.false in
-    ((λ h. cc), (λ t. elim (t _ _ c.in-Some.ensures.value c.in_ok-form.ensures.normal moved) [ inl e ↦ absurd (apart e) | inr v ↦ absurd (c.in-None.ensures v.0 v.1) ]))
+    let apart = differ _ _ _ c.eq-else-eq.ensures c.if-eq-2.false in (
+      (λ h. cc),
+      (λ t. elim (t _ _ c.in-Some.ensures.value c.in_ok-form.ensures.normal moved)
+          [ inl e ↦ absurd (apart e) | inr v ↦ absurd (c.in-None.ensures v.0 v.1) ]),
+    )

@@ -10,12 +10,14 @@ settled-requires-clause-proper g c =
 
 -- a tag that is a core alone is no grandfathered one by C8, and a redundant one is valid by C9: so its core is proper
 pub comes_to-requires-clause-proper : goal.comes_to-requires-clause-proper
-comes_to-requires-clause-proper g c = tag_proper _ c.requires.lower c.know_entries.ensures _ c.requires.listed _ _ c.in-Some.ensures.0 c.in-Some.ensures.1
+comes_to-requires-clause-proper g c = tag_proper _ c.requires.lower c.know_entries.ensures _ c.requires.listed _ _
+    c.in-Some.ensures.0 c.in-Some.ensures.1
 
 -- the value has one core normal form, `end`, so what was found of `end` decides both conditions
 pub returns : goal.returns
 returns g c =
-    let at = at_end (g.L.Lookup.listed c.args.table.now) c.requires.lower c.args.entry.now _ _ _ _ c.in-Some.ensures.0 c.in-Some.ensures.1 c.in-Some-core_alone.ensures.value c.in_ok-end.ensures.normal in
+    let at = at_end (g.L.Lookup.listed c.args.table.now) c.requires.lower c.args.entry.now _ _ _ _ c.in-Some.ensures.0
+    c.in-Some.ensures.1 c.in-Some-core_alone.ensures.value c.in_ok-end.ensures.normal in
     record {
       rests = at (λ _. RestsAlone (g.L.Lookup.listed c.args.table.now)) _ c.rests-rests.ensures;
       agrees = Decides-like _

@@ -10,4 +10,8 @@ loop-i-init c = record { named = search rules; boundary = IsCharBoundary-start c
 
 -- a turn adds one byte to the name, an ASCII one, so that no character is cut behind it
 pub loop-i-preserved : goal.loop-i-preserved
-loop-i-preserved c = record { named = grind (arith, common_steps); boundary = IsCharBoundary-after_ascii c.args.text.now c.loop-i.i c.utf8.text (omega arith) (grind (arith, nat_tests)) }
+loop-i-preserved c = record {
+  named = grind (arith, common_steps);
+  boundary = IsCharBoundary-after_ascii c.args.text.now
+      c.loop-i.i c.utf8.text (omega arith) (grind (arith, nat_tests));
+}

@@ -21,5 +21,6 @@ returns-in-Some c =
     let front : c.range.result.now ≡ take i text = c.range.ensures.value ∙ ap (λ (n : ℕ). take n text) same in
     let back = c.range_from.ensures.value in (
       subst IsOneLine (sym front) at.2,
-      cut_at text i at.0 at.1 ∙ ap (λ (l : List ℕ). l ++ 10 ∷ drop (i + 1) text) (sym front) ∙ ap (λ (l : List ℕ). c.range.result.now ++ 10 ∷ l) (sym back),
+      cut_at text i at.0 at.1 ∙ ap (λ (l : List ℕ). l ++ 10 ∷ drop (i + 1) text) (sym front)
+          ∙ ap (λ (l : List ℕ). c.range.result.now ++ 10 ∷ l) (sym back),
     )

@@ -23,5 +23,6 @@ returns-then-not-is_blank-2 c =
     let first : is_blank (get_or text 1 0) ≡ false =
     subst (λ (l : List ℕ). is_blank (get_or l 1 0) ≡ false) same (sym c.is_blank.ensures ∙ c.if-not-is_blank.true) in
     let last : is_blank (get_or text (length text - 1) 0) ≡ false =
-    subst (λ (l : List ℕ). is_blank (get_or l (length l - 1) 0) ≡ false) same (sym c.is_blank-then-not-is_blank.ensures ∙ c.if-not-is_blank-2.true) in
+    subst (λ (l : List ℕ). is_blank (get_or l (length l - 1) 0) ≡ false) same (sym c.is_blank-then-not-is_blank.ensures
+    ∙ c.if-not-is_blank-2.true) in
     c.range_from.ensures.value ∙ sym (trim_spaced text some space first last)

@@ -10,4 +10,8 @@ loop-i-init c = record { trimmed = search rules; boundary = IsCharBoundary-start
 
 -- a turn trims one byte more, a space or a tab, behind which no character is cut
 pub loop-i-preserved : goal.loop-i-preserved
-loop-i-preserved c = record { trimmed = grind (arith, common_steps); boundary = IsCharBoundary-after_ascii c.args.text.now c.loop-i.i c.utf8.text (omega arith) (grind (arith, nat_tests)) }
+loop-i-preserved c = record {
+  trimmed = grind (arith, common_steps);
+  boundary = IsCharBoundary-after_ascii
+      c.args.text.now c.loop-i.i c.utf8.text (omega arith) (grind (arith, nat_tests));
+}

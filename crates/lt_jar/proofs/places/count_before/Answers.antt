@@ -8,11 +8,13 @@ pub returns-then-bits-eq0 : goal.returns-then-bits-eq0
 returns-then-bits-eq0 c =
     let front = take 32 c.args.text.now in
     let long = length-take-le 32 c.args.text.now c.requires in
-    sym (none_of_lanes c.args.byte front _ (bitmask_splat w8 eqb front 32 c.args.byte long (omega arith)) (omega (arith, c.if-bits-eq0.true)) ∙ long)
+    sym (none_of_lanes c.args.byte front _ (bitmask_splat w8 eqb front 32 c.args.byte long (omega arith)) (omega
+    (arith, c.if-bits-eq0.true)) ∙ long)
 
 -- the lowest bit that is set is that of the first place of the byte
 pub returns-else-bits-eq0 : goal.returns-else-bits-eq0
 returns-else-bits-eq0 c =
     let front = take 32 c.args.text.now in
     let long = length-take-le 32 c.args.text.now c.requires in
-    first_of_lanes c.args.byte front _ (bitmask_splat w8 eqb front 32 c.args.byte long (omega arith)) (omega (arith, long)) (omega (arith, c.if-bits-eq0.false))
+    first_of_lanes c.args.byte front _ (bitmask_splat w8 eqb front 32 c.args.byte long (omega arith))
+    (omega (arith, long)) (omega (arith, c.if-bits-eq0.false))

@@ -6,7 +6,8 @@ use Rattle.lt_jar.proofs.reading.read_jar.Goals as goal
 
 -- before the loop no record is read, and the whole text is left
 pub loop-after-init : goal.loop-after-init
-loop-after-init c = rw c.new-records.ensures.items (text_begins c.args.text.now c.new-engine.result c.new-engine.ensures.empty c.new-engine.ensures.start)
+loop-after-init c = rw c.new-records.ensures.items
+    (text_begins c.args.text.now c.new-engine.result c.new-engine.ensures.empty c.new-engine.ensures.start)
 
 -- a record begins only where there is room for one more, so fewer than 100,000 ended before this one
 pub push_record-requires-clause-few : goal.push_record-requires-clause-few
@@ -31,7 +32,8 @@ loop-after-preserved c =
 
 -- the engine stopped at the first line that is refused, and says why
 pub returns-in-Err-clause-fault : goal.returns-in-Err-clause-fault
-returns-in-Err-clause-fault c = rw c.line.ensures (said_of c.loop-after.invariant (runs_stops (text_runs c.loop-after.invariant) c.in-Err.ensures))
+returns-in-Err-clause-fault c = rw c.line.ensures
+    (said_of c.loop-after.invariant (runs_stops (text_runs c.loop-after.invariant) c.in-Err.ensures))
 
 -- a record begins only where there is room for one more, so fewer than 100,000 ended before the last
 pub push_record-requires-in-Ok-true-clause-few : goal.push_record-requires-in-Ok-true-clause-few
@@ -45,7 +47,8 @@ pub returns-in_err-push_record-in-Ok-true-clause-fault : goal.returns-in_err-pus
 returns-in_err-push_record-in-Ok-true-clause-fault c =
     let takes = rw c.in-Ok-None.field-0-is at c.in-Ok-None.ensures in
     let ended = text_ends c.finish.new.self c.loop-after.invariant takes (rw c.in-Ok-true.field-0-test at c.in-Ok-true.ensures) in
-    let p = err_from_is_err_and c.from_residual-in_err-push_record-in-Ok-true.result c.from_residual-in_err-push_record-in-Ok-true.ensures.1 in
+    let p = err_from_is_err_and c.from_residual-in_err-push_record-in-Ok-true.result
+    c.from_residual-in_err-push_record-in-Ok-true.ensures.1 in
     let memory = c.in_err-push_record-in-Ok-true.ensures.memory in
     rw (p.1, p.2) (inr (memory.0, ended.reached c.in_err-push_record-in-Ok-true.field-0.0.line memory.1 (omega arith)))
 
@@ -68,5 +71,7 @@ returns-in-Ok-true c =
 pub returns-in-Ok-false : goal.returns-in-Ok-false
 returns-in-Ok-false c =
     let takes = rw c.in-Ok-None.field-0-is at c.in-Ok-None.ensures in
-    let all = (text_ends c.finish.new.self c.loop-after.invariant takes (rw c.in-Ok-false.field-0-test at c.in-Ok-false.ensures)).has _ (sym (append-nil _)) in
+    let all =
+    (text_ends c.finish.new.self c.loop-after.invariant takes
+    (rw c.in-Ok-false.field-0-test at c.in-Ok-false.ensures)).has _ (sym (append-nil _)) in
     record { records = all.0; within = all.1; fault = tt }

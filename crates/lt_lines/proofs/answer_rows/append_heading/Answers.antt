@@ -10,9 +10,11 @@ returns c =
     record {
       bytes = heading_line c.args.is_kept c.args.separator c.args.line.now;
       grown = c.in_ok-append_longer-2.ensures
-          ∙ ap (λ (l : List ℕ). c.args.lines.now.items ++ row_line c.args.separator (with_canonical c.args.is_kept c.args.separator l (codes "langtag")) (codes "langtag_fault") c.args.line.now) same;
+          ∙ ap (λ (l : List ℕ). c.args.lines.now.items ++ row_line c.args.separator (with_canonical c.args.is_kept
+          c.args.separator l (codes "langtag")) (codes "langtag_fault") c.args.line.now) same;
       owed = inr (record {
-        none = λ returns. let is : c.has_return.result ≡ true = c.has_return.ensures.1 (subst (HasReturn c.args.separator) (sym same) returns) in
+        none = λ returns. let is : c.has_return.result ≡ true = c.has_return.ensures.1
+            (subst (HasReturn c.args.separator) (sym same) returns) in
             let bad : true ≡ false = sym is ∙ c.if-has_return.false in cc;
         owed = (refl, refl);
       });

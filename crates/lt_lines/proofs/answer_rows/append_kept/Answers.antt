@@ -6,7 +6,8 @@ use Rattle.lt_lines.proofs.answer_rows.append_kept.Goals as goal
 use Rattle.lt_lines.proofs.answer_rows.append_kept.Goals.{After-append_field}
 
 -- the row and a separator are in front of what is added
-front : (g : _) (c : goal.After-append_field g) → c.push.new.self.items ≡ (c.args.lines.now.items ++ content_of c.args.line.now) ++ separator c.args.separator ∷ []
+front : (g : _) (c : goal.After-append_field g)
+    → c.push.new.self.items ≡ (c.args.lines.now.items ++ content_of c.args.line.now) ++ separator c.args.separator ∷ []
 front g c = rw (c.in_ok-push.ensures.items, c.in_ok-extend_from_slice.ensures.items, c.without_return.ensures, c.byte.ensures) refl
 
 -- the field has a canonical text, which is added, and then an empty field

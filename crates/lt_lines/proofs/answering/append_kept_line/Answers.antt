@@ -19,6 +19,7 @@ returns-clause-owed g c =
     IfOk-weaker c.append_reply.result _ _ (λ refused owes recent. let a = owes recent in record {
       bytes = a.bytes;
       grown = a.grown;
-      owed = λ last is. reply_for_kept G c.args.form c.args.is_first (last ++ part) _ c.know_codes.ensures (subst (λ (l : List ℕ). IsReplyTo (terms G c.args.form) c.args.is_first l (reply a.bytes refused))
+      owed = λ last is. reply_for_kept G c.args.form c.args.is_first (last ++ part) _ c.know_codes.ensures
+          (subst (λ (l : List ℕ). IsReplyTo (terms G c.args.form) c.args.is_first l (reply a.bytes refused))
           (whole ∙ c.deref.ensures.value ∙ kept_more c.args.form old.items last part c.keep.new.kept.items is kept) a.owed);
     }) c.append_reply.ensures.owed

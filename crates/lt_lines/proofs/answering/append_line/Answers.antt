@@ -22,7 +22,8 @@ pub returns-then-is_empty-clause-kept : goal.returns-then-is_empty-clause-kept
 returns-then-is_empty-clause-kept g c =
     let kept = c.args.kept.now in
     let none = no_items kept.items (vec_len kept) kept.ok.0 (sym c.is_empty.ensures ∙ c.if-is_empty.true) in
-    on_ok_weaker c.append_reply.result (λ _. keeps_none c.args.form kept.items (take c.args.count c.args.text.now) none) c.append_reply.ensures.recent
+    on_ok_weaker c.append_reply.result (λ _. keeps_none c.args.form kept.items (take c.args.count c.args.text.now) none)
+    c.append_reply.ensures.recent
 
 -- a front of the line was kept, and now all of it that is to be kept is
 pub returns-clause-kept : goal.returns-clause-kept
@@ -30,4 +31,6 @@ returns-clause-kept g c =
     let part = take c.args.count c.args.text.now in
     let old = c.args.kept.now in
     let some = some_items old.items (vec_len old) old.ok.0 (sym c.is_empty.ensures ∙ c.if-is_empty.false) in
-    on_ok_weaker c.append_kept_line.result (λ kept. keeps_some c.args.form old.items part c.append_kept_line.new.kept.items some (kept ∙ ap (λ (n : ℕ). old.items ++ part_kept c.args.form n part) old.ok.0)) c.append_kept_line.ensures.kept
+    on_ok_weaker c.append_kept_line.result
+    (λ kept. keeps_some c.args.form old.items part c.append_kept_line.new.kept.items some
+    (kept ∙ ap (λ (n : ℕ). old.items ++ part_kept c.args.form n part) old.ok.0)) c.append_kept_line.ensures.kept

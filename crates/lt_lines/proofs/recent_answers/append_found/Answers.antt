@@ -8,7 +8,8 @@ pub returns-clause-recent : goal.returns-clause-recent
 returns-clause-recent g c = λ recent.
     let a = (c.in_ok-refused.ensures {u = tt}).owed recent.ends in
     record {
-      whole = put_appended (g.L.Lookup.listed c.args.checked.now) forms.Tag _ _ _ a.bytes c.args.lines.now.items c.append_answer.new.lines.items c.deref.result.now c.len-start.result c.in_ok-refused.refused c.put.ensures
+      whole = put_appended (g.L.Lookup.listed c.args.checked.now) forms.Tag _ _ _ a.bytes c.args.lines.now.items
+          c.append_answer.new.lines.items c.deref.result.now c.len-start.result c.in_ok-refused.refused c.put.ensures
           c.deref.ensures.value (c.len-start.ensures ∙ c.args.lines.now.ok.0) a.grown a.owed recent.whole;
       ends = c.append_answer.ensures.ends recent.ends;
     }

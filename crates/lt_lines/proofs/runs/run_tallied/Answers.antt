@@ -10,5 +10,6 @@ run_pieces-end-requires g c = (refl, reading_none _ _ _ _ (c.new.ensures _ refl)
 -- the run over the pieces is one over the lines, and its tallies are those that are given
 pub returns : goal.returns
 returns g c =
-    rw c.swap.ensures.x_after (runs_lines (terms (ground_of g.L.Lookup.listed c.args.basis.now) c.args.form) (λ here. terms (ground_of g.L.Lookup.listed here.basis.now) here.form) (λ here. here.text)
+    rw c.swap.ensures.x_after (runs_lines (terms (ground_of g.L.Lookup.listed c.args.basis.now) c.args.form)
+    (λ here. terms (ground_of g.L.Lookup.listed here.basis.now) here.form) (λ here. here.text)
     g.R.Read.remaining g.W.Write.contents _ _ _ _ _ _ c.run_pieces-end.ensures)

@@ -10,7 +10,8 @@ use Rattle.lt_range.proofs.asked.preferences_of.Goals as goal
 pub returns-in_err-range-clause-refusal : goal.returns-in_err-range-clause-refusal
 returns-in_err-range-clause-refusal g c =
     let p = err_from_is_err_and c.from_residual.result c.from_residual.ensures.1 in
-    rw (p.1, p.2) (refused_at (g.L.Lookup.listed c.args.checked.now) c.args.elements.now c.loop-place.place _ c.in_err-range.field-0.0 c.loop-place-test.true c.in_err-range.ensures.refusal)
+    rw (p.1, p.2) (refused_at (g.L.Lookup.listed c.args.checked.now) c.args.elements.now c.loop-place.place _
+    c.in_err-range.field-0.0 c.loop-place-test.true c.in_err-range.ensures.refusal)
 
 -- memory may run out at any element
 pub returns-in_err-push-clause-refusal : goal.returns-in_err-push-clause-refusal

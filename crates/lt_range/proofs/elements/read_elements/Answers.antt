@@ -14,7 +14,8 @@ returns-in_err-element-clause-fault c =
     let p = err_from_is_err_and c.from_residual.result c.from_residual.ensures.1 in
     let pieces = c.args.pieces.now in
     let front = map parts_of c.loop-index.elements.items in
-    rw (p.1, p.2) (refused_within pieces c.loop-index.index front (elements_from 1 (texts pieces)) c.in_err-element.field-0.0 c.loop-index-test.true c.loop-index.invariant c.in_err-element.ensures.fault)
+    rw (p.1, p.2) (refused_within pieces c.loop-index.index front (elements_from 1 (texts pieces))
+    c.in_err-element.field-0.0 c.loop-index-test.true c.loop-index.invariant c.in_err-element.ensures.fault)
 
 -- a turn adds the element of one piece more, or none if the piece is empty
 pub loop-index-preserved : goal.loop-index-preserved
@@ -22,7 +23,9 @@ loop-index-preserved c =
     let pieces = c.args.pieces.now in
     let i = c.loop-index.index in
     let items = c.loop-index.elements.items in
-    let next = one_more pieces i (map parts_of items) (elements_from 1 (texts pieces)) (option_map parts_of c.in_ok-element.field-0) c.loop-index-test.true c.loop-index.invariant c.in_ok-element.ensures.element in
+    let next = one_more pieces i (map parts_of items) (elements_from 1 (texts pieces))
+    (option_map parts_of c.in_ok-element.field-0) c.loop-index-test.true c.loop-index.invariant
+    c.in_ok-element.ensures.element in
     elim c.match-branch-2.branch [
       | in-Some+in_ok-push w ↦
           rw (w.elements-is, w.in_ok-push.ensures.items, map-append parts_of items (w.in-Some.element ∷ [])) (rw w.in-Some.is at next)
@@ -32,4 +35,5 @@ loop-index-preserved c =
 -- no piece is left, so the elements read are all
 pub returns-clause-elements : goal.returns-clause-elements
 returns-clause-elements c =
-    no_more c.args.pieces.now c.loop-index.index (map parts_of c.loop-index.elements.items) (elements_from 1 (texts c.args.pieces.now)) c.loop-index-test.false c.loop-index.invariant
+    no_more c.args.pieces.now c.loop-index.index (map parts_of c.loop-index.elements.items)
+    (elements_from 1 (texts c.args.pieces.now)) c.loop-index-test.false c.loop-index.invariant

@@ -11,5 +11,6 @@ pub returns : goal.returns
 returns c =
     let order = IsStrictWeakOrder-flip _ (ranks_by nat_cmp_total (λ (e : WeightedRange). e.weight)) in
     let by = always_returns_same _ _ _ (λ a r f called. search (rules, of_calls)) in
-    sorted_is_priority c.args.elements.now c.in_ok-found.found.items c.sort_by.new.self.items c.in_ok-found.ensures c.in_ok-sort_by.ensures.permutation
+    sorted_is_priority c.args.elements.now c.in_ok-found.found.items c.sort_by.new.self.items c.in_ok-found.ensures
+    c.in_ok-sort_by.ensures.permutation
     (c.in_ok-sort_by.ensures.sorted comes_first order by) (c.in_ok-sort_by.ensures.stable comes_first order by)

@@ -13,7 +13,8 @@ returns-in-Some c =
       before = take i ranges;
       range = range;
       after = drop (i + 1) ranges;
-      there = parted ranges i range c.loop-range-test.true ∙ ap (λ (x : RangeParts). take i ranges ++ x ∷ drop (i + 1) ranges) (sym c.range-item.is);
+      there = parted ranges i range c.loop-range-test.true
+          ∙ ap (λ (x : RangeParts). take i ranges ++ x ∷ drop (i + 1) ranges) (sym c.range-item.is);
       none_before = c.loop-range.invariant;
       finds = c.in-Some.ensures;
     }

@@ -14,6 +14,8 @@ loop-subtag-preserved c =
     let more : drop c.loop-subtag.subtag-index c.args.named.now ≡ s ∷ ss =
     drop_more c.args.named.now c.loop-subtag.subtag-index s c.loop-subtag-test.true ∙ ap (λ (x : List ℕ). x ∷ ss) (sym c.subtag-item.is) in
     record {
-      next = λ h. turn_next s ss list others c.in-Some.ensures (subst (λ (l : List (List ℕ)). AreInTurn l list) more (c.loop-subtag.invariant.next h));
-      back = λ h. c.loop-subtag.invariant.back (subst (λ (l : List (List ℕ)). AreInTurn l list) (sym more) (turn_back s ss list others c.in-Some.ensures h));
+      next = λ h. turn_next s ss list others c.in-Some.ensures
+          (subst (λ (l : List (List ℕ)). AreInTurn l list) more (c.loop-subtag.invariant.next h));
+      back = λ h. c.loop-subtag.invariant.back (subst (λ (l : List (List ℕ)). AreInTurn l list) (sym more)
+          (turn_back s ss list others c.in-Some.ensures h));
     }

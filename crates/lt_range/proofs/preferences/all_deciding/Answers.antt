@@ -11,6 +11,9 @@ loop-place-preserved c =
     let all = c.args.all.now in
     let tags = c.args.tags.now in
     let n = c.loop-place.place in
-    let is : c.index-tags-place.result ≡ tag_at tags n = get_or_read tags n c.index-tags-place.result c.loop-place-test.true c.index-tags-place.is [] in
-    let told : MayDecide all (tag_at tags n) c.deciding.result = subst (λ (t : List (List ℕ)). MayDecide all t c.deciding.result) is c.deciding.ensures in
-    subst (λ (l : List (Option ℕ)). AreDeciding all tags (n + 1) l) (sym c.in_ok-push.ensures.items) (deciding_next all tags n c.loop-place.found.items c.deciding.result c.loop-place.invariant told)
+    let is : c.index-tags-place.result ≡ tag_at tags n = get_or_read tags n c.index-tags-place.result
+    c.loop-place-test.true c.index-tags-place.is [] in
+    let told : MayDecide all (tag_at tags n) c.deciding.result = subst
+    (λ (t : List (List ℕ)). MayDecide all t c.deciding.result) is c.deciding.ensures in
+    subst (λ (l : List (Option ℕ)). AreDeciding all tags (n + 1) l) (sym c.in_ok-push.ensures.items)
+    (deciding_next all tags n c.loop-place.found.items c.deciding.result c.loop-place.invariant told)

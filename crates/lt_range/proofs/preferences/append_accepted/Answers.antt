@@ -18,13 +18,15 @@ loop-place-preserved c =
     elim c.if-accepts.branch [
       | then-accepts+in_ok-push w ↦ (
         found ++ i ∷ [],
-        rw w.places-is (w.in_ok-push.ensures.items ∙ ap (λ (l : List ℕ). l ++ i ∷ []) c.loop-place.invariant.1 ∙ append_assoc _ found (i ∷ [])),
+        rw w.places-is (w.in_ok-push.ensures.items ∙ ap (λ (l : List ℕ). l ++ i ∷ []) c.loop-place.invariant.1
+            ∙ append_assoc _ found (i ∷ [])),
         places_yes P tags i (tag_at tags i) found c.loop-place-test.true here (tells.0 w.if-accepts.true) c.loop-place.invariant.2,
       )
       | else-accepts w ↦ (
         found,
         rw w.places-is c.loop-place.invariant.1,
-        places_no P tags i (tag_at tags i) found c.loop-place-test.true here (λ p. let bad : false ≡ true = sym w.if-accepts.false ∙ tells.1 p in cc) c.loop-place.invariant.2,
+        places_no P tags i (tag_at tags i) found c.loop-place-test.true here
+            (λ p. let bad : false ≡ true = sym w.if-accepts.false ∙ tells.1 p in cc) c.loop-place.invariant.2,
       )
     ]
 

@@ -10,8 +10,10 @@ loop-index-preserved c =
     let i = c.loop-index.index in
     let found = c.loop-index.places.items in
     let added = c.in_ok-append_accepted.ensures in
-    subst (λ (l : List ℕ). AcceptsOn all tags (i + 1) l) (sym added.1) (accepts_next all tags i found added.0 c.loop-index-test.true added.2 c.loop-index.invariant)
+    subst (λ (l : List ℕ). AcceptsOn all tags (i + 1) l) (sym added.1)
+    (accepts_next all tags i found added.0 c.loop-index-test.true added.2 c.loop-index.invariant)
 
 -- no range is left, so the places are what all accept
 pub returns : goal.returns
-returns c = accepts_end c.args.all.now c.args.tags.now c.loop-index.index c.loop-index.places.items c.loop-index-test.false c.loop-index.invariant
+returns c = accepts_end c.args.all.now c.args.tags.now c.loop-index.index c.loop-index.places.items
+    c.loop-index-test.false c.loop-index.invariant

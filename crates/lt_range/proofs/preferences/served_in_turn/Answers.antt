@@ -11,10 +11,12 @@ pub returns-then-index-all : goal.returns-then-index-all
 returns-then-index-all c =
     let all = c.args.all.now in
     let i = c.first_serving-index.result in
-    let is : c.index-all-index.result ≡ at all i = get_or_read all i c.index-all-index.result c.if-index-all.true c.index-all-index.is (record { range = record { wild = false; named = [] }; weight = 0 }) in
+    let is : c.index-all-index.result ≡ at all i = get_or_read all i c.index-all-index.result c.if-index-all.true
+    c.index-all-index.is (record { range = record { wild = false; named = [] }; weight = 0 }) in
     first_serves c.args.wild all c.args.tags.now i c.served.result c.first_serving-index.ensures c.if-index-all.true
     (subst (λ (p : Preference). Serves all p.range c.args.tags.now c.served.result) (sym c.index-all-index.is ∙ is) c.served.ensures)
 
 -- the first range that serves a tag would be past the last, so none does
 pub returns-else-index-all : goal.returns-else-index-all
-returns-else-index-all c = λ i within. none_before c.args.wild c.args.all.now c.args.tags.now c.first_serving-index.result c.first_serving-index.ensures i (omega (arith, within, c.if-index-all.false))
+returns-else-index-all c = λ i within. none_before c.args.wild c.args.all.now c.args.tags.now
+    c.first_serving-index.result c.first_serving-index.ensures i (omega (arith, within, c.if-index-all.false))

@@ -14,7 +14,8 @@ returns-in_err-subtag-clause-refused c =
     let front = c.loop-rest.invariant.0 in
     let whole = rw c.in-Some.is at c.loop-rest.invariant.2 in
     let split = c.cut_piece.ensures.pieces in
-    let stop = pieces_stop front c.cut_piece.result.0.now (pieces_left c.cut_piece.result.1) c.in_err-subtag.field-0.0 (sym c.later_piece.ensures ∙ c.in_err-subtag.was) in
+    let stop = pieces_stop front c.cut_piece.result.0.now (pieces_left c.cut_piece.result.1) c.in_err-subtag.field-0.0
+    (sym c.later_piece.ensures ∙ c.in_err-subtag.was) in
     rw (p.1, p.2) (refused_is _ _ (sym whole ∙ ap (λ (z : List (List ℕ)). with_front front (later_pieces z)) split ∙ stop))
 
 -- a turn reads one piece more as a subtag, which is added
@@ -24,7 +25,8 @@ loop-rest-preserved-in_ok-push c =
     let s = c.in-Some-2.subtag in
     let whole = rw c.in-Some.is at c.loop-rest.invariant.2 in
     let split = c.cut_piece.ensures.pieces in
-    let next = pieces_next front c.cut_piece.result.0.now (pieces_left c.cut_piece.result.1) (Some s) (sym c.later_piece.ensures ∙ c.in_ok-subtag.was ∙ ap (λ (o : Option (List ℕ)). Ok o) c.in-Some-2.is) in (
+    let next = pieces_next front c.cut_piece.result.0.now (pieces_left c.cut_piece.result.1) (Some s)
+    (sym c.later_piece.ensures ∙ c.in_ok-subtag.was ∙ ap (λ (o : Option (List ℕ)). Ok o) c.in-Some-2.is) in (
       front ++ s ∷ [],
       c.in_ok-push.ensures.items ∙ ap (λ (l : List (List ℕ)). l ++ s ∷ []) c.loop-rest.invariant.1 ∙ append_assoc _ front (s ∷ []),
       sym next ∙ sym (ap (λ (z : List (List ℕ)). with_front front (later_pieces z)) split) ∙ whole,
@@ -36,7 +38,8 @@ loop-rest-preserved c =
     let front = c.loop-rest.invariant.0 in
     let whole = rw c.in-Some.is at c.loop-rest.invariant.2 in
     let split = c.cut_piece.ensures.pieces in
-    let next = pieces_next front c.cut_piece.result.0.now (pieces_left c.cut_piece.result.1) None (sym c.later_piece.ensures ∙ c.in_ok-subtag.was ∙ ap (λ (o : Option (List ℕ)). Ok o) c.in_default-2.is) in (
+    let next = pieces_next front c.cut_piece.result.0.now (pieces_left c.cut_piece.result.1) None
+    (sym c.later_piece.ensures ∙ c.in_ok-subtag.was ∙ ap (λ (o : Option (List ℕ)). Ok o) c.in_default-2.is) in (
       front ++ [],
       c.loop-rest.invariant.1 ∙ ap (λ (l : List (List ℕ)). c.args.named.now.items ++ l) (sym (append-nil front)),
       sym next ∙ sym (ap (λ (z : List (List ℕ)). with_front front (later_pieces z)) split) ∙ whole,

@@ -12,8 +12,11 @@ loop-place-preserved c =
     let starts = c.loop-place.starts.items in
     let d : Row = record { number = 0; place = 0 } in
     let w : Row = get_or rows i d in
-    starts_more rows i w starts c.resize.new.self.items c.loop-place-test.true (get_or_default rows i d w c.loop-place-test.true) c.requires c.loop-place.invariant
-    (c.in_ok-resize.ensures.items ∙ ap (λ n. take (c.beginning.result + 1) starts ++ replicate (c.beginning.result + 1 - n) i) c.loop-place.starts.ok.0
+    starts_more rows i w starts c.resize.new.self.items c.loop-place-test.true
+    (get_or_default rows i d w c.loop-place-test.true) c.requires c.loop-place.invariant
+    (c.in_ok-resize.ensures.items
+    ∙ ap (λ n. take (c.beginning.result + 1) starts ++ replicate (c.beginning.result + 1 - n) i)
+    c.loop-place.starts.ok.0
     ∙ ap (λ k. take (k + 1) starts ++ replicate (k + 1 - length starts) i) c.beginning.ensures)
 
 -- no row is left, and the count of the rows ends the span of the last beginning

@@ -9,4 +9,5 @@ pub returns : goal.returns
 returns c all =
     let ns = c.sort_unstable.new.self in
     rising_differ c.args.numbers.now ns c.sort_unstable.ensures.permutation
-    (subst (IsAllAdjacentAnswer (λ m n b. b ≡ ltb m n) ns) all (c.is_sorted_by.ensures.cases ltb (answers_always _ _ _ (λ f a r f' k. search rules))))
+    (subst (IsAllAdjacentAnswer (λ m n b. b ≡ ltb m n) ns) all
+    (c.is_sorted_by.ensures.cases ltb (answers_always _ _ _ (λ f a r f' k. search rules))))

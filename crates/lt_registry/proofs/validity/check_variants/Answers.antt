@@ -11,5 +11,8 @@ returns g c =
     let vs = c.args.variants.now in
     c.check_each_variant.ensures ∙ elim c.if-may_repeat.branch [
       | then-may_repeat w ↦ ap (λ b. variants_check R b c.args.start [] vs) w.differ_or_may_repeat-is
-      | else-may_repeat w ↦ ap (λ b. variants_check R b c.args.start [] vs) (w.differ_or_may_repeat-is ∙ ap (λ r. r || w.many_differ-differ_or_may_repeat.result) (sym w.if-may_repeat.false)) ∙ differing_pass R c.args.may_repeat c.args.start vs w.many_differ-differ_or_may_repeat.result w.many_differ-differ_or_may_repeat.ensures
+      | else-may_repeat w ↦ ap (λ b. variants_check R b c.args.start [] vs) (w.differ_or_may_repeat-is
+          ∙ ap (λ r. r || w.many_differ-differ_or_may_repeat.result) (sym w.if-may_repeat.false))
+          ∙ differing_pass R c.args.may_repeat c.args.start vs w.many_differ-differ_or_may_repeat.result
+          w.many_differ-differ_or_may_repeat.ensures
     ]

@@ -11,9 +11,13 @@ loop-place-preserved c =
     elim c.match-whole_row.branch [
       | in-Some+in_ok-push w ↦
           let some = sym c.whole_row.ensures ∙ w.in-Some.is in
-          rows_more whole_row (λ (row : Row). row.place) c.args.entries.now c.loop-place.place c.index-entries-place.result w.in-Some.row c.loop-place.rows.items _ c.loop-place-test.true c.index-entries-place.is some
-          (whole_placed c.loop-place.place c.index-entries-place.result w.in-Some.row some) (ap (λ z. z.items) w.rows-is ∙ w.in_ok-push.ensures.items) c.loop-place.invariant
+          rows_more whole_row (λ (row : Row). row.place) c.args.entries.now c.loop-place.place
+          c.index-entries-place.result w.in-Some.row c.loop-place.rows.items _ c.loop-place-test.true
+          c.index-entries-place.is some
+          (whole_placed c.loop-place.place c.index-entries-place.result w.in-Some.row some) (ap (λ z. z.items) w.rows-is
+          ∙ w.in_ok-push.ensures.items) c.loop-place.invariant
       | in_default w ↦
-          rows_skipped whole_row (λ (row : Row). row.place) c.args.entries.now c.loop-place.place c.index-entries-place.result c.loop-place.rows.items _ c.loop-place-test.true c.index-entries-place.is
+          rows_skipped whole_row (λ (row : Row). row.place) c.args.entries.now c.loop-place.place
+          c.index-entries-place.result c.loop-place.rows.items _ c.loop-place-test.true c.index-entries-place.is
           (sym c.whole_row.ensures ∙ w.in_default.is) (ap (λ z. z.items) w.rows-is) c.loop-place.invariant
     ]

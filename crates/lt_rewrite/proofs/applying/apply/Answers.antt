@@ -12,8 +12,15 @@ returns-in_default-clause-err g c =
 pub returns-then-branch-clause-ok : goal.returns-then-branch-clause-ok
 returns-then-branch-clause-ok g c =
     let R = g.L.Lookup.listed c.args.table.now in
-    let leads = rw c.in-Some.is at c.in_ok-changed.ensures in
-    (record { from = c.requires; to = (proper_law R c.in-Some.changed c.extensions.ensures.tag).1 (c.in_ok-proper.ensures.answer.0 c.if-branch.true); change = leads.0 }, leads.1)
+    let leads = rw c.in-Some.is at c.in_ok-changed.ensures in (
+      record {
+        from = c.requires;
+        to = (proper_law R c.in-Some.changed c.extensions.ensures.tag).1
+            (c.in_ok-proper.ensures.answer.0 c.if-branch.true);
+        change = leads.0;
+      },
+      leads.1,
+    )
 
 -- the step leads to one tag at most, and this one is not proper
 pub returns-else-branch-clause-err : goal.returns-else-branch-clause-err

@@ -12,15 +12,25 @@ returns-in-Some g c =
     let t = c.args.tag.now in
     let same : c.in_ok-copy_extensions.field-0.items ≡ extensions_of t = c.in_ok-copy_extensions.ensures ∙ c.extensions.ensures.value in
     let few = (fits t c.extensions.ensures.tag.counts).0 in
-    let leads = rw c.in-Some.is at c.in_ok-changed.ensures in
-    (rw same (core_changed (g.L.Lookup.listed c.args.table.now) t c.args.step c.args.core.now c.in-Some.changed c.requires.core leads), omega (arith, few, ap length same))
+    let leads = rw c.in-Some.is at c.in_ok-changed.ensures in (
+      rw same (core_changed (g.L.Lookup.listed c.args.table.now) t c.args.step c.args.core.now c.in-Some.changed
+          c.requires.core leads),
+      omega (arith, few, ap length same),
+    )
 
 -- a tag has at most 1024 extensions of at most 1025 subtags each, so with its core it is within the bound
 pub change_extensions-requires : goal.change_extensions-requires
 change_extensions-requires g c =
     let t = c.args.tag.now in
     let f = fits t c.extensions-2.ensures.tag.counts in
-    omega (arith, few_subtags (extensions_of t) f.1, f.0, ap (λ es. length (spell_extensions es)) c.extensions-2.ensures.value, c.core_length.ensures.few)
+    omega (
+      arith,
+      few_subtags (extensions_of t) f.1,
+      f.0,
+      ap (λ es. length (spell_extensions es))
+          c.extensions-2.ensures.value,
+      c.core_length.ensures.few,
+    )
 
 -- the step changes the extensions, beside which the core stays; they become no more by it
 pub returns-in_ok-copy-in-Some-2 : goal.returns-in_ok-copy-in-Some-2
@@ -37,5 +47,6 @@ returns-in_ok-copy-in-Some-2 g c =
 -- the step is no Whole step, and leads on neither from the core nor from the extensions
 pub returns-in-None : goal.returns-in-None
 returns-in-None g c =
-    kept (g.L.Lookup.listed c.args.table.now) c.args.tag.now c.args.step c.args.core.now c.requires.core c.requires.kind (rw c.in_default.is at c.in_ok-changed.ensures)
+    kept (g.L.Lookup.listed c.args.table.now) c.args.tag.now c.args.step c.args.core.now c.requires.core c.requires.kind
+    (rw c.in_default.is at c.in_ok-changed.ensures)
     (rw (c.in-None.is, c.extensions-2.ensures.value, c.core_length.ensures.value) at c.in_ok-changed-2.ensures)

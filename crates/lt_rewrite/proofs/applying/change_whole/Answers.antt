@@ -5,4 +5,9 @@ use Rattle.lt_rewrite.proofs.applying.change_whole.Goals as goal
 pub returns-in_ok-copy-in-Some : goal.returns-in_ok-copy-in-Some
 returns-in_ok-copy-in-Some g c =
     rw c.in_ok-copy-in-Some.ensures
-    (from_whole (g.L.Lookup.listed c.args.table.now) c.args.tag.now c.args.step c.requires c.in-Some.value.now (record { place = c.if-step-ne1.false; plain = c.if-not-can_be_replaced_whole.ensures; value = c.in-Some.ensures }))
+    (from_whole (g.L.Lookup.listed c.args.table.now) c.args.tag.now c.args.step c.requires c.in-Some.value.now
+    (record {
+      place = c.if-step-ne1.false;
+      plain = c.if-not-can_be_replaced_whole.ensures;
+      value = c.in-Some.ensures;
+    }))

@@ -14,5 +14,8 @@ returns g c =
     let x : List ℕ = c.extlang-item.result in
     let one : core.extlangs ≡ x ∷ [] = sym c.extlangs.ensures.value ∙ sole c.extlangs.result.now x c.extlang-item.is (omega arith) in
     subst (CoreLeads R c.args.start core c.args.step)
-    (sym (c.set_language.ensures ∙ ap (λ (d : CoreParts). record d { language = c.replacement-language.result }) c.drop_extlangs.ensures ∙ ap (λ l. record core { language = l; extlangs = [] }) c.replacement-language.ensures.value))
-    (leads_at R c.args.start core c.args.step at_extlang x _ c.requires.kind (omega (arith, c.if-step-start.false)) (omega (arith, c.record_number.ensures, c.if-step-record_number.false)) (extlang_there core x one) refl)
+    (sym (c.set_language.ensures
+    ∙ ap (λ (d : CoreParts). record d { language = c.replacement-language.result }) c.drop_extlangs.ensures
+    ∙ ap (λ l. record core { language = l; extlangs = [] }) c.replacement-language.ensures.value))
+    (leads_at R c.args.start core c.args.step at_extlang x _ c.requires.kind (omega (arith, c.if-step-start.false))
+    (omega (arith, c.record_number.ensures, c.if-step-record_number.false)) (extlang_there core x one) refl)

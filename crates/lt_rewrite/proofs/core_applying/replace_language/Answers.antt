@@ -13,6 +13,8 @@ returns-in-Some g c =
     let core = c.args.core.now in
     let v : List ℕ = c.in-Some.value.now in
     let by = subst (λ l. IsValueBy R kinds.Language l c.args.step.number v) c.language.ensures.value c.in-Some.ensures.value in
-    subst (CoreLeads R c.args.start core c.args.step) (sym (c.set_language.ensures ∙ ap (λ (l : List ℕ). record core { language = l }) c.copy.ensures))
+    subst (CoreLeads R c.args.start core c.args.step)
+    (sym (c.set_language.ensures ∙ ap (λ (l : List ℕ). record core { language = l }) c.copy.ensures))
     (leads_at R c.args.start core c.args.step at_language core.language v c.requires.kind (omega (arith, c.if-step-start.false)) (sym by.by)
-    (there_alone core (Some core.language) core.language (sym c.extlangs.ensures.value ∙ none_of c.extlangs.result.now (sym c.is_empty.ensures ∙ c.if-not-is_empty.false)) refl) by.has)
+    (there_alone core (Some core.language) core.language (sym c.extlangs.ensures.value
+    ∙ none_of c.extlangs.result.now (sym c.is_empty.ensures ∙ c.if-not-is_empty.false)) refl) by.has)

@@ -16,8 +16,11 @@ returns-in_default g c d l =
 -- the variant at this place has no value by a record with the step's number
 pub returns-in_default-value_by : goal.returns-in_default-value_by
 returns-in_default-value_by g c =
-    variant_without (g.L.Lookup.listed c.args.table.now) c.args.start c.args.core.now c.args.step c.requires.kind c.in-Some.index c.index-variants-index.result
-    (slice_get_read c.args.core.now.variants _ c.in-Some.index c.index-variants-index.result refl c.in-Some.ensures.0 (subst (λ vs. c.index-variants-index.result ≡ get_or vs c.in-Some.index c.index-variants-index.result) c.variants.ensures.value c.index-variants-index.is)) c.in-Some.ensures.1
+    variant_without (g.L.Lookup.listed c.args.table.now) c.args.start c.args.core.now c.args.step c.requires.kind
+    c.in-Some.index c.index-variants-index.result
+    (slice_get_read c.args.core.now.variants _ c.in-Some.index c.index-variants-index.result refl c.in-Some.ensures.0
+    (subst (λ vs. c.index-variants-index.result ≡ get_or vs c.in-Some.index c.index-variants-index.result)
+    c.variants.ensures.value c.index-variants-index.is)) c.in-Some.ensures.1
     (λ w by long. c.in_default-value_by.ensures.value w by)
 
 -- the value of the variant at this place is a language, and a Variant step needs a variant
@@ -25,8 +28,12 @@ pub returns-then-is_short : goal.returns-then-is_short
 returns-then-is_short g c =
     let v : List ℕ = c.index-variants-index.result in
     variant_without (g.L.Lookup.listed c.args.table.now) c.args.start c.args.core.now c.args.step c.requires.kind c.in-Some.index v
-    (slice_get_read c.args.core.now.variants _ c.in-Some.index v refl c.in-Some.ensures.0 (subst (λ vs. v ≡ get_or vs c.in-Some.index v) c.variants.ensures.value c.index-variants-index.is)) c.in-Some.ensures.1
-    (λ w by long. true≢false (sym c.if-is_short.true ∙ c.is_short.ensures ∙ ap is_short (same_Some c.in-Some-value_by.value.now w (sym c.in-Some-value_by.ensures.value.has ∙ by.has)) ∙ long))
+    (slice_get_read c.args.core.now.variants _ c.in-Some.index v refl c.in-Some.ensures.0
+    (subst (λ vs. v ≡ get_or vs c.in-Some.index v) c.variants.ensures.value c.index-variants-index.is))
+    c.in-Some.ensures.1
+    (λ w by long. true≢false (sym c.if-is_short.true ∙ c.is_short.ensures
+    ∙ ap is_short (same_Some c.in-Some-value_by.value.now w (sym c.in-Some-value_by.ensures.value.has ∙ by.has))
+    ∙ long))
 
 -- the variant at this place has this value by the record with the step's number, and it is long enough for a variant
 pub returns : goal.returns
@@ -37,7 +44,9 @@ returns g c =
     let v : List ℕ = c.index-variants-index.result in
     let w : List ℕ = c.in-Some-value_by.value.now in
     let by = c.in-Some-value_by.ensures.value in
-    let there : slice_get core.variants i ≡ Some v = slice_get_read core.variants _ i v refl c.in-Some.ensures.0 (subst (λ vs. v ≡ get_or vs i v) c.variants.ensures.value c.index-variants-index.is) in
+    let there : slice_get core.variants i ≡ Some v = slice_get_read core.variants _ i v refl c.in-Some.ensures.0
+    (subst (λ vs. v ≡ get_or vs i v) c.variants.ensures.value c.index-variants-index.is) in
     subst (CoreLeads R c.args.start core c.args.step)
     (sym (c.set_variant.ensures ∙ ap (λ (l : List ℕ). record core { variants = set core.variants i l }) c.copy.ensures))
-    (leads_at R c.args.start core c.args.step (at_variant i) v w c.requires.kind (omega (arith, c.in-Some.ensures.1)) (sym by.by) there (variant_value_from R v w by.has (sym c.is_short.ensures ∙ c.if-is_short.false)))
+    (leads_at R c.args.start core c.args.step (at_variant i) v w c.requires.kind (omega (arith, c.in-Some.ensures.1))
+    (sym by.by) there (variant_value_from R v w by.has (sym c.is_short.ensures ∙ c.if-is_short.false)))

@@ -15,5 +15,6 @@ returns g c =
     let same = c.language-language.ensures.value in
     first_part R c.args.start core _ at_language core.language c.in_ok-value.field-0.now tt refl refl
     (c.record_number.ensures ∙ ap (λ l. number_of (entry R kinds.Language l)) same)
-    (there_alone core (Some core.language) core.language (sym c.extlangs.ensures.value ∙ none_of c.extlangs.result.now (sym c.is_empty.ensures ∙ c.if-not-is_empty.false)) refl)
+    (there_alone core (Some core.language) core.language (sym c.extlangs.ensures.value
+    ∙ none_of c.extlangs.result.now (sym c.is_empty.ensures ∙ c.if-not-is_empty.false)) refl)
     (ap (preferred_value R kinds.Language) (sym same) ∙ sym c.value.ensures.value ∙ ap option_copied c.in_ok-value.was)

@@ -7,7 +7,8 @@ use Rattle.lt_rewrite.proofs.core_explaining.script_step.Goals as goal
 -- there is a script, and it has a value, so this is the one Script step
 pub returns : goal.returns
 returns g c =
-    first_part (g.L.Lookup.listed c.args.table.now) c.args.start c.args.core.now _ at_script c.in_ok-script.script.now c.in_ok-value.field-0.now tt refl
+    first_part (g.L.Lookup.listed c.args.table.now) c.args.start c.args.core.now _ at_script c.in_ok-script.script.now
+    c.in_ok-value.field-0.now tt refl
     (omega (arith, c.before_script.ensures.value))
     c.record_number.ensures
     (sym c.script.ensures.value ∙ ap option_copied c.in_ok-script.was)

@@ -6,7 +6,8 @@ use Rattle.lt_rewrite.proofs.core_explaining.variant_language_step.Goals as goal
 
 -- no variant leads to a language beside that of the core, so there is no such step
 pub returns-in_default : goal.returns-in_default
-returns-in_default g c = none_variant_language (g.L.Lookup.listed c.args.table.now) c.args.start c.args.core.now c.in_default.ensures.variant_language
+returns-in_default g c = none_variant_language (g.L.Lookup.listed c.args.table.now) c.args.start c.args.core.now
+    c.in_default.ensures.variant_language
 
 -- there are no extlangs, and this variant is the leftmost that leads to a language beside that of the core
 pub returns : goal.returns
@@ -15,7 +16,9 @@ returns g c =
     let i = c.in-Some.index in
     let v : List ℕ = c.index-variants-index.result in
     let t = c.in-Some.ensures.variant_language in
-    let there : slice_get core.variants i ≡ Some v = slice_get_read core.variants _ i v refl t.within (subst (λ vs. v ≡ get_or vs i v) c.variants.ensures.value c.index-variants-index.is) in
-    first_variant_language (g.L.Lookup.listed c.args.table.now) c.args.start core _ i c.in-Some._language v refl (omega (arith, c.before_variants.ensures.value)) c.record_number.ensures
+    let there : slice_get core.variants i ≡ Some v = slice_get_read core.variants _ i v refl t.within
+    (subst (λ vs. v ≡ get_or vs i v) c.variants.ensures.value c.index-variants-index.is) in
+    first_variant_language (g.L.Lookup.listed c.args.table.now) c.args.start core _ i c.in-Some._language v refl
+    (omega (arith, c.before_variants.ensures.value)) c.record_number.ensures
     (sym c.extlangs.ensures.value ∙ none_of c.extlangs.result.now (sym c.is_empty.ensures ∙ c.if-not-is_empty.false))
     there t

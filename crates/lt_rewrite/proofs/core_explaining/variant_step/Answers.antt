@@ -14,8 +14,10 @@ returns-in-Some g c =
     let i = c.loop-index.index in
     let v : List ℕ = c.variant-item.result in
     let there : slice_get core.variants i ≡ Some v =
-    subst (λ vs. slice_get vs i ≡ Some v) c.variants-variant-items.ensures.value (slice_get_read c.variants-variant-items.result.now _ i v refl c.loop-index-test.true c.variant-item.is) in
-    first_variant (g.L.Lookup.listed c.args.table.now) c.args.start core _ i v c.in-Some._next.now refl (omega (arith, c.before_variants.ensures.value)) c.record_number.ensures there
+    subst (λ vs. slice_get vs i ≡ Some v) c.variants-variant-items.ensures.value
+    (slice_get_read c.variants-variant-items.result.now _ i v refl c.loop-index-test.true c.variant-item.is) in
+    first_variant (g.L.Lookup.listed c.args.table.now) c.args.start core _ i v c.in-Some._next.now refl
+    (omega (arith, c.before_variants.ensures.value)) c.record_number.ensures there
     (sym c.next_value.ensures ∙ ap option_copied c.in-Some.is)
     c.loop-index.invariant
 
@@ -25,12 +27,14 @@ loop-index-preserved g c =
     let P : List ℕ → Type 0 = λ v. variant_value (g.L.Lookup.listed c.args.table.now) v ≡ None in
     let i = c.loop-index.index in
     let vs = c.variants-variant-items.result.now in
-    let more : All P (take (i + 1) vs) = All-more P vs i c.variant-item.result c.loop-index-test.true (subst (λ us. All P (take i us)) (sym c.variants-variant-items.ensures.value) c.loop-index.invariant)
+    let more : All P (take (i + 1) vs) = All-more P vs i c.variant-item.result c.loop-index-test.true
+    (subst (λ us. All P (take i us)) (sym c.variants-variant-items.ensures.value) c.loop-index.invariant)
     (subst P c.variant-item.is (sym c.next_value.ensures ∙ ap option_copied c.in_default.is)) in
     subst (λ us. All P (take (i + 1) us)) c.variants-variant-items.ensures.value more
 
 -- no variant is left, so none has a variant as its value
 pub returns : goal.returns
 returns g c =
-    let all = take_all c.loop-index.index c.args.core.now.variants (omega (arith, c.loop-index-test.false, ap length c.variants-variant-items.ensures.value)) in
+    let all = take_all c.loop-index.index c.args.core.now.variants
+    (omega (arith, c.loop-index-test.false, ap length c.variants-variant-items.ensures.value)) in
     none_varies (g.L.Lookup.listed c.args.table.now) c.args.start c.args.core.now (rw all at c.loop-index.invariant)

@@ -16,4 +16,5 @@ loop-index-preserved g c = search (rules, none_more (g.L.Lookup.listed c.args.ta
 pub returns-clause-variant_language : goal.returns-clause-variant_language
 returns-clause-variant_language g c =
     let P : List ℕ → Type 0 = λ v. language_beside (g.L.Lookup.listed c.args.table.now) c.args.core.now.language v ≡ None in
-    subst (All P) ((take_all c.loop-index.index c.variants-variant-items.result.now c.loop-index-test.false) ∙ c.variants-variant-items.ensures.value) c.loop-index.invariant
+    subst (All P) ((take_all c.loop-index.index c.variants-variant-items.result.now c.loop-index-test.false)
+    ∙ c.variants-variant-items.ensures.value) c.loop-index.invariant

@@ -30,11 +30,15 @@ loop-index-preserved g c =
     let core = c.loop-index.core in
     let i = c.in-Some.index in
     let settled = c.settle_language-in-Some.ensures in
-    let left = others_left core c.remove_variant.new.self c.set_language.new.self c.settle_language-in-Some.new.core i c.in-Some.language c.remove_variant.ensures c.set_language.ensures settled.others in
+    let left = others_left core c.remove_variant.new.self c.set_language.new.self c.settle_language-in-Some.new.core i
+    c.in-Some.language c.remove_variant.ensures c.set_language.ensures settled.others in
     record {
       settled =
-          language_settled R c.args.core.now core c.remove_variant.new.self c.set_language.new.self c.settle_language-in-Some.new.core i c.in-Some.language
-          c.requires.alone c.loop-index.invariant.settled c.in-Some.ensures.variant_language c.remove_variant.ensures c.set_language.ensures settled.reached settled.at_rest settled.others;
+          language_settled R c.args.core.now core c.remove_variant.new.self c.set_language.new.self
+          c.settle_language-in-Some.new.core i c.in-Some.language
+          c.requires.alone c.loop-index.invariant.settled c.in-Some.ensures.variant_language c.remove_variant.ensures
+          c.set_language.ensures settled.reached settled.at_rest settled.others;
       places = subst (λ vs. ArePlaces R vs c.remove.new.self.items) (sym (ap (λ (d : CoreParts). d.variants) left))
-          (subst (ArePlaces R (remove core.variants i)) (sym c.remove.ensures.items) (placed_without R core.variants c.loop-index.places.items i c.loop-index.invariant.places));
+          (subst (ArePlaces R (remove core.variants i)) (sym c.remove.ensures.items)
+          (placed_without R core.variants c.loop-index.places.items i c.loop-index.invariant.places));
     }

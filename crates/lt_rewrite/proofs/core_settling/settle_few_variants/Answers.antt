@@ -16,12 +16,17 @@ loop-index-preserved g c =
       settled = search (rules, one_settled);
       places_count = search rules;
       places = subst (ArePlaces R (take (i + 1) c.set_variant.new.self.variants)) (sym c.push.ensures.items)
-          (subst (λ us. ArePlaces R (take (i + 1) us) (c.loop-index.places.items ++ e.1 ∷ [])) (sym (ap (λ (d : CoreParts). d.variants) c.set_variant.ensures))
-          (placed_more R core.variants c.loop-index.places.items i e.1 e.0 (omega (arith, c.loop-index-test.true, c.loop-index.invariant.settled.count)) c.settled_variant-end.ensures.place c.loop-index.invariant.places));
+          (subst (λ us. ArePlaces R (take (i + 1) us) (c.loop-index.places.items ++ e.1 ∷ []))
+          (sym (ap (λ (d : CoreParts). d.variants) c.set_variant.ensures))
+          (placed_more R core.variants c.loop-index.places.items i e.1 e.0
+          (omega (arith, c.loop-index-test.true, c.loop-index.invariant.settled.count))
+          c.settled_variant-end.ensures.place c.loop-index.invariant.places));
     }
 
 -- no variant is left, so `places` are those of all
 pub returns-clause-places : goal.returns-clause-places
 returns-clause-places g c =
     let R = g.L.Lookup.listed c.args.table.now in
-    subst (λ vs. ArePlaces R vs c.loop-index.places.items) (all_settled R c.args.core.now c.loop-index.core c.loop-index.index _ c.loop-index.invariant.settled c.loop-index-test.false) c.loop-index.invariant.places
+    subst (λ vs. ArePlaces R vs c.loop-index.places.items)
+    (all_settled R c.args.core.now c.loop-index.core c.loop-index.index _ c.loop-index.invariant.settled
+    c.loop-index-test.false) c.loop-index.invariant.places

@@ -15,18 +15,23 @@ returns-then-not-ends_or_falls g c = λ all.
     let e : EntryParts = c.entry-item.result in
     let i = c.loop-entry.entry-index in
     let there : e ≡ get_or R i e = c.entry-item.is ∙ ap (λ xs. get_or xs i e) c.entries-entry-items.ensures.value in
-    c.if-not-ends_or_falls.ensures (subst (HasEndingChain R) (sym there) (all i e (omega (arith, c.loop-entry-test.true, ap length c.entries-entry-items.ensures.value))))
+    c.if-not-ends_or_falls.ensures
+    (subst (HasEndingChain R) (sym there)
+    (all i e (omega (arith, c.loop-entry-test.true, ap length c.entries-entry-items.ensures.value))))
 
 -- a turn judges one record more: its chain ends if those of the records before it in the order do
 pub loop-entry-preserved : goal.loop-entry-preserved
 loop-entry-preserved g c =
     let P : EntryParts → Type 0 = EndsAfterEarlier (g.L.Lookup.listed c.args.table.now) orders.Mixed in
-    All-more P c.entries-entry-items.result.now c.loop-entry.entry-index c.entry-item.result c.loop-entry-test.true c.loop-entry.invariant (subst P c.entry-item.is c.if-not-ends_or_falls.ensures)
+    All-more P c.entries-entry-items.result.now c.loop-entry.entry-index c.entry-item.result c.loop-entry-test.true
+    c.loop-entry.invariant (subst P c.entry-item.is c.if-not-ends_or_falls.ensures)
 
 -- no record is left: each chain ends if those before it in the order do, so by the order all end
 pub returns : goal.returns
 returns g c =
     let R = g.L.Lookup.listed c.args.table.now in
     let xs : List EntryParts = c.entries-entry-items.result.now in
-    let all : take c.loop-entry.entry-index xs ≡ R = take_all c.loop-entry.entry-index xs (omega (arith, c.loop-entry-test.false)) ∙ c.entries-entry-items.ensures.value in
+    let all : take c.loop-entry.entry-index xs ≡ R =
+    take_all c.loop-entry.entry-index xs (omega (arith, c.loop-entry-test.false))
+    ∙ c.entries-entry-items.ensures.value in
     all_end_in_order R orders.Mixed (subst (All (EndsAfterEarlier R orders.Mixed)) all c.loop-entry.invariant)

@@ -6,4 +6,5 @@ use Rattle.lt_rewrite.proofs.cycles.ends_or_falls.Given as goal
 
 -- the subtag is as many values on from the record's value as there were turns
 abbrev pub invariant-loop-step : goal.invariant-loop-step
-invariant-loop-step g l = (v : List ℕ) → one_of l.entry.value ≡ Some v → l.subtag ≡ chase (next_value (g.L.Lookup.listed l.table) l.kind) l._step v
+invariant-loop-step g l = (v : List ℕ) → one_of l.entry.value ≡ Some v
+    → l.subtag ≡ chase (next_value (g.L.Lookup.listed l.table) l.kind) l._step v

@@ -17,8 +17,10 @@ returns-then-not-ends_or_falls g c =
     let i = c.loop-entry.entry-index in
     let there : e ≡ get_or R i e = c.entry-item.is ∙ ap (λ xs. get_or xs i e) c.entries-entry-items.ensures.value in
     let within : i < length R = omega (arith, c.loop-entry-test.true, ap length c.entries-entry-items.ensures.value) in
-    let so_far : All (HasEndingChain R) (take i R) = subst (λ xs. All (HasEndingChain R) (take i xs)) c.entries-entry-items.ensures.value c.loop-entry.invariant in
-    subst (IsFirstCycle R) (sym c.number.ensures.value) (first_there R i e c.entries-entry-items.ensures.rising within there so_far c.if-not-ends_or_falls.ensures)
+    let so_far : All (HasEndingChain R) (take i R) = subst (λ xs. All (HasEndingChain R) (take i xs))
+    c.entries-entry-items.ensures.value c.loop-entry.invariant in
+    subst (IsFirstCycle R) (sym c.number.ensures.value) (first_there R i e c.entries-entry-items.ensures.rising within
+    there so_far c.if-not-ends_or_falls.ensures)
 
 -- the chains of the records of lower numbers end, so the chain of this one does
 pub loop-entry-preserved : goal.loop-entry-preserved
@@ -28,14 +30,19 @@ loop-entry-preserved g c =
     let i = c.loop-entry.entry-index in
     let there : e ≡ get_or R i e = c.entry-item.is ∙ ap (λ ys. get_or ys i e) c.entries-entry-items.ensures.value in
     let within : i < length R = omega (arith, c.loop-entry-test.true, ap length c.entries-entry-items.ensures.value) in
-    let so_far : All (HasEndingChain R) (take i R) = subst (λ ys. All (HasEndingChain R) (take i ys)) c.entries-entry-items.ensures.value c.loop-entry.invariant in
-    let earlier : EarlierEnd R orders.File (place orders.File e.number) = file_order R e (lower_are_before (HasEndingChain R) R i e c.entries-entry-items.ensures.rising within there so_far) in
-    All-more (HasEndingChain R) c.entries-entry-items.result.now i e c.loop-entry-test.true c.loop-entry.invariant (subst (HasEndingChain R) c.entry-item.is (c.if-not-ends_or_falls.ensures earlier))
+    let so_far : All (HasEndingChain R) (take i R) = subst (λ ys. All (HasEndingChain R) (take i ys))
+    c.entries-entry-items.ensures.value c.loop-entry.invariant in
+    let earlier : EarlierEnd R orders.File (place orders.File e.number) = file_order R e
+    (lower_are_before (HasEndingChain R) R i e c.entries-entry-items.ensures.rising within there so_far) in
+    All-more (HasEndingChain R) c.entries-entry-items.result.now i e c.loop-entry-test.true c.loop-entry.invariant
+    (subst (HasEndingChain R) c.entry-item.is (c.if-not-ends_or_falls.ensures earlier))
 
 -- no record is left, so each chain ends
 pub returns : goal.returns
 returns g c =
     let R = g.L.Lookup.listed c.args.table.now in
     let xs : List EntryParts = c.entries-entry-items.result.now in
-    let all : take c.loop-entry.entry-index xs ≡ R = take_all c.loop-entry.entry-index xs (omega (arith, c.loop-entry-test.false)) ∙ c.entries-entry-items.ensures.value in
+    let all : take c.loop-entry.entry-index xs ≡ R =
+    take_all c.loop-entry.entry-index xs (omega (arith, c.loop-entry-test.false))
+    ∙ c.entries-entry-items.ensures.value in
     subst (All (HasEndingChain R)) all c.loop-entry.invariant

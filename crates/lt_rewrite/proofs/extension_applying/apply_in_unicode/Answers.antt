@@ -5,7 +5,8 @@ use Rattle.lt_rewrite.proofs.extension_applying.apply_in_unicode.Goals as goal
 -- a step inside a `u` extension is one on its parts, from which this one leads nowhere
 pub returns-then-not-apply_to_unicode : goal.returns-then-not-apply_to_unicode
 returns-then-not-apply_to_unicode c = λ R f l.
-    let m = inside_u R c.args.start c.args.extension.now c.args.step f c.in_ok-parts.parts c.requires.unicode c.in_ok-parts.ensures.parts l in
+    let m = inside_u R c.args.start c.args.extension.now c.args.step f c.in_ok-parts.parts c.requires.unicode
+    c.in_ok-parts.ensures.parts l in
     c.if-not-apply_to_unicode.ensures m.0 m.1
 
 -- a step keeps the shape of the parts
@@ -17,4 +18,5 @@ join_u-requires-clause-shaped c =
 pub returns : goal.returns
 returns c = λ R.
     rw c.in_ok-join_u.ensures
-    (unicode_changed R c.args.start c.args.extension.now c.args.step c.in_ok-parts.parts c.apply_to_unicode.new.parts c.requires.unicode c.in_ok-parts.ensures.parts c.if-not-apply_to_unicode.ensures)
+    (unicode_changed R c.args.start c.args.extension.now c.args.step c.in_ok-parts.parts c.apply_to_unicode.new.parts
+    c.requires.unicode c.in_ok-parts.ensures.parts c.if-not-apply_to_unicode.ensures)

@@ -15,4 +15,5 @@ returns-in-None g c =
 pub returns-in-Some : goal.returns-in-Some
 returns-in-Some g c =
     let at = rw (c.in-Some.is, c.deref.ensures.value) at c.in_ok-index.ensures in
-    leads_inside (g.L.Lookup.listed c.args.table.now) c.args.start c.args.extensions.now.items c.args.step c.in-Some.index c.in-Some.changed at.0 at.1
+    leads_inside (g.L.Lookup.listed c.args.table.now) c.args.start c.args.extensions.now.items c.args.step
+    c.in-Some.index c.in-Some.changed at.0 at.1

@@ -13,9 +13,16 @@ use Rattle.lt_rewrite.proofs.extensions_explaining.explain_extensions.Goals as g
 pub explained_unicode-requires : goal.explained_unicode-requires
 explained_unicode-requires g c =
     let R : List EntryParts = g.L.Lookup.listed c.args.table.now in
-    let k : IsKept c.args.start c.args.extensions.items = record { singletons = c.requires.singletons; transforms = c.requires.transforms; few = c.requires.few } in
+    let k : IsKept c.args.start c.args.extensions.items = record {
+      singletons = c.requires.singletons;
+      transforms = c.requires.transforms;
+      few = c.requires.few;
+    } in
     let s = swapped R c.args.start k c.in_ok-explain_swaps.ensures.adds c.in_ok-explain_swaps.ensures.at_rest in
-    record { few = subst (λ (l : List ExtensionParts). c.args.start + length (spell_extensions l) ≤ 1100000) (sym c.deref.ensures.value) s.kept.few }
+    record {
+      few = subst (λ (l : List ExtensionParts). c.args.start + length (spell_extensions l) ≤ 1100000)
+          (sym c.deref.ensures.value) s.kept.few;
+    }
 
 -- the extension that was explained is one of the list
 pub put_back-requires : goal.put_back-requires
@@ -23,28 +30,42 @@ put_back-requires g c =
     let R : List EntryParts = g.L.Lookup.listed c.args.table.now in
     let fs : List ExtensionParts = c.explain_swaps.new.parts.items in
     let u : Option (ℕ × ExtensionParts) = c.in_ok-unicode.unicode in
-    let h = subst (λ l. Explains R unicode c.args.start l u c.explain_swaps.new.steps.items c.explained_unicode.new.steps.items) c.deref.ensures.value (c.in_ok-unicode.ensures R) in
-    settled_within R unicode fs u (settles_of R unicode c.args.start fs u c.explain_swaps.new.steps.items c.explained_unicode.new.steps.items h)
+    let h = subst (λ l. Explains R unicode c.args.start l u c.explain_swaps.new.steps.items
+    c.explained_unicode.new.steps.items) c.deref.ensures.value (c.in_ok-unicode.ensures R) in
+    settled_within R unicode fs u (settles_of R unicode c.args.start fs u c.explain_swaps.new.steps.items
+    c.explained_unicode.new.steps.items h)
 
 -- exchanges and steps in the `u` extension make the subtags no more, and leave a `t` extension as it is
 pub explained_transform-requires : goal.explained_transform-requires
 explained_transform-requires g c =
     let R : List EntryParts = g.L.Lookup.listed c.args.table.now in
-    let k : IsKept c.args.start c.args.extensions.items = record { singletons = c.requires.singletons; transforms = c.requires.transforms; few = c.requires.few } in
+    let k : IsKept c.args.start c.args.extensions.items = record {
+      singletons = c.requires.singletons;
+      transforms = c.requires.transforms;
+      few = c.requires.few;
+    } in
     let s = swapped R c.args.start k c.in_ok-explain_swaps.ensures.adds c.in_ok-explain_swaps.ensures.at_rest in
-    let p = after_u R c.args.start c.in_ok-unicode.unicode c.explained_unicode.new.steps.items s c.deref.ensures.value (c.in_ok-unicode.ensures R) c.put_back.ensures in
+    let p = after_u R c.args.start c.in_ok-unicode.unicode c.explained_unicode.new.steps.items s c.deref.ensures.value
+    (c.in_ok-unicode.ensures R) c.put_back.ensures in
     record {
       chains = c.requires.chains;
       transforms = subst (AllByRecursion HasForm) (sym c.deref-2.ensures.value) p.kept.transforms;
-      few = subst (λ (l : List ExtensionParts). c.args.start + length (spell_extensions l) ≤ 1100000) (sym c.deref-2.ensures.value) p.kept.few;
+      few = subst (λ (l : List ExtensionParts). c.args.start + length (spell_extensions l) ≤ 1100000)
+          (sym c.deref-2.ensures.value) p.kept.few;
     }
 
 -- exchanges, then the steps in `u`, then those in `t` are one run of first steps, after which none is left
 pub returns : goal.returns
 returns g c =
     let R : List EntryParts = g.L.Lookup.listed c.args.table.now in
-    let k : IsKept c.args.start c.args.extensions.items = record { singletons = c.requires.singletons; transforms = c.requires.transforms; few = c.requires.few } in
+    let k : IsKept c.args.start c.args.extensions.items = record {
+      singletons = c.requires.singletons;
+      transforms = c.requires.transforms;
+      few = c.requires.few;
+    } in
     let s = swapped R c.args.start k c.in_ok-explain_swaps.ensures.adds c.in_ok-explain_swaps.ensures.at_rest in
-    let p = after_u R c.args.start c.in_ok-unicode.unicode c.explained_unicode.new.steps.items s c.deref.ensures.value (c.in_ok-unicode.ensures R) c.put_back.ensures in
-    let t = after_t R c.args.start c.in_ok-transform.transform c.explained_transform.new.steps.items p c.deref-2.ensures.value c.in_ok-transform.ensures c.put_back-2.ensures in
+    let p = after_u R c.args.start c.in_ok-unicode.unicode c.explained_unicode.new.steps.items s c.deref.ensures.value
+    (c.in_ok-unicode.ensures R) c.put_back.ensures in
+    let t = after_t R c.args.start c.in_ok-transform.transform c.explained_transform.new.steps.items p
+    c.deref-2.ensures.value c.in_ok-transform.ensures c.put_back-2.ensures in
     record { adds = t.0; at_rest = t.1 }

@@ -16,18 +16,23 @@ returns-in_default c = λ R. (none_there c.args.extensions.now unicode (sym c.pl
 
 -- the extension was found by its singleton `u`
 pub split_u-requires : goal.split_u-requires
-split_u-requires c = (found_there c.args.extensions.now unicode c.in-Some.index c.index-extensions-index.result (sym c.place_of.ensures ∙ c.in-Some.is) c.index-extensions-index.is).of_singleton
+split_u-requires c = (found_there c.args.extensions.now unicode c.in-Some.index c.index-extensions-index.result
+    (sym c.place_of.ensures ∙ c.in-Some.is) c.index-extensions-index.is).of_singleton
 
 -- each step makes the subtags of the parts no more
 pub join_u-requires-clause-few : goal.join_u-requires-clause-few
 join_u-requires-clause-few c =
-    adds_keeps (UnicodeLeads (c.args.start + c.subtags_before.result + 1)) (λ _ step. kind_rank step) (λ u. length (spell_u u) ≤ longest_text) (λ a b step l h. omega (arith, h, u_step_length a b l.0)) c.in_ok-parts.parts c.explain_u.new.parts c.args.steps.now.items c.explain_u.new.steps.items c.in_ok-explain_u.ensures.adds c.in_ok-parts.ensures.few
+    adds_keeps (UnicodeLeads (c.args.start + c.subtags_before.result + 1)) (λ _ step. kind_rank step)
+    (λ u. length (spell_u u) ≤ longest_text) (λ a b step l h. omega (arith, h, u_step_length a b l.0))
+    c.in_ok-parts.parts c.explain_u.new.parts c.args.steps.now.items c.explain_u.new.steps.items
+    c.in_ok-explain_u.ensures.adds c.in_ok-parts.ensures.few
 
 -- the run on the parts is one inside the extension at this index, and leads to its normal form
 pub returns : goal.returns
 returns c = λ R.
     let e : ExtensionParts = c.index-extensions-index.result in
-    let found : FoundAt unicode c.args.extensions.now c.in-Some.index e = found_there c.args.extensions.now unicode c.in-Some.index e (sym c.place_of.ensures ∙ c.in-Some.is) c.index-extensions-index.is in
+    let found : FoundAt unicode c.args.extensions.now c.in-Some.index e = found_there c.args.extensions.now unicode
+    c.in-Some.index e (sym c.place_of.ensures ∙ c.in-Some.is) c.index-extensions-index.is in
     let adds = rw c.subtags_before.ensures at c.in_ok-explain_u.ensures.adds in
     let none = rw c.subtags_before.ensures at c.in_ok-explain_u.ensures.at_rest in
     rw c.in_ok-join_u.ensures (u_explained R c.args.start found c.index-extensions-index.is c.in_ok-parts.ensures.parts adds none)

@@ -13,7 +13,8 @@ pub put_back-requires : goal.put_back-requires
 put_back-requires g c =
     let R = g.L.Lookup.listed c.args.table.now in
     let u : Option (ℕ × ExtensionParts) = c.in_ok-unicode.unicode in
-    settled_within R unicode c.args.extensions.now.items u (subst (λ es. Settles R unicode es u) c.deref.ensures.value (c.in_ok-unicode.ensures R))
+    settled_within R unicode c.args.extensions.now.items u (subst (λ es. Settles R unicode es u) c.deref.ensures.value
+    (c.in_ok-unicode.ensures R))
 
 -- with the normal forms of `u` and `t` in their places, the extensions in order are in their normal form
 pub returns-clause-ok : goal.returns-clause-ok
@@ -24,5 +25,6 @@ returns-clause-ok g c =
     let t : Option (ℕ × ExtensionParts) = c.in_ok-transform.transform in
     let us = subst (λ es. Settles R unicode es u) c.deref.ensures.value (c.in_ok-unicode.ensures R) in
     let ts = subst (λ es. Settles R transform es t) c.deref-2.ensures.value c.in_ok-transform.ensures in
-    let last = subst (λ l. IsNormalForm (ListStep false singleton_cmp) l c.put_in_order.new.parts.items) (c.put_back-2.ensures ∙ ap (placed t) c.put_back.ensures) c.put_in_order.ensures in
+    let last = subst (λ l. IsNormalForm (ListStep false singleton_cmp) l c.put_in_order.new.parts.items)
+    (c.put_back-2.ensures ∙ ap (placed t) c.put_back.ensures) c.put_in_order.ensures in
     extensions_settle R es c.put_in_order.new.parts.items u t c.requires.singletons us ts last

@@ -9,14 +9,17 @@ use Rattle.lt_rewrite.proofs.extensions_settling.settled_transform.Goals as goal
 
 -- the extension was found by its singleton `t`
 pub split_t-requires : goal.split_t-requires
-split_t-requires g c = (found_there c.args.extensions.now transform c.in-Some.place c.index-extensions-place.result (sym c.place_of.ensures ∙ c.in-Some.is) c.index-extensions-place.is).of_singleton
+split_t-requires g c = (found_there c.args.extensions.now transform c.in-Some.place c.index-extensions-place.result
+    (sym c.place_of.ensures ∙ c.in-Some.is) c.index-extensions-place.is).of_singleton
 
 -- BadTransform says that the extension has not the form of a `t` extension, but each `t` extension has it
 pub unreachable-requires : goal.unreachable-requires
 unreachable-requires g c =
     let es = c.args.extensions.now in
     let e : ExtensionParts = c.index-extensions-place.result in
-    let parts = transform_form es c.in-Some.place e (found_there es transform c.in-Some.place e (sym c.place_of.ensures ∙ c.in-Some.is) c.index-extensions-place.is) c.index-extensions-place.is c.requires.transforms in
+    let parts = transform_form es c.in-Some.place e
+    (found_there es transform c.in-Some.place e (sym c.place_of.ensures ∙ c.in-Some.is) c.index-extensions-place.is)
+    c.index-extensions-place.is c.requires.transforms in
     (rw c.in-Err-BadTransform.field-0-is at c.in-Err-BadTransform.ensures.fault) parts.0 parts.1
 
 -- the normal form of the parts spells that of the extension
@@ -25,4 +28,6 @@ returns g c =
     let R = g.L.Lookup.listed c.args.table.now in
     let e : ExtensionParts = c.index-extensions-place.result in
     found_settles R transform c.args.extensions.now c.in-Some.place e _ (sym c.place_of.ensures ∙ c.in-Some.is) c.index-extensions-place.is
-    (λ t. subst (IsNormalForm (ExtensionStep R) e) (sym c.in_ok-join_t.ensures) (transform_settled R c.recall_forms.ensures e c.in-Ok.parts c.settle_transform.new.parts t c.in-Ok.ensures.parts c.settle_transform.ensures.settled))
+    (λ t. subst (IsNormalForm (ExtensionStep R) e) (sym c.in_ok-join_t.ensures)
+    (transform_settled R c.recall_forms.ensures e c.in-Ok.parts c.settle_transform.new.parts t c.in-Ok.ensures.parts
+    c.settle_transform.ensures.settled))

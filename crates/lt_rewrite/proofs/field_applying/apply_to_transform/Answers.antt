@@ -14,6 +14,9 @@ returns g c =
     let p : TForm = record { source = c.parts.inside.source; fields = c.parts.inside.fields.items } in
     elim c.match-parts.branch [
       | in-Some w ↦ rw (w.result-is, w.parts-inside-is)
-          (rw c.parts.view_is at (source_answers R c.args.start p c.args.step c.in_default.not-SwapFields w.in-Some.source w.in-Some.is w.apply_to_core.new.core w.apply_to_core.result w.apply_to_core.ensures))
-      | in-None w ↦ rw w.result-is (rw c.parts.view_is at (λ (q : TForm). no_source R c.args.start p c.args.step q c.in_default.not-SwapFields w.in-None.is))
+          (rw c.parts.view_is at (source_answers R c.args.start p c.args.step c.in_default.not-SwapFields
+          w.in-Some.source w.in-Some.is w.apply_to_core.new.core w.apply_to_core.result w.apply_to_core.ensures))
+      | in-None w ↦ rw w.result-is
+          (rw c.parts.view_is at (λ (q : TForm). no_source R c.args.start p c.args.step q c.in_default.not-SwapFields
+          w.in-None.is))
     ]

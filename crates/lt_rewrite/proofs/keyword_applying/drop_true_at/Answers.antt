@@ -16,7 +16,8 @@ returns-in_default c = λ ls s.
 pub returns-then-not-has_sole_true : goal.returns-then-not-has_sole_true
 returns-then-not-has_sole_true c = λ ls s.
     let at = rw c.deref.ensures.value at c.in-Some.ensures in
-    let sole = holds_at (λ k. omega arith) (true_step c.args.start c.args.place c.args.keywords.now.items ls s) c.in-Some.index at.0 at.1 c.index.result.now in
+    let sole = holds_at (λ k. omega arith) (true_step c.args.start c.args.place c.args.keywords.now.items ls s)
+    c.in-Some.index at.0 at.1 c.index.result.now in
     c.if-not-has_sole_true.ensures (ap (λ (k : KeywordParts). k.types) c.index.ensures ∙ sole)
 
 -- the keyword whose key is one place to the left has lost its only type, `true`
@@ -27,5 +28,8 @@ returns c =
     let k : KeywordParts = c.index.result.now in
     let at = rw c.deref.ensures.value at c.in-Some.ensures in
     subst (λ (l : KeywordParts). TrueLeads c.args.start c.args.place ks (set ks i l))
-    (sym (c.drop_types.ensures ∙ ap (λ (l : KeywordParts). record l { types = [] }) (get_or_read ks i c.index_mut.result.now at.0 c.index_mut.ensures.value k ∙ sym c.index.ensures)))
+    (sym (c.drop_types.ensures
+    ∙ ap (λ (l : KeywordParts). record l
+    { types = [] }) (get_or_read ks i c.index_mut.result.now at.0 c.index_mut.ensures.value k
+    ∙ sym c.index.ensures)))
     (true_led c.args.start c.args.place ks i k at.0 at.1 c.index.ensures c.if-not-has_sole_true.ensures)

@@ -8,6 +8,8 @@ loop-earlier-preserved g c =
     let xs = c.args.parts.now in
     let x = c.index-parts-index.result in
     let y = c.index-parts-earlier.result in
-    let is : y ≡ get_or xs c.loop-earlier.earlier x = get_or_read xs c.loop-earlier.earlier y (omega (arith, c.requires, c.loop-earlier-test.true)) c.index-parts-earlier.is x in
+    let is : y ≡ get_or xs c.loop-earlier.earlier x = get_or_read xs c.loop-earlier.earlier y
+    (omega (arith, c.requires, c.loop-earlier-test.true)) c.index-parts-earlier.is x in
     below_more _ _ c.loop-earlier.invariant
-    (λ h. c.in_default.not-Equal (c.compare.ensures ∙ ap (λ z. g.P.Part.order z y) c.index-parts-index.is ∙ ap (g.P.Part.order (get_or xs c.args.index x)) is ∙ h x))
+    (λ h. c.in_default.not-Equal (c.compare.ensures ∙ ap (λ z. g.P.Part.order z y) c.index-parts-index.is
+    ∙ ap (g.P.Part.order (get_or xs c.args.index x)) is ∙ h x))

@@ -29,7 +29,9 @@ returns-in-Less g c =
     swap_led i (omega (arith, c.if-len-index.false, c.len.ensures))
     (λ d.
     ap (g.P.Part.order _) (sym (get_or_read xs i c.index-2.result.now at.0 c.index-2.ensures d))
-    ∙ ap (λ y. g.P.Part.order y c.index-2.result.now) (sym (get_or_read xs (i + 1) c.index.result.now (omega (arith, c.if-len-index.false, c.len.ensures)) c.index.ensures d)) ∙ sym c.compare.ensures ∙ c.in-Less.is)
+    ∙ ap (λ y. g.P.Part.order y c.index-2.result.now) (sym
+    (get_or_read xs (i + 1) c.index.result.now (omega (arith, c.if-len-index.false, c.len.ensures)) c.index.ensures
+    d)) ∙ sym c.compare.ensures ∙ c.in-Less.is)
     at.1 c.swap.ensures.items
 
 -- the part that begins at this place and the next one are not in falling order
@@ -42,4 +44,7 @@ returns-in_default-compare g c = λ ys s.
     let at = rw c.deref.ensures.value at c.in-Some.ensures in
     let falls = (holds_at g.met.P.Spelled.some (swap_step s) i at.0 at.1).1 in
     c.in_default-compare.not-Less
-    (c.compare.ensures ∙ ap (λ y. g.P.Part.order y x) (get_or_read xs (i + 1) c.index.result.now (omega (arith, c.if-len-index.false, c.len.ensures)) c.index.ensures x) ∙ ap (g.P.Part.order _) c.index-2.ensures ∙ falls x)
+    (c.compare.ensures
+    ∙ ap (λ y. g.P.Part.order y x) (get_or_read xs (i + 1) c.index.result.now
+    (omega (arith, c.if-len-index.false, c.len.ensures)) c.index.ensures x)
+    ∙ ap (g.P.Part.order _) c.index-2.ensures ∙ falls x)

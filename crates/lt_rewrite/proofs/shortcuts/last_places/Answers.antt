@@ -19,7 +19,8 @@ loop-steps-preserved g c =
     let further : LeadOn R (steps + steps) places = c.lengthen_while-grows.ensures.doubled R steps lead in
     let twice : steps + steps ≡ steps * 2 = omega arith in
     let all : c.loop-steps.places.len ≡ length places = omega (arith, c.deref_mut.ensures.len, lead.one_each, further.one_each) in
-    let same : places ≡ take c.loop-steps.places.len (places ++ rest) = sym (ap (λ n. take n (places ++ rest)) all ∙ take-append_seam places rest) in
+    let same : places ≡ take c.loop-steps.places.len (places ++ rest) = sym (ap (λ n. take n (places ++ rest)) all
+    ∙ take-append_seam places rest) in
     record {
       some = omega (arith, c.loop-steps.invariant.some);
       rest = λ no. subst GrowNoMore same (c.lengthen_while-grows.ensures.rest no);
@@ -30,4 +31,6 @@ loop-steps-preserved g c =
 pub returns : goal.returns
 returns g c =
     let R = g.L.Lookup.listed c.args.table.now in
-    lead_less R c.loop-steps.steps (length R) c.loop-steps.places.items (omega (arith, c.loop-steps-test.false, c.len.ensures, c.loop-steps.invariant.lead.one_each)) c.loop-steps.invariant.lead
+    lead_less R c.loop-steps.steps (length R) c.loop-steps.places.items
+    (omega (arith, c.loop-steps-test.false, c.len.ensures, c.loop-steps.invariant.lead.one_each))
+    c.loop-steps.invariant.lead

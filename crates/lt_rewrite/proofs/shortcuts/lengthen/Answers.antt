@@ -14,7 +14,10 @@ loop-index-preserved c =
     let at : slice_get places i ≡ Some j = slice_get-get_or places i 0 (omega arith) in
     let next : slice_get places j ≡ Some k = slice_get-get_or places j 0 (c.loop-index.invariant.within i j at) in
     record {
-      within = subst (λ (n : ℕ). (m l : ℕ) → slice_get (set places i k) m ≡ Some l → l < n) (sym (length-set places i k)) (each_set (λ m l. l < length places) places i k (λ m l other. c.loop-index.invariant.within m l) (c.loop-index.invariant.within j k next));
+      within = subst (λ (n : ℕ). (m l : ℕ) → slice_get (set places i k) m ≡ Some l → l < n)
+          (sym (length-set places i k))
+          (each_set (λ m l. l < length places) places i k (λ m l other. c.loop-index.invariant.within m l)
+          (c.loop-index.invariant.within j k next));
       same = λ no.
           let still = unmoved c.loop-index.grew k j (sym c.either-grew.ensures ∙ no) in
           ap (set places i) still.1 ∙ set-get_or places i 0 ∙ c.loop-index.invariant.same still.0;
@@ -23,4 +26,5 @@ loop-index-preserved c =
 
 -- no shortcut is left, so all are twice as long
 pub returns-clause-doubled : goal.returns-clause-doubled
-returns-clause-doubled c = λ R n lead. all_doubled R n c.loop-index.index c.loop-index.places (omega arith) (c.loop-index.invariant.doubled R n lead)
+returns-clause-doubled c = λ R n lead. all_doubled R n c.loop-index.index c.loop-index.places (omega arith)
+    (c.loop-index.invariant.doubled R n lead)

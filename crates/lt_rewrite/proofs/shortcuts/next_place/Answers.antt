@@ -13,4 +13,5 @@ returns-in-None-clause-shortcut g c =
     let next : EntryParts = c.in-Some-entry.next.now in
     let w : List ℕ = c.in-Some.value.now in
     to_itself R c.args.place e w c.requires (ap (λ k. following k e) (sym c.kind.ensures.value) ∙ sym c.in-Some.ensures)
-    (none_after R e.kind w next (ap (λ k. entry R k w) (sym c.kind-2.ensures.value) ∙ sym c.in-Some-entry.ensures) (ap (λ k. following k next) (sym c.kind-3.ensures.value) ∙ sym c.in-None.ensures))
+    (none_after R e.kind w next (ap (λ k. entry R k w) (sym c.kind-2.ensures.value) ∙ sym c.in-Some-entry.ensures)
+    (ap (λ k. following k next) (sym c.kind-3.ensures.value) ∙ sym c.in-None.ensures))

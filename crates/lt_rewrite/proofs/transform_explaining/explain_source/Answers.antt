@@ -15,7 +15,8 @@ returns-clause-adds g c =
     let to = c.take_core_steps.new.core in
     let is : t_parts (Some from) fs ≡ c.args.parts.now = ap (λ o. t_parts o fs) (sym c.in-Some.is) ∙ c.parts.view_is in
     IfOk-weaker c.take_core_steps.result _ _
-    (λ _ h. subst (λ (p : TForm). AddsOnTransform R c.args.start p (t_parts (Some to) fs) c.args.steps.now.items c.take_core_steps.new.steps.items) is
+    (λ _ h. subst (λ (p : TForm). AddsOnTransform R c.args.start p (t_parts (Some to) fs) c.args.steps.now.items
+    c.take_core_steps.new.steps.items) is
     (source_explained R c.args.start from to fs c.args.steps.now.items c.take_core_steps.new.steps.items h))
     c.take_core_steps.ensures.adds
 
@@ -23,5 +24,6 @@ returns-clause-adds g c =
 pub returns-clause-at_rest : goal.returns-clause-at_rest
 returns-clause-at_rest g c =
     IfOk-weaker c.take_core_steps.result _ _
-    (λ _ h d e. let same : c.take_core_steps.new.core ≡ d = cc in subst (λ (x : CoreParts). NoneLeads (CoreLeads (g.L.Lookup.listed c.args.table.now) c.args.start x)) same h)
+    (λ _ h d e. let same : c.take_core_steps.new.core ≡ d = cc in
+    subst (λ (x : CoreParts). NoneLeads (CoreLeads (g.L.Lookup.listed c.args.table.now) c.args.start x)) same h)
     c.take_core_steps.ensures.at_rest

@@ -16,8 +16,10 @@ returns g c =
     let start = c.args.start in
     let source = c.parts.inside.source in
     let gs = c.explain_swaps.new.parts.items in
-    let rest : IsSourceAtRest R start source = subst (λ (p : TForm). IsSourceAtRest R start p.source) (sym c.parts.view_is) c.in_ok-explain_source.ensures.at_rest in
-    let first = subst (λ (p : TForm). AddsOnTransform R start c.args.parts.now p c.args.steps.now.items c.explain_source.new.steps.items) (sym c.parts.view_is) c.in_ok-explain_source.ensures.adds in
+    let rest : IsSourceAtRest R start source = subst (λ (p : TForm). IsSourceAtRest R start p.source)
+    (sym c.parts.view_is) c.in_ok-explain_source.ensures.at_rest in
+    let first = subst (λ (p : TForm). AddsOnTransform R start c.args.parts.now p c.args.steps.now.items
+    c.explain_source.new.steps.items) (sym c.parts.view_is) c.in_ok-explain_source.ensures.adds in
     let swaps = rw c.source_length.ensures.value at c.in_ok-explain_swaps.ensures.adds in
     let settled = rw c.source_length.ensures.value at c.in_ok-explain_swaps.ensures.at_rest in
     let adds : AddsOnTransform R start c.args.parts.now (t_parts source gs) c.args.steps.now.items c.explain_swaps.new.steps.items =
@@ -25,5 +27,6 @@ returns g c =
     record {
       adds = adds;
       at_rest = transform_rests R start source gs rest settled;
-      shaped = adds_keeps (TransformLeads R start) (λ _ step. kind_rank step) IsT (λ a b step l i. t_shaped R (step_shaped R c.recall_forms.ensures) a b l.0 i) _ _ _ _ adds;
+      shaped = adds_keeps (TransformLeads R start) (λ _ step. kind_rank step) IsT
+          (λ a b step l i. t_shaped R (step_shaped R c.recall_forms.ensures) a b l.0 i) _ _ _ _ adds;
     }

@@ -19,12 +19,16 @@ overflow_cast-here c =
     omega (arith, c.requires, bare_few c.args.start c.loop-index.invariant)
 
 -- the part at an index that was set
-set_count : (ks ls : List KeywordParts) (i : ℕ) (k l : KeywordParts) (n : ℕ) → i < length ks → ls ≡ set ks i k → l ≡ get_or ls i l → n ≡ length (spell_keyword l) → n ≡ length (spell_keyword k)
-set_count ks ls i k l n h e is count = count ∙ ap (λ x. length (spell_keyword x)) (is ∙ ap (λ xs. get_or xs i l) e ∙ get_or-set_same ks i k l h)
+set_count : (ks ls : List KeywordParts) (i : ℕ) (k l : KeywordParts) (n : ℕ) → i < length ks → ls ≡ set ks i k
+    → l ≡ get_or ls i l → n ≡ length (spell_keyword l) → n ≡ length (spell_keyword k)
+set_count ks ls i k l n h e is count = count ∙ ap (λ x. length (spell_keyword x)) (is ∙ ap (λ xs. get_or xs i l) e
+    ∙ get_or-set_same ks i k l h)
 
 -- the part at an index where nothing was set
-same_count : (ks ls : List KeywordParts) (i : ℕ) (k l : KeywordParts) (n : ℕ) → i < length ks → ls ≡ ks → k ≡ get_or ks i k → l ≡ get_or ls i l → n ≡ length (spell_keyword l) → n ≡ length (spell_keyword k)
-same_count ks ls i k l n h e was is count = count ∙ ap (λ x. length (spell_keyword x)) (is ∙ ap (λ xs. get_or xs i l) e ∙ sym (get_or_read ks i k h was l))
+same_count : (ks ls : List KeywordParts) (i : ℕ) (k l : KeywordParts) (n : ℕ) → i < length ks → ls ≡ ks
+    → k ≡ get_or ks i k → l ≡ get_or ls i l → n ≡ length (spell_keyword l) → n ≡ length (spell_keyword k)
+same_count ks ls i k l n h e was is count = count ∙ ap (λ x. length (spell_keyword x)) (is ∙ ap (λ xs. get_or xs i l) e
+    ∙ sym (get_or_read ks i k h was l))
 
 -- a turn takes the sole type `true` from this keyword by a DropTrue step, or it has none and stays as it is
 pub loop-index-preserved : goal.loop-index-preserved
@@ -37,14 +41,20 @@ loop-index-preserved c =
     let within : i < length ks = omega (arith, c.loop-index.invariant.count, c.loop-index-test.true, c.len-index-end.ensures) in
     elim c.if-has_sole_true.branch [
       | then-has_sole_true+in_ok-push w ↦
-          let now : ls ≡ set ks i (bare k) = ap (λ v. v.items) w.keywords-is ∙ ap (set ks i) (w.drop_types.ensures ∙ ap bare (get_or_read ks i w.index_mut.result.now within w.index_mut.ensures.value k ∙ sym c.index.ensures)) in
+          let now : ls ≡ set ks i (bare k) = ap (λ v. v.items) w.keywords-is
+          ∙ ap (set ks i) (w.drop_types.ensures
+          ∙ ap bare (get_or_read ks i w.index_mut.result.now within w.index_mut.ensures.value k
+          ∙ sym c.index.ensures)) in
           let step : Step = record { kind = steps.DropTrue; place = c.loop-index.here + 1; number = 0 } in
-          let count = set_count ks ls i (bare k) l c.subtag_count-here.result within now c.index-in-loop-index.ensures c.subtag_count-here.ensures in
-          rw (now, count) (bare_more c.args.start c.loop-index.invariant k within c.index.ensures step w.if-has_sole_true.ensures refl refl refl (ap (λ v. v.items) w.steps-is ∙ w.in_ok-push.ensures.items))
+          let count = set_count ks ls i (bare k) l c.subtag_count-here.result within now c.index-in-loop-index.ensures
+          c.subtag_count-here.ensures in
+          rw (now, count) (bare_more c.args.start c.loop-index.invariant k within c.index.ensures step
+          w.if-has_sole_true.ensures refl refl refl (ap (λ v. v.items) w.steps-is ∙ w.in_ok-push.ensures.items))
       | else-has_sole_true w ↦
           let now : ls ≡ ks = ap (λ v. v.items) w.keywords-is in
           let stay : c.if-has_sole_true.steps.items ≡ c.loop-index.steps.items = ap (λ v. v.items) w.steps-is in
-          let count = same_count ks ls i k l c.subtag_count-here.result within now c.index.ensures c.index-in-loop-index.ensures c.subtag_count-here.ensures in
+          let count = same_count ks ls i k l c.subtag_count-here.result within now c.index.ensures
+          c.index-in-loop-index.ensures c.subtag_count-here.ensures in
           rw (now, stay, count) (bare_kept c.args.start c.loop-index.invariant k within c.index.ensures w.if-has_sole_true.ensures)
     ]
 

@@ -12,7 +12,9 @@ use Rattle.lt_rewrite.proofs.PartRuns.{unicode_explained}
 use Rattle.lt_rewrite.proofs.unicode_explaining.explain_u.Goals as goal
 
 -- the subtags of the attributes and of the keywords are no more than all
-all_few : (start : ℕ) (p : UForm) (xs : List (List ℕ)) (ks : List KeywordParts) → u_parts xs ks ≡ p → start + length (spell_u p) ≤ 1200000 → start + length (flat_map one_subtag xs) + length (flat_map spell_keyword ks) ≤ 1200000
+all_few : (start : ℕ) (p : UForm) (xs : List (List ℕ)) (ks : List KeywordParts) → u_parts xs ks ≡ p
+    → start + length (spell_u p) ≤ 1200000
+    → start + length (flat_map one_subtag xs) + length (flat_map spell_keyword ks) ≤ 1200000
 all_few start p xs ks e h =
     let f = ap (λ u. length (spell_u u)) e in
     omega (arith, h, attributes_count xs, length-append xs (flat_map spell_keyword ks), f)
@@ -20,27 +22,66 @@ all_few start p xs ks e h =
 -- the attributes are among the subtags of the extension
 pub explain_drops-requires : goal.explain_drops-requires
 explain_drops-requires c =
-    omega (arith, all_few c.args.start c.args.parts.now c.parts.inside.attributes.items c.parts.inside.keywords.items c.parts.view_is c.requires.few)
+    omega (
+      arith,
+      all_few c.args.start c.args.parts.now c.parts.inside.attributes.items c.parts.inside.keywords.items
+          c.parts.view_is c.requires.few,
+    )
 
 -- drops have made the attributes no more
 pub explain_swaps-requires : goal.explain_swaps-requires
 explain_swaps-requires c =
-    omega (arith, all_few c.args.start c.args.parts.now c.parts.inside.attributes.items c.parts.inside.keywords.items c.parts.view_is c.requires.few, drops_few c.in_ok-explain_drops.ensures.adds)
+    omega (
+      arith,
+      all_few c.args.start c.args.parts.now c.parts.inside.attributes.items c.parts.inside.keywords.items
+          c.parts.view_is c.requires.few,
+      drops_few c.in_ok-explain_drops.ensures.adds,
+    )
 
 -- drops and exchanges have made the attributes no more, after which the keywords begin
 pub explain_drops-requires-2 : goal.explain_drops-requires-2
 explain_drops-requires-2 c =
-    omega (arith, all_few c.args.start c.args.parts.now c.parts.inside.attributes.items c.parts.inside.keywords.items c.parts.view_is c.requires.few, drops_few c.in_ok-explain_drops.ensures.adds, swaps_few c.in_ok-explain_swaps.ensures.adds, attributes_count c.explain_swaps.new.parts.items, c.len.ensures, c.explain_swaps.new.parts.ok.0)
+    omega (
+      arith,
+      all_few c.args.start c.args.parts.now c.parts.inside.attributes.items c.parts.inside.keywords.items
+          c.parts.view_is c.requires.few,
+      drops_few c.in_ok-explain_drops.ensures.adds,
+      swaps_few c.in_ok-explain_swaps.ensures.adds,
+      attributes_count c.explain_swaps.new.parts.items,
+      c.len.ensures,
+      c.explain_swaps.new.parts.ok.0,
+    )
 
 -- drops have made the keywords no more
 pub explain_swaps-requires-2 : goal.explain_swaps-requires-2
 explain_swaps-requires-2 c =
-    omega (arith, all_few c.args.start c.args.parts.now c.parts.inside.attributes.items c.parts.inside.keywords.items c.parts.view_is c.requires.few, drops_few c.in_ok-explain_drops.ensures.adds, swaps_few c.in_ok-explain_swaps.ensures.adds, attributes_count c.explain_swaps.new.parts.items, c.len.ensures, c.explain_swaps.new.parts.ok.0, drops_few c.in_ok-explain_drops-2.ensures.adds)
+    omega (
+      arith,
+      all_few c.args.start c.args.parts.now c.parts.inside.attributes.items c.parts.inside.keywords.items
+          c.parts.view_is c.requires.few,
+      drops_few c.in_ok-explain_drops.ensures.adds,
+      swaps_few c.in_ok-explain_swaps.ensures.adds,
+      attributes_count c.explain_swaps.new.parts.items,
+      c.len.ensures,
+      c.explain_swaps.new.parts.ok.0,
+      drops_few c.in_ok-explain_drops-2.ensures.adds,
+    )
 
 -- drops and exchanges have made the keywords no more
 pub drop_trues-requires : goal.drop_trues-requires
 drop_trues-requires c =
-    omega (arith, all_few c.args.start c.args.parts.now c.parts.inside.attributes.items c.parts.inside.keywords.items c.parts.view_is c.requires.few, drops_few c.in_ok-explain_drops.ensures.adds, swaps_few c.in_ok-explain_swaps.ensures.adds, attributes_count c.explain_swaps.new.parts.items, c.len.ensures, c.explain_swaps.new.parts.ok.0, drops_few c.in_ok-explain_drops-2.ensures.adds, swaps_few c.in_ok-explain_swaps-2.ensures.adds)
+    omega (
+      arith,
+      all_few c.args.start c.args.parts.now c.parts.inside.attributes.items c.parts.inside.keywords.items
+          c.parts.view_is c.requires.few,
+      drops_few c.in_ok-explain_drops.ensures.adds,
+      swaps_few c.in_ok-explain_swaps.ensures.adds,
+      attributes_count c.explain_swaps.new.parts.items,
+      c.len.ensures,
+      c.explain_swaps.new.parts.ok.0,
+      drops_few c.in_ok-explain_drops-2.ensures.adds,
+      swaps_few c.in_ok-explain_swaps-2.ensures.adds,
+    )
 
 -- the runs of the five kinds, one after another, are one run on the parts, after which no step is left
 pub returns : goal.returns
@@ -55,5 +96,6 @@ returns c =
     record {
       adds = explained.0;
       at_rest = explained.1;
-      shaped = adds_keeps (UnicodeLeads c.args.start) (λ _ step. kind_rank step) IsU (λ a b step l i. u_shaped a b l.0 i) _ _ _ _ explained.0;
+      shaped = adds_keeps (UnicodeLeads c.args.start) (λ _ step. kind_rank step) IsU
+          (λ a b step l i. u_shaped a b l.0 i) _ _ _ _ explained.0;
     }

@@ -8,5 +8,7 @@ use Rattle.lt_rewrite.proofs.variant_languages.variant_language_at.Goals as goal
 pub returns-in-Some-one_value-clause-form : goal.returns-in-Some-one_value-clause-form
 returns-in-Some-one_value-clause-form g c =
     short_value_form c.in-Some-one_value.value.now
-    (form_under (g.L.Lookup.listed c.args.table.now) kinds.Variant c.args._variant.now c.in-Some.entry.now c.in-Some-one_value.value.now (sym c.requires ∙ sym c.entry_at.ensures ∙ ap option_copied c.in-Some.is) c.in-Some-one_value.ensures.form)
+    (form_under (g.L.Lookup.listed c.args.table.now) kinds.Variant c.args._variant.now c.in-Some.entry.now
+    c.in-Some-one_value.value.now (sym c.requires ∙ sym c.entry_at.ensures ∙ ap option_copied c.in-Some.is)
+    c.in-Some-one_value.ensures.form)
     (sym c.is_short.ensures ∙ c.if-is_short.true)

@@ -12,5 +12,9 @@ pub returns : goal.returns
 returns c k =
     let bits = c.args.bits in
     let count = c.args.count in
-    let same = ap (λ x. bit_at (bit_and bits (x - 1)) k) (shl_one count c.requires) in
-    (λ set. let low = bit_at_low_only bits count k (sym same ∙ set) in (low, sym (bit_at_low_kept bits count k low) ∙ sym same ∙ set), λ both. same ∙ bit_at_low_kept bits count k both.0 ∙ both.1)
+    let same = ap (λ x. bit_at (bit_and bits (x - 1)) k) (shl_one count c.requires) in (
+      λ set. let low = bit_at_low_only bits count k (sym same ∙ set) in
+          (low, sym (bit_at_low_kept bits count k low) ∙ sym same ∙ set),
+      λ both. same
+          ∙ bit_at_low_kept bits count k both.0 ∙ both.1,
+    )

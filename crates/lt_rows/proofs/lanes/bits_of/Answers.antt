@@ -9,4 +9,5 @@ pub returns : goal.returns
 returns c k below =
     let text = c.args.text.now in
     subst (λ m. (bit_at m k ≡ 1) ↔ (get_or text k 0 ≡ c.args.byte))
-    (sym (bitmask_splat w8 eqb (take 64 text) 64 c.args.byte (length-take-le 64 text c.requires) (omega arith))) (bit_of c.args.byte text k c.requires below)
+    (sym (bitmask_splat w8 eqb (take 64 text) 64 c.args.byte (length-take-le 64 text c.requires) (omega arith)))
+    (bit_of c.args.byte text k c.requires below)

@@ -7,4 +7,5 @@ use Rattle.lt_rows.proofs.lanes.count_in_lanes.Goals as goal
 pub returns : goal.returns
 returns c =
     let text = c.args.text.now in
-    ap count_ones (bitmask_splat w8 eqb (take 64 text) 64 c.args.byte (length-take-le 64 text c.requires) (omega arith)) ∙ ones-mask_l (λ x. eqb x c.args.byte) (take 64 text)
+    ap count_ones (bitmask_splat w8 eqb (take 64 text) 64 c.args.byte (length-take-le 64 text c.requires) (omega arith))
+    ∙ ones-mask_l (λ x. eqb x c.args.byte) (take 64 text)

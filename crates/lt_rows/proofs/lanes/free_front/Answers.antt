@@ -9,6 +9,8 @@ loop-at-preserved c =
     let text = c.args.text.now in
     let none : bit_or c.bits_of.result c.bits_of-in-loop-at.result ≡ 0 = omega (arith, c.if-bits_of-ne0.false) in (
       omega (arith, c.loop-at-test.true, i.0),
-      free_block c.args.one c.loop-at.at text _ (omega (arith, c.loop-at-test.true)) i.0 c.bits_of.ensures (λ k. (neither_set _ _ k none).0) i.1,
-      free_block c.args.other c.loop-at.at text _ (omega (arith, c.loop-at-test.true)) i.0 c.bits_of-in-loop-at.ensures (λ k. (neither_set _ _ k none).1) i.2,
+      free_block c.args.one c.loop-at.at text _ (omega (arith, c.loop-at-test.true)) i.0 c.bits_of.ensures
+          (λ k. (neither_set _ _ k none).0) i.1,
+      free_block c.args.other c.loop-at.at text _ (omega (arith, c.loop-at-test.true)) i.0 c.bits_of-in-loop-at.ensures
+          (λ k. (neither_set _ _ k none).1) i.2,
     )

@@ -25,5 +25,6 @@ pub returns-clause-rest : goal.returns-clause-rest
 returns-clause-rest c = λ byte start row are.
     let bits = c.args.bits.now in
     let h = bit_at-trailing_zeros w64 bits (omega (arith, c.if-all-eq0.false)) (omega arith) in
-    others_set byte start row bits are _ h.1 h.2 _ (bit_at_clear_same w64 bits _ h.0) (λ k low apart. bit_at_clear_other w64 bits _ h.0 k low apart)
+    others_set byte start row bits are _ h.1 h.2 _ (bit_at_clear_same w64 bits _ h.0)
+    (λ k low apart. bit_at_clear_other w64 bits _ h.0 k low apart)
     (λ k set. omega (arith, set, bit_at_and bits (bit_not w64 (1 * 2 ^ trailing_zeros w64 bits % 2 ^ 64)) k))

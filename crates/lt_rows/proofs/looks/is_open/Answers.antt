@@ -12,4 +12,5 @@ returns-else-delimiter-eq34 c = λ before skipped.
     let rest = drop c.args.start row in
     let d = c.in-Delimiter.delimiter in
     let s = subst (λ (S : Separator). Skips S before row rest) c.in-Delimiter.is skipped in
-    rw c.in-Delimiter.is (c.is_open_from-else-delimiter-eq34.ensures ∙ ap is_quoted (sym (open_from d c.if-delimiter-eq34.false before row rest s)))
+    rw c.in-Delimiter.is (c.is_open_from-else-delimiter-eq34.ensures
+    ∙ ap is_quoted (sym (open_from d c.if-delimiter-eq34.false before row rest s)))

@@ -11,26 +11,38 @@ pub loop-field-init : goal.loop-field-init
 loop-field-init c = (
   omega arith,
   skips_none c.args.separator (take c.args.count c.args.text.now),
-  (c.with_more-near.result.now, c.with_more-near.ensures, c.memchr_iter-places.ensures.value ∙ ap (λ (byte : ℕ). places (is_byte byte) c.with_more-near.result.now) c.byte.ensures),
+  (
+    c.with_more-near.result.now,
+    c.with_more-near.ensures,
+    c.memchr_iter-places.ensures.value
+        ∙ ap (λ (byte : ℕ). places (is_byte byte) c.with_more-near.result.now) c.byte.ensures,
+  ),
 )
 
 -- no separator is left, and one field more was to be skipped, so the row has too few
 pub returns-in-None : goal.returns-in-None
 returns-in-None c =
     let i = c.loop-field.invariant in
-    no_more c.args.separator c.loop-field._field c.loop-field.start (take c.args.count c.args.text.now) c.requires.plain i.1 c.args.before (omega (arith, c.loop-field-test.true))
+    no_more c.args.separator c.loop-field._field c.loop-field.start (take c.args.count c.args.text.now) c.requires.plain
+    i.1 c.args.before (omega (arith, c.loop-field-test.true))
     (c.in-None.ensures.next _ _ c.args.text.now i.2.0 i.2.1 i.0 i.2.2)
 
 -- a turn skips one field more, up to the next separator
 pub loop-field-preserved : goal.loop-field-preserved
 loop-field-preserved c =
     let i = c.loop-field.invariant in
-    let one = one_more c.args.separator c.loop-field._field c.loop-field.start (take c.args.count c.args.text.now) c.requires.plain i.1 c.in-Some.end
-    (c.in-Some.ensures.next _ _ c.args.text.now i.2.0 i.2.1 i.0 i.2.2) in
-    (omega (arith, one.0, length-take-le c.args.count c.args.text.now c.requires.count), one.1, (i.2.0, i.2.1, c.in-Some.ensures.rest _ _ i.2.0 i.2.2))
+    let one = one_more c.args.separator c.loop-field._field c.loop-field.start (take c.args.count c.args.text.now)
+    c.requires.plain i.1 c.in-Some.end
+    (c.in-Some.ensures.next _ _ c.args.text.now i.2.0 i.2.1 i.0 i.2.2) in (
+      omega (arith, one.0, length-take-le c.args.count c.args.text.now c.requires.count),
+      one.1,
+      (i.2.0, i.2.1, c.in-Some.ensures.rest _ _ i.2.0 i.2.2),
+    )
 
 -- each field was skipped
-skipped : (c : After-loop-field) → Skips c.args.separator c.args.before (take c.args.count c.args.text.now) (drop c.loop-field.start (take c.args.count c.args.text.now))
+skipped : (c : After-loop-field)
+    → Skips c.args.separator c.args.before (take c.args.count c.args.text.now) (drop c.loop-field.start
+    (take c.args.count c.args.text.now))
 skipped c =
     let row = take c.args.count c.args.text.now in
     let all : c.loop-field._field ≡ c.args.before = omega (arith, c.loop-field.auto._field-end, c.loop-field-test.false) in
@@ -40,12 +52,16 @@ skipped c =
 pub returns-in-Some-next_within : goal.returns-in-Some-next_within
 returns-in-Some-next_within c =
     let i = c.loop-field.invariant in
-    field_up_to c.args.separator c.args.before c.loop-field.start (take c.args.count c.args.text.now) c.requires.plain (skipped (goal.at.returns-in-Some-next_within c).After-loop-field)
-    c.in-Some-next_within.end (omega (arith, i.0, length-take-le c.args.count c.args.text.now c.requires.count)) (c.in-Some-next_within.ensures.next _ _ c.args.text.now i.2.0 i.2.1 i.0 i.2.2)
+    field_up_to c.args.separator c.args.before c.loop-field.start (take c.args.count c.args.text.now) c.requires.plain
+    (skipped (goal.at.returns-in-Some-next_within c).After-loop-field)
+    c.in-Some-next_within.end (omega (arith, i.0, length-take-le c.args.count c.args.text.now c.requires.count))
+    (c.in-Some-next_within.ensures.next _ _ c.args.text.now i.2.0 i.2.1 i.0 i.2.2)
 
 -- no separator is left, so the field goes to the end of the row
 pub returns-in-None-next_within : goal.returns-in-None-next_within
 returns-in-None-next_within c =
     let i = c.loop-field.invariant in
-    field_to_end c.args.separator c.args.before c.loop-field.start (take c.args.count c.args.text.now) c.requires.plain (skipped (goal.at.returns-in-None-next_within c).After-loop-field) c.args.count
-    (omega (arith, length-take-le c.args.count c.args.text.now c.requires.count)) i.0 (c.in-None-next_within.ensures.next _ _ c.args.text.now i.2.0 i.2.1 i.0 i.2.2)
+    field_to_end c.args.separator c.args.before c.loop-field.start (take c.args.count c.args.text.now) c.requires.plain
+    (skipped (goal.at.returns-in-None-next_within c).After-loop-field) c.args.count
+    (omega (arith, length-take-le c.args.count c.args.text.now c.requires.count)) i.0
+    (c.in-None-next_within.ensures.next _ _ c.args.text.now i.2.0 i.2.1 i.0 i.2.2)

@@ -6,7 +6,8 @@ use Rattle.lt_rows.proofs.quotes.split_outside.Goals as goal
 -- this `stop` is outside of quotes, and all before it are within
 pub returns-then-not-is_quoted : goal.returns-then-not-is_quoted
 returns-then-not-is_quoted c =
-    split_there c.args.delimiter c.args.stop c.args.text.now c.loop-front.passed c.in-Some.front.now c.in-Some.after.now c.loop-front.invariant.inside c.in-Some.ensures.1
+    split_there c.args.delimiter c.args.stop c.args.text.now c.loop-front.passed c.in-Some.front.now c.in-Some.after.now
+    c.loop-front.invariant.inside c.in-Some.ensures.1
     c.loop-front.place c.loop-front.invariant.place c.loop-front.invariant.free c.in-Some.ensures.0
     (ap is_quoted (sym c.after_text-place.ensures) ∙ sym c.is_quoted.ensures ∙ c.if-not-is_quoted.true)
 
@@ -15,11 +16,14 @@ pub loop-front-preserved : goal.loop-front-preserved
 loop-front-preserved c =
     let quoted = ap is_quoted (sym c.after_text-place.ensures) ∙ sym c.is_quoted.ensures ∙ c.if-not-is_quoted.false in
     record {
-      inside = inside_past c.args.delimiter c.args.stop c.args.text.now c.loop-front.passed c.in-Some.front.now c.in-Some.after.now c.loop-front.invariant.inside c.in-Some.ensures.1;
+      inside = inside_past c.args.delimiter c.args.stop c.args.text.now c.loop-front.passed c.in-Some.front.now
+          c.in-Some.after.now c.loop-front.invariant.inside c.in-Some.ensures.1;
       place = c.after-place.ensures ∙ ap (λ p. place_after c.args.delimiter p c.args.stop) c.after_text-place.ensures
-          ∙ place_past c.args.delimiter c.args.stop c.args.text.now c.loop-front.passed c.in-Some.front.now c.in-Some.after.now c.loop-front.invariant.inside c.in-Some.ensures.1
+          ∙ place_past c.args.delimiter c.args.stop c.args.text.now c.loop-front.passed c.in-Some.front.now
+          c.in-Some.after.now c.loop-front.invariant.inside c.in-Some.ensures.1
           c.loop-front.place c.loop-front.invariant.place c.loop-front.invariant.free c.in-Some.ensures.0;
-      free = free_past c.args.delimiter c.args.stop c.args.text.now c.loop-front.passed c.in-Some.front.now c.in-Some.after.now c.loop-front.invariant.inside c.in-Some.ensures.1
+      free = free_past c.args.delimiter c.args.stop c.args.text.now c.loop-front.passed c.in-Some.front.now
+          c.in-Some.after.now c.loop-front.invariant.inside c.in-Some.ensures.1
           c.loop-front.place c.loop-front.invariant.place c.loop-front.invariant.free c.in-Some.ensures.0 quoted;
     }
 

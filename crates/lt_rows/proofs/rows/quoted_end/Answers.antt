@@ -5,7 +5,8 @@ use Rattle.lt_rows.proofs.rows.quoted_end.Goals as goal
 -- the quote that closes the field is the last byte, so no delimiter is outside of quotes
 pub returns-then-end-count : goal.returns-then-end-count
 returns-then-end-count c =
-    quoted_last c.args.delimiter c.args.text.now c.args.count c.requires.count.0 c.requires.count.1 c.requires.quote c.in-Some.within c.in-Some.ensures
+    quoted_last c.args.delimiter c.args.text.now c.args.count c.requires.count.0 c.requires.count.1 c.requires.quote
+    c.in-Some.within c.in-Some.ensures
     (λ e. omega (arith, e, c.if-delimiter-ne34.true)) c.if-end-count.true
 
 -- the delimiter right behind the quote that closes the field is the first outside of quotes

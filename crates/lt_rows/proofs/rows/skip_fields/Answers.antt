@@ -10,13 +10,15 @@ returns-in-None c =
     let at = c.loop-field.at in
     let row = take c.args.count c.args.text.now in
     skips_last c.args.separator c.loop-field._field c.args.before row (drop at row) c.loop-field.invariant.1
-    (subst (IsRowField c.args.separator) (left_is c.args.text.now c.args.count at c.loop-field.invariant.0) c.in-None.ensures) (omega (arith, c.loop-field-test.true))
+    (subst (IsRowField c.args.separator) (left_is c.args.text.now c.args.count at c.loop-field.invariant.0)
+    c.in-None.ensures) (omega (arith, c.loop-field-test.true))
 
 -- a turn skips one field more, with the separator that ends it
 pub loop-field-preserved : goal.loop-field-preserved
 loop-field-preserved c =
     let at = c.loop-field.at in
     let row = take c.args.count c.args.text.now in
-    let ends = subst (λ (l : List ℕ). EndsField c.args.separator l (Some c.in-Some.end)) (left_is c.args.text.now c.args.count at c.loop-field.invariant.0) c.in-Some.ensures in
+    let ends = subst (λ (l : List ℕ). EndsField c.args.separator l (Some c.in-Some.end))
+    (left_is c.args.text.now c.args.count at c.loop-field.invariant.0) c.in-Some.ensures in
     let one = skips_one c.args.separator c.loop-field._field at c.in-Some.end row c.loop-field.invariant.1 ends in
     (omega (arith, one.0, length-take-le c.args.count c.args.text.now c.requires.count), one.1)

@@ -14,10 +14,15 @@ returns-in-Some c =
       ],
       λ free. elim (leb_tells c.args.count index) [
         | inl le ↦ le.0
-        | inr lt ↦ absurd (either_near c.args.count c.args.text.now near c.near.ensures c.args.one c.args.other index lt.1 c.in-Some.ensures.1 free)
+        | inr lt ↦ absurd (either_near c.args.count c.args.text.now near c.near.ensures c.args.one c.args.other index
+            lt.1 c.in-Some.ensures.1 free)
       ],
     )
 
 -- neither was found, so neither is among the first `count`
 pub returns-in-None : goal.returns-in-None
-returns-in-None c = (λ _. neither_near c.args.count c.args.text.now c.near.result.now c.near.ensures c.args.one c.args.other c.in-None.ensures, λ _. refl)
+returns-in-None c = (
+  λ _. neither_near c.args.count c.args.text.now c.near.result.now c.near.ensures c.args.one
+      c.args.other c.in-None.ensures,
+  λ _. refl,
+)

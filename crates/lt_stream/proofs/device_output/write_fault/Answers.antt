@@ -10,7 +10,8 @@ use Rattle.lt_stream.proofs.device_output.write_fault.Goals.{In_ok-write_text-2}
 pub returns-in_err-write_text : goal.returns-in_err-write_text
 returns-in_err-write_text g c =
     let p = err_from_is_err_and c.from_residual.result c.from_residual.ensures.1 in
-    rw (p.1, p.2) (wrote_less _ (codes "! ") (tool_name_of c.args.fault ++ place_said c.args.fault ++ 10 ∷ []) _ _ _ c.in_err-write_text.ensures)
+    rw (p.1, p.2) (wrote_less _ (codes "! ") (tool_name_of c.args.fault ++ place_said c.args.fault ++ 10 ∷ []) _ _ _
+    c.in_err-write_text.ensures)
 
 -- `! ` and a front of the name were written, which are a front of the line too
 pub returns-in_err-write_text-2 : goal.returns-in_err-write_text-2
@@ -19,21 +20,28 @@ returns-in_err-write_text-2 g c =
     let name = tool_name_of c.args.fault in
     let place = place_said c.args.fault in
     let failed = rw (c.as_bytes.ensures.value, c.name.ensures) at c.in_err-write_text-2.ensures in
-    rw (p.1, p.2) (wrote_less _ (codes "! " ++ name ++ place) (10 ∷ []) _ _ _ (wrote_less _ (codes "! " ++ name) place _ _ _ (wrote_more _ (codes "! ") name _ _ _ _ c.in_ok-write_text.ensures failed)))
+    rw (p.1, p.2) (wrote_less _ (codes "! " ++ name ++ place) (10 ∷ []) _ _ _
+    (wrote_less _ (codes "! " ++ name) place _ _ _
+    (wrote_more _ (codes "! ") name _ _ _ _ c.in_ok-write_text.ensures failed)))
 
 -- `! ` and the name were written
-named : (g : _) (c : goal.In_ok-write_text-2 g) → WritesText g.W.Write.contents (codes "! " ++ tool_name_of c.args.fault) c.args.output.now c.write_text-2.new.output (Ok tt)
-named g c = wrote_more _ (codes "! ") _ _ _ _ (Ok tt) c.in_ok-write_text.ensures (rw (c.as_bytes.ensures.value, c.name.ensures) at c.in_ok-write_text-2.ensures)
+named : (g : _) (c : goal.In_ok-write_text-2 g)
+    → WritesText g.W.Write.contents (codes "! " ++ tool_name_of c.args.fault) c.args.output.now
+    c.write_text-2.new.output (Ok tt)
+named g c = wrote_more _ (codes "! ") _ _ _ _ (Ok tt) c.in_ok-write_text.ensures
+    (rw (c.as_bytes.ensures.value, c.name.ensures) at c.in_ok-write_text-2.ensures)
 
 -- `! `, the name and a front of the place were written, which are a front of the line too
 pub returns-in_err-write_place : goal.returns-in_err-write_place
 returns-in_err-write_place g c =
     let p = err_from_is_err_and c.from_residual-in_err-write_place.result c.from_residual-in_err-write_place.ensures.1 in
     let front = named g (goal.at.returns-in_err-write_place g c).In_ok-write_text-2 in
-    rw (p.1, p.2) (wrote_less _ (codes "! " ++ tool_name_of c.args.fault ++ place_said c.args.fault) (10 ∷ []) _ _ _ (wrote_more _ _ _ _ _ _ _ front c.in_err-write_place.ensures))
+    rw (p.1, p.2) (wrote_less _ (codes "! " ++ tool_name_of c.args.fault ++ place_said c.args.fault) (10 ∷ []) _ _ _
+    (wrote_more _ _ _ _ _ _ _ front c.in_err-write_place.ensures))
 
 -- all before the line feed was written, so the last write tells whether the whole line was
 pub returns : goal.returns
 returns g c =
     let front = named g (goal.at.returns g c).In_ok-write_text-2 in
-    wrote_more _ _ (10 ∷ []) _ _ _ c.write_text-3.result (wrote_more _ _ _ _ _ _ (Ok tt) front c.in_ok-write_place.ensures) c.write_text-3.ensures
+    wrote_more _ _ (10 ∷ []) _ _ _ c.write_text-3.result
+    (wrote_more _ _ _ _ _ _ (Ok tt) front c.in_ok-write_place.ensures) c.write_text-3.ensures

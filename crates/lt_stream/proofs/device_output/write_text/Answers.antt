@@ -12,8 +12,11 @@ returns-in-Ok-eq0 g c =
     let n = c.in-Ok-eq0.field-0 in
     let ensures = c.in-Ok-eq0.ensures in
     let some : 0 < length (take (length text - at) (drop at text)) = rw (take_rest text at, length-drop) (omega arith) in
-    wrote_front _ text (at + n) _ _ _ (appends_more _ _ _ text at n c.loop-at.invariant.appends ensures.bytes) tt
-    (refl, failed_from c.args.output.now c.loop-at.output c.write.new.self c.loop-at.invariant.failures (ensures.takes_none c.in-Ok-eq0.field-0-test some))
+    wrote_front _ text (at + n) _ _ _ (appends_more _ _ _ text at n c.loop-at.invariant.appends ensures.bytes) tt (
+      refl,
+      failed_from c.args.output.now c.loop-at.output c.write.new.self c.loop-at.invariant.failures
+          (ensures.takes_none c.in-Ok-eq0.field-0-test some),
+    )
 
 -- the write failed and took nothing, and a front of the text was written before
 pub returns-in-Err : goal.returns-in-Err
@@ -24,7 +27,8 @@ returns-in-Err g c =
 
 -- all bytes were written, and no write failed
 pub returns : goal.returns
-returns g c = wrote_front _ c.args.text.now c.loop-at.at _ _ _ c.loop-at.invariant.appends (take_all c.loop-at.at c.args.text.now (omega arith), c.loop-at.invariant.failures) tt
+returns g c = wrote_front _ c.args.text.now c.loop-at.at _ _ _ c.loop-at.invariant.appends
+    (take_all c.loop-at.at c.args.text.now (omega arith), c.loop-at.invariant.failures) tt
 
 -- a turn writes the next bytes, at least one, without a failure
 pub loop-at-preserved : goal.loop-at-preserved

@@ -6,7 +6,8 @@ use Rattle.lt_stream.proofs.lines.run_lines.Goals as goal
 pub run_pieces-end-requires : goal.run_pieces-end-requires
 run_pieces-end-requires g c =
     let made = c.new-lined.ensures in
-    taken_none g.A.Lines.answered c.new-lined.result.answers _ _ _ c.new-lined.result c.requires.some made.kept made.owed (rw made.answers c.requires.first)
+    taken_none g.A.Lines.answered c.new-lined.result.answers _ _ _ c.new-lined.result c.requires.some made.kept
+    made.owed (rw made.answers c.requires.first)
 
 -- a run over the pieces of lines is a run over the lines
 pub returns : goal.returns

@@ -10,7 +10,8 @@ run_pieces-end-requires g c = inr (record {
   kept = c.new.ensures.items;
   may_be = inl (239, 187 ∷ 191 ∷ [], refl);
   untouched = refl;
-  taken = taken_none g.A.Lines.answered c.new-2.result.answers _ _ _ c.new-2.result c.requires.some c.new-2.ensures.kept c.new-2.ensures.owed (rw c.new-2.ensures.answers c.requires.first);
+  taken = taken_none g.A.Lines.answered c.new-2.result.answers _ _ _ c.new-2.result c.requires.some c.new-2.ensures.kept
+      c.new-2.ensures.owed (rw c.new-2.ensures.answers c.requires.first);
 })
 
 -- a run over the pieces of a text is a run over its lines

@@ -9,13 +9,15 @@ use Rattle.lt_subtag.proofs.lanes.fold.Goals as goal
 pub returns-then-run_of_8-bytes-clause-bad : goal.returns-then-run_of_8-bytes-clause-bad
 returns-then-run_of_8-bytes-clause-bad c =
     let s = c.args.bytes.now in
-    padded_fails s _ (omega arith) (c.run_of_8.ensures ∙ ap (λ v. prefix_len is_ascii_alphanumeric (take 8 v)) c.pad-padded.ensures) (omega arith)
+    padded_fails s _ (omega arith) (c.run_of_8.ensures
+    ∙ ap (λ v. prefix_len is_ascii_alphanumeric (take 8 v)) c.pad-padded.ensures) (omega arith)
 
 -- the letters and digits at the front are at least as many as the bytes, so each byte is one
 pub returns-clause-good : goal.returns-clause-good
 returns-clause-good c =
     let s = c.args.bytes.now in
-    padded_passes s _ (omega arith) (c.run_of_8.ensures ∙ ap (λ v. prefix_len is_ascii_alphanumeric (take 8 v)) c.pad-padded.ensures) (omega arith)
+    padded_passes s _ (omega arith) (c.run_of_8.ensures
+    ∙ ap (λ v. prefix_len is_ascii_alphanumeric (take 8 v)) c.pad-padded.ensures) (omega arith)
 
 -- lower case leaves zeros as they are, so it is the same to pad before it or after it
 pub returns-clause-folded : goal.returns-clause-folded

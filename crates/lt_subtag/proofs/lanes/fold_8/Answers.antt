@@ -10,5 +10,6 @@ pub returns : goal.returns
 returns c =
     let v = chunk 0 8 c.args.text.now in
     let long = length-chunk 0 8 c.args.text.now c.requires in
-    selected _ _ _ v (joined (λ a b. cond (leb a b) 255 0) _ _ v (splat_is_map v 8 26 long) (zip2_splat {Y = ℕ} _ v 8 65 long)) (itself v) (zip2_splat {Y = ℕ} _ v 8 32 long)
+    selected _ _ _ v (joined (λ a b. cond (leb a b) 255 0) _ _ v (splat_is_map v 8 26 long)
+    (zip2_splat {Y = ℕ} _ v 8 65 long)) (itself v) (zip2_splat {Y = ℕ} _ v 8 32 long)
     ∙ lanes_agree _ to_ascii_lowercase refl v (bytes_of 0 8 c.args.text.now c.type_inv.text)

@@ -12,5 +12,6 @@ returns c =
     let long = length-chunk 0 8 c.args.text.now c.requires in
     front_of is_ascii_alphanumeric c.args.text.now 0 8 _ _ c.requires (omega arith) c.type_inv.text c.first_set.ensures _
     (joined bit_and _ _ v
-    (joined (λ a b. cond (leb a b) 255 0) _ _ v (splat_is_map v 8 26 long) (joined _ _ _ v (zip2_splat {Y = ℕ} _ v 8 32 long) (splat_is_map v 8 97 long)))
+    (joined (λ a b. cond (leb a b) 255 0) _ _ v (splat_is_map v 8 26 long)
+    (joined _ _ _ v (zip2_splat {Y = ℕ} _ v 8 32 long) (splat_is_map v 8 97 long)))
     (joined (λ a b. cond (leb a b) 255 0) _ _ v (splat_is_map v 8 10 long) (zip2_splat {Y = ℕ} _ v 8 48 long))) refl

@@ -24,11 +24,15 @@ returns-then-eq_ignore_ascii_case-clause-listed c =
 pub loop-number-preserved : goal.loop-number-preserved
 loop-number-preserved c =
     let here : IsGrandfathered (list_of c.args.text.now) c.loop-number.number → ⊥ = λ g.
-    let yes = c.eq_ignore_ascii_case.ensures.test.1 (match_needed c.args.text.now c.loop-number.number g ∙ ap folded (sym c.text_of.ensures)) in
+    let yes = c.eq_ignore_ascii_case.ensures.test.1 (match_needed c.args.text.now c.loop-number.number g
+    ∙ ap folded (sym c.text_of.ensures)) in
     let no = c.if-eq_ignore_ascii_case.false in
     cc
-    in
-    (omega arith, below_more (λ (k : ℕ). IsGrandfathered (list_of c.args.text.now) k → ⊥) c.loop-number.number c.loop-number.invariant.1 here)
+    in (
+      omega arith,
+      below_more (λ (k : ℕ). IsGrandfathered (list_of c.args.text.now) k → ⊥) c.loop-number.number
+          c.loop-number.invariant.1 here,
+    )
 
 -- an empty text has no first byte, and is no grandfathered tag
 pub returns-in_default-clause-none : goal.returns-in_default-clause-none
@@ -39,5 +43,6 @@ pub returns-then-not-begins_listed-clause-none : goal.returns-then-not-begins_li
 returns-then-not-begins_listed-clause-none c = λ number g.
     let yes = first_begins c.args.text.now number c.in-Some.first.now c.in-Some.ensures.value g in
     let no : begins_listed (length c.args.text.now) (to_ascii_lowercase c.in-Some.first.now) ≡ false =
-    ap (begins_listed (length c.args.text.now)) (sym c.to_ascii_lowercase.ensures.value) ∙ sym c.begins_listed.ensures ∙ c.if-not-begins_listed.true in
+    ap (begins_listed (length c.args.text.now)) (sym c.to_ascii_lowercase.ensures.value) ∙ sym c.begins_listed.ensures
+    ∙ c.if-not-begins_listed.true in
     cc

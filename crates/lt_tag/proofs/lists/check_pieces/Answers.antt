@@ -13,7 +13,8 @@ returns-in_err-subtag_at c =
     let front = c.loop-rest.invariant.1.0 in
     let whole = rw c.in-Some.is at c.loop-rest.invariant.1.1 in
     let split = c.cut_piece.ensures.pieces in
-    let stop = front_stop front c.loop-rest.place c.cut_piece.result.0.now (pieces_left c.cut_piece.result.1) c.in_err-subtag_at.field-0.0 (sym c.subtag_at.ensures ∙ c.in_err-subtag_at.was) in
+    let stop = front_stop front c.loop-rest.place c.cut_piece.result.0.now (pieces_left c.cut_piece.result.1)
+    c.in_err-subtag_at.field-0.0 (sym c.subtag_at.ensures ∙ c.in_err-subtag_at.was) in
     rw (p.1, p.2) (sym whole ∙ ap (λ (z : List (List ℕ)). with_front front (listed c.loop-rest.place z)) split ∙ stop)
 
 -- a turn reads one piece more as a subtag, and the next piece has the next number
@@ -24,8 +25,15 @@ loop-rest-preserved c =
     let few = rw c.in-Some.is at c.loop-rest.invariant.0 in
     let split = c.cut_piece.ensures.pieces in
     let count = ap length split in
-    let step = front_next front c.loop-rest.place c.cut_piece.result.0.now (pieces_left c.cut_piece.result.1) c.in_ok-subtag_at.field-0 (sym c.subtag_at.ensures ∙ c.in_ok-subtag_at.was) in
-    (omega (arith, few, count), (front ++ c.in_ok-subtag_at.field-0 ∷ [], sym step ∙ sym (ap (λ (z : List (List ℕ)). with_front front (listed c.loop-rest.place z)) split) ∙ whole))
+    let step = front_next front c.loop-rest.place c.cut_piece.result.0.now (pieces_left c.cut_piece.result.1)
+    c.in_ok-subtag_at.field-0 (sym c.subtag_at.ensures ∙ c.in_ok-subtag_at.was) in (
+      omega (arith, few, count),
+      (
+        front ++ c.in_ok-subtag_at.field-0 ∷ [],
+        sym step
+            ∙ sym (ap (λ (z : List (List ℕ)). with_front front (listed c.loop-rest.place z)) split) ∙ whole,
+      ),
+    )
 
 -- no piece is left, so all are subtags
 pub returns : goal.returns

@@ -7,7 +7,9 @@ use Rattle.lt_tag.proofs.lists.check_pieces.Given as goal
 abbrev pub invariant-loop-rest : goal.invariant-loop-rest
 invariant-loop-rest l =
     (l.place + length (pieces_left l.rest) < 2 ^ 32)
-    × ((front : List (List ℕ)) × (with_front front (listed l.place (pieces_left l.rest)) ≡ listed l.initial.place (pieces_left l.initial.rest)))
+    × ((front : List (List ℕ))
+    × (with_front front (listed l.place (pieces_left l.rest))
+    ≡ listed l.initial.place (pieces_left l.initial.rest)))
 
 abbrev pub decreases-loop-rest : goal.decreases-loop-rest
 decreases-loop-rest l = length (pieces_left l.rest)

@@ -11,7 +11,8 @@ pub loop-key-preserved : goal.loop-key-preserved
 loop-key-preserved c =
     let split = c.in-Some.ensures.cases in
     keywords_next _ _ _ _ c.in-Some.key.now c.in-Some.others.now _ _ c.loop-key.invariant split.0
-    (c.in_ok-copy_subtags.ensures ∙ c.before_key-in-Some.ensures.front) c.before_key-in-Some.ensures.rest (rw c.copy.ensures at c.in_ok-push.ensures.items)
+    (c.in_ok-copy_subtags.ensures ∙ c.before_key-in-Some.ensures.front) c.before_key-in-Some.ensures.rest
+    (rw c.copy.ensures at c.in_ok-push.ensures.items)
 
 -- no subtag is left, so the keywords read are all
 pub returns : goal.returns

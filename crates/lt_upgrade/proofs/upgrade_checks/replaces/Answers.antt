@@ -5,4 +5,6 @@ use Rattle.lt_upgrade.proofs.upgrade_checks.replaces.Goals as goal
 -- tags that compare as equal are the same, so the newer value is this one
 pub returns-in-Some : goal.returns-in-Some
 returns-in-Some g c =
-    λ h. sym c.in-Some.ensures ∙ ap Some ((same_exactly tag_total tags_apart c.in-Some.other.now c.args.value.now c.eq.result c.eq.ensures).0 h)
+    λ h. sym c.in-Some.ensures
+    ∙ ap Some ((same_exactly tag_total tags_apart c.in-Some.other.now c.args.value.now c.eq.result c.eq.ensures).0
+    h)

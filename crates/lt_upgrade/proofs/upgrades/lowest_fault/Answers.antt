@@ -6,6 +6,8 @@ use Rattle.lt_upgrade.proofs.upgrades.lowest_fault.Goals as goal
 pub returns-then-not-branch : goal.returns-then-not-branch
 returns-then-not-branch g c =
     let found = c.records_of-entry-items in
-    let at = item_at found.result.now _ c.loop-entry.entry-index c.entry-item.result found.ensures.value c.loop-entry-test.true c.entry-item.is in
-    lowest_of _ _ c.args.condition c.loop-entry.entry-index c.entry-item.result c.number.result (rw found.ensures.value at found.ensures.rising) at c.number.ensures.value c.loop-entry.invariant
+    let at = item_at found.result.now _ c.loop-entry.entry-index c.entry-item.result found.ensures.value
+    c.loop-entry-test.true c.entry-item.is in
+    lowest_of _ _ c.args.condition c.loop-entry.entry-index c.entry-item.result c.number.result
+    (rw found.ensures.value at found.ensures.rising) at c.number.ensures.value c.loop-entry.invariant
     (λ met. cc (c.in_ok-meets.ensures.1 met, c.if-not-branch.true))

@@ -4,4 +4,5 @@ use Rattle.lt_upgrade.proofs.upgrades.upgrade_check.Goals as goal
 -- a turn without a fault has one condition more that all records meet
 pub loop-condition-preserved : goal.loop-condition-preserved
 loop-condition-preserved g c =
-    one_more (g.A.Lookup.listed c.args.older.now) (g.B.Lookup.listed c.args.newer.now) c.loop-condition.condition-index c.loop-condition.invariant (rw c.in_default.is at c.in_ok-number.ensures)
+    one_more (g.A.Lookup.listed c.args.older.now) (g.B.Lookup.listed c.args.newer.now) c.loop-condition.condition-index
+    c.loop-condition.invariant (rw c.in_default.is at c.in_ok-number.ensures)

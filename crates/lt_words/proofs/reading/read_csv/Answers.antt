@@ -8,6 +8,11 @@ returns-clause-named c = record {
   named = refl;
   texts = string_bytes c.in_ok-registry.registry ∷ string_bytes c.in_ok-registry.column ∷ [];
   given = c.in_ok-registry.ensures.values;
-  values = (string_bytes c.in_ok-registry.column, rw c.deref.ensures at c.in_ok-column_of.ensures.column, c.in_ok-column_of.ensures.fits, refl);
+  values = (
+    string_bytes c.in_ok-registry.column,
+    rw c.deref.ensures at c.in_ok-column_of.ensures.column,
+    c.in_ok-column_of.ensures.fits,
+    refl,
+  );
   options = (c.is_flagged-summary.ensures, refl, c.in_ok-delimiter.ensures.given, (c.is_flagged.ensures, c.in_ok-option_of.ensures));
 }

@@ -37,4 +37,5 @@ returns-in-Err-clause-refused c =
     let same = c.in_ok-langtag.ensures in
     let k = kind_of c.in-Err.error in
     let how = said_of (λ (ks : List ErrorKind). (k ≡ kind.OutOfMemory) ⊎ IsAmong k ks) _ words same c.in-Err.ensures.kinds in
-    refused_failed words k None c.fault_of.result how (subst (λ (x : ErrorKind). IsFaultOf x None c.fault_of.result) c.kind.ensures c.fault_of.ensures)
+    refused_failed words k None c.fault_of.result how (subst (λ (x : ErrorKind). IsFaultOf x None c.fault_of.result)
+    c.kind.ensures c.fault_of.ensures)

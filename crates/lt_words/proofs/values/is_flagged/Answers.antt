@@ -18,7 +18,9 @@ of_text text = option_map_or (λ t. bytes_eq t (codes "true")) text false
 pub returns-in-Some : goal.returns-in-Some
 returns-in-Some c =
     let found = (out-ArgMatches c.args.matches.now).found in
-    c.eq.ensures ∙ sym (ap of_text (sym (first_value-rows found c.args.flag.now.name.now) ∙ sym c.get_str.ensures ∙ ap (option_map now_of) c.in-Some.is))
+    c.eq.ensures
+    ∙ sym (ap of_text (sym (first_value-rows found c.args.flag.now.name.now) ∙ sym c.get_str.ensures
+    ∙ ap (option_map now_of) c.in-Some.is))
 
 -- the matches have no value for the flag, so it is not given
 pub returns-in-None : goal.returns-in-None

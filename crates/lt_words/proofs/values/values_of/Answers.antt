@@ -19,11 +19,14 @@ or_none texts = option_map_or (λ (l : List Text). l) texts []
 pub returns-in-Some : goal.returns-in-Some
 returns-in-Some c =
     let found = (out-ArgMatches c.args.matches.now).found in
-    let is = ap or_none (ap (option_map now_of) (sym c.in-Some.is) ∙ c.get_strs.ensures ∙ raw_values-rows found c.args.repeated.now.name.now) in
+    let is = ap or_none (ap (option_map now_of) (sym c.in-Some.is) ∙ c.get_strs.ensures
+    ∙ raw_values-rows found c.args.repeated.now.name.now) in
     IfOk-weaker c.copies_of.result _ _ (λ values same. same ∙ is) c.copies_of.ensures
 
 -- the matches have no values, so there are none to copy
 pub returns-in-None : goal.returns-in-None
 returns-in-None c =
     let found = (out-ArgMatches c.args.matches.now).found in
-    ap (map string_bytes) c.new.ensures.items ∙ ap or_none (ap (option_map now_of) (sym c.in-None.is) ∙ c.get_strs.ensures ∙ raw_values-rows found c.args.repeated.now.name.now)
+    ap (map string_bytes) c.new.ensures.items
+    ∙ ap or_none (ap (option_map now_of) (sym c.in-None.is) ∙ c.get_strs.ensures
+    ∙ raw_values-rows found c.args.repeated.now.name.now)

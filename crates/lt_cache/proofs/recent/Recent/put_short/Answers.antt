@@ -22,6 +22,14 @@ returns-then-first-len c =
       first,
       omega (arith, c.if-first-len.true, c.len.ensures, places.ok.0, long),
       made_some (slice_set c.swap.new.self.items first (kept c.in-Some-Some.line c.in-Some-Some.answer c.args.refused))
-          (omega (arith, room, length-set c.swap.new.self.items first (kept c.in-Some-Some.line c.in-Some-Some.answer c.args.refused), c.swap.new.self.ok.0, places.ok.0, c.swap.ensures.len))
+          (omega (
+            arith,
+            room,
+            length-set c.swap.new.self.items first
+                (kept c.in-Some-Some.line c.in-Some-Some.answer c.args.refused),
+            c.swap.new.self.ok.0,
+            places.ok.0,
+            c.swap.ensures.len,
+          ))
           ∙ ap₂ (λ xs place. slice_set xs first place) exchanged (ap₂ (λ l a. kept l a c.args.refused) same_line same_answer),
     )

@@ -6,5 +6,7 @@ use Rattle.lt_cache.proofs.recent_ends.RecentEnds.append_new.Goals as goal
 pub overflow_add-start : goal.overflow_add-start
 overflow_add-start g c =
     let new = c.append_other_text.new.texts in
-    let stands = end_stands _ c.args.text.now _ _ _ c.len-start.result c.args.count (sym (c.len-start.ensures ∙ c.args.texts.now.ok.0)) c.requires (c.in_ok-append_other_text.ensures {u = tt}).appended in
+    let stands = end_stands _ c.args.text.now _ _ _ c.len-start.result c.args.count
+    (sym (c.len-start.ensures ∙ c.args.texts.now.ok.0)) c.requires
+    (c.in_ok-append_other_text.ensures {u = tt}).appended in
     omega (arith, (follows_front _ c.table.ensures.checked _ _ _ _ stands refl).within, new.ok.0, new.small)

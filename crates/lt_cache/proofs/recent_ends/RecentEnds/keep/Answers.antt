@@ -5,10 +5,13 @@ use Rattle.lt_cache.proofs.recent_ends.RecentEnds.keep.Goals as goal
 use Rattle.lt_cache.proofs.recent_ends.RecentEnds.keep.Goals.{After-deref, After-deref-in-None}
 
 -- what the texts have after the source
-after_source : (g : _) (c : goal.After-deref g) → CanKeep (g.L.Lookup.listed c.args.checked.now) c.in-Some.fields.now c.deref.result.now (c.args.from + 3 + length c.in-Some.source.now)
+after_source : (g : _) (c : goal.After-deref g)
+    → CanKeep (g.L.Lookup.listed c.args.checked.now) c.in-Some.fields.now c.deref.result.now (c.args.from + 3
+    + length c.in-Some.source.now)
 after_source g c =
     let found = c.in-Some.ensures {u = tt} in
-    follows_source _ c.table.ensures.checked c.in-Some.source.now c.in-Some.fields.now c.args.end.now c.deref.result.now _ c.args.from c.requires
+    follows_source _ c.table.ensures.checked c.in-Some.source.now c.in-Some.fields.now c.args.end.now c.deref.result.now
+    _ c.args.from c.requires
     (c.deref.ensures.value ∙ c.staying_source.ensures.kept) found.source found.end
 
 -- the source in the texts ends before they do, so the sum is no more than their length
@@ -30,11 +33,15 @@ overflow_add-from-in-Some g c = omega (arith, (after_source g c).within, c.deref
 -- what follows a canonical source with these fields was put for the fields, so the table stays right
 pub returns-in-Some-clause-ends : goal.returns-in-Some-clause-ends
 returns-in-Some-clause-ends g c = λ ends.
-    kept_put _ c.self.inside.texts c.put.new.self c.in-Some.fields.now c.deref.result.now _ c.put.ensures (after_source g (goal.at.returns-in-Some-clause-ends g c).After-deref) (subst (AreEnds (g.L.Lookup.listed c.args.checked.now)) (sym c.self.view_is) ends)
+    kept_put _ c.self.inside.texts c.put.new.self c.in-Some.fields.now c.deref.result.now _ c.put.ensures
+    (after_source g (goal.at.returns-in-Some-clause-ends g c).After-deref)
+    (subst (AreEnds (g.L.Lookup.listed c.args.checked.now)) (sym c.self.view_is) ends)
 
 -- what they have after the front
-after_front : (g : _) (c : goal.After-deref-in-None g) → CanKeep (g.L.Lookup.listed c.args.checked.now) c.args.end.now c.deref-in-None.result.now c.args.from
-after_front g c = follows_front _ c.table.ensures.checked c.args.end.now c.deref-in-None.result.now _ c.args.from c.requires (c.deref-in-None.ensures.value ∙ c.staying_source.ensures.kept)
+after_front : (g : _) (c : goal.After-deref-in-None g)
+    → CanKeep (g.L.Lookup.listed c.args.checked.now) c.args.end.now c.deref-in-None.result.now c.args.from
+after_front g c = follows_front _ c.table.ensures.checked c.args.end.now c.deref-in-None.result.now _ c.args.from
+    c.requires (c.deref-in-None.ensures.value ∙ c.staying_source.ensures.kept)
 
 -- the end begins within the texts, and so does the slice
 pub slice_bounds-put-count-in-None : goal.slice_bounds-put-count-in-None
@@ -47,4 +54,6 @@ slice_bounds-put-start-in-None g c = (after_front g c).within
 -- what follows a canonical core with this end was put for the end, so the table stays right
 pub returns-in-None-clause-ends : goal.returns-in-None-clause-ends
 returns-in-None-clause-ends g c = λ ends.
-    kept_put _ c.self.inside.texts c.put-in-None.new.self c.args.end.now c.deref-in-None.result.now _ c.put-in-None.ensures (after_front g (goal.at.returns-in-None-clause-ends g c).After-deref-in-None) (subst (AreEnds (g.L.Lookup.listed c.args.checked.now)) (sym c.self.view_is) ends)
+    kept_put _ c.self.inside.texts c.put-in-None.new.self c.args.end.now c.deref-in-None.result.now _
+    c.put-in-None.ensures (after_front g (goal.at.returns-in-None-clause-ends g c).After-deref-in-None)
+    (subst (AreEnds (g.L.Lookup.listed c.args.checked.now)) (sym c.self.view_is) ends)

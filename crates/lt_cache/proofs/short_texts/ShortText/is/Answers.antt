@@ -13,7 +13,8 @@ returns-then-self-other c =
     let xs = c.self.inside.bytes in
     let ys = c.other.inside.bytes in
     let long : length xs ≡ length ys = c.self.told ∙ sym c.other.told in
-    let mask = ap (λ ms. mask_l ms % 2 ^ 64) (tops_compared w8 differ xs ys) ∙ mask_l-mod (zip2 differ xs ys) 64 (omega (arith, length-zip2 differ xs ys long, c.self.told)) in
+    let mask = ap (λ ms. mask_l ms % 2 ^ 64) (tops_compared w8 differ xs ys)
+    ∙ mask_l-mod (zip2 differ xs ys) 64 (omega (arith, length-zip2 differ xs ys long, c.self.told)) in
     let same : mask_l (zip2 differ xs ys) ≡ 0 → c.args.self.now ≡ c.args.other.now =
     λ none. sym c.self.view_is ∙ ap₂ (λ n zs. take n zs) c.if-self-other.true (same_lanes xs ys long none) ∙ c.other.view_is in
     let none : c.args.self.now ≡ c.args.other.now → mask_l (zip2 differ xs ys) ≡ 0 =

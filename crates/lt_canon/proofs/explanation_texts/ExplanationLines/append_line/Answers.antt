@@ -12,7 +12,8 @@ invariant_of-self g c =
     let on = (c.in-Ok.ensures {u = tt}).ok in
     record {
       proper = on.0.to;
-      trace = trace_behind (g.L.Lookup.listed inside.table.now) inside.here c.in-Ok.next inside.trace.last c.index.result.now (drop (inside.taken + 1) steps) (rw next at c.self.invariant.trace) on;
+      trace = trace_behind (g.L.Lookup.listed inside.table.now) inside.here c.in-Ok.next inside.trace.last
+          c.index.result.now (drop (inside.taken + 1) steps) (rw next at c.self.invariant.trace) on;
     }
 
 -- the line is that of the first step that was left, and the steps after it are still left

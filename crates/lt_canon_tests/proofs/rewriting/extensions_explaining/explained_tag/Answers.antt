@@ -14,15 +14,23 @@ explain_extensions-requires-clause-singletons c =
     let R : List EntryParts = c.args.table.now in
     let t : TagForm = c.args.tag.now in
     let valid : IsValid R t = (valid_law R t c.extensions.ensures.tag).1 c.requires.valid in
-    subst (λ (es : List ExtensionParts). Distinct (map (λ (e : ExtensionParts). e.singleton) es)) (sym (c.in_ok-extensions.ensures ∙ c.extensions.ensures.value)) (can_settle R t valid.proper.parts).singletons
+    subst (λ (es : List ExtensionParts). Distinct (map (λ (e : ExtensionParts). e.singleton) es))
+    (sym (c.in_ok-extensions.ensures ∙ c.extensions.ensures.value)) (can_settle R t valid.proper.parts).singletons
 
 pub explain_extensions-requires-clause-transforms : goal.explain_extensions-requires-clause-transforms
 explain_extensions-requires-clause-transforms c =
     let R : List EntryParts = c.args.table.now in
     let t : TagForm = c.args.tag.now in
     let valid : IsValid R t = (valid_law R t c.extensions.ensures.tag).1 c.requires.valid in
-    subst (λ (es : List ExtensionParts). AllByRecursion (λ (e : ExtensionParts). e.singleton ≡ transform → (p : TForm) × IsTransform e.subtags p) es) (sym (c.in_ok-extensions.ensures ∙ c.extensions.ensures.value)) (can_settle R t valid.proper.parts).transforms
+    subst (λ (es : List ExtensionParts). AllByRecursion (λ (e : ExtensionParts). e.singleton ≡ transform → (p : TForm)
+    × IsTransform e.subtags p) es) (sym (c.in_ok-extensions.ensures ∙ c.extensions.ensures.value))
+    (can_settle R t valid.proper.parts).transforms
 
 pub explain_extensions-requires-clause-few : goal.explain_extensions-requires-clause-few
 explain_extensions-requires-clause-few c =
-    omega (arith, few_in_tag c.args.tag.now c.extensions.ensures.tag.counts, ap (λ es. length (spell_extensions es)) (c.in_ok-extensions.ensures ∙ c.extensions.ensures.value))
+    omega (
+      arith,
+      few_in_tag c.args.tag.now c.extensions.ensures.tag.counts,
+      ap (λ es. length (spell_extensions es))
+          (c.in_ok-extensions.ensures ∙ c.extensions.ensures.value),
+    )

@@ -3,8 +3,10 @@ use Rattle.lt_check.proofs.range_names.RangeNames.add.Goals as goal
 
 -- only equal ranges tie in the order of the set, so it adds a range exactly if it doesn't have that
 pub returns-clause-added : goal.returns-clause-added
-returns-clause-added c = rw (← c.self.view_is, ← c.new.ensures) (new_or_there c.self.inside.names.keys c.new.result c.in_ok-insert.field-0 c.in_ok-insert.ensures.added)
+returns-clause-added c = rw (← c.self.view_is, ← c.new.ensures)
+    (new_or_there c.self.inside.names.keys c.new.result c.in_ok-insert.field-0 c.in_ok-insert.ensures.added)
 
 -- only equal ranges tie in the order of the set, so it has the added range and what it had before
 pub returns-clause-names : goal.returns-clause-names
-returns-clause-names c name = rw (← c.self.view_is, ← c.new.ensures) (added_to c.self.inside.names.keys c.insert.new.self.keys c.new.result c.in_ok-insert.ensures.updates.0 name)
+returns-clause-names c name = rw (← c.self.view_is, ← c.new.ensures)
+    (added_to c.self.inside.names.keys c.insert.new.self.keys c.new.result c.in_ok-insert.ensures.updates.0 name)

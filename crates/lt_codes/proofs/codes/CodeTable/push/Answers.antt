@@ -26,7 +26,8 @@ invariant_of-self-then-index-eq0 c =
     let codes = c.self.inside.codes.items in
     let pushed : c.push.new.self.items ≡ codes ++ code at ∷ [] = c.in_ok-push.ensures.items in
     let last : c.len.result ≡ length (codes ++ code at ∷ []) = c.len.ensures ∙ c.push.new.self.ok.0 ∙ ap length pushed in
-    rw (pushed, last) (indexed_new codes c.self.inside.places.items (code at) c.in-Some.number c.self.invariant c.requires (number at) (sym (place at) ∙ c.if-index-eq0.true))
+    rw (pushed, last) (indexed_new codes c.self.inside.places.items (code at) c.in-Some.number c.self.invariant
+    c.requires (number at) (sym (place at) ∙ c.if-index-eq0.true))
 
 -- a code before has these letters, and their place stays its place
 pub invariant_of-self-else-index-eq0 : goal.invariant_of-self-else-index-eq0
@@ -34,4 +35,5 @@ invariant_of-self-else-index-eq0 c =
     let at = (goal.at.invariant_of-self-else-index-eq0 c).After-index in
     let codes = c.self.inside.codes.items in
     let pushed : c.push.new.self.items ≡ codes ++ code at ∷ [] = c.in_ok-push.ensures.items in
-    rw pushed (indexed_known codes c.self.inside.places.items (code at) c.in-Some.number c.self.invariant c.requires (number at) (λ none. c.if-index-eq0.false (place at ∙ none)))
+    rw pushed (indexed_known codes c.self.inside.places.items (code at) c.in-Some.number c.self.invariant c.requires
+    (number at) (λ none. c.if-index-eq0.false (place at ∙ none)))

@@ -9,4 +9,8 @@ returns-then-is_quoted c = λ S. (refl, λ so_far. ap is_quoted (sym so_far.plac
 
 -- no quote is open, so the text is a whole row, and its length is given
 pub returns : goal.returns
-returns c = λ S. (c.len.ensures ∙ c.args.self.now.text.ok.0, λ so_far. whole_row S _ _ so_far (sym c.is_quoted.ensures ∙ c.if-is_quoted.false))
+returns c = λ S. (
+  c.len.ensures ∙ c.args.self.now.text.ok.0,
+  λ so_far. whole_row S _ _ so_far (sym c.is_quoted.ensures
+      ∙ c.if-is_quoted.false),
+)

@@ -13,4 +13,5 @@ pub returns-in-None : goal.returns-in-None
 returns-in-None c =
     let S = c.args.separator in
     let old = c.args.self.now in
-    finish_last S old c.begin.new.self (undecided_of S old c.if-self.false c.requires) c.end_text-in-None.result (rw c.in-None.is at c.in_ok-end.ensures) (c.end_text-in-None.ensures S)
+    finish_last S old c.begin.new.self (undecided_of S old c.if-self.false c.requires) c.end_text-in-None.result
+    (rw c.in-None.is at c.in_ok-end.ensures) (c.end_text-in-None.ensures S)

@@ -3,4 +3,9 @@ use Rattle.lt_heading.proofs.first_rows.FirstRow.new.Goals as goal
 
 -- no bytes may still become a mark
 pub returns-clause-undecided : goal.returns-clause-undecided
-returns-clause-undecided c = record { begun = refl; may_be = rw c.new.ensures.items (inl (239, 187 ∷ 191 ∷ [], refl)); none = c.new-2.ensures.items; fresh = refl }
+returns-clause-undecided c = record {
+  begun = refl;
+  may_be = rw c.new.ensures.items (inl (239, 187 ∷ 191 ∷ [], refl));
+  none = c.new-2.ensures.items;
+  fresh = refl;
+}

@@ -10,7 +10,8 @@ returns-then-self c =
     let S = c.args.separator in
     let old = c.args.self.now in
     let new : FirstRow = record { mark = old.mark; is_begun = old.is_begun; text = c.take_text.new.text; place = c.take_text.new.place } in
-    piece_begun S c.args.piece.now old new c.take_text.result (begun_of S old c.if-self.true c.requires) refl c.if-self.true c.take_text.ensures
+    piece_begun S c.args.piece.now old new c.take_text.result (begun_of S old c.if-self.true c.requires) refl
+    c.if-self.true c.take_text.ensures
 
 -- what a test did not find
 tells_not : (P : List ℕ → Type 0) (seen text : List ℕ) (r : Bool) → IsTrue r ↔ P seen → r ≡ false → seen ≡ text → P text → ⊥
@@ -25,4 +26,5 @@ returns c =
     let mid : FirstRow = record { mark = c.extend_from_slice.new.self; is_begun = old.is_begun; text = old.text; place = old.place } in
     piece_begins S c.args.piece.now old c.begin.new.self mid (undecided_of S old c.if-self.false c.requires) items
     (tells_not IsWide _ _ _ c.is_wide.ensures c.if-is_wide.false (c.deref.ensures.value ∙ items))
-    (tells_not MayBeMark _ _ _ c.may_be_mark.ensures c.if-may_be_mark.false (c.deref-2.ensures.value ∙ items)) c.begin.result c.begin.ensures
+    (tells_not MayBeMark _ _ _ c.may_be_mark.ensures c.if-may_be_mark.false (c.deref-2.ensures.value ∙ items))
+    c.begin.result c.begin.ensures

@@ -17,7 +17,8 @@ returns c =
     let view = c.behind-self.view_is in
     let some : at + 1 ≡ draft.count = grind (arith, nat_tests) in
     let counted = length-take-le draft.count items (omega (arith, draft.within, draft.fields.ok.0)) in
-    let here : get_or (take draft.count items) at last ≡ last = get_or-take draft.count items at last (omega (arith, some)) ∙ search rules in
+    let here : get_or (take draft.count items) at last ≡ last =
+    get_or-take draft.count items at last (omega (arith, some)) ∙ search rules in
     rw (take-set-lt draft.count items at _ (omega (arith, some)))
     (continued-set c.args.text.now (take draft.count items) at last _ (omega (arith, some, counted)) here (ap (λ (f : Field). f.0) view)
     (c.in_ok-lengthen.ensures ∙ ap (λ (f : Field). lengthened f.1 c.args.text.now) view))

@@ -11,10 +11,23 @@ use Rattle.lt_jar.proofs.drafts.Draft.take_line.Goals as goal
 pub returns-in-Ok : goal.returns-in-Ok
 returns-in-Ok c =
     let kind = ap line_of c.in-Ok.ensures.cases.0 in
-    rw (le-ltb longest_line (length c.args.line.now) (omega arith), is_utf8-from_IsUtf8 c.args.line.now c.in-Ok.ensures.cases.1, ← kind) c.take_short_line.ensures
+    rw (
+      le-ltb longest_line (length c.args.line.now) (omega arith),
+      is_utf8-from_IsUtf8 c.args.line.now
+          c.in-Ok.ensures.cases.1,
+      ← kind,
+    ) c.take_short_line.ensures
 
 -- the line is short and not UTF-8, and that is its fault
 pub returns-in-Err : goal.returns-in-Err
 returns-in-Err c =
     let line = c.args.line.now in
-    inr (faults.NotUtf8, refl, rw (le-ltb longest_line (length line) (omega arith), false_from_ne_true (is_utf8 line) (λ is. c.in-Err.ensures.cases.0 (IsUtf8-from_is_utf8 line is))) refl)
+    inr (
+      faults.NotUtf8,
+      refl,
+      rw (
+        le-ltb longest_line (length line) (omega arith),
+        false_from_ne_true (is_utf8 line)
+            (λ is. c.in-Err.ensures.cases.0 (IsUtf8-from_is_utf8 line is)),
+      ) refl,
+    )

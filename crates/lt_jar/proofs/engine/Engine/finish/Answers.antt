@@ -13,7 +13,8 @@ use Rattle.lt_jar.proofs.engine.Engine.finish.Goals as goal
 pub returns-then-is_empty : goal.returns-then-is_empty
 returns-then-is_empty c =
     let old = c.args.self.now in
-    let none : old.partial.items ≡ [] = nil_from_length old.partial.items (sym old.partial.ok.0 ∙ eqb-true _ 0 (sym c.is_empty.ensures ∙ c.if-is_empty.true)) in
+    let none : old.partial.items ≡ [] = nil_from_length old.partial.items (sym old.partial.ok.0
+    ∙ eqb-true _ 0 (sym c.is_empty.ensures ∙ c.if-is_empty.true)) in
     record {
       going = record { records = []; fields = fields_in old };
       ran = ap (λ l. steps old.ended (going_on (fields_in old)) (last_line l)) none;
@@ -34,7 +35,8 @@ returns-in_err-end_line c =
     let counted = ensures.counted c.requires.begun in
     rw (p.1, p.2) (record {
       some = λ none. eqb-false _ 0 (sym c.is_empty.ensures ∙ c.if-is_empty.false) (old.partial.ok.0 ∙ ap length none);
-      said = subst (λ l. IsSaid c.in_err-end_line.field-0.0 (take_line old.ended (fields_in old) l)) (append-nil old.partial.items) ensures.taken;
+      said = subst (λ l. IsSaid c.in_err-end_line.field-0.0 (take_line old.ended (fields_in old) l))
+          (append-nil old.partial.items) ensures.taken;
       line = counted.0;
       ended = ensures.ended;
       begun = counted.1;
@@ -49,7 +51,8 @@ returns c =
     let ensures = c.in_ok-end_line.ensures in
     let counted = ensures.counted c.requires.begun in
     let last = last_some line (λ none. eqb-false _ 0 (sym c.is_empty.ensures ∙ c.if-is_empty.false) (old.partial.ok.0 ∙ ap length none)) in
-    let taken = last_taken old.ended (fields_in old) (fields_in new) line c.in_ok-end_line.field-0 (ap (λ l. take_line old.ended (fields_in old) l) (sym (append-nil line)) ∙ ensures.taken) in
+    let taken = last_taken old.ended (fields_in old) (fields_in new) line c.in_ok-end_line.field-0
+    (ap (λ l. take_line old.ended (fields_in old) l) (sym (append-nil line)) ∙ ensures.taken) in
     record {
       going = taken.0;
       ran = ap (λ l. steps old.ended (going_on (fields_in old)) l) last ∙ taken.1;

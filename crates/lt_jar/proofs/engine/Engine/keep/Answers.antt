@@ -8,5 +8,6 @@ returns-then-part-saturating_sub-clause-kept c =
     let partial = c.args.self.now.partial in
     let part = c.args.part.now in
     let sum = length-append partial.items part in
-    let long : longest_line < length (partial.items ++ part) = omega (arith, sum, partial.ok.0, c.saturating_sub.ensures, c.if-part-saturating_sub.true, c.len.ensures) in
+    let long : longest_line < length (partial.items ++ part) = omega
+    (arith, sum, partial.ok.0, c.saturating_sub.ensures, c.if-part-saturating_sub.true, c.len.ensures) in
     (inr (refl, long), λ none. omega (arith, long, ap length none), refl)

@@ -14,21 +14,25 @@ returns-in_err-end_line c =
     let ensures = c.in_err-end_line.ensures in
     let turn = c.loop-line.invariant in
     let counted = ensures.counted turn.over.begun in
-    rw (p.1, p.2) (turn_stops c.end_line.new.self turn (λ more. first_refused _ c.in-Some.line.now c.in-Some.after.now more turn.over.begun c.in-Some.ensures.0 c.in-Some.ensures.1 ensures.taken) ensures.ended counted.0 counted.1)
+    rw (p.1, p.2)
+    (turn_stops c.end_line.new.self turn (λ more. first_refused _ c.in-Some.line.now c.in-Some.after.now more
+    turn.over.begun c.in-Some.ensures.0 c.in-Some.ensures.1 ensures.taken) ensures.ended counted.0 counted.1)
 
 -- a turn takes one line more, which ends no record
 pub loop-line-preserved : goal.loop-line-preserved
 loop-line-preserved c =
     let ensures = c.in_ok-end_line.ensures in
     let counted = ensures.counted c.loop-line.invariant.over.begun in
-    turn_next c.end_line.new.self c.in-Some.line.now c.in-Some.after.now c.loop-line.invariant c.in-Some.ensures.1 c.in-Some.ensures.0 (rw c.in-GoesOn.is at ensures.taken) ensures.ended counted.0 counted.1
+    turn_next c.end_line.new.self c.in-Some.line.now c.in-Some.after.now c.loop-line.invariant c.in-Some.ensures.1
+    c.in-Some.ensures.0 (rw c.in-GoesOn.is at ensures.taken) ensures.ended counted.0 counted.1
 
 -- the line ends a record, and what follows it is left
 pub returns-in-Ends : goal.returns-in-Ends
 returns-in-Ends c =
     let ensures = c.in_ok-end_line.ensures in
     let counted = ensures.counted c.loop-line.invariant.over.begun in
-    turn_ends c.end_line.new.self c.in-Some.line.now c.in-Some.after.now c.loop-line.invariant c.in-Some.ensures.1 c.in-Some.ensures.0 (rw c.in-Ends.is at ensures.taken) ensures.ended counted.0 counted.1
+    turn_ends c.end_line.new.self c.in-Some.line.now c.in-Some.after.now c.loop-line.invariant c.in-Some.ensures.1
+    c.in-Some.ensures.0 (rw c.in-Ends.is at ensures.taken) ensures.ended counted.0 counted.1
 
 -- the rest is the front of a line that is too long already, or memory ran out at that line
 pub returns-in_err-keep : goal.returns-in_err-keep
@@ -39,7 +43,9 @@ returns-in_err-keep c =
     let kept = c.in_err-keep.ensures.kept in
     let same = c.in_err-keep.ensures.same in
     let one = All-append IsNoEnd now.partial.items c.loop-line.rest.now turn.over.begun c.in_default.ensures in
-    rw (p.1, p.2) (turn_stops c.keep.new.self turn (λ more. unended_refused now.ended (fields_in now) _ more _ one kept.1 kept.0) same.1 same.2 (subst IsOneLine (sym kept.2) turn.over.begun))
+    rw (p.1, p.2)
+    (turn_stops c.keep.new.self turn (λ more. unended_refused now.ended (fields_in now) _ more _ one kept.1 kept.0)
+    same.1 same.2 (subst IsOneLine (sym kept.2) turn.over.begun))
 
 -- the rest has no line feed and is kept, so the piece is used up
 pub returns : goal.returns

@@ -13,7 +13,9 @@ returns-clause-bytes c =
     let n = c.min-count.result in
     let place : moved.at ≡ next_place reader = search rules in
     let left : c.unwrap_or-left.result.now ≡ drop moved.at moved.bytes.now =
-    ap (λ (b : Bor (List ℕ)). b.now) c.unwrap_or-left.ensures ∙ part-from moved.bytes.now moved.at c.get.result _ refl c.get.ensures.lookup.0 in
-    remaining-moves reader.endless moved.endless reader.bytes.now moved.bytes.now c.unwrap_or-left.result.now room (c.copy_from_slice.new.self ++ drop n room)
+    ap (λ (b : Bor (List ℕ)). b.now) c.unwrap_or-left.ensures
+    ∙ part-from moved.bytes.now moved.at c.get.result _ refl c.get.ensures.lookup.0 in
+    remaining-moves reader.endless moved.endless reader.bytes.now moved.bytes.now c.unwrap_or-left.result.now room
+    (c.copy_from_slice.new.self ++ drop n room)
     reader.at c.saturating_add-self-2.result reader.piece moved.piece moved.at n
     (search rules) (search rules) (search rules) (search rules) place left (search rules) (search rules) (search rules)

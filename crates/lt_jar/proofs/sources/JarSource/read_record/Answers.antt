@@ -11,7 +11,8 @@ pub loop-self-init : goal.loop-self-init
 loop-self-init g c =
     let old = c.args.self.now in
     let same = c.begin_record.ensures.same in
-    turn_begins g.R.Read.remaining old _ c.args.device.now c.begin_record.ensures.fields (ap (λ l. l ++ unread_in old) same.0) same.2 same.1 refl old.bounded.0 c.requires old.few
+    turn_begins g.R.Read.remaining old _ c.args.device.now c.begin_record.ensures.fields
+    (ap (λ l. l ++ unread_in old) same.0) same.2 same.1 refl old.bounded.0 c.requires old.few
 
 -- a line of the bytes that were read is refused, or memory ran out at it
 pub returns-in_err-take_unread : goal.returns-in_err-take_unread
@@ -36,7 +37,13 @@ invariant_of-self-then-branch g c =
       placed = mid.placed;
       bounded = (mid.bounded.0, omega (arith, mid.bounded.1, same.2));
       begun = subst IsOneLine (sym same.0) mid.begun;
-      few = omega (arith, (runs_out c.loop-self.invariant.runs takes).few, takes.ended, c.loop-self.invariant.runs.ended, c.count_record.ensures.ended);
+      few = omega (
+        arith,
+        (runs_out c.loop-self.invariant.runs takes).few,
+        takes.ended,
+        c.loop-self.invariant.runs.ended,
+        c.count_record.ensures.ended,
+      );
       text = mid.text;
     }
 
@@ -46,7 +53,8 @@ returns-then-branch g c =
     let ensures = c.in_ok-take_unread.ensures in
     let takes = rw c.if-branch.true at ensures.takes in
     let count = c.count_record.ensures in
-    turn_lends c.take_unread.new.self _ c.loop-self.invariant takes ensures.same.0 ensures.same.1 count.same.0 count.same.1 count.same.2 count.ended refl refl refl
+    turn_lends c.take_unread.new.self _ c.loop-self.invariant takes ensures.same.0 ensures.same.1 count.same.0
+    count.same.1 count.same.2 count.ended refl refl refl
 
 -- the bytes that were read end no record, and a further read failed or would have been one too many
 pub returns-in_err-fill : goal.returns-in_err-fill
@@ -54,13 +62,16 @@ returns-in_err-fill g c =
     let p = err_from_is_err_and c.from_residual-in_err-fill.result c.from_residual-in_err-fill.ensures.1 in
     let ensures = c.in_ok-take_unread.ensures in
     let fill = c.in_err-fill.ensures in
-    rw (p.1, p.2) (turn_failed c.fill.new.self (turn_taken c.take_unread.new.self c.loop-self.invariant c.if-branch.false ensures.takes ensures.same) c.fill.new.self.begun fill.fills fill.same.0)
+    rw (p.1, p.2)
+    (turn_failed c.fill.new.self (turn_taken c.take_unread.new.self c.loop-self.invariant c.if-branch.false
+    ensures.takes ensures.same) c.fill.new.self.begun fill.fills fill.same.0)
 
 -- a record begins only where there is room for one more, so the last is at most the 100,000th
 pub finish-requires-clause-few : goal.finish-requires-clause-few
 finish-requires-clause-few g c =
     let ensures = c.in_ok-take_unread.ensures in
-    let runs = runs_over c.fill.new.self [] (turn_taken c.take_unread.new.self c.loop-self.invariant c.if-branch.false ensures.takes ensures.same) refl c.in_ok-fill.ensures.same.0 in
+    let runs = runs_over c.fill.new.self [] (turn_taken c.take_unread.new.self c.loop-self.invariant c.if-branch.false
+    ensures.takes ensures.same) refl c.in_ok-fill.ensures.same.0 in
     λ going ran. omega (arith, (runs_end runs c.fill.new.self.begun going ran).few, runs.ended)
 
 -- all bytes were read and taken, so the end of the text is the end of the last record, if there is one
@@ -69,7 +80,9 @@ returns-then-not-branch g c =
     let ensures = c.in_ok-take_unread.ensures in
     let fill = c.in_ok-fill.ensures in
     let fills = rw c.if-not-branch.true at fill.fills in
-    turn_over c.finish.new.self c.finish.result (turn_taken c.take_unread.new.self c.loop-self.invariant c.if-branch.false ensures.takes ensures.same) c.fill.new.self.begun fills fill.same.0 c.finish.ensures
+    turn_over c.finish.new.self c.finish.result
+    (turn_taken c.take_unread.new.self c.loop-self.invariant c.if-branch.false ensures.takes ensures.same)
+    c.fill.new.self.begun fills fill.same.0 c.finish.ensures
 
 -- a turn takes all bytes that were read, which end no record, and reads more
 pub loop-self-preserved : goal.loop-self-preserved
@@ -77,4 +90,5 @@ loop-self-preserved g c =
     let ensures = c.in_ok-take_unread.ensures in
     let fill = c.in_ok-fill.ensures in
     let fills = rw c.if-not-branch.false at fill.fills in
-    turn_filled (turn_taken c.take_unread.new.self c.loop-self.invariant c.if-branch.false ensures.takes ensures.same) fills fill.same.0 fill.same.1
+    turn_filled (turn_taken c.take_unread.new.self c.loop-self.invariant c.if-branch.false ensures.takes ensures.same)
+    fills fill.same.0 fill.same.1

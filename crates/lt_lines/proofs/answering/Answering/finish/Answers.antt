@@ -15,6 +15,8 @@ returns-then-is_quoted g c =
         line = line;
         fault = refl;
         same = refl;
-        ends = λ bytes out t none. rw append-nil (ends_in_quotes _ bytes out c.args.self.now line t none (sym c.is_quoted.ensures ∙ c.if-is_quoted.true) c.kept_from.ensures);
+        ends = λ bytes out t none. rw append-nil
+            (ends_in_quotes _ bytes out c.args.self.now line t none (sym c.is_quoted.ensures ∙ c.if-is_quoted.true)
+            c.kept_from.ensures);
       });
     }

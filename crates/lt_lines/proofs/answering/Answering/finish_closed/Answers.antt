@@ -25,7 +25,11 @@ returns-in_err-write g c =
       written = w.written;
       appends = w.appends;
       done = tt;
-      stopped = inr (inl (w.stopped.0, w.stopped.1), λ bytes out t. begun_answered _ bytes out w.written c.end_last.new.self (c.in_ok-end_last.ensures bytes out t) w.stopped.2);
+      stopped = inr (
+        inl (w.stopped.0, w.stopped.1),
+        λ bytes out t. begun_answered _ bytes out w.written
+            c.end_last.new.self (c.in_ok-end_last.ensures bytes out t) w.stopped.2,
+      );
     })
 
 -- all lines are answered, and all answers are written
@@ -35,6 +39,10 @@ returns g c =
     record {
       written = w.written;
       appends = w.appends;
-      done = (w.done.1, λ bytes out t. owed_all _ bytes out w.written c.end_last.new.self c.write.new.self (c.in_ok-end_last.ensures bytes out t) w.same w.done.0 c.in_ok-write.ensures.emptied);
+      done = (
+        w.done.1,
+        λ bytes out t. owed_all _ bytes out w.written c.end_last.new.self c.write.new.self
+            (c.in_ok-end_last.ensures bytes out t) w.same w.done.0 c.in_ok-write.ensures.emptied,
+      );
       stopped = tt;
     }

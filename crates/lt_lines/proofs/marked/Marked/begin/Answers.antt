@@ -18,14 +18,18 @@ take_piece-requires g c =
 pub returns-in_err-write_text : goal.returns-in_err-write_text
 returns-in_err-write_text g c =
     let p = err_from_is_err_and c.from_residual.result c.from_residual.ensures.1 in
-    rw (p.1, p.2) (begin_unwritten _ g.W.Write.contents c.args.self.now _ c.args.output.now c.args.output.now _ _ _ (rw c.deref.ensures.value at c.split_mark.ensures) _ c.in_err-write_text.ensures)
+    rw (p.1, p.2) (begin_unwritten _ g.W.Write.contents c.args.self.now _ c.args.output.now c.args.output.now _ _ _
+    (rw c.deref.ensures.value at c.split_mark.ensures) _ c.in_err-write_text.ensures)
 
 -- the mark was written, and the text after it ended the run
 pub returns-in_err-take_piece : goal.returns-in_err-take_piece
 returns-in_err-take_piece g c =
     let p = err_from_is_err_and c.from_residual-in_err-take_piece.result c.from_residual-in_err-take_piece.ensures.1 in
-    rw (p.1, p.2) (begin_stopped _ g.W.Write.contents c.args.self.now _ _ _ _ _ _ (rw c.deref.ensures.value at c.split_mark.ensures) _ c.in_ok-write_text.ensures c.in_err-take_piece.ensures)
+    rw (p.1, p.2) (begin_stopped _ g.W.Write.contents c.args.self.now _ _ _ _ _ _
+    (rw c.deref.ensures.value at c.split_mark.ensures) _ c.in_ok-write_text.ensures c.in_err-take_piece.ensures)
 
 -- the mark was written and the text taken, and no first bytes are kept any more
 pub returns : goal.returns
-returns g c = begin_done _ g.W.Write.contents c.args.self.now _ _ _ _ _ _ (rw c.deref.ensures.value at c.split_mark.ensures) c.in_ok-write_text.ensures c.in_ok-take_piece.ensures refl c.clear.ensures.items
+returns g c = begin_done _ g.W.Write.contents c.args.self.now _ _ _ _ _ _
+    (rw c.deref.ensures.value at c.split_mark.ensures) c.in_ok-write_text.ensures c.in_ok-take_piece.ensures refl
+    c.clear.ensures.items

@@ -9,5 +9,7 @@ pub returns : goal.returns
 returns c = λ T form.
     let new = c.new-answering.ensures in
     let may = c.may_have_mark.result in
-    new_text T (record { front = c.new-front.result; is_begun = not may; answering = c.new-answering.result }) may (subst (λ (f : LineForm). IsTrue may ↔ MayHaveMark f) (sym form) c.may_have_mark.ensures) c.new-front.ensures.items refl
+    new_text T (record { front = c.new-front.result; is_begun = not may; answering = c.new-answering.result }) may
+    (subst (λ (f : LineForm). IsTrue may ↔ MayHaveMark f) (sym form) c.may_have_mark.ensures)
+    c.new-front.ensures.items refl
     (record { items = new.items; place = new.place; counts = new.counts; tallies = new.tallies; recent = new.recent })

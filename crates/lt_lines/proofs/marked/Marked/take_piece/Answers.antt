@@ -6,11 +6,16 @@ use Rattle.lt_lines.proofs.marked.Marked.take_piece.Goals as goal
 
 -- the room for the kept bytes and the piece is room for the piece
 pub take_piece-requires : goal.take_piece-requires
-take_piece-requires g c = record { room = omega (arith, c.requires.room); feeds = omega (arith, c.requires.feeds); refused = c.requires.refused }
+take_piece-requires g c = record {
+  room = omega (arith, c.requires.room);
+  feeds = omega (arith, c.requires.feeds);
+  refused = c.requires.refused;
+}
 
 -- the mark is passed, and the piece goes on with the lines
 pub returns-then-self : goal.returns-then-self
-returns-then-self g c = text_piece _ g.W.Write.contents _ c.args.self.now _ _ _ c.take_piece.result c.if-self.true c.if-self.true refl c.take_piece.ensures
+returns-then-self g c = text_piece _ g.W.Write.contents _ c.args.self.now _ _ _ c.take_piece.result c.if-self.true
+    c.if-self.true refl c.take_piece.ensures
 
 -- memory ran out before anything was written
 pub returns-in_err-extend_from_slice : goal.returns-in_err-extend_from_slice
@@ -21,13 +26,16 @@ returns-in_err-extend_from_slice g c =
 -- the first bytes are the mark of UTF-16, and nothing was written
 pub returns-then-is_wide : goal.returns-then-is_wide
 returns-then-is_wide g c =
-    text_wide _ g.W.Write.contents _ c.args.self.now _ _ c.if-self.false refl (subst IsWide (c.deref.ensures.value ∙ c.in_ok-extend_from_slice.ensures.items) (c.is_wide.ensures.0 c.if-is_wide.true))
+    text_wide _ g.W.Write.contents _ c.args.self.now _ _ c.if-self.false refl
+    (subst IsWide (c.deref.ensures.value ∙ c.in_ok-extend_from_slice.ensures.items)
+    (c.is_wide.ensures.0 c.if-is_wide.true))
 
 -- the first bytes may still become a mark, and are kept
 pub returns-then-may_be_mark : goal.returns-then-may_be_mark
 returns-then-may_be_mark g c =
     let items = c.in_ok-extend_from_slice.ensures.items in
-    text_may_be _ g.W.Write.contents _ c.args.self.now _ _ c.if-self.false c.if-self.false items refl (subst MayBeMark (c.deref-2.ensures.value ∙ items) (c.may_be_mark.ensures.0 c.if-may_be_mark.true))
+    text_may_be _ g.W.Write.contents _ c.args.self.now _ _ c.if-self.false c.if-self.false items refl
+    (subst MayBeMark (c.deref-2.ensures.value ∙ items) (c.may_be_mark.ensures.0 c.if-may_be_mark.true))
 
 -- the bytes that are kept now are those before and the piece, so the room is that for both
 pub begin-requires : goal.begin-requires
@@ -43,5 +51,6 @@ tells_not P seen text r tells not same holds = let bad : true ≡ false = sym (t
 pub returns : goal.returns
 returns g c =
     let items = c.in_ok-extend_from_slice.ensures.items in
-    text_begins _ g.W.Write.contents _ c.args.self.now _ _ c.if-self.false _ _ c.begin.result items refl (tells_not IsWide _ _ _ c.is_wide.ensures c.if-is_wide.false (c.deref.ensures.value ∙ items))
+    text_begins _ g.W.Write.contents _ c.args.self.now _ _ c.if-self.false _ _ c.begin.result items refl
+    (tells_not IsWide _ _ _ c.is_wide.ensures c.if-is_wide.false (c.deref.ensures.value ∙ items))
     (tells_not MayBeMark _ _ _ c.may_be_mark.ensures c.if-may_be_mark.false (c.deref-2.ensures.value ∙ items)) c.begin.ensures

@@ -3,7 +3,9 @@ use Rattle.std.proofs.lemmas.List.{append_assoc}
 use Rattle.lt_range.specs.Filtering.{Matches, NoneMatches}
 use Rattle.lt_range.proofs.FilterLemmas.{places_yes, places_no, places_end}
 use Rattle.lt_range.proofs.filters.Scheme.append_places.Goals as goal
-use Rattle.lt_range.proofs.filters.Scheme.append_places.Goals.{then-matches+then-none_matches+in_ok-push, else-matches, else-matches-via-then-matches+else-none_matches, else-matches-via-else-matches}
+use Rattle.lt_range.proofs.filters.Scheme.append_places.Goals.{then-matches+then-none_matches+in_ok-push, else-matches}
+use Rattle.lt_range.proofs.filters.Scheme.append_places.Goals.{else-matches-via-then-matches+else-none_matches}
+use Rattle.lt_range.proofs.filters.Scheme.append_places.Goals.{else-matches-via-else-matches}
 
 -- a turn adds the place of a tag that the range matches and no range of `before` does, and no other place
 pub loop-place-preserved : goal.loop-place-preserved
@@ -16,8 +18,12 @@ loop-place-preserved c =
     elim c.if-matches.branch [
       | then-matches+then-none_matches+in_ok-push w ↦ (
         found ++ i ∷ [],
-        rw w.places-is (w.in_ok-push.ensures.items ∙ ap (λ (l : List ℕ). l ++ i ∷ []) c.loop-place.invariant.1 ∙ append_assoc _ found (i ∷ [])),
-        places_yes P tags i t found c.loop-place-test.true c.index-tags-place.is (w.if-matches.ensures.0 refl, w.if-none_matches.ensures.0 refl) c.loop-place.invariant.2,
+        rw w.places-is (w.in_ok-push.ensures.items ∙ ap (λ (l : List ℕ). l ++ i ∷ []) c.loop-place.invariant.1
+            ∙ append_assoc _ found (i ∷ [])),
+        places_yes P tags i t found c.loop-place-test.true c.index-tags-place.is (
+          w.if-matches.ensures.0 refl,
+          w.if-none_matches.ensures.0 refl,
+        ) c.loop-place.invariant.2,
       )
       | else-matches w ↦ (
         found,

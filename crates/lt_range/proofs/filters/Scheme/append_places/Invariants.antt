@@ -6,5 +6,7 @@ use Rattle.lt_range.proofs.filters.Scheme.append_places.Given as goal
 abbrev pub invariant-loop-place : goal.invariant-loop-place
 invariant-loop-place l =
     (found : List ℕ) × (l.places.items ≡ l.initial.places.items ++ found)
-    × ((more : List ℕ) → ArePlaces (λ tag. Matches l.self l.range tag × NoneMatches (Matches l.self) l.before tag) l.place (drop l.place l.tags) more
+    × ((more : List ℕ)
+    → ArePlaces (λ tag. Matches l.self l.range tag × NoneMatches (Matches l.self) l.before tag) l.place (drop
+    l.place l.tags) more
     → ArePlaces (λ tag. Matches l.self l.range tag × NoneMatches (Matches l.self) l.before tag) 0 l.tags (found ++ more))

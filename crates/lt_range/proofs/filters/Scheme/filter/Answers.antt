@@ -13,8 +13,10 @@ loop-index-preserved c = λ more h.
     let found = c.loop-index.places.items in
     let added = c.in_ok-append_places.ensures in
     subst (λ (l : List ℕ). Selects M [] ranges tags (l ++ more)) (sym added.1)
-    (selects_next M ranges tags i c.index-ranges-index.result found added.0 c.loop-index-test.true c.index-ranges-index.is added.2 c.loop-index.invariant more h)
+    (selects_next M ranges tags i c.index-ranges-index.result found added.0 c.loop-index-test.true
+    c.index-ranges-index.is added.2 c.loop-index.invariant more h)
 
 -- no range is left, so the places are what all select
 pub returns : goal.returns
-returns c = selects_end (Matches c.args.self) c.args.ranges.now c.args.tags.now c.loop-index.index c.loop-index.places.items c.loop-index-test.false c.loop-index.invariant
+returns c = selects_end (Matches c.args.self) c.args.ranges.now c.args.tags.now c.loop-index.index
+    c.loop-index.places.items c.loop-index-test.false c.loop-index.invariant

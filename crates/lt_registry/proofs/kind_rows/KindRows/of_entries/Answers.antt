@@ -14,7 +14,9 @@ loop-place-preserved c =
     let i = c.loop-place.place in
     let e = c.index-entries-place.result in
     record {
-      singles = rows_turned (single_row kind) (λ (row : Row). row.place) R i e (single_row kind i e) c.loop-place.rows.singles.items _ (single_placed kind i e) c.loop-place-test.true c.index-entries-place.is refl c.in_ok-put.ensures.singles c.loop-place.invariant.singles;
+      singles = rows_turned (single_row kind) (λ (row : Row). row.place) R i e (single_row kind i e)
+          c.loop-place.rows.singles.items _ (single_placed kind i e) c.loop-place-test.true c.index-entries-place.is
+          refl c.in_ok-put.ensures.singles c.loop-place.invariant.singles;
       ranges = c.in_ok-put.ensures.ranges ∙ ap (λ l. l ++ cons_option (range_row kind i e) []) c.loop-place.invariant.ranges
           ∙ sym (rows_turn kind R i e (range_row kind i e) c.loop-place-test.true c.index-entries-place.is refl);
     }

@@ -8,4 +8,6 @@ loop-index-init c = made_none c.args.records.now c.new-entries.result.items c.ne
 -- a turn adds the entry of one record more, or nothing for the header
 pub loop-index-preserved : goal.loop-index-preserved
 loop-index-preserved c =
-    made_next c.args.records.now c.loop-index.index c.index-records-index.result c.loop-index.entries.items c.add_record.new.entries.items c.loop-index-test.true c.index-records-index.is (rw (← c.fields.ensures) c.in_ok-add_record.ensures.ok) c.loop-index.invariant
+    made_next c.args.records.now c.loop-index.index c.index-records-index.result c.loop-index.entries.items
+    c.add_record.new.entries.items c.loop-index-test.true c.index-records-index.is
+    (rw (← c.fields.ensures) c.in_ok-add_record.ensures.ok) c.loop-index.invariant

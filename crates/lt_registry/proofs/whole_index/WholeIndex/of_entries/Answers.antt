@@ -13,6 +13,10 @@ pub returns : goal.returns
 returns c =
     let R = c.args.entries.now in
     let order = row_total key_total (whole_key R) (λ (w : Row). w.place) in
-    let up = c.in_ok-sort_by.ensures.sorted (λ v w. is_lt (whole_cmp R v w)) (ranks_by order (λ w. w)) (always_returns_same _ _ _ (λ a r f called. search (rules, of_calls))) in
-    let kept = dedup_same _ (same_key key_total (whole_key R) (λ (w : Row). w.place)) _ (λ x y b f' x' y' k. search rules) _ _ c.dedup_by.ensures.filtered in
-    indexed key_total (whole_key R) (λ (w : Row). w.place) whole_row whole_placed R c.in_ok-rows.rows.items c.sort_by.new.self.items c.dedup_by.new.self.items c.in_ok-rows.ensures c.in_ok-sort_by.ensures.permutation up kept
+    let up = c.in_ok-sort_by.ensures.sorted (λ v w. is_lt (whole_cmp R v w)) (ranks_by order (λ w. w))
+    (always_returns_same _ _ _ (λ a r f called. search (rules, of_calls))) in
+    let kept = dedup_same _ (same_key key_total (whole_key R) (λ (w : Row). w.place)) _
+    (λ x y b f' x' y' k. search rules) _ _ c.dedup_by.ensures.filtered in
+    indexed key_total (whole_key R) (λ (w : Row). w.place) whole_row whole_placed R c.in_ok-rows.rows.items
+    c.sort_by.new.self.items c.dedup_by.new.self.items c.in_ok-rows.ensures c.in_ok-sort_by.ensures.permutation up
+    kept

@@ -10,5 +10,9 @@ pub returns-clause-end : goal.returns-clause-end
 returns-clause-end g c =
     let R = g.L.Lookup.listed c.args.table.now in
     let a = c.further.ensures.onward in
-    subst (EndsIn (next_value R c.args.kind) c.args.subtag.now) (sym c.copy.ensures)
-    (a.0, a.2, onward_end R c.args.kind c.args.subtag.now c.further.result.now a (chains_end R c.requires.chains c.args.kind c.args.subtag.now))
+    subst (EndsIn (next_value R c.args.kind) c.args.subtag.now) (sym c.copy.ensures) (
+      a.0,
+      a.2,
+      onward_end R c.args.kind c.args.subtag.now c.further.result.now a
+          (chains_end R c.requires.chains c.args.kind c.args.subtag.now),
+    )

@@ -1,5 +1,6 @@
 use Rattle.std.proofs.lemmas.Result.{err_from_is_err_and}
-use Rattle.lt_stream.proofs.LineRunLemmas.{PieceTurn, first_turn, turn_done, turn_fails, turn_kept, turn_lacks, turn_line, turn_room, turn_written}
+use Rattle.lt_stream.proofs.LineRunLemmas.{PieceTurn, first_turn, turn_done, turn_fails, turn_kept, turn_lacks}
+use Rattle.lt_stream.proofs.LineRunLemmas.{turn_line, turn_room, turn_written}
 use Rattle.lt_stream.proofs.lines.LinedPiecesDevice.take_piece.Goals as goal
 use Rattle.lt_stream.proofs.lines.LinedPiecesDevice.take_piece.Goals.{In_ok-end_line}
 
@@ -25,7 +26,8 @@ returns-in_err-end_line g c =
 
 -- one line more is answered, and what follows its line feed is left
 after_line : (g : _) (c : goal.In_ok-end_line g)
-    → PieceTurn g.A.Lines.answered g.A.Lines.longest g.W.Write.contents c.args.piece.now c.in-Some.after.now c.args.output.now c.loop-line.output c.args.self.now c.end_line.new.self
+    → PieceTurn g.A.Lines.answered g.A.Lines.longest g.W.Write.contents c.args.piece.now c.in-Some.after.now
+    c.args.output.now c.loop-line.output c.args.self.now c.end_line.new.self
 after_line g c =
     turn_line _ _ _ _ _ _ _ _ _ c.loop-line.invariant c.in-Some.line.now c.in-Some.after.now c.keep.new.self c.end_line.new.self
     c.in-Some.ensures c.in_ok-keep.ensures c.in_ok-end_line.ensures
@@ -34,11 +36,13 @@ after_line g c =
 pub returns-in_err-write_much : goal.returns-in_err-write_much
 returns-in_err-write_much g c =
     let p = err_from_is_err_and c.from_residual-in_err-write_much.result c.from_residual-in_err-write_much.ensures.1 in
-    rw (p.1, p.2) (turn_fails _ _ _ _ _ _ _ _ _ (after_line g (goal.at.returns-in_err-write_much g c).In_ok-end_line) _ _ _ c.in_err-write_much.ensures.writes)
+    rw (p.1, p.2) (turn_fails _ _ _ _ _ _ _ _ _ (after_line g (goal.at.returns-in_err-write_much g c).In_ok-end_line) _
+    _ _ c.in_err-write_much.ensures.writes)
 
 -- a turn answers one line more, and writes the answers that wait if they are many
 pub loop-line-preserved : goal.loop-line-preserved
-loop-line-preserved g c = turn_written _ _ _ _ _ _ _ _ _ (after_line g (goal.at.loop-line-preserved g c).In_ok-end_line) _ _ c.in_ok-write_much.ensures.writes
+loop-line-preserved g c = turn_written _ _ _ _ _ _ _ _ _ (after_line g (goal.at.loop-line-preserved g c).In_ok-end_line)
+    _ _ c.in_ok-write_much.ensures.writes
 
 -- memory ran out, and what was written is a front of the answers
 pub returns-in_err-keep-2 : goal.returns-in_err-keep-2

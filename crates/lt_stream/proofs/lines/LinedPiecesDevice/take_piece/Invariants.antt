@@ -4,7 +4,8 @@ use Rattle.lt_stream.proofs.lines.LinedPiecesDevice.take_piece.Given as goal
 
 -- the piece before the rest was taken
 abbrev pub invariant-loop-line : goal.invariant-loop-line
-invariant-loop-line g l = PieceTurn g.A.Lines.answered g.A.Lines.longest g.W.Write.contents l.piece l.rest l.fn.output l.output l.fn.self l.self
+invariant-loop-line g l = PieceTurn g.A.Lines.answered g.A.Lines.longest g.W.Write.contents l.piece l.rest l.fn.output
+    l.output l.fn.self l.self
 
 abbrev pub decreases-loop-line : goal.decreases-loop-line
 decreases-loop-line g l = length l.rest

@@ -5,8 +5,21 @@ use Rattle.lt_stream.proofs.texts.Text.begin.Goals as goal
 -- the text after the mark is no longer than the first bytes, for which there is room
 pub take_piece-requires : goal.take_piece-requires
 take_piece-requires g c =
-    room_less _ _ _ _ _ (omega (arith, ap length c.split_mark.ensures.whole, length-append c.split_mark.result.0.now c.split_mark.result.1.now, ap length c.deref.ensures.value)) c.requires
+    room_less _ _ _ _ _
+    (omega (
+      arith,
+      ap length c.split_mark.ensures.whole,
+      length-append c.split_mark.result.0.now
+          c.split_mark.result.1.now,
+      ap length c.deref.ensures.value,
+    )) c.requires
 
 -- the first bytes are a mark or none, and then a text, which is taken as lines
 pub returns : goal.returns
-returns g c = record { mark = c.split_mark.result.0.now; text = c.split_mark.result.1.now; split = rw c.deref.ensures.value at c.split_mark.ensures; begun = refl; takes = c.take_piece.ensures }
+returns g c = record {
+  mark = c.split_mark.result.0.now;
+  text = c.split_mark.result.1.now;
+  split = rw c.deref.ensures.value at c.split_mark.ensures;
+  begun = refl;
+  takes = c.take_piece.ensures;
+}

@@ -7,4 +7,5 @@ use Rattle.lt_subtag.proofs.comparing.SubtagOrd.cmp.Goals as goal
 pub returns : goal.returns
 returns c =
     c.cmp.ensures ∙ ap₂ nat_cmp c.number.ensures.number c.number-2.ensures.number
-    ∙ sym (numbers_ordered c.args.self.now c.args.other.now (subtag_few c.args.self.now c.number.ensures.subtag) (subtag_few c.args.other.now c.number-2.ensures.subtag))
+    ∙ sym (numbers_ordered c.args.self.now c.args.other.now (subtag_few c.args.self.now c.number.ensures.subtag)
+    (subtag_few c.args.other.now c.number-2.ensures.subtag))

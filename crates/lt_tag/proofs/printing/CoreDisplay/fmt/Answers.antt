@@ -5,4 +5,5 @@ use Rattle.lt_tag.proofs.printing.CoreDisplay.fmt.Goals as goal
 -- what prints the subtags of the core from the first style on writes them in conventional case
 pub returns-clause-writes : goal.returns-clause-writes
 returns-clause-writes g c =
-    displays g.W.Write.write_str_gives c.put_core.new.self (spell_core c.args.self.now) c.put_core.result c.new.ensures c.put_core.ensures.put
+    displays g.W.Write.write_str_gives c.put_core.new.self (spell_core c.args.self.now) c.put_core.result c.new.ensures
+    c.put_core.ensures.put

@@ -5,4 +5,5 @@ use Rattle.lt_tag.proofs.printing.ExtensionDisplay.fmt.Goals as goal
 -- what prints the subtags of the extension from the first style on writes them in conventional case
 pub returns-clause-writes : goal.returns-clause-writes
 returns-clause-writes g c =
-    displays g.W.Write.write_str_gives c.put_extension.new.self (spell_extension c.args.self.now) c.put_extension.result c.new.ensures c.put_extension.ensures.put
+    displays g.W.Write.write_str_gives c.put_extension.new.self (spell_extension c.args.self.now) c.put_extension.result
+    c.new.ensures c.put_extension.ensures.put

@@ -24,6 +24,7 @@ pub returns-else-style-clause-put : goal.returns-else-style-clause-put
 returns-else-style-clause-put g c =
     let e = ap (λ (b : Bool). if b then c.args.subtag.now else shown c.args.subtag.now) c.if-style.false in
     IfOk-weaker c.put_shown.result _ _
-    (λ u took. prints_next _ _ _ _ c.args.self.now c.after.result c.args.subtag.now (shown c.args.subtag.now) c.after.ensures c.if-not-style.false e
+    (λ u took. prints_next _ _ _ _ c.args.self.now c.after.result c.args.subtag.now (shown c.args.subtag.now)
+    c.after.ensures c.if-not-style.false e
     c.in_ok-add.ensures.took took)
     c.put_shown.ensures.put

@@ -6,4 +6,5 @@ use Rattle.lt_tag.proofs.writing.Style.put_extension.Goals as goal
 -- the singleton and what follows it are the subtags of the extension
 pub returns-clause-put : goal.returns-clause-put
 returns-clause-put g c =
-    IfOk-weaker c.put_all.result _ _ (λ u last. prints_as (rw (c.singleton.ensures.value, c.subtags.ensures.value) refl) (prints_append c.in_ok-put.ensures.put last)) c.put_all.ensures.put
+    IfOk-weaker c.put_all.result _ _ (λ u last. prints_as (rw (c.singleton.ensures.value, c.subtags.ensures.value) refl)
+    (prints_append c.in_ok-put.ensures.put last)) c.put_all.ensures.put

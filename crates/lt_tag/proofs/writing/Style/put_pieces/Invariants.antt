@@ -7,7 +7,8 @@ use Rattle.lt_tag.proofs.writing.Style.put_pieces.Given as goal
 -- what is left follows what is in the text
 abbrev pub invariant-loop-others : goal.invariant-loop-others
 invariant-loop-others g l = record {
-  put : (front : List (List ℕ)) × (front ++ pieces l.rest ≡ pieces l.bytes) × Prints g.S.Sink.took l.initial.text l.initial.self front l.text l.self;
+  put : (front : List (List ℕ)) × (front ++ pieces l.rest ≡ pieces l.bytes)
+      × Prints g.S.Sink.took l.initial.text l.initial.self front l.text l.self;
   kept : IsKept (g.S.Sink.held l.initial.text) (g.S.Sink.held l.text);
 }
 

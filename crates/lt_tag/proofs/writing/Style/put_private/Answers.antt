@@ -12,4 +12,6 @@ some_private (s ∷ ss) e = refl
 -- there are subtags, so the `x` is printed before them
 pub returns-clause-put : goal.returns-clause-put
 returns-clause-put g c =
-    IfOk-weaker c.put_all.result _ _ (λ u last. prints_as (some_private c.args.subtags.now (sym c.is_empty.ensures ∙ c.if-is_empty.false)) (prints_append c.in_ok-put.ensures.put last)) c.put_all.ensures.put
+    IfOk-weaker c.put_all.result _ _
+    (λ u last. prints_as (some_private c.args.subtags.now (sym c.is_empty.ensures ∙ c.if-is_empty.false))
+    (prints_append c.in_ok-put.ensures.put last)) c.put_all.ensures.put

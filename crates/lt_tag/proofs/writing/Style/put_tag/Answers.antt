@@ -13,7 +13,8 @@ use Rattle.lt_tag.proofs.writing.Style.put_tag.Goals as goal
 use Rattle.lt_tag.specs.Splitting.{spell_source}
 
 -- a grandfathered tag spells the pieces of its text
-spelled : (form : TagForm) (number : ℕ) → Some number ≡ number_of form → pieces (slice_index_or grandfathered_texts (number - 1) []) ≡ spell form
+spelled : (form : TagForm) (number : ℕ) → Some number ≡ number_of form
+    → pieces (slice_index_or grandfathered_texts (number - 1) []) ≡ spell form
 unfolding grandfathered_list
 spelled form number e = grind (arith, nat_tests)
 
@@ -21,7 +22,8 @@ spelled form number e = grind (arith, nat_tests)
 pub returns-in-Some-clause-put : goal.returns-in-Some-clause-put
 returns-in-Some-clause-put g c =
     IfOk-weaker c.put_pieces.result _ _
-    (λ u last. prints_as (ap pieces c.text_of.ensures ∙ spelled c.args.tag.now c.in-Some.number (sym c.in-Some.is ∙ c.grandfathered.ensures.value)) last)
+    (λ u last. prints_as (ap pieces c.text_of.ensures ∙ spelled c.args.tag.now c.in-Some.number (sym c.in-Some.is
+    ∙ c.grandfathered.ensures.value)) last)
     c.put_pieces.ensures.put
 
 -- any other tag spells its core, its extensions and its private use, of which some may be missing
@@ -36,6 +38,8 @@ parts_spelled (Grandfathered number) value other = absurd (other number refl)
 pub returns-clause-put : goal.returns-clause-put
 returns-clause-put g c =
     IfOk-weaker c.put_private.result _ _
-    (λ u last. prints_as (rw (c.core.ensures.value, c.extensions.ensures.value, c.private.ensures.value) (parts_spelled c.args.tag.now c.core.ensures.tag (λ number e. c.in_default.not-Some number (c.grandfathered.ensures.value ∙ e))))
+    (λ u last. prints_as (rw (c.core.ensures.value, c.extensions.ensures.value, c.private.ensures.value)
+    (parts_spelled c.args.tag.now c.core.ensures.tag
+    (λ number e. c.in_default.not-Some number (c.grandfathered.ensures.value ∙ e))))
     (prints_append c.in_ok-put_optional_core.ensures.put (prints_append c.in_ok-put_extensions.ensures.put last)))
     c.put_private.ensures.put

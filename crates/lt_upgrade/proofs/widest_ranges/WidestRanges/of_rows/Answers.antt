@@ -8,13 +8,17 @@ use Rattle.lt_upgrade.proofs.widest_ranges.WidestRanges.of_rows.Goals as goal
 -- the sort orders the ranges by their beginnings, and each that is kept ends later than the one before it
 pub invariant_of-result : goal.invariant_of-result
 invariant_of-result c =
-    let up = c.sort_unstable_by.ensures.sorted begins_before (ranks_by end_total (λ (r : RangeRow). r.first)) (always_returns_same _ _ _ (λ a r f called. search (rules, of_calls))) in
+    let up = c.sort_unstable_by.ensures.sorted begins_before (ranks_by end_total (λ (r : RangeRow). r.first))
+    (always_returns_same _ _ _ (λ a r f called. search (rules, of_calls))) in
     let kept = dedup_same _ ends_by _ (λ x y b f' x' y' k. search rules) _ _ c.dedup_by.ensures.filtered in
-    (widest_of c.args.rows.items c.sort_unstable_by.new.self.items c.dedup_by.new.self.items c.sort_unstable_by.ensures.permutation up kept).0
+    (widest_of c.args.rows.items c.sort_unstable_by.new.self.items c.dedup_by.new.self.items
+    c.sort_unstable_by.ensures.permutation up kept).0
 
 -- a range that is left out begins no earlier and ends no later than a kept one, which holds all that it holds
 pub returns : goal.returns
 returns c =
-    let up = c.sort_unstable_by.ensures.sorted begins_before (ranks_by end_total (λ (r : RangeRow). r.first)) (always_returns_same _ _ _ (λ a r f called. search (rules, of_calls))) in
+    let up = c.sort_unstable_by.ensures.sorted begins_before (ranks_by end_total (λ (r : RangeRow). r.first))
+    (always_returns_same _ _ _ (λ a r f called. search (rules, of_calls))) in
     let kept = dedup_same _ ends_by _ (λ x y b f' x' y' k. search rules) _ _ c.dedup_by.ensures.filtered in
-    (widest_of c.args.rows.items c.sort_unstable_by.new.self.items c.dedup_by.new.self.items c.sort_unstable_by.ensures.permutation up kept).1
+    (widest_of c.args.rows.items c.sort_unstable_by.new.self.items c.dedup_by.new.self.items
+    c.sort_unstable_by.ensures.permutation up kept).1
