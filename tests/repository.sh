@@ -1,7 +1,7 @@
 #!/bin/bash
 # Compares what stands in several places of the repository: what tools/describe.py writes, the licence with LICENSE, the picture
-# of the layers with crates.txt, the examples of docs/LIBRARY.md with the code. It needs no toolchain. The last line counts;
-# the status is 1 if any of them differs.
+# of the layers with crates.txt, the examples of docs/LIBRARY.md with the code. It also looks whether proofs have short lines and
+# comments. It needs no toolchain. The last line counts; the status is 1 if anything is amiss.
 cd "$(dirname "$0")/.." || exit 1
 passed=0
 failed=0
@@ -61,6 +61,10 @@ if not dict(named) == parts.LICENCES or not set(parts.LICENCES) == inside == pac
 END
 
 passes "CONTRIBUTING.md has the picture of crates.txt" tools/layers_picture.py --check
+wide=$(LC_ALL=C.UTF-8 git grep -nE '^.{141}' -- 'crates/*.antt')
+passes "lines of at most 140 columns in definitions and proofs${wide:+: $wide}" test -z "$wide"
+bare=$(git grep -L '^ *--' -- 'crates/*/Answers.antt')
+passes "a comment in each file of answers${bare:+: $bare}" test -z "$bare"
 passes "the codes of three letters" tools/language_codes.py
 
 # Each example of docs/LIBRARY.md stands so in the file that it names, item by item; the first is a whole program.
