@@ -37,6 +37,13 @@ if command -v javac > /dev/null; then
     cp "$sample" "$folder/page/registry.txt"
     printf '%s\n' yue true true de 'BadByte 1 BAD_BYTE 1' '[he, ! BadByte 1]' 'zh-Hant-TW Hant' > "$folder/page/wanted"
     writes "Java: docs/JAVA.md's program" "$folder/page/wanted" env -C "$folder/page" java -cp "$jar" Page.java
+    mkdir "$folder/modules"
+    sed 's/Registry.open(Path.of("registry.txt"))/Registry.bundled()/' "$folder/page/Page.java" > "$folder/modules/Page.java"
+    writes "Java: modules, with the registry of its jar" "$folder/page/wanted" java -p "$jar:$bundled" --add-modules bcp47,bcp47.registry "$folder/modules/Page.java"
+    # the method of the page, which the filter above calls
+    awk '/^## / { is_it = $0 == "## In a web service" } is_it && /^    /' docs/JAVA.md > "$folder/block"
+    passes "Java: the filter is that of docs/JAVA.md" $python -c 'import sys; block, filter = (open(name).read() for name in sys.argv[1:]); sys.exit(len(block) < 200 or block not in filter)' \
+        "$folder/block" bindings/java/src/test/java/bcp47/Serve.java
     # Each other Java that is here, from 17 on.
     for other in /usr/lib/jvm/*/bin/java; do
         number=$("$other" -version 2>&1 | sed -nE '1s/.*"([0-9]+).*/\1/p')
