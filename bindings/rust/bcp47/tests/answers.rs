@@ -94,6 +94,7 @@ fn a_registry_has_entries() {
         assert_eq!((error.to_string().as_str(), error.cause()), ("NoEntries", None));
         assert!(error.help().contains("get it again"));
     }
+    assert!(matches!(Registry::open("/dev/null"), Err(OpenError::Refused(_, why)) if why.to_string() == "NoEntries"));
 }
 
 /// What an error shows, and what each below it does.

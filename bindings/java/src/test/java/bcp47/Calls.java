@@ -146,6 +146,7 @@ final class Calls {
             none = thrown(RefusedRegistry.class, () -> Registry.of(empty.getBytes(StandardCharsets.UTF_8)));
             is("NoEntries NO_ENTRIES", none.getMessage() + " " + none.fault().name());
         }
+        is(Fault.NO_ENTRIES, thrown(RefusedRegistry.class, () -> Registry.open(Path.of("/dev/null"))).fault());
         thrown(NoSuchFileException.class, () -> Registry.open(Path.of("/no/such/file")));
         String repeats = "ja-Latn-hepburn-alalc97-heploc";
         List<Callable<?>> calls = List.of(() -> registry.canonical(repeats), () -> registry.explain(repeats), () -> registry.equivalent("ja", repeats));
