@@ -98,7 +98,8 @@ public final class Tag implements CharSequence, Comparable<Tag>, Serializable {
         int number = Arrays.asList(KINDS).indexOf(kind);
         String made = Native.text(Native.WITH, 0, number, Native.bytes(text), Native.bytes(value), ended);
         if (ended[0] == Refusal.BAD_CALL) {
-            throw new IllegalArgumentException(kind + " can't be replaced: name one of Language, Script, Region, Variant, Singleton, PrivateUseSingleton");
+            throw new IllegalArgumentException(kind
+                    + " can't be replaced: name one of Language, Script, Region, Variant, Singleton, PrivateUseSingleton");
         }
         RefusedTag.check(ended, null, ended[3] == 1 ? text : value);
         return made == null ? this : of(made);
