@@ -174,8 +174,13 @@ fn tags_are_keys_and_texts() {
 fn what_is_shared_and_sent() {
     fn is<T: Send + Sync + std::panic::UnwindSafe + 'static>() {}
     fn is_error<T: Error + Send + Sync + 'static>() {}
-    (is::<Registry>(), is::<Available>(), is::<Tag>());
-    (is_error::<TagError>(), is_error::<RegistryError>(), is_error::<OpenError>(), is_error::<AvailableError>());
+    is::<Registry>();
+    is::<Available>();
+    is::<Tag>();
+    is_error::<TagError>();
+    is_error::<RegistryError>();
+    is_error::<OpenError>();
+    is_error::<AvailableError>();
 }
 
 #[test]
