@@ -16,15 +16,15 @@ package bcp47
 //     return (uintptr_t)available;
 // }
 // static void available_closed(uintptr_t available) { bcp47_available_close((bcp47_available *)available); }
-// static bcp47_outcome best(uintptr_t available, _GoString_ accept) {
-//     return bcp47_best((bcp47_available *)available, _GoStringPtr(accept), _GoStringLen(accept));
-// }
+// #define TEXT(of) _GoStringPtr(of), _GoStringLen(of)
+// static bcp47_outcome best(uintptr_t available, _GoString_ accept) { return bcp47_best((bcp47_available *)available, TEXT(accept)); }
 // static bcp47_outcome filter(uintptr_t available, _GoString_ accept, size_t *places, size_t room) {
-//     return bcp47_filter((bcp47_available *)available, _GoStringPtr(accept), _GoStringLen(accept), places, room);
+//     return bcp47_filter((bcp47_available *)available, TEXT(accept), places, room);
 // }
 import "C"
 
 import (
+	"fmt"
 	"runtime"
 	"strings"
 )
@@ -54,6 +54,9 @@ func (r *Registry) Available(tags ...string) (available *Available, err error) {
 	})
 	return available, err
 }
+
+// String is "Available" and the tags.
+func (a *Available) String() string { return fmt.Sprint("Available", a.tags) }
 
 // Best gives the tag to serve to the reader of an Accept-Language header (RFC 9110, 12.5.4; RFC 4647, 3.4), as it was handed in; "" where
 // no range of the header serves one, so that the service takes its default. The error is a *TagError where it is no such header.

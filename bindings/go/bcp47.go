@@ -10,41 +10,41 @@ package bcp47
 // #cgo CFLAGS: -I${SRCDIR} -I${SRCDIR}/../c
 // #include <bcp47.h>
 //
+// #if !(defined __linux__ && (defined __x86_64__ && __has_include("bcp47_linux_amd64.syso") || \
+//                             defined __aarch64__ && __has_include("bcp47_linux_arm64.syso")))
+// #error "bcp47 has no library here for this system: unpack the module of a release, or run make lib and bindings/go/build.sh in the repository"
+// #endif
+//
+// #define TEXT(of) _GoStringPtr(of), _GoStringLen(of)
+// #define REGISTRY(of) ((bcp47_registry *)(of))
 // // The canonical text of a tag, or the same with its extlang prefix.
 // static bcp47_outcome text_by(int extlang, uintptr_t registry, _GoString_ tag, char *buffer, size_t room) {
-//     return (extlang ? bcp47_extlang : bcp47_canonical)((bcp47_registry *)registry, _GoStringPtr(tag), _GoStringLen(tag),
-//                                                        buffer, room);
+//     return (extlang ? bcp47_extlang : bcp47_canonical)(REGISTRY(registry), TEXT(tag), buffer, room);
 // }
-// static bcp47_outcome validate(uintptr_t registry, _GoString_ tag) {
-//     return bcp47_validate((bcp47_registry *)registry, _GoStringPtr(tag), _GoStringLen(tag));
-// }
+// static bcp47_outcome validate(uintptr_t registry, _GoString_ tag) { return bcp47_validate(REGISTRY(registry), TEXT(tag)); }
 // // Whether a range matches a tag; by the scheme 0, whether two tags are equivalent.
 // static bcp47_outcome match(uintptr_t registry, int scheme, _GoString_ range, _GoString_ tag, char *buffer, size_t room) {
-//     bcp47_registry *of = (bcp47_registry *)registry;
-//     const char *text = _GoStringPtr(range), *other = _GoStringPtr(tag);
-//     size_t length = _GoStringLen(range), other_length = _GoStringLen(tag);
-//     return scheme ? bcp47_match(of, scheme, text, length, other, other_length, buffer, room)
-//                   : bcp47_equivalent(of, text, length, other, other_length, buffer, room);
+//     return scheme ? bcp47_match(REGISTRY(registry), scheme, TEXT(range), TEXT(tag), buffer, room)
+//                   : bcp47_equivalent(REGISTRY(registry), TEXT(range), TEXT(tag), buffer, room);
 // }
 // static bcp47_outcome steps(uintptr_t registry, _GoString_ tag, size_t most, bcp47_step **steps, const char **tags) {
-//     return bcp47_steps((bcp47_registry *)registry, _GoStringPtr(tag), _GoStringLen(tag), most, steps, tags);
+//     return bcp47_steps(REGISTRY(registry), TEXT(tag), most, steps, tags);
 // }
 // static bcp47_outcome record(uintptr_t registry, uint32_t number, bcp47_field **fields, const char **texts) {
-//     return bcp47_record((bcp47_registry *)registry, number, fields, texts);
+//     return bcp47_record(REGISTRY(registry), number, fields, texts);
 // }
-// static bcp47_outcome registry_info(uintptr_t registry, bcp47_info *info) {
-//     return bcp47_registry_info((bcp47_registry *)registry, info);
-// }
+// static void registry_info(uintptr_t registry, bcp47_info *info) { bcp47_registry_info(REGISTRY(registry), info); }
 // static uintptr_t opened(const void *content, size_t length, char *line, size_t room, bcp47_outcome *outcome) {
 //     bcp47_registry *registry;
 //     *outcome = bcp47_open(&registry, content, length, line, room);
 //     return (uintptr_t)registry;
 // }
-// static void closed(uintptr_t registry) { bcp47_close((bcp47_registry *)registry); }
+// static void closed(uintptr_t registry) { bcp47_close(REGISTRY(registry)); }
 import "C"
 
 import (
 	"encoding/hex"
+	"fmt"
 	"os"
 	"runtime"
 	"sync"
@@ -113,13 +113,25 @@ func Read(content []byte) (*Registry, error) {
 	return registry, nil
 }
 
-// Open reads the registry of a file. The error is that of os.ReadFile, or a *RegistryError.
+// Open reads the registry of a file. The error is that of os.ReadFile, or wraps a *RegistryError with the path.
 func Open(path string) (*Registry, error) {
 	content, err := os.ReadFile(path)
 	if err != nil {
 		return nil, err
 	}
-	return Read(content)
+	registry, err := Read(content)
+	if err != nil {
+		return nil, fmt.Errorf("%s: %w", path, err)
+	}
+	return registry, nil
+}
+
+// String is "Registry(open)" or "Registry(closed)"; Info says which registry it is.
+func (r *Registry) String() string {
+	if r.ask(func(C.uintptr_t, *[room]byte) error { return nil }) != nil {
+		return "Registry(closed)"
+	}
+	return "Registry(open)"
 }
 
 func (r *Registry) textBy(extlang C.int, tag string) (text string, err error) {
@@ -158,13 +170,10 @@ func (r *Registry) match(scheme Scheme, first, second string) (agree bool, err e
 	err = r.ask(func(raw C.uintptr_t, buffer *[room]byte) error {
 		outcome := C.match(raw, C.int(scheme), first, second, chars(buffer), room)
 		agree = outcome.status == C.BCP47_DONE
-		switch {
-		case agree || outcome.status == C.BCP47_DIFFERENT:
+		if agree || outcome.status == C.BCP47_DIFFERENT {
 			return nil
-		case outcome.text == 2:
-			return refusedTag(outcome, buffer[:], second)
 		}
-		return refusedTag(outcome, buffer[:], first)
+		return refusedTag(outcome, buffer[:], [...]string{first, first, second}[outcome.text])
 	})
 	return agree, err
 }
@@ -181,6 +190,14 @@ const (
 	Extended Scheme = C.BCP47_EXTENDED // extended filtering (3.3.2): the subtags of the range are in the tag in their order
 	Lookup   Scheme = C.BCP47_LOOKUP   // lookup (3.4): the tag is the range, or what is left where that is cut from its end
 )
+
+// String is the name of a scheme, for example "Basic".
+func (s Scheme) String() string {
+	if s < Basic || s > Lookup {
+		return fmt.Sprintf("Scheme(%d)", int(s))
+	}
+	return [...]string{"Basic", "Extended", "Lookup"}[s-Basic]
+}
 
 // Matches tells whether a language range matches a tag by a scheme, both by their extlang forms: zh-yue matches yue-HK.
 // Of a range that is no valid tag, for example yue-*, the first subtag has this form. The *TagError is of the range, where that is

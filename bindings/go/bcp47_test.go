@@ -95,6 +95,10 @@ func TestTagsAreChanged(t *testing.T) {
 	_, err := tag.With(Region, "D_")
 	is(t, true, errors.As(err, &refused) && errors.Is(err, ErrNotATag))
 	is(t, "D_", refused.Tag)
+	for _, part := range []PartKind{0, ExtendedLanguage, PrivateUse, 99} {
+		_, err = tag.With(part, "DE")
+		is(t, ErrPart, err)
+	}
 	_, err = Tag{}.With(Region, "DE")
 	is(t, true, errors.Is(err, ErrNotATag))
 	for name, wanted := range map[string]string{"en_US.UTF-8": "en-US", "sr_RS@latin": "sr-Latn-RS", "C": "en-US-u-va-posix"} {
@@ -156,8 +160,14 @@ func TestRefusals(t *testing.T) {
 		is(t, true, errors.As(err, &none) && errors.Is(err, ErrNoEntries))
 		is(t, "NoEntries", err.Error())
 	}
+	_, err = Open("/dev/null")
+	is(t, true, errors.Is(err, ErrNoEntries))
 	_, err = Open("/no/such/file")
 	is(t, true, errors.Is(err, os.ErrNotExist))
+	is(t, true, strings.Contains(err.Error(), "/no/such/file"))
+	_, err = Open("go.mod")
+	is(t, true, errors.As(err, &none) && errors.Is(err, ErrBadFile) && errors.Is(err, ErrBadLine))
+	is(t, "go.mod: jar BadLine line 1", err.Error())
 	repeats := "ja-Latn-hepburn-alalc97-heploc"
 	_, canonical := registry.Canonical(repeats)
 	_, explain := registry.Explain(repeats, 9)
@@ -167,6 +177,52 @@ func TestRefusals(t *testing.T) {
 		is(t, "ReplacementRepeats alalc97/alalc97", err.Error()+"/"+refused.Variant)
 		is(t, true, errors.Is(err, ErrReplacementRepeats) && strings.Contains(refused.Help(), "repeat the variant"))
 	}
+}
+
+// A caller who asks only for the fault, or only for the cause, gets it of each refusal.
+func TestFaultsAndCausesAreFound(t *testing.T) {
+	registry := opened(t)
+	defer registry.Close()
+	_, tag := registry.Canonical("en_US")
+	_, repeats := registry.Canonical("ja-Latn-hepburn-alalc97-heploc")
+	_, content := Read([]byte("no registry\n"))
+	for err, wanted := range map[error]Cause{
+		tag: {ErrNotATag, ErrBadByte, 1}, repeats: {ErrReplacementRepeats, ErrReplacementRepeats, 0}, content: {ErrBadFile, ErrBadLine, 1},
+		fmt.Errorf("row 7: %w", registry.Validate("xx")): {ErrInvalid, ErrUnknownLanguage, 1},
+	} {
+		var fault Fault
+		var cause *Cause
+		if !errors.As(err, &fault) || !errors.As(err, &cause) {
+			t.Error("no fault or no cause: ", err)
+			continue
+		}
+		is(t, wanted.Fault, fault)
+		is(t, wanted, *cause)
+		is(t, true, errors.Is(err, wanted.Fault) && errors.Is(err, wanted.Status) && !errors.Is(err, ErrTooLong))
+	}
+	var fault Fault
+	is(t, true, errors.As(error(ErrBusy), &fault) && fault == ErrBusy)
+}
+
+// What fmt shows of each object, by each verb that logs use.
+func TestShown(t *testing.T) {
+	registry := opened(t)
+	available, err := registry.Available("en", "zh-yue")
+	is(t, nil, err)
+	tag := MustParseTag("zh-HANT")
+	is(t, `zh-Hant zh-Hant "zh-Hant" zh-Hant`, fmt.Sprintf("%v %+v %q %s", tag, tag, tag, tag))
+	is(t, "BadByte BadByte \"BadByte\" 3", fmt.Sprintf("%v %+v %q %d", ErrBadByte, ErrBadByte, ErrBadByte, ErrBadByte))
+	is(t, "Basic Extended Lookup Scheme(4)", fmt.Sprint(Basic, " ", Extended, " ", Lookup, " ", Scheme(4)))
+	is(t, "Script", fmt.Sprint(Script))
+	is(t, "Registry(open) Available[en zh-yue]", fmt.Sprint(registry, " ", available))
+	registry.Close()
+	is(t, "Registry(closed)", fmt.Sprintf("%v", registry))
+	is(t, "Registry(closed)", fmt.Sprint(new(Registry)))
+	_, err = new(Registry).Canonical("en")
+	is(t, ErrClosed, err)
+	is(t, nil, new(Registry).Close())
+	is(t, "bcp47: the Registry or the Available is closed: keep it open until the last call, or open another", ErrClosed.Error())
+	is(t, "bcp47: the scheme is none of Basic, Extended and Lookup", ErrScheme.Error())
 }
 
 // That memory runs out, or is too little for many calls at once, is no fault of a tag, and is told apart.
@@ -296,23 +352,36 @@ func TestJSON(t *testing.T) {
 	is(t, MustParseTag("zh-Hant"), row.Tag)
 	written, err := json.Marshal(row)
 	is(t, `{"Tag":"zh-Hant"} <nil>`, fmt.Sprint(string(written), " ", err))
-	is(t, true, errors.Is(json.Unmarshal([]byte(`{"Tag": "<script>en_US"}`), &row), ErrBadByte))
+	err = json.Unmarshal([]byte(`{"Tag": "<script>en_US"}`), &row)
+	is(t, true, errors.Is(err, ErrBadByte))
+	is(t, `bcp47: "<script>en_US": BadByte 1`, err.Error())
+	parts, err := json.Marshal(MustParseTag("de-CH").Parts())
+	is(t, `[{"Kind":"Language","Text":"de"},{"Kind":"Region","Text":"CH"}] <nil>`, fmt.Sprint(string(parts), " ", err))
+	var read []Part
+	is(t, nil, json.Unmarshal(parts, &read))
+	is(t, MustParseTag("de-CH").Parts(), read)
+	is(t, `! bcp47: no kind of part: "Regoin"`, said("", json.Unmarshal([]byte(`[{"Kind":"Regoin"}]`), &read)))
+	_, refused := opened(t).Canonical("en_US")
+	told, err := json.Marshal(refused)
+	is(t, `{"Status":"NotATag","Fault":"BadByte","Place":1,"Tag":"en_US","Variant":""} <nil>`, fmt.Sprint(string(told), " ", err))
+	counts, err := json.Marshal(map[Tag]int{MustParseTag("zh-HANT"): 2})
+	is(t, `{"zh-Hant":2} <nil>`, fmt.Sprint(string(counts), " ", err))
 	is(t, Tag{}, row.Tag)
 	is(t, nil, json.Unmarshal([]byte(`{"Tag": ""}`), &row))
 	is(t, Tag{}, row.Tag)
 }
 
-// The parts of a tag are had without a large array in memory each time.
+// The parts of a tag are had without a large array in memory each time, and without a text for each name of a kind.
 func TestPartsAreCheap(t *testing.T) {
-	bytes := testing.Benchmark(func(b *testing.B) {
+	result := testing.Benchmark(func(b *testing.B) {
 		b.ReportAllocs()
 		for i := 0; i < b.N; i++ {
 			tag, _ := ParseTag("zh-Hant-TW")
 			tag.Parts()
 		}
-	}).AllocedBytesPerOp()
-	if bytes > 3000 {
-		t.Error(bytes, "bytes a tag")
+	})
+	if bytes, pieces := result.AllocedBytesPerOp(), result.AllocsPerOp(); bytes > 3000 || pieces > 3 {
+		t.Error(bytes, "bytes a tag, in", pieces)
 	}
 }
 

@@ -11,11 +11,15 @@ import (
 	"strings"
 )
 
-// ErrClosed is what a registry answers that is closed.
-var ErrClosed = errors.New("bcp47: the registry is closed")
-
-// ErrScheme says that a number is none of Basic, Extended and Lookup.
-var ErrScheme = errors.New("bcp47: no scheme of matching")
+// What is wrong with a call, and not with a text.
+var (
+	// What a Registry or an Available answers that is closed.
+	ErrClosed = errors.New("bcp47: the Registry or the Available is closed: keep it open until the last call, or open another")
+	// A number is none of Basic, Extended and Lookup.
+	ErrScheme = errors.New("bcp47: the scheme is none of Basic, Extended and Lookup")
+	// With can't replace parts of this kind.
+	ErrPart = errors.New("bcp47: the part is none of Language, Script, Region, Variant, Singleton and PrivateUseSingleton")
+)
 
 // How a call ended, where the fault says no more, or as Cause.Status beside it.
 const (
@@ -48,7 +52,10 @@ func (f Fault) Help() string {
 	return C.GoString(C.bcp47_fault_help(C.int(f)))
 }
 
-// A Cause says why something is refused. errors.Is finds its Fault and its Status.
+// MarshalText gives the name of a fault, for JSON and others.
+func (f Fault) MarshalText() ([]byte, error) { return []byte(f.Error()), nil }
+
+// A Cause says why something is refused. errors.Is finds its Fault and its Status, and errors.As the Cause and its Fault.
 type Cause struct {
 	Status Fault // how the call ended, for example ErrNotATag
 	Fault  Fault // what is wrong, for example ErrBadByte; the status where there is no fault
@@ -63,8 +70,11 @@ func (c *Cause) Error() string {
 	return c.Fault.Error() + " " + strconv.Itoa(c.Place)
 }
 
-// Is tells whether an error is the fault or the status.
-func (c *Cause) Is(target error) bool { return target == error(c.Fault) || target == error(c.Status) }
+// Unwrap gives the fault.
+func (c *Cause) Unwrap() error { return c.Fault }
+
+// Is tells whether an error is the status.
+func (c *Cause) Is(target error) bool { return target == error(c.Status) }
 
 // Help says what the fault means, and what to do.
 func (c *Cause) Help() string { return c.Fault.Help() }
@@ -85,6 +95,9 @@ func (e *TagError) Error() string {
 	return e.Cause.Error()
 }
 
+// Unwrap gives the cause.
+func (e *TagError) Unwrap() error { return &e.Cause }
+
 // A RegistryError says that bytes are no registry that passes the check.
 type RegistryError struct {
 	Cause
@@ -93,6 +106,9 @@ type RegistryError struct {
 
 // Error is the line of the program langtag, for example "jar BadLine line 1".
 func (e *RegistryError) Error() string { return e.line }
+
+// Unwrap gives the cause.
+func (e *RegistryError) Unwrap() error { return &e.Cause }
 
 // The cause that an outcome has which is a refusal; else the error.
 func causeOf(status, fault, place int) (Cause, error) {

@@ -40,6 +40,19 @@ func ExampleRegistry_Explain() {
 	// = gsg <nil>
 }
 
+// errors.Is asks for a fault by its name, and errors.As gives the fault of any refusal.
+func ExampleFault() {
+	_, err := bcp47.ParseTag("en_US")
+	fmt.Println(errors.Is(err, bcp47.ErrBadByte), errors.Is(err, bcp47.ErrNotATag))
+	var fault bcp47.Fault
+	if errors.As(err, &fault) {
+		fmt.Println(fault, fault == bcp47.ErrBadByte)
+	}
+	// Output:
+	// true true
+	// BadByte true
+}
+
 func ExampleParseTag() {
 	tag, err := bcp47.ParseTag("ZH-hant-tw")
 	fmt.Println(tag, tag.Script(), tag.Region(), err)

@@ -4,27 +4,24 @@ package bcp47
 
 // #include <bcp47.h>
 //
+// #define TEXT(of) _GoStringPtr(of), _GoStringLen(of)
 // // The text of a tag, and after it a byte for each part: its kind.
 // static bcp47_outcome parts(_GoString_ tag, char *buffer, size_t room) {
 //     bcp47_part parts[BCP47_PARTS];
-//     bcp47_outcome outcome = bcp47_parts(_GoStringPtr(tag), _GoStringLen(tag), buffer, room - BCP47_PARTS, parts, BCP47_PARTS);
+//     bcp47_outcome outcome = bcp47_parts(TEXT(tag), buffer, room - BCP47_PARTS, parts, BCP47_PARTS);
 //     if (outcome.status == BCP47_DONE)
 //         for (size_t i = 0; i < outcome.place; i++) buffer[outcome.length + i] = (char)parts[i].kind;
 //     return outcome;
 // }
 // static bcp47_outcome with(_GoString_ tag, int part, _GoString_ value, char *buffer, size_t room) {
-//     return bcp47_with(_GoStringPtr(tag), _GoStringLen(tag), part, _GoStringPtr(value), _GoStringLen(value), buffer, room);
+//     return bcp47_with(TEXT(tag), part, TEXT(value), buffer, room);
 // }
-// static bcp47_outcome posix(_GoString_ name, char *buffer, size_t room) {
-//     return bcp47_posix(_GoStringPtr(name), _GoStringLen(name), buffer, room);
-// }
-// static bcp47_outcome parent(_GoString_ tag, char *buffer, size_t room) {
-//     return bcp47_parent(_GoStringPtr(tag), _GoStringLen(tag), buffer, room);
-// }
+// static bcp47_outcome posix(_GoString_ name, char *buffer, size_t room) { return bcp47_posix(TEXT(name), buffer, room); }
+// static bcp47_outcome parent(_GoString_ tag, char *buffer, size_t room) { return bcp47_parent(TEXT(tag), buffer, room); }
 import "C"
 
 import (
-	"strconv"
+	"fmt"
 	"strings"
 )
 
@@ -46,6 +43,19 @@ const (
 
 // String is the name of a kind, for example "Script".
 func (k PartKind) String() string { return C.GoString(C.bcp47_part_kind_name(C.int(k))) }
+
+// MarshalText gives the name of a kind, for JSON and others.
+func (k PartKind) MarshalText() ([]byte, error) { return []byte(k.String()), nil }
+
+// UnmarshalText reads the name of a kind.
+func (k *PartKind) UnmarshalText(name []byte) error {
+	for *k = Language; *k <= Grandfathered; *k++ {
+		if k.String() == string(name) {
+			return nil
+		}
+	}
+	return fmt.Errorf("bcp47: no kind of part: %q", name)
+}
 
 // A Part of a tag: its kind, for example Script, and its text, for example "Hant".
 type Part struct {
@@ -73,18 +83,18 @@ func ParseTag(text string) (Tag, error) {
 func MustParseTag(text string) Tag {
 	tag, err := ParseTag(text)
 	if err != nil {
-		panic("bcp47: " + strconv.Quote(text) + ": " + err.Error())
+		panic(named(text, err).Error())
 	}
 	return tag
 }
 
+// A refusal with the text, for whoever does not know which it was.
+func named(text string, err error) error { return fmt.Errorf("bcp47: %.100q: %w", text, err) }
+
 // Parent gives the tag without its last subtag, and without the singletons that then end it (RFC 4647, 3.4); the zero Tag where
 // nothing is left.
 func (t Tag) Parent() Tag {
-	buffer := buffers.Get().(*[room]byte)
-	defer buffers.Put(buffer)
-	outcome := C.parent(t.text, chars(buffer), room)
-	parent, _ := ParseTag(string(buffer[:outcome.length]))
+	parent, _ := written(func(at *C.char) C.bcp47_outcome { return C.parent(t.text, at, room) }, t.text)
 	return parent
 }
 
@@ -93,7 +103,11 @@ func written(call func(at *C.char) C.bcp47_outcome, texts ...string) (Tag, error
 	buffer := buffers.Get().(*[room]byte)
 	defer buffers.Put(buffer)
 	outcome := call(chars(buffer))
-	if outcome.status != C.BCP47_DONE {
+	switch outcome.status {
+	case C.BCP47_DONE:
+	case C.BCP47_BAD_CALL:
+		return Tag{}, ErrPart
+	default:
 		return Tag{}, refusedTag(outcome, nil, texts[outcome.text])
 	}
 	return ParseTag(string(buffer[:outcome.length]))
@@ -101,7 +115,7 @@ func written(call func(at *C.char) C.bcp47_outcome, texts ...string) (Tag, error
 
 // With gives the tag with one of its parts replaced: a Language (with its extlangs), Script, Region, all Variants, all extensions
 // (Singleton) or private use (PrivateUseSingleton); an empty value takes it away. The error is a *TagError where the value has not the
-// form of the part. Whether the tag is valid says Validate.
+// form of the part, and ErrPart for another part. Whether the tag is valid says Validate.
 func (t Tag) With(part PartKind, value string) (Tag, error) {
 	return written(func(at *C.char) C.bcp47_outcome { return C.with(t.text, C.int(part), value, at, room) }, value, t.text, value)
 }
@@ -117,13 +131,16 @@ func (t Tag) String() string { return t.text }
 // MarshalText gives the text of the tag, for JSON and others.
 func (t Tag) MarshalText() ([]byte, error) { return []byte(t.text), nil }
 
-// UnmarshalText reads a tag as ParseTag does, and the empty text as the zero Tag.
+// UnmarshalText reads a tag as ParseTag does, and the empty text as the zero Tag. The error wraps a *TagError with the text.
 func (t *Tag) UnmarshalText(text []byte) (err error) {
 	*t = Tag{}
-	if len(text) > 0 {
-		*t, err = ParseTag(string(text))
+	if len(text) == 0 {
+		return nil
 	}
-	return err
+	if *t, err = ParseTag(string(text)); err != nil {
+		return named(string(text), err)
+	}
+	return nil
 }
 
 // Parts gives the parts of the tag, one for each subtag, in their order; a grandfathered tag is one part.
@@ -189,9 +206,7 @@ type Explanation struct {
 }
 
 // String is the step, as the program prints it.
-func (s Step) String() string {
-	return s.Kind + " " + strconv.Itoa(int(s.Place)) + " " + strconv.Itoa(int(s.Number)) + " " + s.Tag
-}
+func (s Step) String() string { return fmt.Sprint(s.Kind, " ", s.Place, " ", s.Number, " ", s.Tag) }
 
 // String is the explanation, as the program prints it, without the last line feed.
 func (e Explanation) String() string {

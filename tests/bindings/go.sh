@@ -11,6 +11,8 @@ if command -v go > /dev/null; then
     module=$(sed -n 's/^module //p' bindings/go/go.mod)
     export GOCACHE=$folder/cache GOFLAGS=-mod=mod GOPROXY=off GOPATH=$folder/path
     passes "Go: the library beside it" bindings/go/build.sh
+    passes "Go: its path begins with a domain" grep -qE '^module [a-z0-9-]+(\.[a-z0-9-]+)+/' bindings/go/go.mod
+    passes "Go: no call for many tags, which a loop serves as well" sh -c '! grep -r "CanonicalMany" bindings/go --include=*.go'
     passes "Go: format" test -z "$(gofmt -l bindings/go)"
     passes "Go: vet" env -C bindings/go go vet ./...
     passes "Go: tests and examples" env -C bindings/go go test ./...
@@ -22,6 +24,13 @@ if command -v go > /dev/null; then
     writes "Go explains as the program" "$shared/explained" sh -c '"$1/canon" -explain "$2" < "$3"' - "$folder" "$registry" "$shared/explained-tags"
     passes "Go: a middleware" env -C bindings/go go build -o "$folder/serve" ./cmd/serve
     passes "Go: it answers browsers" tests/bindings/browsers.sh "$folder/serve"
+    # it is that of the page, which has spaces for tabs
+    awk '/^## / { is_it = $0 == "## In a web service" } /^[^ ]/ { is_code = 0 } /^    / { is_code = 1 } is_it && is_code { print substr($0, 5) }' \
+        docs/GO.md > "$folder/block"
+    expand -t 4 bindings/go/cmd/serve/main.go > "$folder/program"
+    passes "Go: the middleware is that of docs/GO.md" $python -c 'import sys
+block, program = (open(name).read() for name in sys.argv[1:])
+sys.exit(len(block) < 200 or block.strip() not in program)' "$folder/block" "$folder/program"
     mkdir "$folder/best"
     cp bench/peers/best/main.go "$folder/best"
     text=/usr/share/gocode/src/golang.org/x/text
@@ -33,6 +42,16 @@ if command -v go > /dev/null; then
     tells() {
         env -C "$folder/go" go build -o "$folder/version" ./version && "$folder/version" | grep -qx "$1"
     }
+    # what the compiler says where something that it needs is missing
+    says() {
+        ! "${@:2}" 2> "$folder/said" && grep -q "$1" "$folder/said"
+    }
+    passes "Go: that cgo is needed is told" says "bcp47 needs cgo.* set CGO_ENABLED=1" env -C "$folder/go" CGO_ENABLED=0 go build ./cmd/canon
+    mkdir "$folder/none"
+    cp -r bindings/go "$folder/none"
+    cp bindings/c/bcp47.h "$folder/none/go"
+    rm "$folder"/none/go/*.syso
+    passes "Go: a missing library is told" says "bcp47 has no library here" env -C "$folder/none/go" go build .
     mkdir "$folder/go/version"
     printf 'package main\n\nimport (\n\t"fmt"\n\n\t"%s"\n)\n\nfunc main() { fmt.Println(bcp47.Version()) }\n' "$module" > "$folder/go/version/main.go"
     printf 'package main\n\nimport (\n\t"testing"\n\n\t"%s"\n)\n\nfunc TestVersion(t *testing.T) {\n\tif bcp47.Version() == "9.9.9" {\n\t\tt.Fail()\n\t}\n}\n' \

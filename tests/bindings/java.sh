@@ -37,6 +37,15 @@ if command -v javac > /dev/null; then
     cp "$sample" "$folder/page/registry.txt"
     printf '%s\n' yue true true de 'BadByte 1 BAD_BYTE 1' '[he, ! BadByte 1]' 'zh-Hant-TW Hant' > "$folder/page/wanted"
     writes "Java: docs/JAVA.md's program" "$folder/page/wanted" env -C "$folder/page" java -cp "$jar" Page.java
+    mkdir "$folder/modules"
+    sed 's/Registry.open(Path.of("registry.txt"))/Registry.bundled()/' "$folder/page/Page.java" > "$folder/modules/Page.java"
+    writes "Java: modules, with the registry of its jar" "$folder/page/wanted" java -p "$jar:$bundled" --add-modules bcp47,bcp47.registry \
+        "$folder/modules/Page.java"
+    # the method of the page, which the filter above calls
+    awk '/^## / { is_it = $0 == "## In a web service" } is_it && /^    /' docs/JAVA.md > "$folder/block"
+    passes "Java: the filter is that of docs/JAVA.md" $python -c 'import sys
+block, program = (open(name).read() for name in sys.argv[1:])
+sys.exit(len(block) < 200 or block not in program)' "$folder/block" bindings/java/src/test/java/bcp47/Serve.java
     # Each other Java that is here, from 17 on.
     for other in /usr/lib/jvm/*/bin/java; do
         number=$("$other" -version 2>&1 | sed -nE '1s/.*"([0-9]+).*/\1/p')
@@ -45,7 +54,22 @@ if command -v javac > /dev/null; then
         writes "Java $number: as a module" "$folder/page/wanted" env -C "$folder/page" "$other" --enable-native-access=bcp47 -p "$jar" --add-modules bcp47 Page.java
         [ "$number" -lt 24 ] || passes "Java $number: what is to be allowed is told" says "--enable-native-access=ALL-UNNAMED" "$other" --illegal-native-access=deny
     done
+    # what Maven Central asks of each pom
+    for pom in "$folder"/target/*.pom; do
+        passes "Java: $(basename "$pom") is whole" $python -c 'import sys, xml.etree.ElementTree as tree
+pom = tree.parse(sys.argv[1])
+for path in "groupId artifactId version name description url licenses/license/name developers/developer/name scm/url".split():
+    found = pom.find("m:" + path.replace("/", "/m:"), {"m": "http://maven.apache.org/POM/4.0.0"})
+    assert found is not None and found.text.strip(), path' "$pom"
+    done
+    passes "Java: no call for many tags, which a loop serves as well" sh -c '! grep -ri "canonicalMany" bindings/java/src/main'
     passes "Java: its module has a name" sh -c 'unzip -p "$1" META-INF/MANIFEST.MF | grep -q "^Automatic-Module-Name: bcp47"' - "$jar"
+    if java -Djava.security.manager -version > /dev/null 2>&1; then
+        printf '%s\n' 'grant { permission java.io.FilePermission "<<ALL FILES>>", "read"; permission java.util.PropertyPermission "*", "read";' \
+            'permission java.lang.RuntimePermission "accessDeclaredMembers"; };' > "$folder/policy"
+        passes "Java: what is to be allowed is told, where a policy denies it" says "--enable-native-access=ALL-UNNAMED" java \
+            -Djava.security.manager -Djava.security.policy=="$folder/policy"
+    fi
     passes "Java: no temporary folder" says "-Djava.io.tmpdir.*-Djava.library.path" java -Djava.io.tmpdir=/no/such/folder
     mkdir "$folder/noexec"
     if mount -t tmpfs -o noexec none "$folder/noexec" 2> /dev/null; then

@@ -37,6 +37,7 @@ if command -v cargo > /dev/null; then
     cp "$sample" "$folder/page/registry.txt"
     passes "Rust: docs/RUST.md's program" env -C "$folder/page" BCP47_LIB_DIR="$root/build" cargo build --offline -q
     writes "Rust: what it prints" "$folder/page/wanted" env -C "$folder/page" "$CARGO_TARGET_DIR/debug/page"
+    passes "Rust: no call for many tags, which a loop serves as well" sh -c '! grep -r "canonical_many" bindings/rust/bcp47/src'
     # Where there is no library, a build says so.
     mkdir "$folder/empty"
     passes "Rust: a folder without a library ends the build" sh -c '! BCP47_LIB_DIR="$1" cargo build --offline -q --manifest-path bindings/rust/Cargo.toml \

@@ -14,18 +14,22 @@ import (
 	"langtag.example/bcp47"
 )
 
-type key struct{}
+// language is the key by which a handler finds the tag to serve: r.Context().Value(language{}).
+type language struct{}
 
-// negotiated gives each request the language that its reader gets.
-func negotiated(available *bcp47.Available, otherwise string, next http.Handler) http.Handler {
+func localized(available *bcp47.Available, otherwise string, next http.Handler) http.Handler {
 	return http.HandlerFunc(func(w http.ResponseWriter, r *http.Request) {
-		language, err := available.Best(strings.Join(r.Header.Values("Accept-Language"), ", "))
-		if err != nil || language == "" {
-			language = otherwise
+		header := "*"
+		if lines := r.Header.Values("Accept-Language"); len(lines) > 0 {
+			header = strings.Join(lines, ", ")
 		}
-		w.Header().Set("Content-Language", language)
+		best, err := available.Best(header)
+		if err != nil || best == "" {
+			best = otherwise
+		}
+		w.Header().Set("Content-Language", best)
 		w.Header().Add("Vary", "Accept-Language")
-		next.ServeHTTP(w, r.WithContext(context.WithValue(r.Context(), key{}, language)))
+		next.ServeHTTP(w, r.WithContext(context.WithValue(r.Context(), language{}, best)))
 	})
 }
 
@@ -43,6 +47,6 @@ func main() {
 		log.Fatal(err)
 	}
 	fmt.Println(listener.Addr().(*net.TCPAddr).Port)
-	page := http.HandlerFunc(func(w http.ResponseWriter, r *http.Request) { fmt.Fprintln(w, r.Context().Value(key{})) })
-	log.Fatal(http.Serve(listener, negotiated(available, os.Args[2], page)))
+	page := http.HandlerFunc(func(w http.ResponseWriter, r *http.Request) { fmt.Fprintln(w, r.Context().Value(language{})) })
+	log.Fatal(http.Serve(listener, localized(available, os.Args[2], page)))
 }

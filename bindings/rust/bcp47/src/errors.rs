@@ -63,6 +63,8 @@ pub enum TagError {
     ReplacementRepeats(String),
     /// The explanation has more steps than were asked for.
     TooManySteps,
+    /// `Tag::with` replaces no part of this kind.
+    BadCall,
     /// Memory ran out.
     OutOfMemory,
     /// Many calls are under way, and no memory was left for one more: it may be made again.
@@ -78,6 +80,7 @@ impl TagError {
             (sys::BCP47_BAD_HEADER, Some(cause)) => TagError::BadHeader(cause),
             (sys::BCP47_REPLACEMENT_REPEATS, _) => TagError::ReplacementRepeats(variant()),
             (sys::BCP47_TOO_MANY_STEPS, _) => TagError::TooManySteps,
+            (sys::BCP47_BAD_CALL, _) => TagError::BadCall,
             (sys::BCP47_BUSY, _) => TagError::Busy,
             _ => TagError::OutOfMemory,
         }
@@ -99,6 +102,7 @@ impl TagError {
             TagError::BadHeader(_) => sys::BCP47_BAD_HEADER,
             TagError::ReplacementRepeats(_) => sys::BCP47_REPLACEMENT_REPEATS,
             TagError::TooManySteps => sys::BCP47_TOO_MANY_STEPS,
+            TagError::BadCall => sys::BCP47_BAD_CALL,
             TagError::OutOfMemory => sys::BCP47_OUT_OF_MEMORY,
             TagError::Busy => sys::BCP47_BUSY,
         }
@@ -153,7 +157,7 @@ impl fmt::Display for RegistryError {
 
 impl error::Error for RegistryError {}
 
-/// Why a file gives no registry. It is shown with the path, for example `new.txt: jar BadLine line 1`.
+/// Why a file gives no registry. It is shown with the path, and its source says why.
 #[derive(Debug)]
 pub enum OpenError {
     /// The file can't be read.
@@ -165,14 +169,20 @@ pub enum OpenError {
 impl fmt::Display for OpenError {
     fn fmt(&self, f: &mut fmt::Formatter<'_>) -> fmt::Result {
         match self {
-            OpenError::Io(path, error) => write!(f, "{}: {error}", path.display()),
-            OpenError::Refused(path, error) => write!(f, "{}: {error}", path.display()),
+            OpenError::Io(path, _) => write!(f, "can't read {}", path.display()),
+            OpenError::Refused(path, _) => write!(f, "{} is refused", path.display()),
         }
     }
 }
 
-// There is no source: what is shown tells the whole.
-impl error::Error for OpenError {}
+impl error::Error for OpenError {
+    fn source(&self) -> Option<&(dyn error::Error + 'static)> {
+        match self {
+            OpenError::Io(_, error) => Some(error),
+            OpenError::Refused(_, error) => Some(error),
+        }
+    }
+}
 
 #[cfg(test)]
 mod tests {

@@ -12,45 +12,28 @@ use std::ptr::{self, NonNull};
 /// Room for any text that a call writes: a tag of 1,024 bytes can have 204 variants of 4, each of which becomes one of 8.
 const ROOM: usize = 2048;
 
-/// As many bytes.
-pub(crate) struct Buffer([MaybeUninit<u8>; ROOM]);
+/// How a call ended that is handed a buffer and its room, and the text that it wrote there.
+pub(crate) fn called(call: impl FnOnce(*mut c_char, usize) -> sys::bcp47_outcome) -> (sys::bcp47_outcome, String) {
+    let mut buffer = [MaybeUninit::<u8>::uninit(); ROOM];
+    let outcome = call(buffer.as_mut_ptr().cast(), ROOM);
+    let length = if outcome.length <= ROOM { outcome.length } else { 0 };
+    // SAFETY: a call that answers a length that fits has written as many bytes.
+    let text = unsafe { std::slice::from_raw_parts(buffer.as_ptr().cast(), length) };
+    (outcome, String::from_utf8_lossy(text).into_owned())
+}
 
-impl Buffer {
-    pub(crate) fn new() -> Buffer {
-        Buffer([MaybeUninit::uninit(); ROOM])
-    }
-
-    /// Where it is, and its room.
-    pub(crate) fn place(&mut self) -> (*mut c_char, usize) {
-        (self.0.as_mut_ptr().cast(), self.0.len())
-    }
-
-    /// The first bytes, which a call wrote: a text in ASCII.
-    pub(crate) fn text(&self, length: usize) -> &str {
-        let length = length.min(self.0.len());
-        // SAFETY: a call that answers a length that fits has written as many bytes.
-        let bytes = unsafe { std::slice::from_raw_parts(self.0.as_ptr().cast::<u8>(), length) };
-        std::str::from_utf8(bytes).unwrap_or_default()
+/// The text that such a call wrote, or why it wrote none.
+pub(crate) fn written(call: impl FnOnce(*mut c_char, usize) -> sys::bcp47_outcome) -> Result<String, TagError> {
+    let (outcome, text) = called(call);
+    match outcome.status {
+        sys::BCP47_DONE => Ok(text),
+        _ => Err(TagError::of(&outcome, || text)),
     }
 }
 
 /// Where a text is, and its length.
 pub(crate) fn place_of(text: &[u8]) -> (*const c_char, usize) {
     (text.as_ptr().cast(), text.len())
-}
-
-/// Why a tag is refused, by a call that wrote to a buffer.
-fn refusal(outcome: &sys::bcp47_outcome, buffer: &Buffer) -> TagError {
-    TagError::of(outcome, || buffer.text(outcome.length).to_owned())
-}
-
-/// Whether two texts agree, or why one of them is refused.
-fn agrees(outcome: &sys::bcp47_outcome, buffer: &Buffer) -> Result<bool, TagError> {
-    match outcome.status {
-        sys::BCP47_DONE => Ok(true),
-        sys::BCP47_DIFFERENT => Ok(false),
-        _ => Err(refusal(outcome, buffer)),
-    }
 }
 
 /// How a language range matches tags (RFC 4647).
@@ -90,16 +73,13 @@ type Writer =
 impl Registry {
     /// The registry whose text the bytes are, if it passes the check and has entries.
     pub fn from_bytes(bytes: &[u8]) -> Result<Registry, RegistryError> {
-        let (mut raw, mut line) = (ptr::null_mut(), Buffer::new());
-        let (at, room) = line.place();
+        let mut raw = ptr::null_mut();
         // SAFETY: the pointers and lengths are those of the bytes and of a buffer.
-        let outcome = unsafe { sys::bcp47_open(&mut raw, bytes.as_ptr().cast(), bytes.len(), at, room) };
+        let (outcome, line) =
+            called(|at, room| unsafe { sys::bcp47_open(&mut raw, bytes.as_ptr().cast(), bytes.len(), at, room) });
         match NonNull::new(raw) {
             Some(raw) if outcome.status == sys::BCP47_DONE => Ok(Registry { raw }),
-            _ => {
-                let line = line.text(outcome.length).to_owned();
-                Err(RegistryError { line, outcome })
-            }
+            _ => Err(RegistryError { line, outcome }),
         }
     }
 
@@ -127,13 +107,25 @@ impl Registry {
     }
 
     fn text(&self, writer: Writer, tag: &[u8]) -> Result<String, TagError> {
-        let mut buffer = Buffer::new();
-        let ((front, length), (at, room)) = (place_of(tag), buffer.place());
+        let (front, length) = place_of(tag);
         // SAFETY: the registry is open, and the pointers and lengths are those of a text and of a buffer.
-        let outcome = unsafe { writer(self.raw.as_ptr(), front, length, at, room) };
+        written(|at, room| unsafe { writer(self.raw(), front, length, at, room) })
+    }
+
+    /// Whether a range matches a tag; by the scheme 0, whether two tags are equivalent.
+    fn agree(&self, scheme: c_int, first: &[u8], second: &[u8]) -> Result<bool, TagError> {
+        let (raw, (one, length), (other, other_length)) = (self.raw(), place_of(first), place_of(second));
+        // SAFETY: as in `text`.
+        let (outcome, variant) = called(|at, room| unsafe {
+            match scheme {
+                0 => sys::bcp47_equivalent(raw, one, length, other, other_length, at, room),
+                _ => sys::bcp47_match(raw, scheme, one, length, other, other_length, at, room),
+            }
+        });
         match outcome.status {
-            sys::BCP47_DONE => Ok(buffer.text(outcome.length).to_owned()),
-            _ => Err(refusal(&outcome, &buffer)),
+            sys::BCP47_DONE => Ok(true),
+            sys::BCP47_DIFFERENT => Ok(false),
+            _ => Err(TagError::of(&outcome, || variant)),
         }
     }
 
@@ -160,24 +152,14 @@ impl Registry {
 
     /// Whether two tags are equivalent: their canonical texts are equal. Refused for the first tag, or else for the second.
     pub fn equivalent(&self, first: impl AsRef<[u8]>, second: impl AsRef<[u8]>) -> Result<bool, TagError> {
-        let mut buffer = Buffer::new();
-        let (at, room) = buffer.place();
-        let ((one, length), (other, other_length)) = (place_of(first.as_ref()), place_of(second.as_ref()));
-        // SAFETY: as in `text`.
-        let outcome = unsafe { sys::bcp47_equivalent(self.raw.as_ptr(), one, length, other, other_length, at, room) };
-        agrees(&outcome, &buffer)
+        self.agree(0, first.as_ref(), second.as_ref())
     }
 
     /// Whether a language range matches a tag by a scheme (RFC 4647, 3.3 and 3.4), both by their extlang forms: `zh-yue`
     /// matches `yue-HK`. Of a range that is no valid tag, for example `yue-*`, the first subtag has this form. Refused for the range,
     /// where it is neither a valid tag nor a range, or else for the tag.
     pub fn matches(&self, range: impl AsRef<[u8]>, tag: impl AsRef<[u8]>, scheme: Scheme) -> Result<bool, TagError> {
-        let (mut buffer, raw, scheme) = (Buffer::new(), self.raw.as_ptr(), scheme as c_int);
-        let (at, room) = buffer.place();
-        let ((one, length), (other, other_length)) = (place_of(range.as_ref()), place_of(tag.as_ref()));
-        // SAFETY: as in `text`.
-        let outcome = unsafe { sys::bcp47_match(raw, scheme, one, length, other, other_length, at, room) };
-        agrees(&outcome, &buffer)
+        self.agree(scheme as c_int, range.as_ref(), tag.as_ref())
     }
 
     /// The steps from a tag to its canonical form, at most so many.

@@ -1,9 +1,11 @@
 //! Tags by no registry.
-use crate::registry::{place_of, Buffer};
+use crate::registry::{called, place_of, written};
 use crate::{PartKind, TagError};
 use bcp47_sys as sys;
+use std::borrow::Borrow;
 use std::ffi::c_int;
 use std::fmt;
+use std::hash::{Hash, Hasher};
 use std::mem::MaybeUninit;
 use std::str::FromStr;
 
@@ -28,8 +30,8 @@ pub struct Part<'a> {
 }
 
 /// A tag in conventional case (RFC 5646, 2.1.1). Tags are equal, and in order, as their texts are: `Registry::equivalent`
-/// compares what they mean.
-#[derive(Clone, Debug, PartialEq, Eq, PartialOrd, Ord, Hash)]
+/// compares what they mean. A map whose keys are tags finds them by their texts too.
+#[derive(Clone, PartialEq, Eq, PartialOrd, Ord)]
 pub struct Tag {
     text: String,
     kinds: Box<[PartKind]>,
@@ -101,11 +103,9 @@ impl Tag {
     /// # Ok::<(), bcp47::TagError>(())
     /// ```
     pub fn parent(&self) -> Option<Tag> {
-        let mut buffer = Buffer::new();
-        let (at, room) = buffer.place();
+        let (front, length) = place_of(self.as_ref());
         // SAFETY: the pointers and lengths are those of a text and of a buffer.
-        let outcome = unsafe { sys::bcp47_parent(self.text.as_ptr().cast(), self.text.len(), at, room) };
-        buffer.text(outcome.length).parse().ok()
+        written(|at, room| unsafe { sys::bcp47_parent(front, length, at, room) }).ok()?.parse().ok()
     }
 
     /// The tag with one of its parts replaced: a `Language` (with its extlangs), `Script`, `Region`, all `Variant`s, all extensions
@@ -119,12 +119,9 @@ impl Tag {
     /// # Ok::<(), bcp47::TagError>(())
     /// ```
     pub fn with(&self, kind: PartKind, value: impl AsRef<[u8]>) -> Result<Tag, TagError> {
-        let (mut buffer, kind) = (Buffer::new(), kind as c_int);
-        let ((front, length), (of, size), (at, room)) =
-            (place_of(self.as_ref()), place_of(value.as_ref()), buffer.place());
+        let ((front, length), (of, size)) = (place_of(self.as_ref()), place_of(value.as_ref()));
         // SAFETY: the pointers and lengths are those of texts and of a buffer.
-        let outcome = unsafe { sys::bcp47_with(front, length, kind, of, size, at, room) };
-        Tag::written(&outcome, &buffer)
+        written(|at, room| unsafe { sys::bcp47_with(front, length, kind as c_int, of, size, at, room) })?.parse()
     }
 
     /// The tag that the name of a POSIX locale stands for.
@@ -134,19 +131,9 @@ impl Tag {
     /// # Ok::<(), bcp47::TagError>(())
     /// ```
     pub fn from_posix(name: impl AsRef<[u8]>) -> Result<Tag, TagError> {
-        let ((front, length), mut buffer) = (place_of(name.as_ref()), Buffer::new());
-        let (at, room) = buffer.place();
+        let (front, length) = place_of(name.as_ref());
         // SAFETY: the pointers and lengths are those of a text and of a buffer.
-        let outcome = unsafe { sys::bcp47_posix(front, length, at, room) };
-        Tag::written(&outcome, &buffer)
-    }
-
-    /// The tag that a call wrote, or why it wrote none.
-    fn written(outcome: &sys::bcp47_outcome, buffer: &Buffer) -> Result<Tag, TagError> {
-        match outcome.status {
-            sys::BCP47_DONE => buffer.text(outcome.length).parse(),
-            _ => Err(TagError::of(outcome, String::new)),
-        }
+        written(|at, room| unsafe { sys::bcp47_posix(front, length, at, room) })?.parse()
     }
 }
 
@@ -154,21 +141,17 @@ impl FromStr for Tag {
     type Err = TagError;
 
     fn from_str(text: &str) -> Result<Tag, TagError> {
-        let mut buffer = Buffer::new();
         let mut parts = [MaybeUninit::<sys::bcp47_part>::uninit(); sys::BCP47_PARTS];
-        let (at, room) = buffer.place();
-        let (front, length) = (text.as_ptr().cast(), text.len());
+        let ((front, length), to) = (place_of(text.as_bytes()), parts.as_mut_ptr().cast());
         // SAFETY: the pointers and lengths are those of a text, of a buffer and of an array.
-        let outcome = unsafe { sys::bcp47_parts(front, length, at, room, parts.as_mut_ptr().cast(), parts.len()) };
+        let (outcome, text) =
+            called(|at, room| unsafe { sys::bcp47_parts(front, length, at, room, to, sys::BCP47_PARTS) });
         if outcome.status != sys::BCP47_DONE {
             return Err(TagError::of(&outcome, String::new));
         }
         // SAFETY: the call has written so many parts.
         let kinds = parts[..outcome.place].iter().map(|part| unsafe { part.assume_init() }.kind);
-        Ok(Tag {
-            kinds: kinds.map(|kind| PartKind::ALL[usize::from(kind) - 1]).collect(),
-            text: buffer.text(outcome.length).to_owned(),
-        })
+        Ok(Tag { text, kinds: kinds.map(|kind| PartKind::ALL[usize::from(kind) - 1]).collect() })
     }
 }
 
@@ -183,6 +166,25 @@ impl TryFrom<&str> for Tag {
 impl From<Tag> for String {
     fn from(tag: Tag) -> String {
         tag.text
+    }
+}
+
+// Its text alone, as `Borrow<str>` wants it.
+impl Hash for Tag {
+    fn hash<H: Hasher>(&self, state: &mut H) {
+        self.text.hash(state)
+    }
+}
+
+impl Borrow<str> for Tag {
+    fn borrow(&self) -> &str {
+        &self.text
+    }
+}
+
+impl fmt::Debug for Tag {
+    fn fmt(&self, f: &mut fmt::Formatter<'_>) -> fmt::Result {
+        f.debug_tuple("Tag").field(&self.text).finish()
     }
 }
 

@@ -1,6 +1,9 @@
 //! What the registry of examples/ answers, as the program does.
-use bcp47::{Available, Class, Fault, OpenError, PartKind, Registry, Scheme, StepKind, Tag, TagError};
-use std::collections::HashSet;
+use bcp47::{
+    Available, AvailableError, Class, Fault, OpenError, PartKind, Registry, RegistryError, Scheme, StepKind, Tag,
+    TagError,
+};
+use std::collections::{BTreeSet, HashMap, HashSet};
 use std::error::Error;
 use std::thread;
 
@@ -91,6 +94,7 @@ fn a_registry_has_entries() {
         assert_eq!((error.to_string().as_str(), error.cause()), ("NoEntries", None));
         assert!(error.help().contains("get it again"));
     }
+    assert!(matches!(Registry::open("/dev/null"), Err(OpenError::Refused(_, why)) if why.to_string() == "NoEntries"));
 }
 
 /// What an error shows, and what each below it does.
@@ -108,11 +112,14 @@ fn chain(error: &dyn Error) -> Vec<String> {
 fn files_that_give_no_registry_are_named_once() {
     let error = Registry::open("/no/such/file").unwrap_err();
     assert!(matches!(&error, OpenError::Io(path, _) if path.as_os_str() == "/no/such/file"));
-    assert_eq!(chain(&error), ["/no/such/file: No such file or directory (os error 2)"]);
+    assert_eq!(chain(&error), ["can't read /no/such/file", "No such file or directory (os error 2)"]);
+    let cause = error.source().and_then(|cause| cause.downcast_ref::<std::io::Error>());
+    assert_eq!(cause.unwrap().kind(), std::io::ErrorKind::NotFound);
     let error = Registry::open(concat!(env!("CARGO_MANIFEST_DIR"), "/Cargo.toml")).unwrap_err();
     assert!(matches!(&error, OpenError::Refused(_, why) if why.cause().unwrap().fault() == Fault::BadLine));
-    let shown = format!("{}: jar BadLine line 1", concat!(env!("CARGO_MANIFEST_DIR"), "/Cargo.toml"));
-    assert_eq!(chain(&error), [shown]);
+    let shown = format!("{} is refused", concat!(env!("CARGO_MANIFEST_DIR"), "/Cargo.toml"));
+    assert_eq!(chain(&error), [&shown[..], "jar BadLine line 1"]);
+    assert!(error.source().unwrap().is::<RegistryError>());
 }
 
 #[test]
@@ -150,6 +157,30 @@ fn tags_are_in_conventional_case() {
     let tags: HashSet<Tag> = ["EN", "en", "de"].iter().map(|tag| tag.parse().unwrap()).collect();
     assert_eq!(tags.len(), 2);
     assert_eq!(sample().canonical("ZH-YUE".parse::<Tag>().unwrap()).unwrap(), "yue");
+}
+
+#[test]
+fn tags_are_keys_and_texts() {
+    let tag: Tag = "ZH-hant".parse().unwrap();
+    let counts: HashMap<Tag, u32> = HashMap::from([(tag.clone(), 7)]);
+    assert_eq!((counts.get("zh-Hant"), counts.get(&tag), counts.get("ZH-hant")), (Some(&7), Some(&7), None));
+    let sorted: BTreeSet<Tag> = ["zh-TW", "de", "zh"].map(|tag| tag.parse().unwrap()).into();
+    assert!(sorted.contains("zh-TW") && !sorted.contains("en"));
+    assert_eq!(sorted.iter().map(Tag::as_str).collect::<Vec<_>>(), ["de", "zh", "zh-TW"]);
+    assert_eq!(format!("{tag:?}"), r#"Tag("zh-Hant")"#);
+}
+
+#[test]
+fn what_is_shared_and_sent() {
+    fn is<T: Send + Sync + std::panic::UnwindSafe + 'static>() {}
+    fn is_error<T: Error + Send + Sync + 'static>() {}
+    is::<Registry>();
+    is::<Available>();
+    is::<Tag>();
+    is_error::<TagError>();
+    is_error::<RegistryError>();
+    is_error::<OpenError>();
+    is_error::<AvailableError>();
 }
 
 #[test]
@@ -252,6 +283,11 @@ fn tags_are_changed() {
         (PartKind::PrivateUseSingleton, "x-a-b", "de-CH-1996-u-co-phonebk-x-a-b"),
     ] {
         assert_eq!(tag.with(kind, value).unwrap().as_str(), wanted);
+    }
+    for kind in [PartKind::Extlang, PartKind::Separator, PartKind::Grandfathered] {
+        let error = tag.with(kind, "DE").unwrap_err();
+        assert_eq!((error.to_string().as_str(), error.cause()), ("BadCall", None));
+        assert!(error.help().contains("a number of no scheme or part"));
     }
     for (kind, value) in [(PartKind::Language, ""), (PartKind::Region, "D_"), (PartKind::Script, "Latin")] {
         assert!(matches!(tag.with(kind, value), Err(TagError::NotATag(_))));

@@ -5,22 +5,36 @@
 #include <stdlib.h>
 #include <string.h>
 
-/* Room for the text of any tag and for its canonical text; a longer one is no tag, as the library says of its front. A range
-   may have any length. */
+/* Room for the text of any tag and for its canonical text. */
 enum { ROOM = 4096 };
+
+/* The calls of `text`, which Native.java numbers alike. */
+enum { CANONICAL, EXTLANG, VALIDATE, MATCH, PARTS, PARENT, WITH, POSIX };
 
 #define NATIVE(kind, name) JNIEXPORT kind JNICALL Java_bcp47_Native_##name
 
-static bcp47_registry *registry_of(jlong registry) {
-    return (bcp47_registry *)(intptr_t)registry;
+_Static_assert(sizeof(jlong) == sizeof(size_t), "arrays of long are those of lengths and places");
+
+/* The bytes of an array, which may have any length; none of null. */
+typedef struct {
+    size_t length;
+    char *at, own[ROOM];
+} text;
+
+/* Whether there was memory for them. */
+static int is_read(JNIEnv *env, jbyteArray bytes, text *to) {
+    to->length = bytes ? (size_t)(*env)->GetArrayLength(env, bytes) : 0;
+    to->at = to->length <= ROOM ? to->own : malloc(to->length);
+    if (to->length && to->at) (*env)->GetByteArrayRegion(env, bytes, 0, (jsize)to->length, (jbyte *)to->at);
+    return to->at != NULL;
 }
 
-/* The bytes of an array, or the front of a long one. */
-static size_t text_of(JNIEnv *env, jbyteArray bytes, char text[ROOM]) {
-    jsize length = (*env)->GetArrayLength(env, bytes);
-    if (length > ROOM) length = ROOM;
-    (*env)->GetByteArrayRegion(env, bytes, 0, length, (jbyte *)text);
-    return (size_t)length;
+static void let_go(text *of) {
+    if (of->at != of->own) free(of->at);
+}
+
+static bcp47_registry *registry_of(jlong address) {
+    return (bcp47_registry *)(intptr_t)address;
 }
 
 /* Whether a call is done; else its status, fault, place and which of two texts are told. */
@@ -41,10 +55,15 @@ static jstring written(JNIEnv *env, bcp47_outcome outcome, const char *text) {
     return outcome.length ? (*env)->NewStringUTF(env, text) : NULL;
 }
 
-static jbyteArray array_of(JNIEnv *env, const void *bytes, size_t length) {
-    jbyteArray made = (*env)->NewByteArray(env, (jsize)length);
-    if (made) (*env)->SetByteArrayRegion(env, made, 0, (jsize)length, bytes);
-    return made;
+/* The text of a tag, a point, and a character for each part: the number of its kind and 64. */
+static bcp47_outcome parts_of(const text *tag, char buffer[ROOM]) {
+    bcp47_part parts[BCP47_PARTS];
+    bcp47_outcome outcome = bcp47_parts(tag->at, tag->length, buffer, BCP47_TEXT, parts, BCP47_PARTS);
+    if (outcome.status != BCP47_DONE) return outcome;
+    buffer[outcome.length++] = '.';
+    for (size_t i = 0; i < outcome.place; i++) buffer[outcome.length++] = (char)(64 + parts[i].kind);
+    buffer[outcome.length] = 0;
+    return outcome;
 }
 
 NATIVE(jstring, version)(JNIEnv *env, jclass self) {
@@ -52,8 +71,7 @@ NATIVE(jstring, version)(JNIEnv *env, jclass self) {
 }
 
 NATIVE(jstring, name)(JNIEnv *env, jclass self, jint which, jint number) {
-    static const char *(*const names[])(int) = {bcp47_status_name,    bcp47_status_help, bcp47_fault_name, bcp47_fault_help,
-                                                bcp47_part_kind_name, bcp47_kind_name};
+    static const char *(*const names[])(int) = {bcp47_status_name, bcp47_status_help, bcp47_fault_name, bcp47_fault_help, bcp47_part_kind_name};
     return (*env)->NewStringUTF(env, names[which](number));
 }
 
@@ -73,105 +91,57 @@ NATIVE(void, close)(JNIEnv *env, jclass self, jlong registry) {
     bcp47_close(registry_of(registry));
 }
 
-NATIVE(jstring, text)(JNIEnv *env, jclass self, jlong registry, jbyteArray tag, jboolean extlang, jlongArray ended) {
-    char text[ROOM], buffer[ROOM];
-    size_t length = text_of(env, tag, text);
-    bcp47_outcome outcome = (extlang ? bcp47_extlang : bcp47_canonical)(registry_of(registry), text, length, buffer, sizeof buffer);
-    int is_same = is_done(env, ended, outcome) && outcome.length == length && !memcmp(text, buffer, length);
+NATIVE(jstring, text)(JNIEnv *env, jclass self, jint call, jlong address, jint number, jbyteArray one, jbyteArray two, jlongArray ended) {
+    const bcp47_registry *by = registry_of(address);
+    text first, second;
+    char buffer[ROOM];
+    bcp47_outcome outcome = {.status = BCP47_OUT_OF_MEMORY};
+    int are_read = is_read(env, one, &first) & is_read(env, two, &second);
+    const char *at = first.at, *other = second.at;
+    size_t length = first.length, other_length = second.length;
+    if (are_read) switch (call) {
+        case CANONICAL: outcome = bcp47_canonical(by, at, length, buffer, ROOM); break;
+        case EXTLANG: outcome = bcp47_extlang(by, at, length, buffer, ROOM); break;
+        case VALIDATE: outcome = bcp47_validate(by, at, length); break;
+        case MATCH:
+            outcome = number ? bcp47_match(by, number, at, length, other, other_length, buffer, ROOM)
+                             : bcp47_equivalent(by, at, length, other, other_length, buffer, ROOM);
+            break;
+        case PARTS: outcome = parts_of(&first, buffer); break;
+        case PARENT: outcome = bcp47_parent(at, length, buffer, ROOM); break;
+        case WITH: outcome = bcp47_with(at, length, number, other, other_length, buffer, ROOM); break;
+        case POSIX: outcome = bcp47_posix(at, length, buffer, ROOM); break;
+    }
+    int is_same = is_done(env, ended, outcome) && outcome.length == length && !memcmp(at, buffer, length);
+    let_go(&first), let_go(&second);
     return is_same ? NULL : written(env, outcome, buffer);
 }
 
-/* The text of a tag, a point, and a character for each part: the number of its kind and 64. */
-NATIVE(jstring, parts)(JNIEnv *env, jclass self, jbyteArray tag, jlongArray ended) {
-    char text[ROOM], buffer[BCP47_TEXT + BCP47_PARTS + 1];
-    bcp47_part parts[BCP47_PARTS];
-    size_t length = text_of(env, tag, text);
-    bcp47_outcome outcome = bcp47_parts(text, length, buffer, BCP47_TEXT, parts, BCP47_PARTS);
-    if (!is_done(env, ended, outcome)) return NULL;
-    char *end = buffer + outcome.length;
-    *end++ = '.';
-    for (size_t i = 0; i < outcome.place; i++) *end++ = (char)(64 + parts[i].kind);
-    *end = 0;
-    return (*env)->NewStringUTF(env, buffer);
-}
-
-NATIVE(jstring, parent)(JNIEnv *env, jclass self, jbyteArray tag, jlongArray ended) {
-    char text[ROOM], buffer[ROOM];
-    size_t length = text_of(env, tag, text);
-    bcp47_outcome outcome = bcp47_parent(text, length, buffer, sizeof buffer);
-    return is_done(env, ended, outcome) ? written(env, outcome, buffer) : NULL;
-}
-
-NATIVE(jstring, with)(JNIEnv *env, jclass self, jbyteArray tag, jint part, jbyteArray value, jlongArray ended) {
-    char text[ROOM], other[ROOM], buffer[ROOM];
-    size_t length = text_of(env, tag, text), other_length = text_of(env, value, other);
-    bcp47_outcome outcome = bcp47_with(text, length, part, other, other_length, buffer, sizeof buffer);
-    return is_done(env, ended, outcome) ? written(env, outcome, buffer) : NULL;
-}
-
-NATIVE(jstring, posix)(JNIEnv *env, jclass self, jbyteArray name, jlongArray ended) {
-    char text[ROOM], buffer[ROOM];
-    size_t length = text_of(env, name, text);
-    bcp47_outcome outcome = bcp47_posix(text, length, buffer, sizeof buffer);
-    return is_done(env, ended, outcome) ? written(env, outcome, buffer) : NULL;
-}
-
-/* The names and bodies of the fields in turn, with a zero after each. */
 NATIVE(jbyteArray, record)(JNIEnv *env, jclass self, jlong registry, jint number, jlongArray ended) {
     bcp47_field *fields;
     const char *texts;
     size_t length = 0;
     bcp47_outcome outcome = bcp47_record(registry_of(registry), (uint32_t)number, &fields, &texts);
     for (size_t i = 0; fields && i < outcome.place; i++) length += fields[i].name + fields[i].body + 2;
-    jbyteArray made = is_done(env, ended, outcome) ? array_of(env, texts, length) : NULL;
+    jbyteArray made = is_done(env, ended, outcome) ? (*env)->NewByteArray(env, (jsize)length) : NULL;
+    if (made) (*env)->SetByteArrayRegion(env, made, 0, (jsize)length, (const jbyte *)texts);
     bcp47_free(fields);
     return made;
 }
 
-NATIVE(void, validate)(JNIEnv *env, jclass self, jlong registry, jbyteArray tag, jlongArray ended) {
-    char text[ROOM];
-    size_t length = text_of(env, tag, text);
-    is_done(env, ended, bcp47_validate(registry_of(registry), text, length));
+NATIVE(jstring, explain)(JNIEnv *env, jclass self, jlong registry, jbyteArray tag, jlong most, jlongArray ended) {
+    text of;
+    char variant[ROOM], *lines = NULL;
+    bcp47_outcome outcome = {.status = BCP47_OUT_OF_MEMORY};
+    if (is_read(env, tag, &of)) outcome = bcp47_explanation(registry_of(registry), of.at, of.length, (size_t)most, &lines);
+    if (outcome.status == BCP47_REPLACEMENT_REPEATS) outcome = bcp47_canonical(registry_of(registry), of.at, of.length, variant, ROOM);
+    let_go(&of);
+    is_done(env, ended, outcome);
+    jstring made = written(env, outcome, lines ? lines : variant);
+    bcp47_free(lines);
+    return made;
 }
 
-/* Whether a range matches a tag; by the scheme 0, whether two tags are equivalent. A variant is answered. */
-NATIVE(jstring, match)(JNIEnv *env, jclass self, jlong registry, jint scheme, jbyteArray range, jbyteArray tag, jlongArray ended) {
-    char other[ROOM], variant[BCP47_LINE];
-    size_t other_length = text_of(env, tag, other);
-    jbyte *whole = (*env)->GetByteArrayElements(env, range, NULL);
-    if (!whole) return NULL;
-    const char *text = (const char *)whole;
-    size_t length = (size_t)(*env)->GetArrayLength(env, range);
-    bcp47_outcome outcome =
-        scheme ? bcp47_match(registry_of(registry), scheme, text, length, other, other_length, variant, sizeof variant)
-               : bcp47_equivalent(registry_of(registry), text, length, other, other_length, variant, sizeof variant);
-    (*env)->ReleaseByteArrayElements(env, range, whole, JNI_ABORT);
-    return is_done(env, ended, outcome) ? NULL : written(env, outcome, variant);
-}
-
-/* The tags to which steps lead, and last the canonical one, with a line feed after each but that; or a variant. The kinds, places and
-   numbers of the steps go to the front of an array. */
-NATIVE(jstring, explain)(JNIEnv *env, jclass self, jlong registry, jbyteArray tag, jlong most, jlongArray ended, jobjectArray numbers) {
-    char text[ROOM];
-    size_t length = text_of(env, tag, text);
-    bcp47_step *steps;
-    const char *tags;
-    bcp47_outcome outcome = bcp47_steps(registry_of(registry), text, length, (size_t)most, &steps, &tags);
-    size_t count = is_done(env, ended, outcome) ? outcome.place : 0;
-    jintArray made = (*env)->NewIntArray(env, (jsize)(3 * count));
-    char *at = (char *)tags;
-    for (size_t i = 0; made && i < count; i++, *at++ = '\n') {
-        jint step[] = {steps[i].kind, (jint)steps[i].place, (jint)steps[i].number};
-        (*env)->SetIntArrayRegion(env, made, (jsize)(3 * i), 3, step);
-        at += strlen(at);
-    }
-    if (made) (*env)->SetObjectArrayElement(env, numbers, 0, made);
-    jstring all = made && tags ? (*env)->NewStringUTF(env, tags) : NULL;
-    bcp47_free(steps);
-    return all;
-}
-
-/* The File-Date goes to the first array of bytes, and the digest to the other; the entries are what is answered. */
 NATIVE(jlong, info)(JNIEnv *env, jclass self, jlong registry, jbyteArray date, jbyteArray sha256) {
     bcp47_info info = {0};
     bcp47_registry_info(registry_of(registry), &info);
@@ -180,21 +150,19 @@ NATIVE(jlong, info)(JNIEnv *env, jclass self, jlong registry, jbyteArray date, j
     return (jlong)info.entries;
 }
 
-/* The tags are bytes one after another, each of its length. */
-NATIVE(void, openAvailable)(JNIEnv *env, jclass self, jlong registry, jbyteArray all, jintArray lengths, jlongArray ended) {
-    size_t count = (size_t)(*env)->GetArrayLength(env, lengths), size = (size_t)(*env)->GetArrayLength(env, all);
-    size_t *sizes = malloc(count * (sizeof *sizes + sizeof(char *)) + size + 1);
-    const char **tags = sizes ? (const char **)(sizes + count) : NULL, *at = sizes ? (char *)(tags + count) : NULL;
+NATIVE(void, openAvailable)(JNIEnv *env, jclass self, jlong registry, jbyteArray tags, jlongArray lengths, jlongArray ended) {
+    text all;
+    size_t count = (size_t)(*env)->GetArrayLength(env, lengths), *sizes = malloc(count * (sizeof *sizes + sizeof(char *)) + 1);
     bcp47_available *opened = NULL;
     bcp47_outcome outcome = {.status = BCP47_OUT_OF_MEMORY};
-    if (sizes) (*env)->GetByteArrayRegion(env, all, 0, (jsize)size, (jbyte *)at);
-    for (size_t i = 0; sizes && i < count; at += sizes[i++]) {
-        jint length;
-        (*env)->GetIntArrayRegion(env, lengths, (jsize)i, 1, &length);
-        tags[i] = at, sizes[i] = (size_t)length;
+    if (is_read(env, tags, &all) && sizes) {
+        const char **each = (const char **)(sizes + count), *at = all.at;
+        (*env)->GetLongArrayRegion(env, lengths, 0, (jsize)count, (jlong *)sizes);
+        for (size_t i = 0; i < count; at += sizes[i++]) each[i] = at;
+        outcome = bcp47_available_open(&opened, registry_of(registry), each, sizes, count);
     }
-    if (sizes) outcome = bcp47_available_open(&opened, registry_of(registry), tags, sizes, count);
     free(sizes);
+    let_go(&all);
     if (is_done(env, ended, outcome)) tell_opened(env, ended, opened);
 }
 
@@ -202,21 +170,16 @@ NATIVE(void, closeAvailable)(JNIEnv *env, jclass self, jlong available) {
     bcp47_available_close((bcp47_available *)(intptr_t)available);
 }
 
-/* The number of the best tag, or 0; where there is room for places, how many tags the header accepts, whose numbers go there. */
-NATIVE(jint, best)(JNIEnv *env, jclass self, jlong available, jbyteArray accept, jintArray places, jlongArray ended) {
+NATIVE(jint, best)(JNIEnv *env, jclass self, jlong available, jbyteArray accept, jlongArray places, jlongArray ended) {
     bcp47_available *of = (bcp47_available *)(intptr_t)available;
-    jbyte *text = (*env)->GetByteArrayElements(env, accept, NULL);
-    if (!text) return 0;
-    size_t length = (size_t)(*env)->GetArrayLength(env, accept), room = places ? (size_t)(*env)->GetArrayLength(env, places) : 0;
-    size_t *found = malloc(room * sizeof *found + 1);
+    text header;
+    jlong *found = places ? (*env)->GetLongArrayElements(env, places, NULL) : NULL;
+    if (places && !found) return 0;
     bcp47_outcome outcome = {.status = BCP47_OUT_OF_MEMORY};
-    if (found) outcome = places ? bcp47_filter(of, (char *)text, length, found, room) : bcp47_best(of, (char *)text, length);
-    (*env)->ReleaseByteArrayElements(env, accept, text, JNI_ABORT);
-    int is_found = is_done(env, ended, outcome);
-    for (size_t i = 0; places && is_found && i < outcome.place; i++) {
-        jint place = (jint)found[i];
-        (*env)->SetIntArrayRegion(env, places, (jsize)i, 1, &place);
-    }
-    free(found);
-    return is_found ? (jint)outcome.place : 0;
+    if (is_read(env, accept, &header))
+        outcome = places ? bcp47_filter(of, header.at, header.length, (size_t *)found, (size_t)(*env)->GetArrayLength(env, places))
+                         : bcp47_best(of, header.at, header.length);
+    if (found) (*env)->ReleaseLongArrayElements(env, places, found, 0);
+    let_go(&header);
+    return is_done(env, ended, outcome) ? (jint)outcome.place : 0;
 }

@@ -1,7 +1,6 @@
 // SPDX-License-Identifier: MIT OR Apache-2.0
 package bcp47;
 
-import java.lang.ref.Cleaner;
 import java.util.Arrays;
 import java.util.Collection;
 import java.util.List;
@@ -13,23 +12,21 @@ import java.util.List;
 public final class Available implements AutoCloseable {
     private final List<String> tags;
     private final Held held;
-    private final Cleaner.Cleanable cleanable;
 
     Available(Held registry, Collection<? extends CharSequence> tags) {
         this.tags = tags.stream().map(CharSequence::toString).toList();
         byte[] all = Native.bytes(String.join("", this.tags));
-        int[] lengths = this.tags.stream().mapToInt(tag -> Native.bytes(tag).length).toArray();
+        long[] lengths = this.tags.stream().mapToLong(tag -> Native.bytes(tag).length).toArray();
         long[] ended = Native.ended();
         registry.ask(address -> {
             Native.openAvailable(address, all, lengths, ended);
             return null;
         });
         RefusedTag.check(ended, null, ended[3] == 0 ? "" : this.tags.get((int) ended[3] - 1));
-        held = new Held(ended[4], Native::closeAvailable);
-        cleanable = Held.CLEANER.register(this, held);
+        held = new Held(this, "the list of available tags", ended[4], Native::closeAvailable);
     }
 
-    private int ask(CharSequence accept, int[] places) {
+    private int ask(CharSequence accept, long[] places) {
         byte[] bytes = Native.bytes(accept == null ? "*" : accept);
         long[] ended = Native.ended();
         int found = held.ask(address -> Native.best(address, bytes, places, ended));
@@ -57,13 +54,19 @@ public final class Available implements AutoCloseable {
      * @throws RefusedTag where it is no such header
      */
     public List<String> filter(CharSequence accept) {
-        int[] places = new int[tags.size()];
-        return Arrays.stream(places, 0, ask(accept, places)).mapToObj(place -> tags.get(place - 1)).toList();
+        long[] places = new long[tags.size()];
+        return Arrays.stream(places, 0, ask(accept, places)).mapToObj(place -> tags.get((int) place - 1)).toList();
+    }
+
+    /** @return the tags */
+    @Override
+    public String toString() {
+        return "Available" + tags;
     }
 
     /** Closes it: calls that are under way end as they would. */
     @Override
     public void close() {
-        cleanable.clean();
+        held.close();
     }
 }

@@ -7,17 +7,22 @@ import java.util.function.LongConsumer;
 import java.util.function.LongFunction;
 
 /** What is open in the library, and how many calls are under way on it. Once it is closed, the last of them frees it. */
-final class Held implements Runnable {
-    static final Cleaner CLEANER = Cleaner.create();
+final class Held {
+    private static final Cleaner CLEANER = Cleaner.create();
     private static final long CLOSED = 1L << 32;
 
+    private final String name;
     private final long address;
     private final LongConsumer free;
     private final AtomicLong calls = new AtomicLong();
+    private final Cleaner.Cleanable cleanable;
 
-    Held(long address, LongConsumer free) {
+    /** What an object opened, which is closed where the object is collected. */
+    Held(Object owner, String name, long address, LongConsumer free) {
+        this.name = name;
         this.address = address;
         this.free = free;
+        cleanable = CLEANER.register(owner, this::closeOnce);
     }
 
     /** What a call answers, which has it until then. */
@@ -26,7 +31,7 @@ final class Held implements Runnable {
         do {
             count = calls.get();
             if (count >= CLOSED) {
-                throw new IllegalStateException("it is closed");
+                throw new IllegalStateException(name + " is closed: keep it open until the last call, or make another");
             }
         } while (!calls.compareAndSet(count, count + 1));
         try {
@@ -38,9 +43,15 @@ final class Held implements Runnable {
         }
     }
 
-    /** Closes it, as a {@link Cleaner} does once. */
-    @Override
-    public void run() {
+    boolean isClosed() {
+        return calls.get() >= CLOSED;
+    }
+
+    void close() {
+        cleanable.clean();
+    }
+
+    private void closeOnce() {
         if (calls.getAndAdd(CLOSED) == 0) {
             free.accept(address);
         }

@@ -7,6 +7,7 @@ import java.nio.charset.StandardCharsets;
 import java.nio.file.Files;
 import java.nio.file.Path;
 import java.nio.file.StandardCopyOption;
+import java.util.stream.IntStream;
 
 /**
  * The calls of the library. A tag is its bytes. How a call ended goes to five numbers: its status, of which 0 says that it is done, the
@@ -14,7 +15,8 @@ import java.nio.file.StandardCopyOption;
  * the variant, or the line of a registry, or null.
  */
 final class Native {
-    static final int STATUS = 0, STATUS_HELP = 1, FAULT = 2, FAULT_HELP = 3, PART_KIND = 4, STEP_KIND = 5;
+    static final int STATUS = 0, STATUS_HELP = 1, FAULT = 2, FAULT_HELP = 3, PART_KIND = 4;
+    static final int CANONICAL = 0, EXTLANG = 1, VALIDATE = 2, MATCH = 3, PARTS = 4, PARENT = 5, WITH = 6, POSIX = 7;
 
     static {
         load();
@@ -30,38 +32,32 @@ final class Native {
 
     static native void close(long registry);
 
-    /** Null where the text is that of the tag. */
-    static native String text(long registry, byte[] tag, boolean extlang, long[] ended);
-
-    /** The text of the tag, a point, and a character for each part. */
-    static native String parts(byte[] tag, long[] ended);
-
-    static native String parent(byte[] tag, long[] ended);
-
-    static native String with(byte[] tag, int part, byte[] value, long[] ended);
-
-    static native String posix(byte[] name, long[] ended);
+    /**
+     * The text that a call makes of one text, or of two; null where that is the first of them, or none. The number is a scheme, of which 0
+     * asks whether two tags are equivalent, or a kind of part. Of PARTS it is the text of a tag, a point, and a character for each part.
+     */
+    static native String text(int call, long registry, int number, byte[] first, byte[] second, long[] ended);
 
     /** The names and bodies of the fields in turn, with a zero after each. */
     static native byte[] record(long registry, int number, long[] ended);
 
-    static native void validate(long registry, byte[] tag, long[] ended);
-
-    /** The scheme 0 asks whether two tags are equivalent. */
-    static native String match(long registry, int scheme, byte[] range, byte[] tag, long[] ended);
-
-    /** The tags to which the steps lead, and the canonical one, a line each; the kind, place and number of each step go to an array. */
-    static native String explain(long registry, byte[] tag, long most, long[] ended, int[][] steps);
+    /** The lines that the program prints. */
+    static native String explain(long registry, byte[] tag, long most, long[] ended);
 
     static native long info(long registry, byte[] date, byte[] sha256);
 
     /** The tags stand one after another, each of its length. */
-    static native void openAvailable(long registry, byte[] tags, int[] lengths, long[] ended);
+    static native void openAvailable(long registry, byte[] tags, long[] lengths, long[] ended);
 
     static native void closeAvailable(long available);
 
     /** The number of the best tag, or 0; or how many a header accepts, whose numbers go to an array, if there is one. */
-    static native int best(long available, byte[] accept, int[] places, long[] ended);
+    static native int best(long available, byte[] accept, long[] places, long[] ended);
+
+    /** The names of the first numbers. */
+    static String[] names(int which) {
+        return IntStream.range(0, 32).mapToObj(number -> name(which, number)).toArray(String[]::new);
+    }
 
     static long[] ended() {
         return new long[5];

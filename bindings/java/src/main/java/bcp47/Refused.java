@@ -3,17 +3,21 @@ package bcp47;
 
 /**
  * Something is refused. The message is the line of the program <code>langtag</code> without <code>! </code>, for example
- * <code>BadByte 1</code> or <code>jar BadLine line 1</code>.
+ * <code>BadByte 1</code> or <code>jar BadLine line 1</code>. <code>toString</code> also names what is refused.
  */
 public abstract class Refused extends IllegalArgumentException {
     private static final long serialVersionUID = 1;
+    private static final int LONGEST = 1024;
 
     /** Why. */
     private final Refusal refusal;
+    /** The front of the text that is refused, or of the name of the file; empty where there is none. */
+    final String what;
 
-    Refused(Refusal refusal) {
-        super(refusal.toString());
+    Refused(Refusal refusal, CharSequence what) {
+        super(refusal.line());
         this.refusal = refusal;
+        this.what = what.subSequence(0, Math.min(what.length(), LONGEST)).toString();
     }
 
     /** @return why */
@@ -34,5 +38,11 @@ public abstract class Refused extends IllegalArgumentException {
     /** @return what the fault means, and what to do, in a sentence */
     public String help() {
         return refusal.help();
+    }
+
+    /** @return the class, the message, and the tag or the file, with <code>?</code> for each control character, so that it is one line of a log */
+    @Override
+    public String toString() {
+        return super.toString() + (what.isEmpty() ? "" : ": " + what.replaceAll("\\p{Cntrl}", "?"));
     }
 }

@@ -5,7 +5,7 @@ package bcp47;
 public final class RefusedRegistry extends Refused {
     private static final long serialVersionUID = 1;
 
-    RefusedRegistry(Refusal refusal) {
-        super(refusal);
+    RefusedRegistry(Refusal refusal, String file) {
+        super(refusal, file);
     }
 }

@@ -7,14 +7,9 @@ package bcp47;
  */
 public final class RefusedTag extends Refused {
     private static final long serialVersionUID = 1;
-    private static final int LONGEST = 1024;
-
-    /** The front of the text. */
-    private final String tag;
 
     RefusedTag(Refusal refusal, CharSequence tag) {
-        super(refusal);
-        this.tag = tag.subSequence(0, Math.min(tag.length(), LONGEST)).toString();
+        super(refusal, tag);
     }
 
     /** Throws where a call that was asked for a tag is refused. */
@@ -27,7 +22,7 @@ public final class RefusedTag extends Refused {
 
     /** @return the text that is refused: no more than its first 1,024 characters */
     public String tag() {
-        return tag;
+        return what;
     }
 
     /** @return the variant that replacements can repeat, or null where that is not why */

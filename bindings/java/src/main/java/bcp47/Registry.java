@@ -4,7 +4,6 @@ package bcp47;
 import java.io.IOException;
 import java.io.InputStream;
 import java.io.UncheckedIOException;
-import java.lang.ref.Cleaner;
 import java.nio.charset.StandardCharsets;
 import java.nio.file.Files;
 import java.nio.file.Path;
@@ -26,16 +25,15 @@ public final class Registry implements AutoCloseable {
     private static final int STEPS = 20_000;
 
     private final Held held;
-    private final Cleaner.Cleanable cleanable;
 
-    private Registry(byte[] content) {
+    /** The registry of a content, and of the file that it is of, if any. */
+    private Registry(byte[] content, String file) {
         long[] ended = Native.ended();
         Refusal refusal = Refusal.of(ended, Native.open(Objects.requireNonNull(content), ended));
         if (refusal != null) {
-            throw new RefusedRegistry(refusal);
+            throw new RefusedRegistry(refusal, file);
         }
-        held = new Held(ended[4], Native::close);
-        cleanable = Held.CLEANER.register(this, held);
+        held = new Held(this, "the registry", ended[4], Native::close);
     }
 
     /** @return the version of the library */
@@ -51,7 +49,7 @@ public final class Registry implements AutoCloseable {
      * @throws RefusedRegistry where they are none that passes the check
      */
     public static Registry of(byte[] content) {
-        return new Registry(content);
+        return new Registry(content, "");
     }
 
     /**
@@ -60,22 +58,22 @@ public final class Registry implements AutoCloseable {
      * @param file its path
      * @return the registry
      * @throws IOException where the file can't be read
-     * @throws RefusedRegistry where it is no registry that passes the check
+     * @throws RefusedRegistry where it is no registry that passes the check; its toString names the file
      */
     public static Registry open(Path file) throws IOException {
-        return new Registry(Files.readAllBytes(file));
+        return new Registry(Files.readAllBytes(file), file.toString());
     }
 
     /**
      * Reads the registry that <code>bcp47-registry</code> has, which is of IANA's and has a day of its own.
      *
      * @return the registry
-     * @throws IllegalStateException where that jar is not on the class path
+     * @throws IllegalStateException where that jar is on neither the class path nor the module path
      */
     public static Registry bundled() {
-        try (InputStream file = Registry.class.getResourceAsStream("/META-INF/bcp47/registry.txt")) {
+        try (InputStream file = Registry.class.getClassLoader().getResourceAsStream("META-INF/bcp47/registry.txt")) {
             if (file == null) {
-                throw new IllegalStateException("bcp47-registry is not on the class path");
+                throw new IllegalStateException("bcp47-registry is on neither the class path nor the module path: add its jar, or open a file");
             }
             return of(file.readAllBytes());
         } catch (IOException failed) {
@@ -86,15 +84,15 @@ public final class Registry implements AutoCloseable {
     /** Closes it: calls that are under way end as they would. */
     @Override
     public void close() {
-        cleanable.clean();
+        held.close();
     }
 
-    private Answer answer(CharSequence tag, boolean extlang) {
+    private Answer answer(int call, CharSequence tag) {
         byte[] bytes = Native.bytes(tag);
         long[] ended = Native.ended();
-        String text = held.ask(registry -> Native.text(registry, bytes, extlang, ended));
+        String text = held.ask(registry -> Native.text(call, registry, 0, bytes, null, ended));
         Refusal refusal = Refusal.of(ended, text);
-        return new Answer(refusal == null && text == null ? tag.toString() : refusal == null ? text : null, refusal);
+        return new Answer(refusal != null ? null : text == null ? tag.toString() : text, refusal);
     }
 
     /**
@@ -116,7 +114,7 @@ public final class Registry implements AutoCloseable {
      * @return the answer
      */
     public Answer answer(CharSequence tag) {
-        return answer(tag, false);
+        return answer(Native.CANONICAL, tag);
     }
 
     /**
@@ -127,17 +125,7 @@ public final class Registry implements AutoCloseable {
      * @throws RefusedTag where there is none
      */
     public String extlang(CharSequence tag) {
-        return answer(tag, true).get(tag);
-    }
-
-    private long[] validated(CharSequence tag) {
-        byte[] bytes = Native.bytes(tag);
-        long[] ended = Native.ended();
-        held.ask(registry -> {
-            Native.validate(registry, bytes, ended);
-            return null;
-        });
-        return ended;
+        return answer(Native.EXTLANG, tag).get(tag);
     }
 
     /**
@@ -147,7 +135,7 @@ public final class Registry implements AutoCloseable {
      * @throws RefusedTag where it is not
      */
     public void validate(CharSequence tag) {
-        RefusedTag.check(validated(tag), null, tag);
+        answer(Native.VALIDATE, tag).get(tag);
     }
 
     /**
@@ -157,14 +145,14 @@ public final class Registry implements AutoCloseable {
      * @return whether it is
      */
     public boolean isValid(CharSequence tag) {
-        return Refusal.of(validated(tag), null) == null;
+        return answer(Native.VALIDATE, tag).refusal() == null;
     }
 
     private boolean agree(int scheme, CharSequence first, CharSequence second) {
         byte[] one = Native.bytes(first);
         byte[] other = Native.bytes(second);
         long[] ended = Native.ended();
-        String variant = held.ask(registry -> Native.match(registry, scheme, one, other, ended));
+        String variant = held.ask(registry -> Native.text(Native.MATCH, registry, scheme, one, other, ended));
         if (ended[0] == Refusal.DIFFERENT) {
             return false;
         }
@@ -231,12 +219,11 @@ public final class Registry implements AutoCloseable {
     public Explanation explain(CharSequence tag, int most) {
         byte[] bytes = Native.bytes(tag);
         long[] ended = Native.ended();
-        int[][] steps = new int[1][];
-        String lines = held.ask(registry -> Native.explain(registry, bytes, Math.max(most, 0), ended, steps));
-        RefusedTag.check(ended, lines, tag);
-        List<String> tags = lines.lines().toList();
-        int last = tags.size() - 1;
-        return new Explanation(IntStream.range(0, last).mapToObj(i -> Step.of(steps[0], 3 * i, tags.get(i))).toList(), tags.get(last));
+        String text = held.ask(registry -> Native.explain(registry, bytes, Math.max(most, 0), ended));
+        RefusedTag.check(ended, text, tag);
+        List<String> lines = text.lines().toList();
+        int last = lines.size() - 1;
+        return new Explanation(lines.stream().limit(last).map(Step::of).toList(), lines.get(last).substring(2));
     }
 
     /**
@@ -251,6 +238,12 @@ public final class Registry implements AutoCloseable {
         Refusal.of(ended, null);
         String[] texts = new String(all, StandardCharsets.UTF_8).split("\0", -1);
         return IntStream.range(0, texts.length / 2).mapToObj(i -> new Field(texts[2 * i], texts[2 * i + 1])).toList();
+    }
+
+    /** @return whether it is open; {@link #info} says which registry it is */
+    @Override
+    public String toString() {
+        return held.isClosed() ? "Registry[closed]" : "Registry[open]";
     }
 
     /** @return which registry it is; the digest is taken anew at each call */

@@ -27,13 +27,7 @@ public final class Tag implements CharSequence, Comparable<Tag>, Serializable {
         GRANDFATHERED
     }
 
-    private static final String[] KINDS = new String[32];
-
-    static {
-        for (int number = 0; number < KINDS.length; number++) {
-            KINDS[number] = Native.name(Native.PART_KIND, number);
-        }
-    }
+    private static final String[] KINDS = Native.names(Native.PART_KIND);
 
     /** In conventional case. */
     private final String text;
@@ -44,6 +38,14 @@ public final class Tag implements CharSequence, Comparable<Tag>, Serializable {
         this.parts = parts;
     }
 
+    /** What a call makes of a text. */
+    private static String written(int call, CharSequence text) {
+        long[] ended = Native.ended();
+        String made = Native.text(call, 0, 0, Native.bytes(text), null, ended);
+        RefusedTag.check(ended, null, text);
+        return made;
+    }
+
     /**
      * Reads a tag.
      *
@@ -52,9 +54,7 @@ public final class Tag implements CharSequence, Comparable<Tag>, Serializable {
      * @throws RefusedTag where the text is no tag
      */
     public static Tag of(CharSequence text) {
-        long[] ended = Native.ended();
-        String shown = Native.parts(Native.bytes(text), ended);
-        RefusedTag.check(ended, null, text);
+        String shown = written(Native.PARTS, text);
         int point = shown.indexOf('.');
         String tag = shown.substring(0, point);
         String kinds = shown.substring(point + 1);
@@ -79,9 +79,7 @@ public final class Tag implements CharSequence, Comparable<Tag>, Serializable {
 
     /** @return the tag without its last subtag and the singletons that then end it (RFC 4647, 3.4), or null where nothing is left */
     public Tag parent() {
-        long[] ended = Native.ended();
-        String parent = Native.parent(Native.bytes(text), ended);
-        RefusedTag.check(ended, null, text);
+        String parent = written(Native.PARENT, text);
         return parent == null ? null : of(parent);
     }
 
@@ -97,12 +95,14 @@ public final class Tag implements CharSequence, Comparable<Tag>, Serializable {
      */
     public Tag with(String kind, CharSequence value) {
         long[] ended = Native.ended();
-        String made = Native.with(Native.bytes(text), Arrays.asList(KINDS).indexOf(kind), Native.bytes(value), ended);
+        int number = Arrays.asList(KINDS).indexOf(kind);
+        String made = Native.text(Native.WITH, 0, number, Native.bytes(text), Native.bytes(value), ended);
         if (ended[0] == Refusal.BAD_CALL) {
-            throw new IllegalArgumentException(kind);
+            throw new IllegalArgumentException(kind
+                    + " can't be replaced: name one of Language, Script, Region, Variant, Singleton, PrivateUseSingleton");
         }
         RefusedTag.check(ended, null, ended[3] == 1 ? text : value);
-        return of(made);
+        return made == null ? this : of(made);
     }
 
     /**
@@ -113,10 +113,8 @@ public final class Tag implements CharSequence, Comparable<Tag>, Serializable {
      * @throws RefusedTag where it is none
      */
     public static Tag ofPosix(CharSequence name) {
-        long[] ended = Native.ended();
-        String made = Native.posix(Native.bytes(name), ended);
-        RefusedTag.check(ended, null, name);
-        return of(made);
+        String made = written(Native.POSIX, name);
+        return of(made == null ? name : made);
     }
 
     /** @return the locale of this tag; what Java's locales have no place for is left out */

@@ -21,6 +21,8 @@ import java.util.HexFormat;
 import java.util.List;
 import java.util.Locale;
 import java.util.Map;
+import java.util.Objects;
+import java.util.Set;
 import java.util.TreeSet;
 import java.util.concurrent.Callable;
 import java.util.concurrent.Executors;
@@ -28,10 +30,12 @@ import java.util.concurrent.Future;
 import java.util.concurrent.atomic.AtomicBoolean;
 import java.util.concurrent.atomic.AtomicInteger;
 import java.util.stream.IntStream;
+import java.util.stream.Stream;
 
 /** Each call of the package. Arguments: examples/sample-registry.txt, and `bundled` where bcp47-registry is on the class path. */
 final class Calls {
     private static final AtomicInteger CHECKS = new AtomicInteger();
+    private static final String CLOSED = " is closed: keep it open until the last call, or make another";
 
     private static void is(Object wanted, Object got) {
         CHECKS.incrementAndGet();
@@ -133,12 +137,16 @@ final class Calls {
         thrown(NullPointerException.class, () -> Tag.of((CharSequence) null));
         thrown(NullPointerException.class, () -> Registry.of(null));
         thrown(NullPointerException.class, () -> registry.answer(null));
+        thrown(NullPointerException.class, () -> registry.equivalent("en", null));
+        thrown(NullPointerException.class, () -> registry.available(null));
+        thrown(NullPointerException.class, () -> registry.available(Arrays.asList("en", null)));
         RefusedRegistry none = thrown(RefusedRegistry.class, () -> Registry.of("no registry\n".getBytes(StandardCharsets.UTF_8)));
         is("jar BadLine line 1/BadFile/BadLine/1", none.getMessage() + "/" + none.refusal().status() + "/" + none.fault() + "/" + none.place());
         for (String empty : List.of("", "File-Date: 2000-01-01\n")) {
             none = thrown(RefusedRegistry.class, () -> Registry.of(empty.getBytes(StandardCharsets.UTF_8)));
             is("NoEntries NO_ENTRIES", none.getMessage() + " " + none.fault().name());
         }
+        is(Fault.NO_ENTRIES, thrown(RefusedRegistry.class, () -> Registry.open(Path.of("/dev/null"))).fault());
         thrown(NoSuchFileException.class, () -> Registry.open(Path.of("/no/such/file")));
         String repeats = "ja-Latn-hepburn-alalc97-heploc";
         List<Callable<?>> calls = List.of(() -> registry.canonical(repeats), () -> registry.explain(repeats), () -> registry.equivalent("ja", repeats));
@@ -149,6 +157,34 @@ final class Calls {
         is("ReplacementRepeats alalc97", registry.answer(repeats).refusal().toString());
     }
 
+    /** What logs and assertions show of an object, and which are equal. */
+    private static void shown(Registry registry, Path sample) {
+        is("bcp47.RefusedTag: BadByte 1: en_US?forged", thrown(RefusedTag.class, () -> registry.canonical("en_US\nforged")).toString());
+        is("bcp47.RefusedTag: EmptySubtag 1", thrown(RefusedTag.class, () -> registry.canonical("")).toString());
+        RefusedTag inHeader = thrown(RefusedTag.class, () -> registry.available(List.of("en")).best("en, e_n"));
+        is("bcp47.RefusedTag: BadByte 2: en, e_n", inHeader.toString());
+        Path page = sample.resolveSibling("../VERSION");
+        is("bcp47.RefusedRegistry: jar BadLine line 1: " + page, thrown(RefusedRegistry.class, () -> Registry.open(page)).toString());
+        is("bcp47.RefusedRegistry: NoEntries", thrown(RefusedRegistry.class, () -> Registry.of(new byte[0])).toString());
+        String repeats = "ja-Latn-hepburn-alalc97-heploc";
+        List<String> texts = List.of("en_US", "e_n", "en_US-x", "xx", repeats, "iw", "he", "de");
+        is(8, Set.copyOf(texts.stream().map(text -> registry.answer(text) + text).toList()).size());
+        for (String text : texts) {
+            is(registry.answer(text), registry.answer(text));
+            is(registry.answer(text).hashCode(), registry.answer(text).hashCode());
+        }
+        // one text more, and the same fault at the same place
+        is(List.of(false, true, true), List.of(registry.answer("xx").equals(registry.answer("en_US")),
+                registry.answer("e_n").equals(registry.answer("en_US")), registry.answer("iw").equals(registry.answer("he"))));
+        is("Registry[open]", registry.toString());
+        try (Available available = registry.available(List.of("en", Tag.of("zh-yue")))) {
+            is("Available[en, zh-yue]", available.toString());
+        }
+        is("[Part[kind=Language, text=de], Part[kind=Region, text=CH]]", Tag.of("DE-ch").parts().toString());
+        is(Set.of(Tag.of("DE")), Set.of(Tag.of("de")));
+        is("zh-Hant-TW zh-Hant zh", Stream.iterate(Tag.of("zh-Hant-TW"), Objects::nonNull, Tag::parent).collect(joining(" ")));
+    }
+
     private static void changes() {
         Tag tag = Tag.of("de-CH-1996-u-co-phonebk-x-own");
         is("zh-yue-CH-1996-u-co-phonebk-x-own", tag.with("Language", "zh-yue").toString());
@@ -156,7 +192,14 @@ final class Calls {
                 .with("PrivateUseSingleton", "x-a-b").toString());
         is("D_", thrown(RefusedTag.class, () -> tag.with("Region", "D_")).tag());
         is("x-own", thrown(RefusedTag.class, () -> Tag.of("x-own").with("Region", "DE")).tag());
-        is("region", thrown(IllegalArgumentException.class, () -> tag.with("region", "DE")).getMessage());
+        for (String kind : Arrays.asList("region", "Key", "", null)) {
+            is(kind + " can't be replaced: name one of Language, Script, Region, Variant, Singleton, PrivateUseSingleton",
+                    thrown(IllegalArgumentException.class, () -> tag.with(kind, "DE")).getMessage());
+        }
+        is(tag, tag.with("Region", "CH"));
+        is("en", Tag.ofPosix("en").toString());
+        thrown(NullPointerException.class, () -> tag.with("Region", null));
+        thrown(NullPointerException.class, () -> Tag.ofPosix(null));
         is("en-US sr-Latn-RS en-US-u-va-posix", Tag.ofPosix("en_US.UTF-8") + " " + Tag.ofPosix("sr_RS@latin") + " " + Tag.ofPosix("C"));
         is("de_DE@nothing", thrown(RefusedTag.class, () -> Tag.ofPosix("de_DE@nothing")).tag());
     }
@@ -185,7 +228,8 @@ final class Calls {
             RefusedTag refused = thrown(RefusedTag.class, call);
             is("BadHeader 2 en, e_n", refused.refusal().status() + " " + refused.place() + " " + refused.tag());
         }
-        is("ReplacementRepeats", thrown(RefusedTag.class, () -> available.best("ja-Latn-hepburn-alalc97-heploc")).fault().toString());
+        RefusedTag repeats = thrown(RefusedTag.class, () -> available.best("ja-Latn-hepburn-alalc97-heploc"));
+        is("ReplacementRepeats/ReplacementRepeats/null", repeats.fault() + "/" + repeats.getMessage() + "/" + repeats.variant());
         is("en [en, zh-yue, de-DE, he]", available.best(null) + " " + available.filter(null));
         var pool = Executors.newFixedThreadPool(70);
         List<Callable<Void>> askers = IntStream.range(0, 70).<Callable<Void>>mapToObj(i -> () -> {
@@ -199,8 +243,10 @@ final class Calls {
         }
         pool.shutdown();
         available.close();
-        is("it is closed", thrown(IllegalStateException.class, () -> available.best("en")).getMessage());
-        is("it is closed", thrown(IllegalStateException.class, () -> registry.available(List.of())).getMessage());
+        available.close();
+        is("the list of available tags" + CLOSED, thrown(IllegalStateException.class, () -> available.best("en")).getMessage());
+        is("the list of available tags" + CLOSED, thrown(IllegalStateException.class, () -> available.filter("en")).getMessage());
+        is("the registry" + CLOSED, thrown(IllegalStateException.class, () -> registry.available(List.of())).getMessage());
     }
 
     private static void explanations(Registry registry) {
@@ -247,6 +293,7 @@ final class Calls {
     private static void travels(Registry registry) throws Exception {
         RefusedTag refused = copied(thrown(RefusedTag.class, () -> registry.canonical("en_US")));
         is("BadByte 1 BAD_BYTE 1 en_US", refused.getMessage() + " " + refused.fault().name() + " " + refused.place() + " " + refused.tag());
+        is(registry.answer("en_US").refusal(), refused.refusal());
     }
 
     /** The registry of the jar bcp47-registry, or that there is none. */
@@ -273,7 +320,8 @@ final class Calls {
         List<Callable<?>> calls = List.of(() -> own.canonical("en"), () -> own.answer("en"), () -> own.extlang("en"),
                 () -> own.isValid("en"), () -> own.equivalent("en", "en"), () -> own.explain("en"), own::info,
                 () -> own.matches("en", "en", Scheme.BASIC));
-        calls.forEach(call -> is("it is closed", thrown(IllegalStateException.class, call).getMessage()));
+        calls.forEach(call -> is("the registry" + CLOSED, thrown(IllegalStateException.class, call).getMessage()));
+        is("Registry[closed]", own.toString());
     }
 
     /** Many threads ask registries which others close meanwhile, and which are collected. */
@@ -374,6 +422,7 @@ final class Calls {
             ranges(registry);
             longest();
             refusals(registry);
+            shown(registry, sample);
             explanations(registry);
             parents(registry);
             changes();

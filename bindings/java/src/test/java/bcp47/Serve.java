@@ -16,15 +16,19 @@ import java.util.concurrent.Executors;
  * finds it. It prints the port. Arguments: a registry, and the tags, of which the first is the default.
  */
 final class Serve {
-    /** The language that a reader gets. */
-    private static String negotiated(Available available, HttpExchange exchange, String otherwise) {
+    /** The tag to serve for a request; the default where the header is malformed, or names no tag that there is. */
+    private static String localized(Available available, String otherwise, HttpExchange exchange) {
+        String language = null;
         try {
-            List<String> headers = exchange.getRequestHeaders().getOrDefault("Accept-Language", List.of());
-            String language = available.best(String.join(", ", headers));
-            return language == null ? otherwise : language;
-        } catch (RefusedTag noHeader) {
-            return otherwise;
+            List<String> header = exchange.getRequestHeaders().getOrDefault("Accept-Language", List.of("*"));
+            language = available.best(String.join(", ", header));
+        } catch (RefusedTag malformed) {
+            // the default below
         }
+        if (language == null) language = otherwise;
+        exchange.getResponseHeaders().set("Content-Language", language);
+        exchange.getResponseHeaders().add("Vary", "Accept-Language");
+        return language;
     }
 
     public static void main(String[] words) throws IOException {
@@ -43,10 +47,7 @@ final class Serve {
 
             @Override
             public void doFilter(HttpExchange exchange, Chain chain) throws IOException {
-                String language = negotiated(available, exchange, words[1]);
-                exchange.setAttribute("language", language);
-                exchange.getResponseHeaders().set("Content-Language", language);
-                exchange.getResponseHeaders().add("Vary", "Accept-Language");
+                exchange.setAttribute("language", localized(available, words[1], exchange));
                 chain.doFilter(exchange);
             }
         });
