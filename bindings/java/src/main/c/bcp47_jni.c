@@ -71,7 +71,8 @@ NATIVE(jstring, version)(JNIEnv *env, jclass self) {
 }
 
 NATIVE(jstring, name)(JNIEnv *env, jclass self, jint which, jint number) {
-    static const char *(*const names[])(int) = {bcp47_status_name, bcp47_status_help, bcp47_fault_name, bcp47_fault_help, bcp47_part_kind_name};
+    static const char *(*const names[])(int) = {bcp47_status_name, bcp47_status_help, bcp47_fault_name, bcp47_fault_help, bcp47_part_kind_name,
+                                               bcp47_kind_name};
     return (*env)->NewStringUTF(env, names[which](number));
 }
 
@@ -129,17 +130,27 @@ NATIVE(jbyteArray, record)(JNIEnv *env, jclass self, jlong registry, jint number
     return made;
 }
 
-NATIVE(jstring, explain)(JNIEnv *env, jclass self, jlong registry, jbyteArray tag, jlong most, jlongArray ended) {
+/* The tags to which steps lead, and last the canonical one, with a line feed after each but that; or a variant. The kinds, places and
+   numbers of the steps go to the front of an array. */
+NATIVE(jstring, explain)(JNIEnv *env, jclass self, jlong registry, jbyteArray tag, jlong most, jlongArray ended, jobjectArray numbers) {
     text of;
-    char variant[ROOM], *lines = NULL;
+    bcp47_step *steps = NULL;
+    const char *tags = NULL;
     bcp47_outcome outcome = {.status = BCP47_OUT_OF_MEMORY};
-    if (is_read(env, tag, &of)) outcome = bcp47_explanation(registry_of(registry), of.at, of.length, (size_t)most, &lines);
-    if (outcome.status == BCP47_REPLACEMENT_REPEATS) outcome = bcp47_canonical(registry_of(registry), of.at, of.length, variant, ROOM);
+    if (is_read(env, tag, &of)) outcome = bcp47_steps(registry_of(registry), of.at, of.length, (size_t)most, &steps, &tags);
     let_go(&of);
-    is_done(env, ended, outcome);
-    jstring made = written(env, outcome, lines ? lines : variant);
-    bcp47_free(lines);
-    return made;
+    size_t count = is_done(env, ended, outcome) ? outcome.place : 0;
+    jintArray made = (*env)->NewIntArray(env, (jsize)(3 * count));
+    char *at = (char *)tags;
+    for (size_t i = 0; made && i < count; i++, *at++ = '\n') {
+        jint step[] = {steps[i].kind, (jint)steps[i].place, (jint)steps[i].number};
+        (*env)->SetIntArrayRegion(env, made, (jsize)(3 * i), 3, step);
+        at += strlen(at);
+    }
+    if (made) (*env)->SetObjectArrayElement(env, numbers, 0, made);
+    jstring all = made && tags ? (*env)->NewStringUTF(env, tags) : NULL;
+    bcp47_free(steps);
+    return all;
 }
 
 NATIVE(jlong, info)(JNIEnv *env, jclass self, jlong registry, jbyteArray date, jbyteArray sha256) {

@@ -15,7 +15,7 @@ import java.util.stream.IntStream;
  * the variant, or the line of a registry, or null.
  */
 final class Native {
-    static final int STATUS = 0, STATUS_HELP = 1, FAULT = 2, FAULT_HELP = 3, PART_KIND = 4;
+    static final int STATUS = 0, STATUS_HELP = 1, FAULT = 2, FAULT_HELP = 3, PART_KIND = 4, STEP_KIND = 5;
     static final int CANONICAL = 0, EXTLANG = 1, VALIDATE = 2, MATCH = 3, PARTS = 4, PARENT = 5, WITH = 6, POSIX = 7;
 
     static {
@@ -41,8 +41,8 @@ final class Native {
     /** The names and bodies of the fields in turn, with a zero after each. */
     static native byte[] record(long registry, int number, long[] ended);
 
-    /** The lines that the program prints. */
-    static native String explain(long registry, byte[] tag, long most, long[] ended);
+    /** The tags to which the steps lead, and the canonical one, a line each; the kind, place and number of each step go to an array. */
+    static native String explain(long registry, byte[] tag, long most, long[] ended, int[][] steps);
 
     static native long info(long registry, byte[] date, byte[] sha256);
 

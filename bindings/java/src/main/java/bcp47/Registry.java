@@ -219,11 +219,12 @@ public final class Registry implements AutoCloseable {
     public Explanation explain(CharSequence tag, int most) {
         byte[] bytes = Native.bytes(tag);
         long[] ended = Native.ended();
-        String text = held.ask(registry -> Native.explain(registry, bytes, Math.max(most, 0), ended));
-        RefusedTag.check(ended, text, tag);
-        List<String> lines = text.lines().toList();
-        int last = lines.size() - 1;
-        return new Explanation(lines.stream().limit(last).map(Step::of).toList(), lines.get(last).substring(2));
+        int[][] steps = new int[1][];
+        String lines = held.ask(registry -> Native.explain(registry, bytes, Math.max(most, 0), ended, steps));
+        RefusedTag.check(ended, lines, tag);
+        List<String> tags = lines.lines().toList();
+        int last = tags.size() - 1;
+        return new Explanation(IntStream.range(0, last).mapToObj(i -> Step.of(steps[0], 3 * i, tags.get(i))).toList(), tags.get(last));
     }
 
     /**

@@ -10,10 +10,11 @@ package bcp47;
  * @param tag the tag to which it leads
  */
 public record Step(String kind, int place, int number, String tag) {
-    /** The step of a line. */
-    static Step of(String line) {
-        String[] words = line.split(" ");
-        return new Step(words[0], Integer.parseInt(words[1]), Integer.parseInt(words[2]), words[3]);
+    private static final String[] KINDS = Native.names(Native.STEP_KIND);
+
+    /** The step whose kind, place and number are at a place of an array. */
+    static Step of(int[] numbers, int at, String tag) {
+        return new Step(KINDS[numbers[at]], numbers[at + 1], numbers[at + 2], tag);
     }
 
     /** @return the step, as the program prints it */
