@@ -93,7 +93,7 @@ function callsOf(wasm) {
   return {
     version: zeroEnded(wasm.bcp47_version()),
     open(file) {
-      if (!(file instanceof Uint8Array)) throw new TypeError('a registry is read from a Uint8Array');
+      if (file?.[Symbol.toStringTag] !== 'Uint8Array') throw new TypeError('a registry is read from a Uint8Array');
       const place = lend(file, (at, size) => wasm.bcp47_open(at, size, output, ROOM));
       look();
       return place ? new Held(wasm.bcp47_close, place) : [refusal(), read(output, words[outcome + 4])];
