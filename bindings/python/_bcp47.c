@@ -211,19 +211,11 @@ static PyObject *registry_new(PyTypeObject *type, PyObject *arguments, PyObject 
     return NULL;
 }
 
-/* open(type, bytes): an object of the type, which holds the registry. */
-static PyObject *module_open(PyObject *module, PyObject *arguments) {
+/* open(bytes), of a type: an object of it, which holds the registry. */
+static PyObject *registry_open(PyObject *type, PyObject *content) {
     char line[BCP47_LINE], *bytes;
     Py_ssize_t length;
-    PyObject *type, *content;
-    (void)module;
-    if (!PyArg_ParseTuple(arguments, "O!S", &PyType_Type, &type, &content) || PyBytes_AsStringAndSize(content, &bytes, &length)) return NULL;
-    PyObject *registry_type = given(REGISTRY);
-    if (!registry_type) return NULL;
-    if (!PyType_IsSubtype((PyTypeObject *)type, (PyTypeObject *)registry_type)) {
-        PyErr_SetString(PyExc_TypeError, "the type is none of registries");
-        return NULL;
-    }
+    if (PyBytes_AsStringAndSize(content, &bytes, &length)) return NULL;
     allocfunc allocate = (allocfunc)PyType_GetSlot((PyTypeObject *)type, Py_tp_alloc);
     registry_object *it = (registry_object *)allocate((PyTypeObject *)type, 0);
     if (!it) return NULL;
@@ -718,6 +710,7 @@ static PyMethodDef registry_methods[] = {
      "for the second."},
     {"close", registry_close, METH_NOARGS,
      "close($self, /)\n--\n\nFrees the registry, once the calls of other threads have ended. No call but this one may follow."},
+    {"_open", registry_open, METH_O | METH_CLASS, NULL},
     {"_match", registry_match, METH_VARARGS, NULL},
     {"_given", registry_given, METH_VARARGS, NULL},
     {"_available", registry_available, METH_O, NULL},
@@ -744,10 +737,9 @@ static PyType_Spec registry_spec = {
 };
 
 static PyMethodDef module_methods[] = {
-    {"setup", module_setup, METH_O, NULL},              {"open", module_open, METH_VARARGS, NULL},
-    {"read", module_read, METH_O, NULL},                {"parent", module_parent, METH_O, NULL},
-    {"posix", module_posix, METH_O, NULL},              {"replaced", module_replaced, METH_VARARGS, NULL},
-    {"served", module_served, METH_VARARGS, NULL},
+    {"setup", module_setup, METH_O, NULL},              {"read", module_read, METH_O, NULL},
+    {"parent", module_parent, METH_O, NULL},            {"posix", module_posix, METH_O, NULL},
+    {"replaced", module_replaced, METH_VARARGS, NULL},  {"served", module_served, METH_VARARGS, NULL},
     {NULL, NULL, 0, NULL},
 };
 

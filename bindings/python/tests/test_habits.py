@@ -188,7 +188,7 @@ class Refusals(unittest.TestCase):
     def test_one_that_a_test_makes(self):
         """A mock that raises one makes it of nothing or of a line."""
         for made, line in ((bcp47.RefusedTag(), ""), (bcp47.RefusedTag("BadByte 1"), ": BadByte 1"), (bcp47.RefusedRegistry("jar"), ": jar")):
-            self.assertEqual(traceback.format_exception_only(made)[0], f"bcp47.{type(made).__name__}{line}\n")
+            self.assertEqual(traceback.format_exception_only(type(made), made)[0], f"bcp47.{type(made).__name__}{line}\n")
             self.assertEqual(pickle.loads(pickle.dumps(made)).args, made.args)
 
     def test_arguments_by_their_names(self):
@@ -244,7 +244,8 @@ class Refusals(unittest.TestCase):
             self.assertRaises(TypeError, registry.upgrade_check, wrong)
         self.assertIs(proxy.other, registry)
         for kind in (int, proxy, bcp47.Tag):
-            self.assertRaises(TypeError, bcp47._bcp47.open, kind, b"")
+            self.assertRaises(TypeError, vars(bcp47._bcp47.Registry)["_open"].__get__, None, kind)
+        self.assertRaises(TypeError, bcp47.Registry._open, "")
         self.assertRaises(TypeError, bcp47._bcp47.setup, (1,))
 
     def test_a_registry_of_a_class_of_its_own(self):
