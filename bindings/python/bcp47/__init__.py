@@ -401,8 +401,8 @@ class Registry(_bcp47.Registry):
         """What the registry has for the parts of a tag, in order, with the fields of their records (RFC 5646, 3.1.2): Description,
         Deprecated, Preferred-Value, Prefix, Suppress-Script, Macrolanguage, Scope and Comments. A tag that is registered as redundant
         has a row for the whole of it first. The tag need not be valid. Raises RefusedTag where the text is no tag."""
-        rows = json.loads(self._given(tag, -1))
-        return [Row(**{**row, "fields": tuple((field["name"], field["body"]) for field in row["fields"])}) for row in rows]
+        return [Row(row["place"], row["kind"], row["text"], row["listing"], row["record"],
+                    tuple((field["name"], field["body"]) for field in row["fields"])) for row in json.loads(self._given(tag, -1))]
 
     def record(self, number: int) -> Tuple[Tuple[str, str], ...]:
         """The fields of a record of the file, each its name and its body, by its number from 1 on, with the header counted; no fields
