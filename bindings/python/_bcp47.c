@@ -472,7 +472,7 @@ static PyObject *registry_verify_steps(PyObject *self, PyObject *arguments) {
     const char *steps;
     text it, end;
     if (!PyArg_ParseTuple(arguments, "Oy#O", &tag, &steps, &size, &last)) return NULL;
-    if (size % sizeof(bcp47_step)) return PyErr_Format(PyExc_TypeError, "a step has %d bytes", (int)sizeof(bcp47_step));
+    if (size % sizeof(bcp47_step)) return PyErr_Format(PyExc_TypeError, "the last step is cut");
     if (!have_texts(tag, last, &it, &end)) return NULL;
     registry_object *registry = opened(self);
     if (registry) {

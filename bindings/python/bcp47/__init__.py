@@ -317,6 +317,10 @@ def _listed(tags: Iterable[Missing]) -> Iterable[Missing]:
     return tags
 
 
+def _not_copied(self: object, protocol: object) -> NoReturn:
+    raise TypeError(f"{self!r} is not copied or pickled: open it in each process, for example by Registry.from_file")
+
+
 class Registry(_bcp47.Registry):
     """A registry that passes the check. Any number of threads may ask it at once. Raises RefusedTag where a tag is refused."""
 
@@ -346,8 +350,7 @@ class Registry(_bcp47.Registry):
     def __exit__(self, *_: object) -> None:
         self.close()
 
-    def __reduce_ex__(self, protocol: object) -> NoReturn:
-        raise TypeError("a registry is not copied or pickled: open it in each process by Registry.from_file")
+    __reduce_ex__ = _not_copied
 
     def __repr__(self) -> str:
         if self.closed:
@@ -444,8 +447,7 @@ class Available(Generic[AnyTag]):
     def __repr__(self) -> str:
         return f"<bcp47.Available of {', '.join(map(repr, self.tags))}>"
 
-    def __reduce_ex__(self, protocol: object) -> NoReturn:
-        raise TypeError("an Available is not copied or pickled: make it in each process by Registry.available")
+    __reduce_ex__ = _not_copied
 
     @overload
     def best(self, accept: Optional[str]) -> Optional[AnyTag]: ...

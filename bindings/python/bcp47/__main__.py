@@ -111,7 +111,7 @@ def main() -> None:
     words = _parser().parse_args()
     try:
         with Registry.from_file(words.registry) as registry:
-            sys.exit(not words.run(words, registry))
+            is_good = words.run(words, registry)
     except RefusedRegistry as refused:
         words.command.end(2, f"{words.registry}: {refused}: {refused.help}")
     except NoColumn as error:
@@ -122,6 +122,7 @@ def main() -> None:
         sys.exit(4)
     except (BadTable, OSError) as error:
         words.command.end(4, error)
+    sys.exit(not is_good)
 
 
 if __name__ == "__main__":
