@@ -163,7 +163,8 @@ static napi_value text_by(napi_env env, napi_callback_info info) {
     const source *of = with;
     holder *it = of->writes ? held(env, values[0]) : NULL;
     if ((of->writes && !it) || !text_of(env, values[it != NULL], text, &length)) return NULL;
-    bcp47_outcome outcome = it ? of->writes(it->registry, text, length, buffer, sizeof buffer) : of->writes_alone(text, length, buffer, sizeof buffer);
+    bcp47_outcome outcome = it ? of->writes(it->registry, text, length, buffer, sizeof buffer)
+                               : of->writes_alone(text, length, buffer, sizeof buffer);
     return outcome.status == of->status ? string_of(env, buffer, outcome.length) : refusal(env, outcome);
 }
 

@@ -100,7 +100,7 @@ function answered(held, answer, ...tags) {
 }
 
 // The number of each part that is replaced, in the order of a tag.
-const REPLACED = { __proto__: null, language: 1, script: 3, region: 4, variants: 5, extensions: 6, privateUse: 18 };
+const REPLACED = { language: 1, script: 3, region: 4, variants: 5, extensions: 6, privateUse: 18 };
 
 /** The text of a part with a name. */
 function joined(value, name) {
@@ -131,7 +131,8 @@ class Tag {
   }
 
   with(parts) {
-    for (const name in parts) if (!(name in REPLACED)) throw new TypeError(`no part of a tag is named '${name}': ${Object.keys(REPLACED).join(', ')}`);
+    const names = Object.keys(REPLACED), wrong = Object.keys(parts).find((name) => !names.includes(name));
+    if (wrong !== undefined) throw new TypeError(`no part of a tag is named '${wrong}': ${names.join(', ')}`);
     let text = this.text;
     for (const [name, number] of Object.entries(REPLACED)) {
       if (parts[name] === undefined) continue;

@@ -516,7 +516,8 @@ class Memory(unittest.TestCase):
             registry.upgrade_check(registry)
             registry.info
             for wrong in (7, "\udc80"):
-                for call in (registry.canonical, lambda it: registry.canonical_many([it, bcp47.Tag("iw"), it]), lambda it: registry.available(["en", it])):
+                for call in (registry.canonical, lambda it: registry.canonical_many([it, bcp47.Tag("iw"), it]),
+                             lambda it: registry.available(["en", it])):
                     try:
                         call(wrong)
                     except (TypeError, bcp47.RefusedTag):
