@@ -11,7 +11,7 @@
    may have any length. A registry takes about BYTES_OF_ONE bytes for one of its file. */
 enum { ROOM = 4096, BYTES_OF_ONE = 4 };
 
-/* A registry, or so many tags of which one is served, which an object holds until it is closed or collected, and how many bytes of it
+/* A registry, or so many tags of which one is served, which a value holds until it is closed or collected, and how many bytes of it
    the collector was told. */
 typedef struct {
     bcp47_registry *registry;
@@ -19,8 +19,6 @@ typedef struct {
     size_t count;
     int64_t bytes;
 } holder;
-
-static const napi_type_tag tag_of_holder = {0x8ac1e2d30f4b4d0aULL, 0x9d5e6f7081928374ULL};
 
 /* Tells the collector that so many bytes are held in place of what it was told before. */
 static void tell_bytes(napi_env env, holder *it, int64_t bytes) {
@@ -42,33 +40,26 @@ static void finalize(napi_env env, void *data, void *hint) {
     free(data);
 }
 
-/* The holder of an object that open() gave; NULL for any other, with a TypeError. */
+/* The holder of what open() gave; NULL for any other, with a TypeError. */
 static holder *held(napi_env env, napi_value value) {
     void *data;
-    bool is_one = false;
-    if (napi_check_object_type_tag(env, value, &tag_of_holder, &is_one) == napi_ok && is_one &&
-        napi_unwrap(env, value, &data) == napi_ok)
-        return data;
+    if (napi_get_value_external(env, value, &data) == napi_ok) return data;
     napi_throw_type_error(env, NULL, "a Registry is wanted");
     return NULL;
 }
 
-/* An object that holds so many bytes. */
-static napi_value object_of(napi_env env, holder *it, int64_t bytes) {
-    napi_value made;
-    if (napi_create_object(env, &made) != napi_ok || napi_type_tag_object(env, made, &tag_of_holder) != napi_ok ||
-        napi_wrap(env, made, it, finalize, NULL, NULL) != napi_ok) {
-        finalize(env, it, NULL);
-        return NULL;
-    }
-    tell_bytes(env, it, bytes);
+/* A value that holds so many bytes. */
+static napi_value value_of(napi_env env, holder *it, int64_t bytes) {
+    napi_value made = NULL;
+    if (napi_create_external(env, it, finalize, NULL, &made) == napi_ok) tell_bytes(env, it, bytes);
+    else finalize(env, it, NULL);
     return made;
 }
 
 static const bcp47_outcome no_memory = {BCP47_OUT_OF_MEMORY, 0, 0, 0, 0, 0};
 
-/* The bytes of a string; false, with a TypeError, where it is none. */
-static bool text_of(napi_env env, napi_value value, char text[ROOM], size_t *length) {
+/* The bytes of a string, or where there is no room how many they are; false, with a TypeError, where it is none. */
+static bool text_of(napi_env env, napi_value value, char *text, size_t *length) {
     if (napi_get_value_string_utf8(env, value, text, ROOM, length) == napi_ok) return true;
     napi_throw_type_error(env, NULL, "a tag is a string or a Tag");
     return false;
@@ -76,13 +67,10 @@ static bool text_of(napi_env env, napi_value value, char text[ROOM], size_t *len
 
 /* The bytes of a string of any length, for free(); NULL, with an error, where it is none or memory runs out. */
 static char *whole_text_of(napi_env env, napi_value value, size_t *length) {
-    char *text = NULL;
-    if (napi_get_value_string_utf8(env, value, NULL, 0, length) != napi_ok)
-        napi_throw_type_error(env, NULL, "a tag is a string or a Tag");
-    else if (!(text = malloc(*length + 1)))
-        napi_throw_error(env, NULL, "OutOfMemory");
-    else
-        napi_get_value_string_utf8(env, value, text, *length + 1, length);
+    if (!text_of(env, value, NULL, length)) return NULL;
+    char *text = malloc(*length + 1);
+    if (text) napi_get_value_string_utf8(env, value, text, *length + 1, length);
+    else napi_throw_error(env, NULL, "OutOfMemory");
     return text;
 }
 
@@ -112,7 +100,7 @@ static holder *takes_held(napi_env env, napi_callback_info info, size_t count, n
     return takes(env, info, count, values, with) ? held(env, values[0]) : NULL;
 }
 
-/* open(bytes): an object that holds a registry, or an array of the refusal and its line */
+/* open(bytes): what holds a registry, or an array of the refusal and its line */
 static napi_value open_registry(napi_env env, napi_callback_info info) {
     napi_value bytes, made;
     napi_typedarray_type kind;
@@ -134,7 +122,7 @@ static napi_value open_registry(napi_env env, napi_callback_info info) {
         napi_set_element(env, made, 1, string_of(env, line, outcome.length));
         return made;
     }
-    return object_of(env, it, BYTES_OF_ONE * (int64_t)length);
+    return value_of(env, it, BYTES_OF_ONE * (int64_t)length);
 }
 
 static napi_value close_registry(napi_env env, napi_callback_info info) {
@@ -144,36 +132,26 @@ static napi_value close_registry(napi_env env, napi_callback_info info) {
     return NULL;
 }
 
-/* What a call writes where it ends with a status. */
+/* What a call writes, by a registry or by none, where it ends with a status. */
 typedef struct {
     bcp47_outcome (*writes)(const bcp47_registry *, const char *, size_t, char *, size_t);
+    bcp47_outcome (*writes_alone)(const char *, size_t, char *, size_t);
     int status;
 } source;
 
-static bcp47_outcome parent(const bcp47_registry *none, const char *text, size_t length, char *buffer, size_t room) {
-    (void)none;
-    return bcp47_parent(text, length, buffer, room);
-}
-
-static bcp47_outcome posix(const bcp47_registry *none, const char *text, size_t length, char *buffer, size_t room) {
-    (void)none;
-    return bcp47_posix(text, length, buffer, room);
-}
-
 /* The text of a tag in conventional case, a point, and a character for each part: the number of its kind and 64. */
-static bcp47_outcome parts(const bcp47_registry *none, const char *text, size_t length, char *buffer, size_t room) {
+static bcp47_outcome parts(const char *text, size_t length, char *buffer, size_t room) {
     bcp47_part found[BCP47_PARTS];
     bcp47_outcome outcome = bcp47_parts(text, length, buffer, room - BCP47_PARTS, found, BCP47_PARTS);
-    (void)none;
     if (outcome.status != BCP47_DONE) return outcome;
     buffer[outcome.length++] = '.';
     for (size_t i = 0; i < outcome.place; i++) buffer[outcome.length++] = (char)(64 + found[i].kind);
     return outcome;
 }
 
-static const source of_canonical = {bcp47_canonical, BCP47_DONE}, of_variant = {bcp47_canonical, BCP47_REPLACEMENT_REPEATS},
-                    of_extlang = {bcp47_extlang, BCP47_DONE}, of_parent = {parent, BCP47_DONE}, of_posix = {posix, BCP47_DONE},
-                    of_parts = {parts, BCP47_DONE};
+static const source of_canonical = {bcp47_canonical, NULL, BCP47_DONE}, of_variant = {bcp47_canonical, NULL, BCP47_REPLACEMENT_REPEATS},
+                    of_extlang = {bcp47_extlang, NULL, BCP47_DONE}, of_parent = {NULL, bcp47_parent, BCP47_DONE},
+                    of_posix = {NULL, bcp47_posix, BCP47_DONE}, of_parts = {NULL, parts, BCP47_DONE};
 
 /* (registry, tag) or, for what asks no registry, (tag): a text */
 static napi_value text_by(napi_env env, napi_callback_info info) {
@@ -183,10 +161,10 @@ static napi_value text_by(napi_env env, napi_callback_info info) {
     const void *with;
     if (!takes(env, info, 2, values, &with)) return NULL;
     const source *of = with;
-    bool asks = of->writes == bcp47_canonical || of->writes == bcp47_extlang;
-    holder *it = asks ? held(env, values[0]) : NULL;
-    if ((asks && !it) || !text_of(env, values[asks], text, &length)) return NULL;
-    bcp47_outcome outcome = of->writes(asks ? it->registry : NULL, text, length, buffer, sizeof buffer);
+    holder *it = of->writes ? held(env, values[0]) : NULL;
+    if ((of->writes && !it) || !text_of(env, values[it != NULL], text, &length)) return NULL;
+    bcp47_outcome outcome = it ? of->writes(it->registry, text, length, buffer, sizeof buffer)
+                               : of->writes_alone(text, length, buffer, sizeof buffer);
     return outcome.status == of->status ? string_of(env, buffer, outcome.length) : refusal(env, outcome);
 }
 
@@ -261,7 +239,7 @@ static napi_value match(napi_env env, napi_callback_info info) {
     return made;
 }
 
-/* available(registry, tags): an object that holds the tags of an array, or a refusal */
+/* available(registry, tags): what holds the tags of an array, or a refusal */
 static napi_value available(napi_env env, napi_callback_info info) {
     napi_value values[2], one;
     uint32_t count = 0, i = 0;
@@ -278,7 +256,7 @@ static napi_value available(napi_env env, napi_callback_info info) {
     free(tags), free(lengths);
     if (outcome.status == BCP47_DONE) {
         made->count = count;
-        return object_of(env, made, 0);
+        return value_of(env, made, 0);
     }
     free(made);
     outcome.text = 0;

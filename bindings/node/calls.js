@@ -60,17 +60,20 @@ function callsOf(wasm) {
     }
   };
 
+  const lendText = (text, call) => lend(encoder.encode(textOf(text)), call);
+
   /** The number of the refusal that the outcome tells. */
   const refusal = () => ((words[outcome + 2] * 256 + words[outcome + 1]) * 4 + words[outcome + 6]) * 32 + words[outcome];
-  /** The text that a call wrote, where it ended with a status. */
-  const written = (status, wanted = DONE) => {
+  /** What a call gave. */
+  const ended = (given) => {
     look();
-    return status === wanted ? read(output, words[outcome + 4]) : refusal();
+    return given;
   };
+  /** The text that a call wrote, where it ended with a status. */
+  const written = (status, wanted = DONE) => (ended(status) === wanted ? read(output, words[outcome + 4]) : refusal());
   /** The text that a call gave, which is freed. */
   const taken = (place) => {
-    look();
-    if (!place) return refusal();
+    if (!ended(place)) return refusal();
     const text = read(place, words[outcome + 4]);
     wasm.bcp47_free(place);
     return text;
@@ -88,14 +91,15 @@ function callsOf(wasm) {
     if (!(held instanceof Held)) throw new TypeError('a Registry is wanted');
     return held.place;
   };
+  const byRegistry = (writes, wanted) => (held, tag) => written(writes(placeOf(held), input, write(tag, input), output, ROOM), wanted);
+  const alone = (writes) => (text) => written(writes(input, write(text, input), output, ROOM));
   const names = ['status_name', 'status_help', 'fault_name', 'fault_help', 'part_kind_name'].map((it) => wasm[`bcp47_${it}`]);
 
   return {
     version: zeroEnded(wasm.bcp47_version()),
     open(file) {
-      if (!(file instanceof Uint8Array)) throw new TypeError('a registry is read from a Uint8Array');
-      const place = lend(file, (at, size) => wasm.bcp47_open(at, size, output, ROOM));
-      look();
+      if (file?.[Symbol.toStringTag] !== 'Uint8Array') throw new TypeError('a registry is read from a Uint8Array');
+      const place = ended(lend(file, (at, size) => wasm.bcp47_open(at, size, output, ROOM)));
       return place ? new Held(wasm.bcp47_close, place) : [refusal(), read(output, words[outcome + 4])];
     },
     close(held) {
@@ -104,38 +108,31 @@ function callsOf(wasm) {
       lost.unregister(held);
       held.place = 0;
     },
-    canonical: (held, tag) => written(wasm.bcp47_canonical(placeOf(held), input, write(tag, input), output, ROOM)),
-    variant: (held, tag) => written(wasm.bcp47_canonical(placeOf(held), input, write(tag, input), output, ROOM), REPEATS),
-    extlang: (held, tag) => written(wasm.bcp47_extlang(placeOf(held), input, write(tag, input), output, ROOM)),
-    parent: (tag) => written(wasm.bcp47_parent(input, write(tag, input), output, ROOM)),
-    posix: (name) => written(wasm.bcp47_posix(input, write(name, input), output, ROOM)),
-    with: (tag, part, value) => lend(encoder.encode(textOf(value)), (place, size) =>
+    canonical: byRegistry(wasm.bcp47_canonical),
+    variant: byRegistry(wasm.bcp47_canonical, REPEATS),
+    extlang: byRegistry(wasm.bcp47_extlang),
+    parent: alone(wasm.bcp47_parent),
+    posix: alone(wasm.bcp47_posix),
+    with: (tag, part, value) => lendText(value, (place, size) =>
       written(wasm.bcp47_with(input, write(tag, input), part, place, size, output, ROOM))),
     available(held, tags) {
       const bytesOf = encoder.encode(tags.join('')), table = new BigUint64Array(2 * tags.length);
-      const place = lend(bytesOf, (at) => {
+      const place = ended(lend(bytesOf, (at) => {
         tags.forEach((tag, i) => {
           [table[i], table[tags.length + i]] = [BigInt(at), BigInt(tag.length)];
           at += tag.length;
         });
         return lend(new Uint8Array(table.buffer), (where) => wasm.bcp47_available_open(placeOf(held), where, where + 8 * tags.length, tags.length));
-      });
-      look();
+      }));
       return place ? new Held(wasm.bcp47_available_close, place, tags.length) : refusal();
     },
-    best: (held, accept) => lend(encoder.encode(textOf(accept)), (place, size) => {
-      const status = wasm.bcp47_best(placeOf(held), place, size);
-      look();
-      return status ? refusal() : [words[outcome + 2]].filter(Boolean);
-    }),
-    filter: (held, accept) => lend(encoder.encode(textOf(accept)), (place, size) => lend(new Uint8Array(8 * held.count), (places) => {
-      const status = wasm.bcp47_filter(placeOf(held), place, size, places, held.count);
-      look();
-      return status ? refusal() : Array.from({ length: words[outcome + 2] }, (_, i) => words[places / 4 + 2 * i]);
-    })),
+    best: (held, accept) => lendText(accept, (place, size) =>
+      (ended(wasm.bcp47_best(placeOf(held), place, size)) ? refusal() : [words[outcome + 2]].filter(Boolean))),
+    filter: (held, accept) => lendText(accept, (place, size) => lend(new Uint8Array(8 * held.count), (places) =>
+      (ended(wasm.bcp47_filter(placeOf(held), place, size, places, held.count)) ? refusal()
+        : Array.from({ length: words[outcome + 2] }, (_, i) => words[places / 4 + 2 * i])))),
     record(held, number) {
-      const place = wasm.bcp47_record(placeOf(held), number);
-      look();
+      const place = ended(wasm.bcp47_record(placeOf(held), number));
       if (words[outcome]) return refusal();
       const count = words[outcome + 2];
       let at = place + FIELD * count;
@@ -155,16 +152,11 @@ function callsOf(wasm) {
     },
     explain: (held, tag, most) => taken(wasm.bcp47_explanation(placeOf(held), input, write(tag, input), most)),
     show: (held, tag) => taken(wasm.bcp47_show(placeOf(held), input, write(tag, input))),
-    validate(held, tag) {
-      const status = wasm.bcp47_validate(placeOf(held), input, write(tag, input));
-      look();
-      return status ? refusal() : undefined;
-    },
+    validate: (held, tag) => (ended(wasm.bcp47_validate(placeOf(held), input, write(tag, input))) ? refusal() : undefined),
     // a range may have any length
-    match: (held, range, tag, scheme) => lend(encoder.encode(textOf(range)), (place, size) => {
+    match: (held, range, tag, scheme) => lendText(range, (place, size) => {
       const both = [place, size, input, write(tag, input), output, ROOM];
-      const status = scheme ? wasm.bcp47_match(placeOf(held), scheme, ...both) : wasm.bcp47_equivalent(placeOf(held), ...both);
-      look();
+      const status = ended(scheme ? wasm.bcp47_match(placeOf(held), scheme, ...both) : wasm.bcp47_equivalent(placeOf(held), ...both));
       return status && status !== DIFFERENT ? refusal() : !status;
     }),
     facts(held) {

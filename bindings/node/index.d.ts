@@ -53,12 +53,18 @@ export class Tag {
   readonly script: string | undefined;
   readonly region: string | undefined;
   readonly variants: string[];
+  /** The subtags of each extension, by its singleton. */
+  readonly extensions: Record<string, string[]>;
+  /** The attributes of the `u` extension (RFC 6067, 2.1). */
+  readonly attributes: string[];
+  /** The types of each key of the `u` extension, for example { co: ['phonebk'] }. Of a key that occurs twice the first counts. */
+  readonly keywords: Record<string, string[]>;
   /** The subtags after `x`. */
   readonly privateUse: string[];
   /** One part for each subtag, in their order, for example { kind: 'Script', text: 'Hant' }; a grandfathered tag is one part. */
   readonly parts: readonly { readonly kind: string; readonly text: string }[];
   /** The tag of these parts; `language` has its extlangs too, for example `zh-yue`. @throws RefusedTag */
-  static fromParts(parts: { language: string } & TagParts): Tag;
+  static fromParts(parts: TagParts & { readonly language: string | Tag }): Tag;
   /** The tag that the name of a POSIX locale stands for: `sr-Latn-RS` for `sr_RS.UTF-8@latin`. @throws RefusedTag */
   static fromPosix(name: string): Tag;
   /** A tag with other parts. No registry is asked, so that it need not be valid. @throws RefusedTag */
@@ -71,16 +77,18 @@ export class Tag {
   toJSON(): string;
 }
 
-/** Parts for a tag: `null` and what is empty take a part away. */
+type Subtags = string | Iterable<string>;
+
+/** Parts for a tag: `null` and what is empty take a part away, and one that is `undefined` stays as it is. */
 export interface TagParts {
-  readonly language?: string;
-  readonly script?: string | null;
-  readonly region?: string | null;
-  readonly variants?: string | Iterable<string> | null;
-  /** All of them, for example `u-co-phonebk`. */
-  readonly extensions?: string | Iterable<string> | null;
+  readonly language?: string | Tag | undefined;
+  readonly script?: string | null | undefined;
+  readonly region?: string | null | undefined;
+  readonly variants?: Subtags | null | undefined;
+  /** All of them, for example `u-co-phonebk` or { u: ['co', 'phonebk'] }. */
+  readonly extensions?: Subtags | Readonly<Record<string, Subtags>> | null | undefined;
   /** The subtags after `x`. */
-  readonly privateUse?: string | Iterable<string> | null;
+  readonly privateUse?: Subtags | null | undefined;
 }
 
 /**

@@ -60,12 +60,37 @@ function checked(answer) {
   return answer;
 }
 
-const textOf = (tag) => (typeof tag === 'object' && (tag instanceof Tag || tag instanceof Intl.Locale) ? tag.toString() : tag);
+/** The TypeError for an argument of a wrong type, as Node.js has it. */
+function wrongType(name, wanted, value) {
+  const type = typeof value;
+  const given = value === null || value === undefined ? value
+    : type === 'object' || type === 'function' ? `an instance of ${value.constructor?.name ?? 'Object'}`
+    : `type ${type} (${String(value).slice(0, 25)})`;
+  return Object.assign(new TypeError(`The "${name}" argument must be ${wanted}. Received ${given}`), { code: 'ERR_INVALID_ARG_TYPE' });
+}
+
+function stringOf(text, name) {
+  if (typeof text !== 'string') throw wrongType(name, 'of type string', text);
+  return text;
+}
+
+/** The text of an argument that is a text, a tag or a locale. */
+function textOf(tag, name = 'tag') {
+  if (typeof tag === 'string') return tag;
+  if (tag instanceof Tag || tag instanceof Intl.Locale) return tag.toString();
+  throw wrongType(name, 'of type string or an instance of Tag or Intl.Locale', tag);
+}
+
+/** The items of an argument that is a list and no text. */
+function listOf(tags) {
+  if (typeof tags === 'string' || typeof tags?.[Symbol.iterator] !== 'function') throw wrongType('tags', 'an iterable of tags', tags);
+  return [...tags];
+}
 
 /** The refusal that a number tells, of one of the tags that were asked. */
 function refusalOf(held, code, ...tags) {
   const tag = tags[Math.floor(code / 32) % 4 === 2 ? 1 : 0];
-  return new Refusal(code, tag, held && code % 32 === REPEATS ? native.variant(held, textOf(tag)) : undefined);
+  return new Refusal(code, tag, held && code % 32 === REPEATS ? native.variant(held, String(tag)) : undefined);
 }
 
 /** Throws what a call refuses. */
@@ -74,23 +99,23 @@ function answered(held, answer, ...tags) {
   throw new RefusedTag(refusalOf(held, answer, ...tags));
 }
 
-// The parts that are replaced, in the order of a tag: the number of each, and the text for a value of it.
-const joined = (value) => (value === null || value === undefined ? '' : typeof value === 'string' ? value : [...value].join('-'));
-const REPLACED = {
-  language: [1, joined],
-  script: [3, joined],
-  region: [4, joined],
-  variants: [5, joined],
-  extensions: [6, joined],
-  privateUse: [18, (value) => (joined(value) ? `x-${joined(value)}` : '')],
-};
+// The number of each part that is replaced, in the order of a tag.
+const REPLACED = { language: 1, script: 3, region: 4, variants: 5, extensions: 6, privateUse: 18 };
+
+/** The text of a part with a name. */
+function joined(value, name) {
+  if (value === null) return '';
+  if (typeof value !== 'string' && typeof value[Symbol.iterator] === 'function') return Array.from(value, (subtag) => textOf(subtag, name)).join('-');
+  if (name !== 'extensions' || typeof value !== 'object') return textOf(value, name);
+  return Object.entries(value).map(([singleton, subtags]) => `${singleton}-${joined(subtags, name)}`).join('-');
+}
 
 class Tag {
   #kinds;
   #parts;
 
   constructor(text) {
-    const shown = answered(null, native.parts(textOf(text)), text);
+    const shown = answered(null, native.parts(textOf(text, 'text')), text);
     const point = shown.indexOf('.');
     this.text = shown.slice(0, point);
     this.#kinds = shown.slice(point + 1);
@@ -98,19 +123,22 @@ class Tag {
   }
 
   static fromParts({ language, ...parts }) {
-    return new Tag(joined(language)).with(parts);
+    return new Tag(textOf(language, 'language')).with(parts);
   }
 
   static fromPosix(name) {
-    return new Tag(answered(null, native.posix(name), name));
+    return new Tag(answered(null, native.posix(stringOf(name, 'name')), name));
   }
 
   with(parts) {
-    for (const name of Object.keys(parts)) if (!(name in REPLACED)) throw new TypeError(`a tag has no part ${name}`);
-    const text = Object.entries(REPLACED).filter(([name]) => name in parts).reduce((tag, [name, [part, textFor]]) => {
-      const value = textFor(parts[name]);
-      return answered(null, native.with(tag, part, value), tag, value);
-    }, this.text);
+    const names = Object.keys(REPLACED), wrong = Object.keys(parts).find((name) => !names.includes(name));
+    if (wrong !== undefined) throw new TypeError(`no part of a tag is named '${wrong}': ${names.join(', ')}`);
+    let text = this.text;
+    for (const [name, number] of Object.entries(REPLACED)) {
+      if (parts[name] === undefined) continue;
+      const value = joined(parts[name], name), part = value && name === 'privateUse' ? `x-${value}` : value;
+      text = answered(null, native.with(text, number, part), text, part);
+    }
     return new Tag(text);
   }
 
@@ -154,8 +182,35 @@ class Tag {
     return this.#all('Variant');
   }
 
+  get attributes() {
+    return this.#all('Attribute');
+  }
+
   get privateUse() {
     return this.#all('PrivateUse');
+  }
+
+  /** The texts that follow each part of a kind within its extension. Of two that are alike the first counts. */
+  #groups(begins) {
+    const groups = {};
+    let group = [];
+    for (const { kind, text } of this.parts) {
+      if (kind !== begins && kind !== 'Singleton' && kind !== 'PrivateUseSingleton') {
+        group.push(text);
+        continue;
+      }
+      group = [];
+      if (kind === begins) groups[text] ??= group;
+    }
+    return groups;
+  }
+
+  get extensions() {
+    return this.#groups('Singleton');
+  }
+
+  get keywords() {
+    return this.#groups('Key');
   }
 
   toLocale() {
@@ -185,7 +240,7 @@ class Available {
   }
 
   #served(call, accept) {
-    return answered(null, call(this.#held, accept ?? '*'), accept).map((number) => this.tags[number - 1]);
+    return answered(null, call(this.#held, stringOf(accept ?? '*', 'accept')), accept).map((number) => this.tags[number - 1]);
   }
 
   best(accept, other = null) {
@@ -202,6 +257,7 @@ class Registry {
   #held;
 
   constructor(bytes) {
+    if (bytes?.[Symbol.toStringTag] !== 'Uint8Array') throw wrongType('bytes', 'an instance of Buffer or Uint8Array', bytes);
     const answer = native.open(bytes);
     if (Array.isArray(answer)) throw new RefusedRegistry(new Refusal(checked(answer[0])), answer[1]);
     this.#held = answer;
@@ -225,25 +281,29 @@ class Registry {
     this.#held = null;
   }
 
+  /** What a call answers for a tag. */
+  #ask(call, tag, ...others) {
+    return answered(this.#open, call(this.#open, textOf(tag), ...others), tag);
+  }
+
   canonical(tag) {
-    return answered(this.#open, native.canonical(this.#open, textOf(tag)), tag);
+    return this.#ask(native.canonical, tag);
   }
 
   extlang(tag) {
-    return answered(this.#open, native.extlang(this.#open, textOf(tag)), tag);
+    return this.#ask(native.extlang, tag);
   }
 
   canonicalMany(tags) {
-    if (typeof tags === 'string') throw new TypeError('many tags are a list, and not one text');
-    return [...tags].map((tag) => {
+    return listOf(tags).map((tag, i) => {
       if (tag === null || tag === undefined) return null;
-      const answer = checked(native.canonical(this.#open, textOf(tag)));
+      const answer = checked(native.canonical(this.#open, textOf(tag, `tags[${i}]`)));
       return typeof answer === 'number' ? refusalOf(this.#open, answer, tag) : answer;
     });
   }
 
   validate(tag) {
-    answered(this.#open, native.validate(this.#open, textOf(tag)), tag);
+    this.#ask(native.validate, tag);
   }
 
   isValid(tag) {
@@ -251,42 +311,48 @@ class Registry {
   }
 
   equivalent(first, second) {
-    return answered(this.#open, native.match(this.#open, textOf(first), textOf(second), 0), first, second);
+    return answered(this.#open, native.match(this.#open, textOf(first, 'first'), textOf(second, 'second'), 0), first, second);
   }
 
   matches(range, tag, scheme = 'extended') {
     const number = SCHEMES.indexOf(scheme) + 1;
     if (!number) throw new TypeError(`a scheme is basic, extended or lookup, not ${String(scheme)}`);
-    return answered(this.#open, native.match(this.#open, textOf(range), textOf(tag), number), range, tag);
+    return answered(this.#open, native.match(this.#open, textOf(range, 'range'), textOf(tag), number), range, tag);
   }
 
   available(tags) {
-    if (typeof tags === 'string') throw new TypeError('many tags are a list, and not one text');
-    const all = Object.freeze([...tags]);
-    for (const tag of all) this.canonical(tag);
-    return new Available(answered(null, native.available(this.#open, all.map((tag) => `${textOf(tag)}`))), all);
+    const all = Object.freeze(listOf(tags)), texts = all.map((tag, i) => textOf(tag, `tags[${i}]`));
+    texts.forEach((tag) => this.canonical(tag));
+    return new Available(answered(null, native.available(this.#open, texts)), all);
   }
 
   explain(tag, most = 20_000) {
-    if (typeof most !== 'number' || Number.isNaN(most)) throw new TypeError('the most steps are a number');
-    const answer = native.explain(this.#open, textOf(tag), Math.min(Math.max(most, 0), 0xffffffff));
-    const rows = answered(this.#open, answer, tag).split('\n').slice(0, -1).map((line) => line.split(' '));
-    const [, canonical] = rows.pop();
-    return { canonical, steps: rows.map(([kind, place, number, tag]) => ({ kind, place: Number(place), number: Number(number), tag })) };
+    if (typeof most !== 'number' || Number.isNaN(most)) throw wrongType('most', 'of type number', most);
+    const lines = this.#ask(native.explain, tag, Math.min(Math.max(most, 0), 0xffffffff)).split('\n').slice(0, -1);
+    const [, canonical] = lines.pop().split(' ');
+    return { canonical, steps: lines.map((line) => {
+      const [kind, place, number, tag] = line.split(' ');
+      return { kind, place: Number(place), number: Number(number), tag };
+    }) };
   }
 
   record(number) {
+    if (typeof number !== 'number') throw wrongType('number', 'of type number', number);
     const texts = answered(this.#open, native.record(this.#open, number));
     return texts.filter((_, i) => i % 2 === 0).map((name, i) => ({ name, body: texts[2 * i + 1] }));
   }
 
   show(tag) {
-    return JSON.parse(answered(this.#open, native.show(this.#open, textOf(tag)), tag));
+    return JSON.parse(this.#ask(native.show, tag));
   }
 
   get info() {
     const [fileDate, entries, digest] = native.facts(this.#open);
     return { fileDate, entries, sha256: Array.from(digest, (byte) => byte.toString(16).padStart(2, '0')).join('') };
+  }
+
+  [INSPECT]() {
+    return this.#held ? `Registry of ${this.info.fileDate || 'no date'}, ${this.info.entries} entries` : 'Registry, closed';
   }
 }
 if (Symbol.dispose) Registry.prototype[Symbol.dispose] = Registry.prototype.close;

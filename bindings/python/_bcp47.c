@@ -58,41 +58,58 @@ static PyObject *same(PyObject *object) {
     return object;
 }
 
-/* The str of a tag, a str or a Tag: a new reference. */
-static PyObject *str_of(PyObject *tag) {
-    if (PyUnicode_CheckExact(tag) || PyUnicode_Check(tag)) return same(tag);
+/* The name of an object's type: a new reference. */
+static PyObject *type_name_of(PyObject *object) {
+    return PyObject_GetAttrString((PyObject *)Py_TYPE(object), "__name__");
+}
+
+/* The str of a tag, a str or a Tag, which is an item of a list where the index is not below 0: a new reference. */
+static PyObject *str_of(PyObject *tag, Py_ssize_t index) {
+    if (PyUnicode_Check(tag)) return same(tag);
     int is_tag = is_of(tag, TAG);
     if (is_tag > 0) return PyObject_Str(tag);
-    PyObject *name = is_tag ? NULL : PyObject_GetAttrString((PyObject *)Py_TYPE(tag), "__name__");
-    if (name) PyErr_Format(PyExc_TypeError, "a tag is a str or a Tag, not %U", name);
+    PyObject *name = is_tag ? NULL : type_name_of(tag);
+    if (name && index < 0) PyErr_Format(PyExc_TypeError, "expected str or Tag, not %U", name);
+    if (name && index >= 0) PyErr_Format(PyExc_TypeError, "item %zd: expected str or Tag, not %U", index, name);
     Py_XDECREF(name);
     return NULL;
 }
 
-/* A text in UTF-8, and the str that holds it. */
+/* A text in UTF-8, and what holds it: a str, or the bytes of one that has lone surrogates, which is no tag. */
 typedef struct {
-    PyObject *str;
+    PyObject *holder;
     const char *bytes;
     size_t length;
 } text;
 
-/* Whether a tag has a text, which end_text() then lets go of. */
-static int has_text(PyObject *tag, text *it) {
+/* Whether a tag has a text, which end_text() then lets go of. The index is that of str_of(). */
+static int item_has_text(PyObject *tag, text *it, Py_ssize_t index) {
     Py_ssize_t length;
-    it->str = str_of(tag);
-    it->bytes = it->str ? PyUnicode_AsUTF8AndSize(it->str, &length) : NULL;
+    it->holder = str_of(tag, index);
+    it->bytes = it->holder ? PyUnicode_AsUTF8AndSize(it->holder, &length) : NULL;
+    if (it->holder && !it->bytes && PyErr_ExceptionMatches(PyExc_UnicodeEncodeError)) {
+        PyErr_Clear();
+        PyObject *str = it->holder;
+        it->holder = PyUnicode_AsEncodedString(str, "utf-8", "surrogatepass");
+        Py_DECREF(str);
+        if (it->holder) PyBytes_AsStringAndSize(it->holder, (char **)&it->bytes, &length);
+    }
     if (it->bytes) it->length = (size_t)length;
-    else Py_XDECREF(it->str);
+    else Py_XDECREF(it->holder);
     return it->bytes != NULL;
 }
 
+static int has_text(PyObject *tag, text *it) {
+    return item_has_text(tag, it, -1);
+}
+
 static void end_text(text *it) {
-    Py_DECREF(it->str);
+    Py_DECREF(it->holder);
 }
 
 /* What was written for a text: the str itself where it is the same. */
 static inline PyObject *answered(const text *it, const char *answer, size_t length) {
-    if (length == it->length && !memcmp(it->bytes, answer, length) && PyUnicode_CheckExact(it->str)) return same(it->str);
+    if (length == it->length && !memcmp(it->bytes, answer, length) && PyUnicode_CheckExact(it->holder)) return same(it->holder);
     return PyUnicode_FromStringAndSize(answer, (Py_ssize_t)length);
 }
 
@@ -124,9 +141,13 @@ static PyObject *kept_words(bcp47_outcome outcome) {
     return words;
 }
 
+static int ran_out(bcp47_outcome outcome) {
+    return outcome.status == BCP47_OUT_OF_MEMORY || outcome.status == BCP47_BUSY;
+}
+
 /* The words of a refusal, with a text: the line of a registry, or the variant that replacements would repeat. A new reference. */
 static PyObject *words_of(bcp47_outcome outcome, const char *text) {
-    if (outcome.status == BCP47_OUT_OF_MEMORY || outcome.status == BCP47_BUSY) return PyErr_NoMemory();
+    if (ran_out(outcome)) return PyErr_NoMemory();
     if (!text || !outcome.length) return kept_words(outcome);
     PyObject *line = PyUnicode_FromStringAndSize(text, (Py_ssize_t)outcome.length), *variant = line;
     if (line && outcome.status == BCP47_REPLACEMENT_REPEATS) {
@@ -136,31 +157,29 @@ static PyObject *words_of(bcp47_outcome outcome, const char *text) {
     return line ? make_words(outcome, line) : NULL;
 }
 
-/* The words of a refusal, which it takes, and the tag. */
-static PyObject *with_tag(PyObject *words, PyObject *tag) {
-    PyObject *all = words ? PyTuple_New(6) : NULL, *text = all ? PyUnicode_FromObject(tag) : NULL;
-    for (Py_ssize_t i = 0; text && i < 5; i++) PyTuple_SetItem(all, i, same(PyTuple_GetItem(words, i)));
+/* The words of a refusal, which it takes, and the tag that a text's holder has. */
+static PyObject *with_tag(PyObject *words, PyObject *holder) {
+    PyObject *tag = !words                    ? NULL
+                    : PyUnicode_Check(holder) ? PyUnicode_FromObject(holder)
+                                              : PyUnicode_FromEncodedObject(holder, "utf-8", "surrogatepass");
+    PyObject *last = tag ? PyTuple_Pack(1, tag) : NULL, *all = last ? PySequence_Concat(words, last) : NULL;
     Py_XDECREF(words);
-    if (text) PyTuple_SetItem(all, 5, text);
-    else Py_CLEAR(all);
+    Py_XDECREF(tag);
+    Py_XDECREF(last);
     return all;
 }
 
 /* The exception for an outcome: one of the package's, or one of Python's, which is raised. A new reference. */
-static PyObject *refusal(Py_ssize_t type, bcp47_outcome outcome, const char *text, PyObject *tag) {
+static PyObject *refusal(Py_ssize_t type, bcp47_outcome outcome, const char *text, PyObject *holder) {
     PyObject *words = words_of(outcome, text);
-    if (type == REFUSED_TAG) words = with_tag(words, tag);
+    if (type == REFUSED_TAG) words = with_tag(words, holder);
     PyObject *maker = words ? given(type) : NULL, *made = maker ? PyObject_CallObject(maker, words) : NULL;
     Py_XDECREF(words);
-    if (!made || outcome.status != BCP47_REPLACEMENT_REPEATS) return made;
-    PyObject *variant = PyUnicode_FromStringAndSize(text, (Py_ssize_t)outcome.length);
-    if (!variant || PyObject_SetAttrString(made, "variant", variant)) Py_CLEAR(made);
-    Py_XDECREF(variant);
     return made;
 }
 
-static PyObject *raise_refusal(Py_ssize_t type, bcp47_outcome outcome, const char *text, PyObject *tag) {
-    PyObject *made = refusal(type, outcome, text, tag);
+static PyObject *raise_refusal(Py_ssize_t type, bcp47_outcome outcome, const char *text, PyObject *holder) {
+    PyObject *made = refusal(type, outcome, text, holder);
     if (made) PyErr_SetObject((PyObject *)Py_TYPE(made), made);
     Py_XDECREF(made);
     return NULL;
@@ -192,19 +211,11 @@ static PyObject *registry_new(PyTypeObject *type, PyObject *arguments, PyObject 
     return NULL;
 }
 
-/* open(type, bytes): an object of the type, which holds the registry. */
-static PyObject *module_open(PyObject *module, PyObject *arguments) {
+/* open(bytes), of a type: an object of it, which holds the registry. */
+static PyObject *registry_open(PyObject *type, PyObject *content) {
     char line[BCP47_LINE], *bytes;
     Py_ssize_t length;
-    PyObject *type, *content;
-    (void)module;
-    if (!PyArg_ParseTuple(arguments, "O!S", &PyType_Type, &type, &content) || PyBytes_AsStringAndSize(content, &bytes, &length)) return NULL;
-    PyObject *registry_type = given(REGISTRY);
-    if (!registry_type) return NULL;
-    if (!PyType_IsSubtype((PyTypeObject *)type, (PyTypeObject *)registry_type)) {
-        PyErr_SetString(PyExc_TypeError, "the type is none of registries");
-        return NULL;
-    }
+    if (PyBytes_AsStringAndSize(content, &bytes, &length)) return NULL;
     allocfunc allocate = (allocfunc)PyType_GetSlot((PyTypeObject *)type, Py_tp_alloc);
     registry_object *it = (registry_object *)allocate((PyTypeObject *)type, 0);
     if (!it) return NULL;
@@ -257,43 +268,55 @@ typedef bcp47_outcome writer(const bcp47_registry *, const char *, size_t, char 
 
 /* What was written for a tag, as a str, or else its refusal. The text is let go of. */
 static inline PyObject *written(text *it, bcp47_outcome outcome, const char *buffer) {
-    PyObject *made = outcome.status == BCP47_DONE ? answered(it, buffer, outcome.length) : raise_refusal(REFUSED_TAG, outcome, buffer, it->str);
+    PyObject *made = outcome.status == BCP47_DONE ? answered(it, buffer, outcome.length) : raise_refusal(REFUSED_TAG, outcome, buffer, it->holder);
     end_text(it);
     return made;
+}
+
+/* The one argument of a call, by its place or its name: borrowed. */
+static inline PyObject *tag_of(PyObject *arguments, PyObject *words) {
+    static char *names[] = {"tag", NULL};
+    PyObject *tag;
+    if (!words && PyTuple_Size(arguments) == 1) return PyTuple_GetItem(arguments, 0);
+    return PyArg_ParseTupleAndKeywords(arguments, words, "O", names, &tag) ? tag : NULL;
 }
 
 /* What a call writes for a tag. */
 static inline PyObject *text_by(writer *writes, PyObject *self, PyObject *tag) {
     char buffer[ROOM];
     text it;
-    registry_object *registry = has_text(tag, &it) ? opened(self) : NULL;
+    if (!tag || !has_text(tag, &it)) return NULL;
+    registry_object *registry = opened(self);
     if (registry) return written(&it, writes(registry->registry, it.bytes, it.length, buffer, sizeof buffer), buffer);
-    if (it.bytes) end_text(&it);
+    end_text(&it);
     return NULL;
 }
 
-static PyObject *registry_canonical(PyObject *self, PyObject *tag) {
-    return text_by(bcp47_canonical, self, tag);
+static PyObject *registry_canonical(PyObject *self, PyObject *arguments, PyObject *words) {
+    return text_by(bcp47_canonical, self, tag_of(arguments, words));
 }
 
-static PyObject *registry_extlang(PyObject *self, PyObject *tag) {
-    return text_by(bcp47_extlang, self, tag);
+static PyObject *registry_extlang(PyObject *self, PyObject *arguments, PyObject *words) {
+    return text_by(bcp47_extlang, self, tag_of(arguments, words));
 }
 
-/* posix(name): the tag of a locale of POSIX, by no registry. */
+/* What a call writes for a text by no registry. */
+static PyObject *text_alone(bcp47_outcome (*writes)(const char *, size_t, char *, size_t), PyObject *tag) {
+    char buffer[ROOM];
+    text it;
+    return has_text(tag, &it) ? written(&it, writes(it.bytes, it.length, buffer, sizeof buffer), buffer) : NULL;
+}
+
+/* posix(name): the tag of a locale of POSIX. */
 static PyObject *module_posix(PyObject *module, PyObject *name) {
-    char buffer[ROOM];
-    text it;
     (void)module;
-    return has_text(name, &it) ? written(&it, bcp47_posix(it.bytes, it.length, buffer, sizeof buffer), buffer) : NULL;
+    return text_alone(bcp47_posix, name);
 }
 
-/* parent(tag): by no registry; no text where nothing is left. */
+/* parent(tag): no text where nothing is left. */
 static PyObject *module_parent(PyObject *module, PyObject *tag) {
-    char buffer[ROOM];
-    text it;
     (void)module;
-    return has_text(tag, &it) ? written(&it, bcp47_parent(it.bytes, it.length, buffer, sizeof buffer), buffer) : NULL;
+    return text_alone(bcp47_parent, tag);
 }
 
 /* read(tag): its text in conventional case, and the number of the kind of each part, by no registry. */
@@ -309,30 +332,28 @@ static PyObject *module_read(PyObject *module, PyObject *tag) {
     return shown ? Py_BuildValue("Ny#", shown, kinds, (Py_ssize_t)outcome.place) : NULL;
 }
 
-/* Whether a tag is valid: the outcome of the call; not open, with an exception, where it was not made. */
-static bcp47_outcome validated(PyObject *self, text *it, PyObject *tag) {
-    bcp47_outcome outcome = {.status = BCP47_NOT_OPEN};
-    registry_object *registry = has_text(tag, it) ? opened(self) : NULL;
-    if (registry) return bcp47_validate(registry->registry, it->bytes, it->length);
-    if (it->bytes) end_text(it);
-    return outcome;
-}
-
-static PyObject *registry_validate(PyObject *self, PyObject *tag) {
+/* Asks whether a tag is valid, which is told as True or False, or else as None or a refusal. */
+static PyObject *ask_validity(PyObject *self, PyObject *tag, int is_told) {
     text it;
-    bcp47_outcome outcome = validated(self, &it, tag);
-    if (outcome.status == BCP47_NOT_OPEN) return NULL;
-    PyObject *made = outcome.status == BCP47_DONE ? same(Py_None) : raise_refusal(REFUSED_TAG, outcome, NULL, it.str);
+    PyObject *made = NULL;
+    if (!tag || !has_text(tag, &it)) return NULL;
+    registry_object *registry = opened(self);
+    if (registry) {
+        bcp47_outcome outcome = bcp47_validate(registry->registry, it.bytes, it.length);
+        made = is_told && !ran_out(outcome)   ? PyBool_FromLong(outcome.status == BCP47_DONE)
+               : outcome.status == BCP47_DONE ? same(Py_None)
+                                              : raise_refusal(REFUSED_TAG, outcome, NULL, it.holder);
+    }
     end_text(&it);
     return made;
 }
 
-static PyObject *registry_is_valid(PyObject *self, PyObject *tag) {
-    text it;
-    bcp47_outcome outcome = validated(self, &it, tag);
-    if (outcome.status == BCP47_NOT_OPEN) return NULL;
-    end_text(&it);
-    return outcome.status == BCP47_OUT_OF_MEMORY || outcome.status == BCP47_BUSY ? PyErr_NoMemory() : PyBool_FromLong(outcome.status == BCP47_DONE);
+static PyObject *registry_validate(PyObject *self, PyObject *arguments, PyObject *words) {
+    return ask_validity(self, tag_of(arguments, words), 0);
+}
+
+static PyObject *registry_is_valid(PyObject *self, PyObject *arguments, PyObject *words) {
+    return ask_validity(self, tag_of(arguments, words), 1);
 }
 
 /* given(tag, most): the lines of its explanation, with at most so many steps; below 0 what the records say of it, as JSON, for which the
@@ -354,7 +375,7 @@ static PyObject *registry_given(PyObject *self, PyObject *arguments) {
         end_call(registry);
         made = outcome.status == BCP47_DONE                  ? PyUnicode_FromStringAndSize(whole, (Py_ssize_t)outcome.length)
                : outcome.status == BCP47_REPLACEMENT_REPEATS ? text_by(bcp47_canonical, self, tag) /* which names the variant */
-                                                             : raise_refusal(REFUSED_TAG, outcome, NULL, it.str);
+                                                             : raise_refusal(REFUSED_TAG, outcome, NULL, it.holder);
         bcp47_free(whole);
     }
     end_text(&it);
@@ -364,11 +385,6 @@ static PyObject *registry_given(PyObject *self, PyObject *arguments) {
 /* Puts an object into a list, which takes the reference. */
 static int put(PyObject *list, Py_ssize_t index, PyObject *object) {
     return object && !PyList_SetItem(list, index, object);
-}
-
-/* A pair of strs, the name and the body of a field; a new reference. */
-static PyObject *field_of(const bcp47_field *field, const char *at) {
-    return Py_BuildValue("s#s#", at, (Py_ssize_t)field->name, at + field->name + 1, (Py_ssize_t)field->body);
 }
 
 /* record(number): a list of the fields, each its name and its body. The first call reads the records. */
@@ -387,7 +403,8 @@ static PyObject *registry_record(PyObject *self, PyObject *argument) {
     if (outcome.status != BCP47_DONE) return PyErr_NoMemory();
     PyObject *list = PyList_New((Py_ssize_t)outcome.place);
     for (size_t i = 0; list && i < outcome.place; at += fields[i].name + fields[i].body + 2, i++)
-        if (!put(list, (Py_ssize_t)i, field_of(fields + i, at))) Py_CLEAR(list);
+        if (!put(list, (Py_ssize_t)i, Py_BuildValue("s#s#", at, (Py_ssize_t)fields[i].name, at + fields[i].name + 1, (Py_ssize_t)fields[i].body)))
+            Py_CLEAR(list);
     bcp47_free(fields);
     return list;
 }
@@ -428,16 +445,17 @@ static PyObject *ask_of_two(PyObject *self, int scheme, PyObject *one, PyObject 
                    : bcp47_equivalent(registry->registry, first.bytes, first.length, second.bytes, second.length, variant, sizeof variant);
         made = outcome.status == BCP47_DONE || outcome.status == BCP47_DIFFERENT
                    ? PyBool_FromLong(outcome.status == BCP47_DONE)
-                   : raise_refusal(REFUSED_TAG, outcome, variant, outcome.text == 2 ? second.str : first.str);
+                   : raise_refusal(REFUSED_TAG, outcome, variant, outcome.text == 2 ? second.holder : first.holder);
     }
     end_text(&first);
     end_text(&second);
     return made;
 }
 
-static PyObject *registry_equivalent(PyObject *self, PyObject *arguments) {
+static PyObject *registry_equivalent(PyObject *self, PyObject *arguments, PyObject *words) {
+    static char *names[] = {"first", "second", NULL};
     PyObject *one, *other;
-    return PyArg_ParseTuple(arguments, "OO", &one, &other) ? ask_of_two(self, 0, one, other) : NULL;
+    return PyArg_ParseTupleAndKeywords(arguments, words, "OO", names, &one, &other) ? ask_of_two(self, 0, one, other) : NULL;
 }
 
 /* match(scheme, range, tag) */
@@ -447,38 +465,22 @@ static PyObject *registry_match(PyObject *self, PyObject *arguments) {
     return PyArg_ParseTuple(arguments, "iOO", &scheme, &range, &tag) ? ask_of_two(self, scheme, range, tag) : NULL;
 }
 
-/* The steps of a sequence of (kind, place, number), for free() to let go of. */
-static bcp47_step *steps_of(PyObject *sequence, Py_ssize_t count) {
-    bcp47_step *steps = calloc((size_t)count + 1, sizeof *steps);
-    if (!steps) return (bcp47_step *)PyErr_NoMemory();
-    for (Py_ssize_t i = 0; i < count; i++) {
-        unsigned char kind;
-        unsigned int place, number;
-        PyObject *step = PySequence_GetItem(sequence, i);
-        int is_step = step && PyArg_ParseTuple(step, "bII", &kind, &place, &number);
-        Py_XDECREF(step);
-        if (!is_step) {
-            free(steps);
-            return NULL;
-        }
-        steps[i].kind = kind, steps[i].place = place, steps[i].number = number;
-    }
-    return steps;
-}
-
-/* verify_steps(tag, steps, last) */
+/* verify_steps(tag, steps, last): the steps are the bytes of an array of bcp47_step. */
 static PyObject *registry_verify_steps(PyObject *self, PyObject *arguments) {
-    PyObject *tag, *sequence, *last, *made = NULL;
+    PyObject *tag, *last, *made = NULL;
+    Py_ssize_t size;
+    const char *steps;
     text it, end;
-    if (!PyArg_ParseTuple(arguments, "OOO", &tag, &sequence, &last) || !have_texts(tag, last, &it, &end)) return NULL;
-    Py_ssize_t count = PySequence_Size(sequence);
-    bcp47_step *steps = count < 0 ? NULL : steps_of(sequence, count);
-    registry_object *registry = steps ? opened(self) : NULL;
+    if (!PyArg_ParseTuple(arguments, "Oy#O", &tag, &steps, &size, &last)) return NULL;
+    if (size % sizeof(bcp47_step)) return PyErr_Format(PyExc_TypeError, "the last step is cut");
+    if (!have_texts(tag, last, &it, &end)) return NULL;
+    registry_object *registry = opened(self);
     if (registry) {
         bcp47_outcome outcome;
         registry->calls++;
         Py_BEGIN_ALLOW_THREADS
-        outcome = bcp47_verify(registry->registry, it.bytes, it.length, steps, (size_t)count, end.bytes, end.length);
+        outcome = bcp47_verify(registry->registry, it.bytes, it.length, (const bcp47_step *)(const void *)steps, (size_t)size / sizeof(bcp47_step),
+                               end.bytes, end.length);
         Py_END_ALLOW_THREADS
         end_call(registry);
         if (outcome.status == BCP47_DONE)
@@ -486,9 +488,8 @@ static PyObject *registry_verify_steps(PyObject *self, PyObject *arguments) {
         else if (outcome.status == BCP47_NO_SUCH_STEP || outcome.status == BCP47_WRONG_END)
             made = raise_refusal(REFUSED_TRACE, outcome, NULL, NULL);
         else
-            made = raise_refusal(REFUSED_TAG, outcome, NULL, outcome.text == 2 ? end.str : it.str);
+            made = raise_refusal(REFUSED_TAG, outcome, NULL, outcome.text == 2 ? end.holder : it.holder);
     }
-    free(steps);
     end_text(&it);
     end_text(&end);
     return made;
@@ -497,7 +498,9 @@ static PyObject *registry_verify_steps(PyObject *self, PyObject *arguments) {
 static PyObject *registry_upgrade_to(PyObject *self, PyObject *other) {
     bcp47_outcome outcome;
     int is_registry = is_of(other, REGISTRY);
-    if (!is_registry) PyErr_SetString(PyExc_TypeError, "a registry is a Registry");
+    PyObject *name = is_registry ? NULL : type_name_of(other);
+    if (name) PyErr_Format(PyExc_TypeError, "expected Registry, not %U", name);
+    Py_XDECREF(name);
     registry_object *it = is_registry > 0 ? opened(self) : NULL, *newer = it ? opened(other) : NULL;
     if (!newer) return NULL;
     it->calls++, newer->calls++;
@@ -517,19 +520,26 @@ static void close_available(PyObject *capsule) {
     bcp47_available_close(PyCapsule_GetPointer(capsule, AVAILABLE));
 }
 
-/* available(tags): a capsule that holds the tags of a list of strs, which are not refused. */
-static PyObject *registry_available(PyObject *self, PyObject *list) {
+/* available(tags): a capsule that holds the tags of a tuple. */
+static PyObject *registry_available(PyObject *self, PyObject *tags) {
     registry_object *registry = opened(self);
-    Py_ssize_t count = registry ? PyList_Size(list) : -1, i = 0;
+    Py_ssize_t count = registry ? PyTuple_Size(tags) : -1, i = 0;
     if (count < 0) return NULL;
-    const char **tags = calloc((size_t)count + 1, sizeof *tags);
+    text *texts = calloc((size_t)count + 1, sizeof *texts);
+    const char **bytes = calloc((size_t)count + 1, sizeof *bytes);
     size_t *lengths = calloc((size_t)count + 1, sizeof *lengths);
     bcp47_available *available = NULL;
-    for (Py_ssize_t length; tags && lengths && i < count && (tags[i] = PyUnicode_AsUTF8AndSize(PyList_GetItem(list, i), &length)); i++)
-        lengths[i] = (size_t)length;
-    if (tags && lengths && i == count) bcp47_available_open(&available, registry->registry, tags, lengths, (size_t)count);
-    free(tags), free(lengths);
-    PyObject *made = available ? PyCapsule_New(available, AVAILABLE, close_available) : PyErr_Occurred() ? NULL : PyErr_NoMemory();
+    bcp47_outcome outcome = {.status = BCP47_OUT_OF_MEMORY};
+    for (; texts && bytes && lengths && i < count && item_has_text(PyTuple_GetItem(tags, i), texts + i, i); i++)
+        bytes[i] = texts[i].bytes, lengths[i] = texts[i].length;
+    if (texts && bytes && lengths && i == count)
+        outcome = bcp47_available_open(&available, registry->registry, bytes, lengths, (size_t)count);
+    while (i) end_text(texts + --i);
+    free(texts), free(bytes), free(lengths);
+    PyObject *made = available            ? PyCapsule_New(available, AVAILABLE, close_available)
+                     : PyErr_Occurred() ? NULL
+                     : outcome.text     ? text_by(bcp47_canonical, self, PyTuple_GetItem(tags, outcome.text - 1)) /* which refuses it */
+                                        : PyErr_NoMemory();
     if (!made) bcp47_available_close(available);
     return made;
 }
@@ -549,7 +559,7 @@ static PyObject *module_served(PyObject *module, PyObject *arguments) {
                                       : bcp47_best(available, it.bytes, it.length);
         if (!count) *places = outcome.place;
         size_t found = outcome.status != BCP47_DONE ? 0 : count ? outcome.place : outcome.place > 0;
-        made = outcome.status == BCP47_DONE ? PyList_New((Py_ssize_t)found) : raise_refusal(REFUSED_TAG, outcome, NULL, it.str);
+        made = outcome.status == BCP47_DONE ? PyList_New((Py_ssize_t)found) : raise_refusal(REFUSED_TAG, outcome, NULL, it.holder);
         for (size_t i = 0; made && i < found; i++)
             if (!put(made, (Py_ssize_t)i, PyLong_FromSize_t(places[i]))) Py_CLEAR(made);
     }
@@ -560,7 +570,7 @@ static PyObject *module_served(PyObject *module, PyObject *arguments) {
 
 /* ---- many texts */
 
-/* Texts of strs in a list, those that are missing NULL, and their answers, which follow one another in the buffer. */
+/* Texts whose holders a list has, those that are missing NULL, and their answers, which follow one another in the buffer. */
 typedef struct {
     text texts[CHUNK];
     bcp47_outcome outcomes[CHUNK];
@@ -575,16 +585,16 @@ static int is_missing(PyObject *object) {
     PyObject *differs = PyObject_RichCompare(object, object, Py_NE);
     int is_one = differs ? PyObject_IsTrue(differs) : -1;
     Py_XDECREF(differs);
-    if (is_one >= 0 || !PyErr_ExceptionMatches(PyExc_TypeError)) return is_one;
-    /* NA is neither */
+    if (is_one >= 0 || !(PyErr_ExceptionMatches(PyExc_TypeError) || PyErr_ExceptionMatches(PyExc_ValueError))) return is_one;
+    /* NA is neither, and an array is both */
     PyErr_Clear();
-    PyObject *name = PyObject_GetAttrString((PyObject *)Py_TYPE(object), "__name__");
+    PyObject *name = type_name_of(object);
     is_one = name ? !PyUnicode_CompareWithASCIIString(name, "NAType") : -1;
     Py_XDECREF(name);
     return is_one;
 }
 
-/* Takes the texts of a list from a place on. The list holds the str of each, from here on in place of a Tag. */
+/* Takes the texts of a list from a place on. The list has what holds each, from here on in place of a Tag. */
 static int take(chunk *it, PyObject *tags, Py_ssize_t first) {
     Py_ssize_t count = PyList_Size(tags);
     for (it->count = 0; it->count < CHUNK && first < count; it->count++, first++) {
@@ -592,10 +602,10 @@ static int take(chunk *it, PyObject *tags, Py_ssize_t first) {
         PyObject *tag = PyList_GetItem(tags, first);
         int missing = is_missing(tag);
         one->bytes = NULL;
-        if (missing < 0 || (!missing && !has_text(tag, one))) return 0;
+        if (missing < 0 || (!missing && !item_has_text(tag, one, first))) return 0;
         if (missing) continue;
-        if (one->str == tag) end_text(one);
-        else if (PyList_SetItem(tags, first, one->str)) return 0;
+        if (one->holder == tag) end_text(one);
+        else if (PyList_SetItem(tags, first, one->holder)) return 0;
     }
     return 1;
 }
@@ -616,17 +626,16 @@ static void answer(chunk *it, registry_object *registry) {
     end_call(registry);
 }
 
-/* What a list gets for a text that was refused: the exception, or its line. */
-static PyObject *told(bcp47_outcome outcome, const char *variant, PyObject *tag, int is_line) {
-    if (!is_line) return refusal(REFUSED_TAG, outcome, variant, tag);
+/* The line of a refusal: a new reference. */
+static PyObject *line_of(bcp47_outcome outcome, const char *variant) {
     PyObject *words = words_of(outcome, variant), *line = words ? PyTuple_GetItem(words, 0) : NULL;
     Py_XINCREF(line);
     Py_XDECREF(words);
     return line;
 }
 
-/* Puts what was answered into the lists: the second, if there is one, gets the lines of the refusals. */
-static int put_all(const chunk *it, Py_ssize_t first, PyObject *missing, PyObject *texts, PyObject *faults) {
+/* Puts what was answered in place of the texts. Another list, if there is one, gets the lines of the refusals, and else None. */
+static int put_all(const chunk *it, Py_ssize_t first, PyObject *missing, PyObject *list, PyObject *faults) {
     const char *answer = it->buffer;
     for (size_t i = 0; i < it->count; i++) {
         Py_ssize_t at = first + (Py_ssize_t)i;
@@ -634,56 +643,41 @@ static int put_all(const chunk *it, Py_ssize_t first, PyObject *missing, PyObjec
         bcp47_outcome outcome = {0};
         if (one->bytes) outcome = it->outcomes[i];
         int is_refused = outcome.status != BCP47_DONE;
-        PyObject *made = is_refused && !faults ? told(outcome, answer, one->str, 0)
+        if (faults && !put(faults, at, is_refused ? line_of(outcome, answer) : same(Py_None))) return 0;
+        PyObject *made = is_refused && !faults ? refusal(REFUSED_TAG, outcome, answer, one->holder)
                          : is_refused || !one->bytes ? same(missing) : answered(one, answer, outcome.length);
-        if (!put(texts, at, made)) return 0;
-        if (faults && !put(faults, at, is_refused ? told(outcome, answer, one->str, 1) : same(Py_None))) return 0;
+        if (!put(list, at, made)) return 0;
         answer += outcome.length;
     }
     return 1;
 }
 
-/* Answers a list of tags into the lists. */
-static int answer_all(registry_object *registry, PyObject *tags, PyObject *missing, PyObject *texts, PyObject *faults) {
-    Py_ssize_t count = PyList_Size(tags), first = 0;
+/* Answers the tags of a list in their places. */
+static int answer_all(registry_object *registry, PyObject *list, PyObject *missing, PyObject *faults) {
+    Py_ssize_t count = PyList_Size(list), first = 0;
     chunk *it = malloc(sizeof *it);
     int well = it || PyErr_NoMemory();
     while (well && first < count) {
-        well = take(it, tags, first) && opened((PyObject *)registry);
+        well = take(it, list, first) && opened((PyObject *)registry);
         if (!well) break;
         answer(it, registry);
-        well = put_all(it, first, missing, texts, faults) && !PyErr_CheckSignals();
+        well = put_all(it, first, missing, list, faults) && !PyErr_CheckSignals();
         first += (Py_ssize_t)it->count;
     }
     free(it);
     return well;
 }
 
-/* A list of so many places, which the collector shows to nobody while they are filled. */
-static PyObject *hidden_list(Py_ssize_t count) {
-    PyObject *made = PyList_New(count);
-    if (made) PyObject_GC_UnTrack(made);
-    return made;
-}
-
-static PyObject *shown_list(PyObject *list) {
-    PyObject_GC_Track(list);
-    return same(list);
-}
-
 /* answer_many(tags, missing, is_in_columns): a list of texts and exceptions, or a list of texts and one of lines. */
 static PyObject *registry_answer_many(PyObject *self, PyObject *arguments) {
-    PyObject *tags, *missing, *list, *texts = NULL, *faults = NULL, *made = NULL;
+    PyObject *tags, *missing, *made = NULL;
     int is_in_columns;
     if (!PyArg_ParseTuple(arguments, "OOp", &tags, &missing, &is_in_columns) || !opened(self)) return NULL;
-    /* a list of its own: no code of Python can change it */
-    if (!(list = PySequence_List(tags))) return NULL;
-    texts = hidden_list(PyList_Size(list));
-    if (is_in_columns) faults = hidden_list(PyList_Size(list));
-    if (texts && (faults || !is_in_columns) && answer_all((registry_object *)self, list, missing, texts, faults))
-        made = is_in_columns ? Py_BuildValue("NN", shown_list(texts), shown_list(faults)) : shown_list(texts);
-    Py_DECREF(list);
-    Py_XDECREF(texts);
+    /* lists of its own: no code of Python can change them */
+    PyObject *list = PySequence_List(tags), *faults = list && is_in_columns ? PySequence_List(list) : NULL;
+    if (list && (faults || !is_in_columns) && answer_all((registry_object *)self, list, missing, faults))
+        made = is_in_columns ? PyTuple_Pack(2, list, faults) : same(list);
+    Py_XDECREF(list);
     Py_XDECREF(faults);
     return made;
 }
@@ -699,20 +693,24 @@ static PyObject *module_setup(PyObject *module, PyObject *all) {
     return PyDict_SetItemString(kept, GIVEN, all) ? NULL : same(Py_None);
 }
 
+/* A call whose arguments have names. */
+#define NAMED(call) (PyCFunction)(void (*)(void))call, METH_VARARGS | METH_KEYWORDS
+
 static PyMethodDef registry_methods[] = {
-    {"canonical", registry_canonical, METH_O,
-     "canonical($self, tag, /)\n--\n\nThe canonical text of a tag (RFC 5646, 4.5). Raises RefusedTag."},
-    {"extlang", registry_extlang, METH_O,
-     "extlang($self, tag, /)\n--\n\nThe canonical text of a tag with its extlang prefix. Raises RefusedTag."},
-    {"validate", registry_validate, METH_O,
-     "validate($self, tag, /)\n--\n\nReturns where a tag is valid (RFC 5646, 2.2.9). Raises RefusedTag where it is not."},
-    {"is_valid", registry_is_valid, METH_O,
-     "is_valid($self, tag, /)\n--\n\nWhether a text is a tag that is valid (RFC 5646, 2.2.9)."},
-    {"equivalent", registry_equivalent, METH_VARARGS,
-     "equivalent($self, first, second, /)\n--\n\nWhether two tags are equivalent. Raises RefusedTag for the first tag, or else "
+    {"canonical", NAMED(registry_canonical),
+     "canonical($self, tag)\n--\n\nThe canonical text of a tag (RFC 5646, 4.5). Raises RefusedTag."},
+    {"extlang", NAMED(registry_extlang),
+     "extlang($self, tag)\n--\n\nThe canonical text of a tag with its extlang prefix. Raises RefusedTag."},
+    {"validate", NAMED(registry_validate),
+     "validate($self, tag)\n--\n\nReturns where a tag is valid (RFC 5646, 2.2.9). Raises RefusedTag where it is not."},
+    {"is_valid", NAMED(registry_is_valid),
+     "is_valid($self, tag)\n--\n\nWhether a text is a tag that is valid (RFC 5646, 2.2.9)."},
+    {"equivalent", NAMED(registry_equivalent),
+     "equivalent($self, first, second)\n--\n\nWhether two tags are equivalent. Raises RefusedTag for the first tag, or else "
      "for the second."},
     {"close", registry_close, METH_NOARGS,
      "close($self, /)\n--\n\nFrees the registry, once the calls of other threads have ended. No call but this one may follow."},
+    {"_open", registry_open, METH_O | METH_CLASS, NULL},
     {"_match", registry_match, METH_VARARGS, NULL},
     {"_given", registry_given, METH_VARARGS, NULL},
     {"_available", registry_available, METH_O, NULL},
@@ -739,10 +737,9 @@ static PyType_Spec registry_spec = {
 };
 
 static PyMethodDef module_methods[] = {
-    {"setup", module_setup, METH_O, NULL},              {"open", module_open, METH_VARARGS, NULL},
-    {"read", module_read, METH_O, NULL},                {"parent", module_parent, METH_O, NULL},
-    {"posix", module_posix, METH_O, NULL},              {"replaced", module_replaced, METH_VARARGS, NULL},
-    {"served", module_served, METH_VARARGS, NULL},
+    {"setup", module_setup, METH_O, NULL},              {"read", module_read, METH_O, NULL},
+    {"parent", module_parent, METH_O, NULL},            {"posix", module_posix, METH_O, NULL},
+    {"replaced", module_replaced, METH_VARARGS, NULL},  {"served", module_served, METH_VARARGS, NULL},
     {NULL, NULL, 0, NULL},
 };
 

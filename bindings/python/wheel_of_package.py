@@ -159,10 +159,3 @@ def build_sdist(sdist_directory, config_settings=None):
     with open(Path(sdist_directory) / f"{folder}.tar.gz", "wb") as file:
         file.write(gzip.compress(archive.getvalue(), mtime=TIME))
     return f"{folder}.tar.gz"
-
-
-def get_requires_for_build_wheel(config_settings=None):
-    return []
-
-
-get_requires_for_build_editable = get_requires_for_build_wheel

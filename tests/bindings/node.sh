@@ -33,6 +33,9 @@ if command -v node > /dev/null && command -v npm > /dev/null && [ -e "${NODE_HEA
     writes "Node.js: headers of browsers, and Intl beside it" "$folder/served" env -C "$folder/page/service" \
         node "$root/bindings/node/test/serving.mjs" "$folder/page/service/service.mjs" "$registry"
     passes "Node.js: its licence" cmp LICENSE-MIT "$folder/page/node_modules/bcp47/LICENSE-MIT"
+    passes "Node.js: its page" cmp docs/NODE.md "$folder/page/node_modules/bcp47/README.md"
+    passes "Node.js: its words, and that each system may install it" env -C "$folder/page" node -e \
+        'const { keywords, os, cpu, libc } = require("./node_modules/bcp47/package.json"); process.exit(keywords.includes("bcp47") && !os && !cpu && !libc ? 0 : 1)'
     passes "Node.js: by require" env -C "$folder/page" node -e 'process.exit(`${new (require("bcp47").Tag)("EN")}` === "en" ? 0 : 1)'
     passes "Node.js: bundled, without its package" env -C "$folder/page" \
         node -e 'try { require("bcp47").Registry.bundled() } catch ({ code }) { process.exit(code === "MODULE_NOT_FOUND" ? 0 : 1) }; process.exit(1)'

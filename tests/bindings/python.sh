@@ -51,7 +51,8 @@ unset COVERAGE_FILE
 passes "Python: the look of the report" $python -B bindings/python/tests/look.py "$registry" "$folder"
 passes "Python: the wheel" $python -B bindings/python/tests/test_wheel.py
 passes "Python: types of the package" env -C "$folder/package" MYPYPATH=. mypy --strict --cache-dir="$folder/mypy" -p bcp47
-passes "Python: types of a program" env MYPYPATH="$folder/package" mypy --strict --cache-dir="$folder/mypy" "$folder/examples/example.py"
+passes "Python: types of a program" env MYPYPATH="$folder/package" mypy --strict --cache-dir="$folder/mypy" "$folder/examples/example.py" \
+    bindings/python/tests/typed.py
 writes "Python answers as the program" "$shared/wanted" $python bindings/python/tests/answers.py "$registry" "$shared/tags"
 writes "Python explains as the program" "$shared/explained" $python bindings/python/tests/answers.py "$registry" "$shared/explained-tags" explain
 writes "Python shows as the program" "$shared/shown" $python bindings/python/tests/answers.py "$registry" "$shared/shown-tags" show

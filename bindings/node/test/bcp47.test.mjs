@@ -5,6 +5,7 @@ import { readFileSync } from 'node:fs';
 import { createRequire } from 'node:module';
 import { test } from 'node:test';
 import { inspect } from 'node:util';
+import { runInNewContext } from 'node:vm';
 import { Worker } from 'node:worker_threads';
 import { Refusal, Refused, RefusedRegistry, RefusedTag, Registry, Tag, version } from '../index.mjs';
 
@@ -75,6 +76,49 @@ test('tags with other parts', () => {
   assert.throws(() => tag.with({ script: 'Latin' }), { tag: 'Latin' });
   assert.throws(() => new Tag('x-own').with({ script: 'Latn' }), { tag: 'x-own' });
   assert.throws(() => tag.with({ scripts: 'Latn' }), TypeError);
+});
+
+test('a part that is undefined is as if it were not given', () => {
+  const tag = new Tag('zh-yue-TW-x-a');
+  assert.deepEqual(tag.with({ region: undefined, script: 'Hant', extensions: undefined }), new Tag('zh-yue-Hant-TW-x-a'));
+  assert.deepEqual([tag.with({}), tag.with({ privateUse: null })], [tag, new Tag('zh-yue-TW')]);
+  assert.deepEqual(Tag.fromParts({ language: 'de', region: undefined }), new Tag('de'));
+});
+
+test('parts of a wrong type', () => {
+  const tag = new Tag('de'), code = 'ERR_INVALID_ARG_TYPE';
+  for (const [parts, name, received] of [[{ region: 7 }, 'region', 'type number (7)'], [{ variants: ['1996', {}] }, 'variants', 'an instance of Object'],
+    [{ region: {} }, 'region', 'an instance of Object'], [{ extensions: { u: 7 } }, 'extensions', 'type number (7)']])
+    assert.throws(() => tag.with(parts), { name: 'TypeError', code, message: `The "${name}" argument must be of type string or an instance of Tag or Intl.Locale. Received ${received}` });
+  assert.throws(() => Tag.fromParts({ region: 'AT' }), { code, message: /^The "language" argument .* Received undefined$/ });
+  for (const name of ['regoin', 'toString'])
+    assert.throws(() => tag.with({ [name]: 'AT' }), { name: 'TypeError', message: `no part of a tag is named '${name}': language, script, region, variants, extensions, privateUse` });
+  assert.throws(() => Tag.fromPosix(null), { code, message: 'The "name" argument must be of type string. Received null' });
+});
+
+test('an argument of a wrong type is named, and what was given', () => {
+  const wanted = 'must be of type string or an instance of Tag or Intl.Locale. Received', code = 'ERR_INVALID_ARG_TYPE', available = registry.available(['en']);
+  for (const [value, received] of [[7, 'type number (7)'], [null, 'null'], [undefined, 'undefined'], [{}, 'an instance of Object'], [['en'], 'an instance of Array'],
+    [Symbol('en'), 'type symbol (Symbol(en))'], [() => 'en', 'an instance of Function'], [Object.create(null), 'an instance of Object']]) {
+    for (const [call, name] of [
+      [() => registry.canonical(value), 'tag'], [() => registry.extlang(value), 'tag'], [() => registry.validate(value), 'tag'], [() => registry.isValid(value), 'tag'],
+      [() => registry.explain(value), 'tag'], [() => registry.show(value), 'tag'], [() => new Tag(value), 'text'], [() => registry.equivalent(value, 'en'), 'first'],
+      [() => registry.equivalent('en', value), 'second'], [() => registry.matches(value, 'en'), 'range'], [() => registry.matches('en', value), 'tag'],
+      [() => registry.available(['en', value]), 'tags[1]'], [() => (value ?? true) === true || registry.canonicalMany(['en', null, value]), 'tags[2]'],
+    ]) {
+      if (name === 'tags[2]' && (value ?? true) === true) assert.equal(registry.canonicalMany([value])[0], null);
+      else assert.throws(call, { name: 'TypeError', code, message: `The "${name}" argument ${wanted} ${received}` });
+    }
+    for (const call of [registry.canonicalMany, registry.available])
+      if (!Array.isArray(value)) assert.throws(() => call.call(registry, value), { code, message: `The "tags" argument must be an iterable of tags. Received ${received}` });
+    for (const call of ['best', 'filter'])
+      if (value !== null && value !== undefined) assert.throws(() => available[call](value), { code, message: `The "accept" argument must be of type string. Received ${received}` });
+    assert.throws(() => new Registry(value), { code, message: `The "bytes" argument must be an instance of Buffer or Uint8Array. Received ${received}` });
+  }
+  assert.throws(() => registry.canonicalMany('en'), { code, message: `The "tags" argument must be an iterable of tags. Received type string (en)` });
+  for (const wrong of ['1', null, undefined]) assert.throws(() => registry.record(wrong), { code, message: /^The "number" argument must be of type number/ });
+  assert.throws(() => registry.explain('en', '7'), { code, message: 'The "most" argument must be of type number. Received type string (7)' });
+  assert.equal(runInNewContext('ask(new Uint8Array(content))', { content: readFileSync(sample), ask: (bytes) => new Registry(bytes).canonical('iw') }), 'he');
 });
 
 test('tags of POSIX', () => {
@@ -169,6 +213,7 @@ test('tags are seen, compared and sent by their texts', () => {
   const tag = new Tag('zh-hant');
   assert.throws(() => assert.deepStrictEqual(new Tag('en'), new Tag('de')));
   assert.deepStrictEqual(new Tag('EN'), new Tag('en'));
+  assert.equal(inspect(registry), 'Registry of 2024-01-01, 46 entries');
   assert.equal(inspect({ tag }), "{ tag: Tag 'zh-Hant' }");
   assert.deepEqual(structuredClone(tag), { text: 'zh-Hant' });
   assert.throws(() => { tag.text = 'en'; }, TypeError);
@@ -180,6 +225,17 @@ test('parts by their kinds', () => {
   assert.deepEqual([language, extlangs, script, region, variants, privateUse], ['zh', ['yue'], 'Hant', 'HK', ['1994'], ['own', '1']]);
   const none = new Tag('i-klingon');
   assert.deepEqual([none.language, none.script, none.region, none.variants], [undefined, undefined, undefined, []]);
+});
+
+test('extensions, attributes and keywords', () => {
+  const tag = new Tag('zh-YUE-hant-hk-1994-a-bbb-u-ATTR-co-phonebk-ca-buddhist-foo-x-own');
+  assert.deepEqual(tag.extensions, { a: ['bbb'], u: ['attr', 'co', 'phonebk', 'ca', 'buddhist', 'foo'] });
+  assert.deepEqual([tag.attributes, tag.keywords, tag.privateUse], [['attr'], { co: ['phonebk'], ca: ['buddhist', 'foo'] }, ['own']]);
+  assert.deepEqual(new Tag('und-t-und-cyrl-m0-ungegn').extensions, { t: ['und', 'cyrl', 'm0', 'ungegn'] });
+  assert.deepEqual(new Tag('en-u-co-co-aaa').keywords, { co: [] });
+  const none = new Tag('i-klingon');
+  assert.deepEqual([none.extensions, none.attributes, none.keywords], [{}, [], {}]);
+  assert.deepEqual(new Tag('de').with({ extensions: new Tag('en-a-bbb-u-co-phonebk').extensions }), new Tag('de-a-bbb-u-co-phonebk'));
 });
 
 test('locales, in and out', () => {
@@ -202,6 +258,7 @@ test('a registry that is closed', () => {
   const own = Registry.fromFile(sample);
   own.close();
   own.close();
+  assert.equal(inspect(own), 'Registry, closed');
   for (const ask of [() => own.canonical('en'), () => own.canonicalMany(['en']), () => own.explain('en'), () => own.show('en'), () => own.matches('en', 'en'), () => own.info])
     assert.throws(ask, { name: 'TypeError', message: 'the registry is closed' });
   const closing = Registry.fromFile(sample);

@@ -13,6 +13,8 @@ const available: Available<string | Tag> = registry.available(['en', new Tag('de
 const best: (string | Tag | null)[] = [available.best('de-CH, de;q=0.8'), available.best(undefined), ...available.filter(null)];
 const other: 'en' | 7 = registry.available(['en'] as const).best('de', 7 as const);
 const made: string[] = [Tag.fromParts({ language: 'zh', script: 'Hant' }), Tag.fromPosix('C'), new Tag('de').with({ region: null, variants: ['1996'] })].map((tag) => tag.text);
+const given: Record<string, string[]>[] = [new Tag('de-u-co-phonebk').extensions, new Tag('de-u-co-phonebk').keywords];
+const attributes: string[] = new Tag('de').with({ region: undefined, extensions: given[0], language: new Tag('zh-yue') }).attributes;
 const parent: Tag | null = new Tag('zh-TW').parent;
 const field: string = registry.record(1)[0].name;
 const names: string[] = registry.show('sgn-dd').flatMap(({ fields }) => fields.map(({ body }) => body));
@@ -36,6 +38,10 @@ registry.matches('en', 'en', 'exact');
 // @ts-expect-error
 new Tag('de').with({ scripts: 'Latn' });
 // @ts-expect-error
+new Tag('de').with({ extensions: { u: 7 } });
+// @ts-expect-error
+Tag.fromParts({ region: 'AT' });
+// @ts-expect-error
 info.entries = 3;
 // @ts-expect-error
 new Tag('en').text = 'de';
@@ -44,4 +50,4 @@ new Registry('text');
 // @ts-expect-error
 const wrong: Fault = 'BadBytes';
 export { loaded, names };
-export { best, bytes, field, isOne, kinds, made, matched, other, parent, parts, scripts, step, wrong };
+export { attributes, best, bytes, field, isOne, kinds, made, matched, other, parent, parts, scripts, step, wrong };

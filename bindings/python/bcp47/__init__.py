@@ -14,6 +14,7 @@ import importlib.resources
 import itertools
 import json
 import os
+import struct
 from typing import (TYPE_CHECKING, Any, Dict, Generic, Iterable, Iterator, List, Literal, Mapping, NamedTuple, NoReturn, Optional, Tuple, Type,
                     TypeVar, Union, overload)
 
@@ -26,18 +27,18 @@ __all__ = ["Available", "Explanation", "Fault", "Info", "Part", "Refused", "Refu
 __version__: str = _bcp47.version
 
 _CLASSES = {"PrivateUseSingleton": "privateuse", "Grandfathered": "grandfathered"}
-_OF_EXTENSIONS = ("ExtensionSubtag", "Attribute", "Key", "Type", "SourceLanguage", "SourceExtlang", "SourceScript", "SourceRegion",
-                  "SourceVariant", "Separator", "Value")
 _SCHEMES = {"basic": 1, "extended": 2, "lookup": 3}
 # What a Tag keeps of its parts, and the kinds of these.
 _ONE = (("language", "Language"), ("script", "Script"), ("region", "Region"))
 _MANY = (("extlangs", "Extlang"), ("variants", "Variant"), ("attributes", "Attribute"), ("private", "PrivateUse"))
 # The number of each part that is replaced, in the order of a tag.
-_REPLACED = (("language", 1), ("script", 3), ("region", 4), ("variants", 5), ("extensions", 6), ("private", 18))
-_Subtags = Union[str, Iterable[str]]
+_REPLACED = {"language": 1, "script": 3, "region": 4, "variants": 5, "extensions": 6, "private": 18}
+_Subtags = Union[str, "Tag", Iterable[str]]
+_Part = Union[_Subtags, Mapping[str, _Subtags], None]
 Missing = TypeVar("Missing")
 AnyTag = TypeVar("AnyTag", bound="Union[str, Tag]")
 AnyRegistry = TypeVar("AnyRegistry", bound="Registry")
+Mine = TypeVar("Mine", bound="Tag")
 
 
 class Refused(ValueError):
@@ -65,21 +66,24 @@ class Refused(ValueError):
         return str(self.args[4])
 
     def __str__(self) -> str:
-        return str(self.args[0])
+        return "".join(self.args[:1])
 
     if not TYPE_CHECKING:
         @property
         def __notes__(self) -> List[str]:
             """What Python from 3.11 on prints below the line of an exception that nobody caught."""
             front = "".join(f"{tag[:80]!r}: " for tag in self.args[5:])
-            return self.__dict__.setdefault("_notes", [front + self.help])
+            return self.__dict__.setdefault("_notes", [front + help for help in self.args[4:5]])
 
 
 class RefusedTag(Refused):
     """A text is no tag or no language range, a tag is not valid, its replacements can repeat a variant, which `variant` names, or its
     explanation has too many steps. `tag` is the text, and the last of `args`."""
 
-    variant: Optional[str] = None
+    @property
+    def variant(self) -> Optional[str]:
+        """The variant that replacements can repeat, where that is why."""
+        return str(self).split(" ")[1] if self.status == "ReplacementRepeats" else None
 
     @property
     def tag(self) -> str:
@@ -145,18 +149,27 @@ class Info(NamedTuple):
     sha256: str
 
 
-def _numbers(step: Step) -> Tuple[int, int, int]:
-    """A step in numbers. One that has none, as no kind has its name, gets zeros, which lead nowhere."""
-    if step.kind not in STEPS or not all(isinstance(number, int) and 0 <= number < 2**32 for number in (step.place, step.number)):
-        return 0, 0, 0
-    return STEPS.index(step.kind), step.place, step.number
+def _packed(step: Step) -> bytes:
+    """A step as C has it. One that has no numbers, as no kind has its name, gets zeros, which lead nowhere."""
+    try:
+        return struct.pack("BII", STEPS.index(step.kind), step.place, step.number)
+    except (ValueError, struct.error):
+        return bytes(struct.calcsize("BII"))
 
 
-def _joined(value: Union[_Subtags, Mapping[str, _Subtags], None]) -> str:
-    """The text of a part."""
+def _joined(name: str, value: object) -> str:
+    """The text of a part with a name."""
+    if isinstance(value, Tag):
+        return value.text
+    if isinstance(value, str):
+        return value
     if isinstance(value, Mapping):
-        return "-".join(f"{singleton}-{_joined(subtags)}" for singleton, subtags in value.items())
-    return value if isinstance(value, str) else "-".join(value or ())
+        return "-".join(f"{singleton}-{_joined(name, subtags)}" for singleton, subtags in value.items())
+    if isinstance(value, Iterable) and not isinstance(value, (bytes, bytearray)):
+        return "-".join(_joined(name, subtag) for subtag in value)
+    if value is None:
+        return ""
+    raise TypeError(f"{name}: expected str or an iterable of str, not {type(value).__name__}")
 
 
 @functools.total_ordering
@@ -197,52 +210,51 @@ class Tag:
         object.__setattr__(self, "_kinds", kinds)
 
     @classmethod
-    def from_parts(cls, language: _Subtags, **parts: Union[_Subtags, Mapping[str, _Subtags], None]) -> Tag:
+    def from_parts(cls: Type[Mine], language: _Subtags, **parts: _Part) -> Mine:
         """The tag of these parts, which `replace` names."""
-        return Tag(_joined(language)).replace(**parts)
+        return cls(_joined("language", language)).replace(**parts)
 
     @classmethod
-    def from_posix(cls, name: str) -> Tag:
+    def from_posix(cls: Type[Mine], name: str) -> Mine:
         """The tag that the name of a POSIX locale stands for: `sr-Latn-RS` for `sr_RS.UTF-8@latin`. Raises RefusedTag."""
-        return Tag(_bcp47.posix(name))
+        return cls(_bcp47.posix(name))
 
-    def replace(self, **parts: Union[_Subtags, Mapping[str, _Subtags], None]) -> Tag:
+    def replace(self: Mine, **parts: _Part) -> Mine:
         """A tag with other parts: `language` (with its extlangs, as `zh-yue`), `script`, `region`, `variants`, `extensions` and
         `private`. Each is a text, subtags, or of `extensions` a mapping as the property gives it; None and what is empty take it
         away. No registry is asked, so that the tag need not be valid. Raises RefusedTag, also where the tag has no language."""
-        if not {*parts} <= {name for name, _ in _REPLACED}:
-            raise TypeError(f"a part is one of {', '.join(name for name, _ in _REPLACED)}")
+        for name in parts.keys() - _REPLACED.keys():
+            raise TypeError(f"no part of a tag is named {name!r}: {', '.join(_REPLACED)}")
         text = self.text
-        for name, number in _REPLACED:
+        for name, number in _REPLACED.items():
             if name in parts:
-                value = _joined(parts[name])
-                text = _bcp47.replaced(text, number, f"x-{value}" if value and name == "private" else value)
-        return Tag(text)
+                value = _joined(name, parts[name])
+                text = _bcp47.replaced(text, number, "x-" + value if value and name == "private" else value)
+        return type(self)(text)
 
     @property
-    def parent(self) -> Optional[Tag]:
+    def parent(self: Mine) -> Optional[Mine]:
         """The tag to which lookup falls back (RFC 4647, 3.4): without its last subtag, and the singletons before that. None if
         nothing is left."""
         text = _bcp47.parent(self.text)
-        return Tag(text) if text else None
+        return type(self)(text) if text else None
 
     if not TYPE_CHECKING:
         def __getattr__(self, name: str) -> object:
             """The parts are read when the first of them is asked for, and kept."""
-            if name in ("text", "_kinds") or name not in Tag.__slots__:
-                raise AttributeError(f"a Tag has no {name!r}")
-            # a grandfathered tag is one part
-            texts = [self.text] if len(self._kinds) == 1 else self.text.split("-")
-            kept, keep = {}, object.__setattr__
-            kinds = [PARTS[kind] for kind in self._kinds]
-            for kind, text in zip(kinds, texts):
-                kept.setdefault(kind, []).append(text)
-            keep(self, "parts", tuple(map(Part, kinds, texts)))
-            keep(self, "kind", _CLASSES.get(kinds[0], "langtag"))
-            for slot, kind in _ONE:
-                keep(self, slot, kept.get(kind, (None,))[0])
-            for slot, kind in _MANY:
-                keep(self, slot, tuple(kept.get(kind, ())))
+            if name in Tag.__slots__ and name not in ("text", "_kinds"):
+                # a grandfathered tag is one part
+                texts = [self.text] if len(self._kinds) == 1 else self.text.split("-")
+                kept, keep = {}, object.__setattr__
+                kinds = [PARTS[kind] for kind in self._kinds]
+                for kind, text in zip(kinds, texts):
+                    kept.setdefault(kind, []).append(text)
+                keep(self, "parts", tuple(map(Part, kinds, texts)))
+                keep(self, "kind", _CLASSES.get(kinds[0], "langtag"))
+                for slot, kind in _ONE:
+                    keep(self, slot, kept.get(kind, (None,))[0])
+                for slot, kind in _MANY:
+                    keep(self, slot, tuple(kept.get(kind, ())))
             return object.__getattribute__(self, name)
 
     def __setattr__(self, name: str, value: object) -> NoReturn:
@@ -251,35 +263,38 @@ class Tag:
     def __delattr__(self, name: str) -> NoReturn:
         raise AttributeError("a Tag does not change")
 
-    def __reduce__(self) -> Tuple[Type[Tag], Tuple[str]]:
-        return Tag, (self.text,)
+    def __reduce__(self: Mine) -> Tuple[Type[Mine], Tuple[str]]:
+        return type(self), (self.text,)
 
-    def _groups(self, begins: str, goes_on: Tuple[str, ...]) -> Dict[str, Tuple[str, ...]]:
-        """The texts that follow each part of a kind. Of two that are alike the first counts."""
-        groups: Dict[str, Tuple[str, ...]] = {}
-        name: Optional[str] = None
+    def _groups(self, begins: str) -> Dict[str, Tuple[str, ...]]:
+        """The texts that follow each part of a kind within its extension. Of two that are alike the first counts."""
+        groups: Dict[str, List[str]] = {}
+        group: List[str] = []
         for kind, text in self.parts:
             if kind == begins:
-                name = None if text in groups else text
-                groups.setdefault(text, ())
-            elif kind not in goes_on:
-                name = None
-            elif name is not None:
-                groups[name] += (text,)
-        return groups
+                group = []
+                groups.setdefault(text, group)
+            elif kind in ("Singleton", "PrivateUseSingleton"):
+                group = []
+            else:
+                group.append(text)
+        return {name: tuple(texts) for name, texts in groups.items()}
 
     @property
     def extensions(self) -> Dict[str, Tuple[str, ...]]:
         """The subtags of each extension, by its singleton (RFC 5646, 2.2.6)."""
-        return self._groups("Singleton", _OF_EXTENSIONS)
+        return self._groups("Singleton")
 
     @property
     def keywords(self) -> Dict[str, Tuple[str, ...]]:
         """The types of each key of the `u` extension (RFC 6067, 2.1). Of a key that occurs twice the first counts."""
-        return self._groups("Key", ("Type",))
+        return self._groups("Key")
 
     def __str__(self) -> str:
         return self.text
+
+    def __format__(self, form: str) -> str:
+        return format(self.text, form)
 
     def __repr__(self) -> str:
         return f"Tag({self.text!r})"
@@ -302,6 +317,10 @@ def _listed(tags: Iterable[Missing]) -> Iterable[Missing]:
     return tags
 
 
+def _not_copied(self: object, protocol: object) -> NoReturn:
+    raise TypeError(f"{self!r} is not copied or pickled: open it in each process, for example by Registry.from_file")
+
+
 class Registry(_bcp47.Registry):
     """A registry that passes the check. Any number of threads may ask it at once. Raises RefusedTag where a tag is refused."""
 
@@ -310,9 +329,7 @@ class Registry(_bcp47.Registry):
     @classmethod
     def from_bytes(cls: Type[AnyRegistry], content: Union[bytes, bytearray, memoryview]) -> AnyRegistry:
         """The registry whose text the bytes are. Raises RefusedRegistry where they are none."""
-        if not isinstance(content, (bytes, bytearray, memoryview)):
-            raise TypeError(f"a registry is read from bytes, not from {type(content).__name__}")
-        return _bcp47.open(cls, bytes(content))
+        return cls._open(bytes(memoryview(content)))
 
     @classmethod
     def from_file(cls: Type[AnyRegistry], path: Union[str, os.PathLike[str]]) -> AnyRegistry:
@@ -333,8 +350,7 @@ class Registry(_bcp47.Registry):
     def __exit__(self, *_: object) -> None:
         self.close()
 
-    def __reduce_ex__(self, protocol: object) -> NoReturn:
-        raise TypeError("a registry is not copied or pickled: open it in each process by Registry.from_file")
+    __reduce_ex__ = _not_copied
 
     def __repr__(self) -> str:
         if self.closed:
@@ -411,7 +427,7 @@ class Registry(_bcp47.Registry):
             if not isinstance(step, Step):
                 raise TypeError(f"a step is a Step, not {type(step).__name__}")
         end = last if last is not None else steps[-1].tag if steps else tag
-        self._verify_steps(tag, tuple(map(_numbers, steps)), end)
+        self._verify_steps(tag, b"".join(map(_packed, steps)), end)
 
     def upgrade_check(self, newer: Registry) -> None:
         """Returns where a newer registry keeps what this one promised. Raises RefusedUpgrade where it does not."""
@@ -426,9 +442,12 @@ class Available(Generic[AnyTag]):
 
     def __init__(self, registry: Registry, tags: Iterable[AnyTag]) -> None:
         self.tags: Tuple[AnyTag, ...] = tuple(_listed(tags))
-        for tag in self.tags:
-            registry.canonical(tag)
-        self._held = registry._available([str(tag) for tag in self.tags])
+        self._held = registry._available(self.tags)
+
+    def __repr__(self) -> str:
+        return f"<bcp47.Available of {', '.join(map(repr, self.tags))}>"
+
+    __reduce_ex__ = _not_copied
 
     @overload
     def best(self, accept: Optional[str]) -> Optional[AnyTag]: ...

@@ -3,10 +3,10 @@
 import argparse
 import os
 import sys
-from typing import BinaryIO, NoReturn
+from typing import BinaryIO, NoReturn, Optional, TextIO
 
 from . import RefusedRegistry, Registry, __version__
-from .lines import answer_lines, rewrite_table, table_of
+from .lines import answer_lines, rewrite_table, show_tag
 from .report import BadTable, NoColumn, page_of
 
 _STATUSES = """status:
@@ -50,38 +50,33 @@ def _opened(name: str) -> BinaryIO:
     return open(0, "rb", closefd=False) if name == "-" else open(name, "rb")
 
 
-def _write(text: str) -> None:
-    """Writes to the standard output what the next read does not wait for."""
-    print(text, end="", flush=True)
+def _output(name: Optional[str] = None) -> TextIO:
+    """The file of a name, or the standard output, which gets each line at once."""
+    return open(name or 1, "w", encoding="utf-8", buffering=1, closefd=bool(name))
 
 
-def _report(words: argparse.Namespace) -> bool:
-    with Registry.from_file(words.registry) as registry, _opened(words.file) as file:
+def _report(words: argparse.Namespace, registry: Registry) -> bool:
+    with _opened(words.file) as file:
         name = "the standard input" if words.file == "-" else os.path.basename(words.file)
         page = page_of(registry, file, name, words.column, words.delimiter, words.most)
-    with open(words.output or 1, "w", encoding="utf-8", closefd=bool(words.output)) as output:
+    with _output(words.output) as output:
         output.write(page)
     return True
 
 
-def _canon(words: argparse.Namespace) -> bool:
-    with Registry.from_file(words.registry) as registry, _opened("-") as file:
-        return answer_lines(registry, file, _write)
+def _canon(words: argparse.Namespace, registry: Registry) -> bool:
+    with _opened("-") as file, _output() as output:
+        return answer_lines(registry, file, output)
 
 
-def _csv(words: argparse.Namespace) -> bool:
-    with Registry.from_file(words.registry) as registry, _opened("-") as file:
-        return rewrite_table(registry, file, _write, words.column, words.delimiter, words.keep)
+def _csv(words: argparse.Namespace, registry: Registry) -> bool:
+    with _opened("-") as file, _output() as output:
+        return rewrite_table(registry, file, output, words.column, words.delimiter, words.keep)
 
 
-def _show(words: argparse.Namespace) -> bool:
-    refusals = 0
-    with Registry.from_file(words.registry) as registry:
-        for tag in words.tag:
-            table, refused = table_of(registry, tag)
-            _write(table)
-            refusals += refused is not None
-    return not refusals
+def _show(words: argparse.Namespace, registry: Registry) -> bool:
+    with _output() as output:
+        return all([show_tag(registry, tag, output) for tag in words.tag])
 
 
 def _parser() -> _Parser:
@@ -115,7 +110,8 @@ def main() -> None:
     """Does what the words of the command line ask for."""
     words = _parser().parse_args()
     try:
-        sys.exit(not words.run(words))
+        with Registry.from_file(words.registry) as registry:
+            is_good = words.run(words, registry)
     except RefusedRegistry as refused:
         words.command.end(2, f"{words.registry}: {refused}: {refused.help}")
     except NoColumn as error:
@@ -126,6 +122,7 @@ def main() -> None:
         sys.exit(4)
     except (BadTable, OSError) as error:
         words.command.end(4, error)
+    sys.exit(not is_good)
 
 
 if __name__ == "__main__":

@@ -3,7 +3,7 @@
 from __future__ import annotations
 
 import csv
-from typing import BinaryIO, Callable, List, Optional, Tuple
+from typing import BinaryIO, List, TextIO, Tuple
 
 from . import RefusedTag, Registry, Row, Tag
 from .report import place_of, rows_of
@@ -13,30 +13,25 @@ _ASCII = bytes(range(128)) + b"?" * 128
 _KEPT = ["langtag", "langtag_fault"]
 
 
-def answer_lines(registry: Registry, file: BinaryIO, write: Callable[[str], object]) -> bool:
+def answer_lines(registry: Registry, file: BinaryIO, output: TextIO) -> bool:
     """Answers each line by its canonical tag, or by why it has none, as `langtag canon`. Gives whether all have one."""
     all_good = True
     for line in file:
         text = line.removesuffix(b"\n").removesuffix(b"\r").translate(_ASCII).decode()
         tag, why = _answer(registry, text)
-        write(tag + "\n" if tag else f"! {why}\n")
+        output.write(tag + "\n" if tag else f"! {why}\n")
         all_good = all_good and bool(tag)
     return all_good
 
 
-def rewrite_table(registry: Registry, file: BinaryIO, write: Callable[[str], object], word: str, delimiter: str, keep: bool) -> bool:
+def rewrite_table(registry: Registry, file: BinaryIO, output: TextIO, word: str, delimiter: str, keep: bool) -> bool:
     """Writes a table with the tags of a column made canonical, and with why others are not. Gives whether all have a canonical tag.
     The column is named or numbered by a word. With keep, rows stay, and get two fields more."""
-
-    class Output:
-        def write(self, text: str) -> object:
-            return write(text)
-
-    output = csv.writer(Output(), delimiter=delimiter, lineterminator="\n")
+    writer = csv.writer(output, delimiter=delimiter, lineterminator="\n")
     rows = rows_of(file, delimiter)
     heading: List[str] = next(rows, [])
     place = place_of(heading, word)
-    output.writerow(heading + _KEPT[not keep:])
+    writer.writerow(heading + _KEPT[not keep:])
     all_good = True
     for row in rows:
         tag, why = _answer(registry, row[place]) if place < len(row) else ("", "NoColumn")
@@ -44,7 +39,7 @@ def rewrite_table(registry: Registry, file: BinaryIO, write: Callable[[str], obj
             row.append(tag)
         elif tag:
             row[place] = tag
-        output.writerow([*row, why])
+        writer.writerow([*row, why])
         all_good = all_good and not why
     return all_good
 
@@ -55,16 +50,18 @@ def _answer(registry: Registry, text: str) -> Tuple[str, str]:
     return tag or "", why or ""
 
 
-def table_of(registry: Registry, text: str) -> Tuple[str, Optional[RefusedTag]]:
-    """What `langtag show` prints of a tag, and its refusal, if it is refused."""
+def show_tag(registry: Registry, text: str, output: TextIO) -> bool:
+    """Prints what `langtag show` prints of a tag. Gives whether it is not refused."""
     lines: List[str] = []
     try:
         lines += [str(Tag(text)), *_row_lines(registry.show(text))]
         explanation = registry.explain(text)
+        lines += [f"{step.kind} {step.place} {step.number} {step.tag}" for step in explanation.steps]
+        last = f"= {explanation.canonical}"
     except RefusedTag as refused:
-        return "\n".join([*(lines or [_printable(text)]), f"! {refused}", "", ""]), refused
-    lines += [f"{step.kind} {step.place} {step.number} {step.tag}" for step in explanation.steps]
-    return "\n".join([*lines, f"= {explanation.canonical}", "", ""]), None
+        last = f"! {refused}"
+    print(*(lines or [_printable(text)]), last, "", sep="\n", file=output)
+    return last[0] == "="
 
 
 def _row_lines(rows: List[Row]) -> List[str]:

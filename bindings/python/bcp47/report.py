@@ -6,7 +6,7 @@ import codecs
 import csv
 import itertools
 import time
-from typing import BinaryIO, Dict, Iterator, List, NamedTuple
+from typing import BinaryIO, Dict, Iterator, List, Tuple
 
 from . import Registry, __version__
 from .advice import Advice
@@ -19,14 +19,6 @@ class NoColumn(Exception):
 
 class BadTable(Exception):
     """Why a text is no table."""
-
-
-class _Column(NamedTuple):
-    """A column: its name, how many rows have each text, and the first row that has it. None is the text of a row without one."""
-
-    name: str
-    rows: Dict[Text, int]
-    firsts: Dict[Text, int]
 
 
 def place_of(names: List[str], word: str) -> int:
@@ -59,8 +51,9 @@ def rows_of(file: BinaryIO, delimiter: str) -> Iterator[List[str]]:
         raise BadTable(f"line {reader.line_num + 1} is not UTF-8: write the file in UTF-8") from None
 
 
-def _read(file: BinaryIO, word: str, delimiter: str) -> _Column:
-    """The column that a word names, of CSV with a heading."""
+def _read(file: BinaryIO, word: str, delimiter: str) -> Tuple[str, Dict[Text, int], Dict[Text, int]]:
+    """The name of the column that a word names, of CSV with a heading, how many rows have each text, and the first row that has it.
+    None is the text of a row without one."""
     rows: Dict[Text, int] = {}
     firsts: Dict[Text, int] = {}
     read_rows = rows_of(file, delimiter)
@@ -72,21 +65,23 @@ def _read(file: BinaryIO, word: str, delimiter: str) -> _Column:
             rows[text] += 1
         else:
             rows[text], firsts[text] = 1, number
-    return _Column(names[place], rows, firsts)
+    return names[place], rows, firsts
 
 
-def _page(column: _Column, registry: Registry, advice: Advice, tables: Tables, name: str) -> str:
-    """The page about a column of the file with a name, by its tables."""
+def page_of(registry: Registry, file: BinaryIO, name: str, word: str, delimiter: str, most: int) -> str:
+    """The page about a column, by its name or else its number from 1, of CSV in UTF-8 in a file with a name. Raises NoColumn, BadTable."""
+    column, rows, firsts = _read(file, word, delimiter)
+    tables = Tables(rows, firsts, answers_of(registry, rows), most)
     tags = tables.answers.tags
-    all_rows = sum(column.rows.values())
+    all_rows = sum(rows.values())
 
     def share(tag: Group) -> str:
         return (f'<tr><th scope="row" class="text">{shown(tag.answer)}</th>{cell(tag.rows)}<td class="share">'
                 f'{tag.rows / all_rows:.1%}<div style="width: {tag.rows / tags[0].rows:.1%}"></div></td></tr>')
 
     return document(
-        f"Language tags of the column {escaped(column.name[:LONGEST])}",
-        f"<h1>Language tags of the column {shown(column.name)}</h1>\n" + tables.verdict() + tables.refused(advice.of) + tables.faults()
+        f"Language tags of the column {escaped(column[:LONGEST])}",
+        f"<h1>Language tags of the column {shown(column)}</h1>\n" + tables.verdict() + tables.refused(Advice(registry).of) + tables.faults()
         + tables.summary("What became of the rows below the heading")
         + tables.section("The most frequent tags", "Canonical tags by the rows that have them, with a bar for each",
                          ["Canonical tag", "#Rows", "Of all rows"], tags, share)
@@ -97,10 +92,3 @@ def _page(column: _Column, registry: Registry, advice: Advice, tables: Tables, n
         + f"<h2>About this page</h2>\n<p>It was made on {time.strftime('%Y-%m-%d')} of {shown(name)} by bcp47 {__version__}. "
         "Rows have the numbers that a spreadsheet shows: 1 is the heading. Where no field has a "
         f"line break, they are the lines of the file. Each table keeps {tables.most:,} at most.</p>\n")
-
-
-def page_of(registry: Registry, file: BinaryIO, name: str, word: str, delimiter: str, most: int) -> str:
-    """The page about a column, by its name or else its number from 1, of CSV in UTF-8 in a file with a name. Raises NoColumn, BadTable."""
-    column = _read(file, word, delimiter)
-    tables = Tables(column.rows, column.firsts, answers_of(registry, column.rows), most)
-    return _page(column, registry, Advice(registry), tables, name)

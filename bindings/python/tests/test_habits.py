@@ -1,15 +1,20 @@
 """What users of Python do by habit: copies, pools of processes, forks, signals, threads, columns. Arguments: the sample registry,
 and names of tests, if not all are wanted."""
+import array
 import concurrent.futures
 import copy
 import decimal
+import enum
 import gc
 import importlib
+import inspect
 import math
+import mmap
 import multiprocessing
 import os
 import pickle
 import signal
+import struct
 import sys
 import threading
 import time
@@ -61,7 +66,7 @@ class Copies(unittest.TestCase):
             with self.assertRaises(bcp47.Refused) as caught:
                 call()
             raised.append(caught.exception)
-        raised[0].variant = "arevela"
+        raised[0].row = 7
         for one in raised:
             for other in (pickle.loads(pickle.dumps(one)), copy.copy(one), copy.deepcopy(one)):
                 self.assertEqual((type(other), other.args, vars(other), str(other)), (type(one), one.args, vars(one), str(one)))
@@ -79,6 +84,33 @@ class Copies(unittest.TestCase):
         self.assertTrue(bcp47.Tag("de") < bcp47.Tag("en") and bcp47.Tag("en") >= bcp47.Tag("EN"))
         with self.assertRaises(TypeError):
             bcp47.Tag("de") < "en"
+        self.assertEqual((f"{tag:>8}|", f"{tag!s}", "%-8s|" % tag), (" zh-Hant|", "zh-Hant", "zh-Hant |"))
+
+    def test_tags_of_a_class_of_its_own(self):
+        class Mine(bcp47.Tag):
+            def __reduce__(self):
+                return super().__reduce__()
+
+        tag = Mine("en-us")
+        for other in (copy.copy(tag), copy.deepcopy(tag), tag.replace(script=None), tag.parent.replace(region="US"),
+                      Mine.from_parts("en", region="US"), Mine.from_posix("en_US")):
+            self.assertEqual((type(other), other), (Mine, tag))
+
+    def test_tags_that_are_served(self):
+        available = registry.available(["de", bcp47.Tag("en")])
+        self.assertEqual(repr(available), "<bcp47.Available of 'de', Tag('en')>")
+        for copies in (copy.deepcopy, pickle.dumps):
+            with self.assertRaisesRegex(TypeError, "<bcp47.Available of .* open it in each process"):
+                copies(available)
+
+    def test_enums_of_texts(self):
+        class Language(str, enum.Enum):
+            GERMAN = "de"
+            HEBREW = "iw"
+
+        available = registry.available(Language)
+        self.assertIs(available.best("he"), Language.HEBREW)
+        self.assertEqual(registry.canonical_many([*Language]), ["de", "he"])
 
 
 # Python's warning that a fork beside threads may hang is what is tested.
@@ -114,6 +146,19 @@ class Parts(unittest.TestCase):
         self.assertIs(tag.parts, tag.parts)
         for name in ("regions", "_text", "__wrapped__"):
             self.assertFalse(hasattr(tag, name))
+        with self.assertRaisesRegex(AttributeError, "'Tag' object has no attribute 'regions'"):
+            tag.regions
+        self.assertIs(tag.region, tag.region)
+
+    def test_parts_of_a_wrong_type(self):
+        tag = bcp47.Tag("en-US")
+        for parts, why in (({"region": 7}, "region: expected str or an iterable of str, not int"), ({"region": b"GB"}, "region: .* not bytes"),
+                           ({"variants": ["1996", 7]}, "variants: .* not int"), ({"extensions": {"u": 7}}, "extensions: .* not int"),
+                           ({"regoin": "GB"}, "no part of a tag is named 'regoin': language, script, region, ")):
+            self.assertRaisesRegex(TypeError, why, tag.replace, **parts)
+            self.assertRaisesRegex(TypeError, why, bcp47.Tag.from_parts, "en", **parts)
+        self.assertRaisesRegex(TypeError, "language: .* not int", bcp47.Tag.from_parts, 7)
+        self.assertEqual(tag.replace(language=bcp47.Tag("de"), extensions={"u": iter(["co", "phonebk"])}), bcp47.Tag("de-US-u-co-phonebk"))
         self.assertFalse(hasattr(bcp47.Tag.__new__(bcp47.Tag), "text"))
 
     def test_in_a_pattern_and_by_a_weak_reference(self):
@@ -140,6 +185,24 @@ class Refusals(unittest.TestCase):
         self.assertEqual((str(caught.exception), caught.exception.status), ("NoEntries", "NoEntries"))
         self.assertEqual(caught.exception.__notes__, [caught.exception.help])
 
+    def test_one_that_a_test_makes(self):
+        """A mock that raises one makes it of nothing or of a line."""
+        for made, line in ((bcp47.RefusedTag(), ""), (bcp47.RefusedTag("BadByte 1"), ": BadByte 1"), (bcp47.RefusedRegistry("jar"), ": jar")):
+            self.assertEqual(traceback.format_exception_only(type(made), made)[0], f"bcp47.{type(made).__name__}{line}\n")
+            self.assertEqual(pickle.loads(pickle.dumps(made)).args, made.args)
+
+    def test_arguments_by_their_names(self):
+        self.assertEqual((registry.canonical(tag="iw"), registry.extlang(tag="yue"), registry.is_valid(tag="xx")), ("he", "zh-yue", False))
+        self.assertIsNone(registry.validate(tag="en"))
+        self.assertTrue(registry.equivalent(first="iw", second="he") and registry.equivalent("iw", second="he"))
+        for call, names in ((registry.canonical, "(tag)"), (registry.extlang, "(tag)"), (registry.validate, "(tag)"), (registry.is_valid, "(tag)"),
+                            (registry.equivalent, "(first, second)")):
+            self.assertEqual(str(inspect.signature(call)), names)
+            for wrong in ({}, {"text": "en"}, {"tag": "en", "other": "en"}):
+                self.assertRaises(TypeError, call, **wrong)
+            self.assertRaises(TypeError, call, *["en"] * 3)
+        self.assertRaises(TypeError, registry.canonical, "en", tag="en")
+
     def test_faults_are_names_that_are_known(self):
         with self.assertRaises(bcp47.RefusedTag) as caught:
             registry.canonical("en_US")
@@ -157,6 +220,18 @@ class Refusals(unittest.TestCase):
         for tag in (bcp47.Tag("xx"), type("Text", (str,), {})("xx")):
             self.assertEqual([(type(it.tag), it.tag) for it in registry.canonical_many([tag])], [(str, "xx")])
 
+    def test_they_are_cheap(self):
+        """Refusals in a list share what they say, and take no longer than a few answers."""
+        def seconds(tags):
+            begun = time.process_time()
+            registry.canonical_many(tags)
+            return time.process_time() - begun
+
+        refused, answered = (min(seconds([tag] * 50_000) for _ in range(3)) for tag in ("en_US", "zh-yue"))
+        self.assertLess(refused, 20 * answered)
+        one, other = registry.canonical_many(["en_US", "de_DE"])
+        self.assertTrue(all(mine is others for mine, others in zip(one.args[:5], other.args)))
+
     def test_what_only_says_that_it_is_a_registry(self):
         class Proxy:
             __slots__ = ("one", "other")
@@ -169,16 +244,25 @@ class Refusals(unittest.TestCase):
             self.assertRaises(TypeError, registry.upgrade_check, wrong)
         self.assertIs(proxy.other, registry)
         for kind in (int, proxy, bcp47.Tag):
-            self.assertRaises(TypeError, bcp47._bcp47.open, kind, b"")
+            self.assertRaises(TypeError, vars(bcp47._bcp47.Registry)["_open"].__get__, None, kind)
+        self.assertRaises(TypeError, bcp47.Registry._open, "")
         self.assertRaises(TypeError, bcp47._bcp47.setup, (1,))
 
     def test_a_registry_of_a_class_of_its_own(self):
         class Mine(bcp47.Registry):
-            pass
+            def __init__(self, path):
+                raise AssertionError("it is made by no path")
 
-        with Mine.from_file(SAMPLE) as mine:
-            self.assertEqual((type(mine), mine.canonical("iw")), (Mine, "he"))
+        with Mine.from_file(SAMPLE) as mine, Mine.from_bytes(b"Type: language\nSubtag: en\n") as other:
+            self.assertEqual((type(mine), type(other), mine.canonical("iw")), (Mine, Mine, "he"))
             mine.upgrade_check(registry)
+
+    def test_a_registry_of_what_holds_bytes(self):
+        with open(SAMPLE, "rb") as file, mmap.mmap(file.fileno(), 0, access=mmap.ACCESS_READ) as mapped:
+            for content in (mapped, array.array("B", mapped[:]), bytearray(mapped), memoryview(mapped[:])):
+                self.assertEqual(bcp47.Registry.from_bytes(content).canonical("iw"), "he")
+        for wrong in (SAMPLE, 7, None, [65]):
+            self.assertRaisesRegex(TypeError, "bytes-like object is required, not '" + type(wrong).__name__, bcp47.Registry.from_bytes, wrong)
 
 
 class Processes(unittest.TestCase):
@@ -339,7 +423,40 @@ class Columns(unittest.TestCase):
             self.assertRaises(TypeError, registry.canonical_many, [wrong])
         for wrong in ("zh-yue", b"zh", bcp47.Tag("zh"), 7, None):
             self.assertRaises(TypeError, registry.canonical_many, wrong)
-        self.assertRaises(UnicodeEncodeError, registry.canonical_many, ["\udc80"])
+
+    def test_the_place_of_a_value_that_is_no_tag(self):
+        for call in (registry.canonical_many, registry.canonical_columns, registry.available):
+            for wrong in (7, b"en", ["en"]):
+                with self.assertRaisesRegex(TypeError, f"^item 2: expected str or Tag, not {type(wrong).__name__}$"):
+                    call(iter(["en", "de", wrong, "en"]))
+        with self.assertRaisesRegex(TypeError, "^item 5000: expected str or Tag, not int$"):
+            registry.canonical_many(["en", None] * 2500 + [7])
+        for call in (registry.canonical, registry.is_valid, bcp47.Tag, bcp47.Tag.from_posix, registry.available([]).best):
+            with self.assertRaisesRegex(TypeError, "^expected str or Tag, not int$"):
+                call(7)
+
+    def test_lone_surrogates(self):
+        """Each is refused in its place, as other characters outside of ASCII are."""
+        available = registry.available(["en"])
+        calls = (registry.canonical, registry.extlang, registry.validate, registry.explain, registry.show, bcp47.Tag, bcp47.Tag.from_posix,
+                 lambda text: registry.equivalent(text, "en"), lambda text: registry.equivalent("en", text), lambda text: registry.verify(text, []),
+                 lambda text: registry.verify("en", [], text), lambda text: registry.matches(text, "en"), lambda text: registry.matches("en", text),
+                 lambda text: registry.available(["en", text]), available.best, available.filter,
+                 lambda text: bcp47.Tag("en").replace(region=text), lambda text: bcp47.Tag(type("Text", (str,), {})(text)))
+        for text in ("en-\udcff", "\ud800", "en-GB-a\udc80\udc80", "en-\ud83d\ude00"):
+            for call in calls:
+                told = []
+                for one in (text, text.encode(errors="replace").decode().replace("?", "\u00e9")):
+                    with self.assertRaises(bcp47.RefusedTag) as caught:
+                        call(one)
+                    self.assertEqual(caught.exception.tag, one)
+                    told.append(caught.exception.args[:5])
+                self.assertEqual((told[0], told[0][2]), (told[1], "BadByte"))
+            self.assertFalse(registry.is_valid(text))
+            tags = ["iw", text, None, text] * 2000
+            self.assertEqual([getattr(it, "tag", it) for it in registry.canonical_many(tags)], ["he", text, None, text] * 2000)
+            fault = f"BadByte {1 + text.count('-')}"
+            self.assertEqual(registry.canonical_columns(tags), (["he", None, None, None] * 2000, [None, fault, None, fault] * 2000))
 
     def test_long_columns(self):
         """More than one part, and texts that outgrow the first buffer."""
@@ -399,10 +516,11 @@ class Memory(unittest.TestCase):
             registry.upgrade_check(registry)
             registry.info
             for wrong in (7, "\udc80"):
-                for call in (registry.canonical, lambda it: registry.canonical_many([it])):
+                for call in (registry.canonical, lambda it: registry.canonical_many([it, bcp47.Tag("iw"), it]),
+                             lambda it: registry.available(["en", it])):
                     try:
                         call(wrong)
-                    except (TypeError, UnicodeError):
+                    except (TypeError, bcp47.RefusedTag):
                         pass
 
         for _ in range(20):
@@ -423,7 +541,8 @@ class Growths(unittest.TestCase):
             from _testcapi import remove_mem_hooks, set_nomemory
         except ImportError:
             self.skipTest("this Python has no _testcapi")
-        tag, steps, available = bcp47.Tag("zh-yue"), ((4, 2, 27), (7, 1, 44)), registry.available(["de"])
+        tag, available = bcp47.Tag("zh-yue"), registry.available(["de"])
+        steps = struct.pack("BII", 4, 2, 27) + struct.pack("BII", 7, 1, 44)
         calls = [
             (lambda: registry.canonical("zh-yue"), "yue"), (lambda: registry.extlang("yue"), "zh-yue"),
             (lambda: registry.canonical(tag), "yue"), (lambda: registry.is_valid("en_US"), False),
@@ -432,7 +551,7 @@ class Growths(unittest.TestCase):
             (lambda: bcp47._bcp47.parent("zh-TW"), "zh"), (lambda: bcp47._bcp47.posix("de_AT"), "de-AT"),
             (lambda: bcp47._bcp47.replaced("de", 4, "AT"), "de-AT"), (lambda: available.filter("de, en"), ["de"]),
             (lambda: available.best("en, de"), "de"), (lambda: registry.available(["de"]).best("de"), "de"),
-            (lambda: registry._record(2), registry._record(2)),
+            (lambda: registry.record(2), registry.record(2)),
             (lambda: registry.matches("zh-yue", "yue-GB"), True), (lambda: registry.matches(tag, "en", "basic"), False),
             (lambda: registry._verify_steps("sgn-dd", steps, "gsg"), None), (lambda: registry.upgrade_check(registry), None),
             (lambda: registry.info.entries, registry.info.entries),
@@ -486,8 +605,9 @@ class Facts(unittest.TestCase):
         self.assertEqual(own.canonical("ja-heploc"), "ja-alalc97")
 
     def test_steps_that_are_none(self):
-        with self.assertRaises(TypeError):
-            registry._verify_steps("en", [(1, 2)], "en")
+        for wrong in ([(1, 2)], b"1234567890123"):
+            with self.assertRaises(TypeError):
+                registry._verify_steps("en", wrong, "en")
 
     def test_validity_and_faults(self):
         self.assertTrue(registry.is_valid("zh-yue"))

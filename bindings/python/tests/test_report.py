@@ -278,6 +278,7 @@ class Commands(unittest.TestCase):
         self.assertEqual(self.said("", "show", SAMPLE, "de-foobar", "en\x1bUS", status=1),
                          "de-foobar\n1    Language  de      record 2\n2    Variant   foobar  not registered\n! UnknownVariant 2\n\n"
                          "en US\n! BadByte 1\n\n")
+        self.assertEqual(self.said("", "show", SAMPLE, b"de-\xff", status=1), "de- \n! BadByte 2\n\n")
 
     def test_it_is_imported_by_tools(self):
         with tempfile.TemporaryDirectory() as folder:
