@@ -25,6 +25,8 @@ from edits import ROOT, build, rt, rtlib
 COPY, LOG = os.path.join(ROOT, "build", "gate"), os.path.join(ROOT, "build", "gate.log")
 KEPT = os.path.join(os.environ.get("XDG_CACHE_HOME") or os.path.expanduser("~/.cache"), "langtag-gate")
 MOST_KEPT = 15_000_000_000
+# The library for C is for each processor of x86-64.
+PROCESSOR = ["--cpu", "x86-64"]
 
 
 def copied():
@@ -57,11 +59,21 @@ def listing(crate, prove):
     return run
 
 
-def called(words, folder=ROOT, **how):
-    """Runs a command in a folder of the repository."""
+def compiled(crate):
+    """Compiles a library for C of what was checked, as rt compiles a program, to out/libNAME.a."""
+    words = crate.words([*PROCESSOR, "--jobs", "1"], keeps=False)
+    for flag in ("--logic-built", "--jobs"):
+        at = words.index(flag)
+        words = [*words[:at], *words[at + 2 :]]
+    words += ["--crate-checked", "out/checked", "--toolchain", rtlib.KIT + "/toolchain", "--backend", "llvm"]
+    return crate.call(rtlib.RATTLE, "build", *words, "-o", "out/lib%s.a" % crate.name)
+
+
+def called(words):
+    """Runs a command in the repository."""
     # (make gives its recipes an open list of jobs, which is not meant for this command)
     free = {name: value for name, value in os.environ.items() if not name.startswith("MAKE")}
-    return subprocess.run(words, cwd=folder, env=free, stdin=subprocess.DEVNULL, **how)
+    return subprocess.run(words, cwd=ROOT, env=free, stdin=subprocess.DEVNULL)
 
 
 class Kept:
@@ -85,15 +97,15 @@ class Kept:
         def run(crate, flags, tests):
             key, out, status = (crate.name, "tests" if tests else "proof"), os.path.join(crate.folder, "out"), 0
             place, own = self.places[key], os.path.join(ROOT, "crates", crate.name, "out")
-            library = "lib%s.a" % crate.name
-            made = [crate.name + "_tests"] if tests else ["rlib", library, *(crate.name + it for it in ("", ".o", ".by-rattle", ".axioms"))]
+            made = [crate.name + it for it in ("", ".o", ".by-rattle", ".axioms")]
+            made = [crate.name + "_tests"] if tests else ["rlib", "lib%s.a" % crate.name, *made]
             if not tests and not crate.makes_rlib():
                 crate.prove = listing(crate, crate.prove)
             if key in self.taken:
                 os.utime(place)
                 linked(place, out, [*made, "checked"])
             elif crate.is_static and not tests:
-                status = crate.prove(["check", *crate.words(flags, keeps=False), "-o", "out/checked"])
+                status = crate.prove(["check", *crate.words([*flags, *PROCESSOR], keeps=False), "-o", "out/checked"]) or compiled(crate)
             else:
                 crate.cuts_libraries = False
                 status = prove(crate, flags, tests)
@@ -105,13 +117,6 @@ class Kept:
                 shutil.rmtree(place, ignore_errors=True)
                 os.rename(room, place)
             linked(out, own, made)
-            if crate.is_static and not os.path.exists(os.path.join(place, library)):
-                # (compiled here, beside the proofs of the program's last crates, since it takes minutes)
-                edits.unpack(crate, os.path.join(out, "checked"), os.path.join(own, "incremental"))
-                ran = called(["rt", "lib", "--cpu", "x86-64"], os.path.dirname(own), stdout=crate.out, stderr=crate.out)
-                if ran.returncode:
-                    return ran.returncode
-                linked(own, place, [library])
             return 0
 
         return run
