@@ -5,6 +5,7 @@ use Rattle.lt_answers.proofs.LookingLemmas.{found_is}
 use Rattle.lt_answers.proofs.SearchLemmas.{search_ended, searched}
 use Rattle.lt_answers.proofs.looking.look_up_line.Goals as goal
 
+-- the fault that ended the run is the result; a write into memory that failed is a lack of memory
 pub returns-in_err-in_memory : goal.returns-in_err-in_memory
 returns-in_err-in_memory g c =
     let R = g.L.Lookup.listed c.args.checked.now in
@@ -12,6 +13,7 @@ returns-in_err-in_memory g c =
     rw (p.1, p.2) (search_ended (LooksUp R c.args.ranges.now) _ _ _ _ _ _ _ _ _ _
     (sym c.in_memory.ensures ∙ c.in_err-in_memory.was) c.run_text-looking.ensures)
 
+-- all lines were read, so the closest of them is the one that lookup finds
 pub returns : goal.returns
 returns g c =
     let R = g.L.Lookup.listed c.args.checked.now in

@@ -4,6 +4,7 @@ use Rattle.lt_answers.specs.Served.{ServesAmong}
 use Rattle.lt_answers.proofs.SearchLemmas.{search_ended, searched}
 use Rattle.lt_answers.proofs.serving.serve_line.Goals as goal
 
+-- the fault that ended the run is the result; a write into memory that failed is a lack of memory
 pub returns-in_err-in_memory : goal.returns-in_err-in_memory
 returns-in_err-in_memory g c =
     let R = g.L.Lookup.listed c.args.checked.now in
@@ -11,6 +12,7 @@ returns-in_err-in_memory g c =
     rw (p.1, p.2) (search_ended (ServesAmong R c.args.preferences.now) _ _ _ _ _ _ _ _ _ _
     (sym c.in_memory.ensures ∙ c.in_err-in_memory.was) c.run_text-keeping.ensures)
 
+-- all lines were read, so the kept ones are those that are tags, and the preferences serve one of these or none
 pub returns : goal.returns
 returns g c =
     let R = g.L.Lookup.listed c.args.checked.now in

@@ -2,6 +2,7 @@ use Rattle.std.proofs.lemmas.Result.{on_ok_weaker}
 use Rattle.lt_answers.proofs.ServedLemmas.{takes_no_tag, takes_tag}
 use Rattle.lt_answers.proofs.serving.take_tag.Goals as goal
 
+-- the line is a tag, so it is put after the others, and its subtags after theirs
 pub returns-in-Some : goal.returns-in-Some
 returns-in-Some g c =
     let R = g.L.Lookup.listed c.args.checked.now in
@@ -10,6 +11,7 @@ returns-in-Some g c =
     c.put_line.new.tags.items c.in-Some.subtags (rw (c.in-Some.is, c.without_return.ensures) at c.in_ok-subtags.ensures))
     c.put_line.ensures
 
+-- the line has no subtags by which it is matched, so it is not kept
 pub returns-in-None : goal.returns-in-None
 returns-in-None g c =
     let R = g.L.Lookup.listed c.args.checked.now in
