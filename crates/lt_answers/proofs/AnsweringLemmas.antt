@@ -58,10 +58,10 @@ objects_more R (first ∷ lines) line bytes object before refused owed is = reco
   refused_is = ap (λ (b : Bool). b || refused) owed.refused_is ∙ or_assoc owed.is_refused owed.others_refused refused;
 }
 
--- ---- runs by less than is known of what answers lines
+-- ---- a weaker statement on how lines are answered
 
 -- `Q` says of a value of `A` which lines it has answered by which bytes, and `P` says it of a value of `B`. Where `Q`
--- holds of a value, `P` holds of what `f` gives for it: so what a run does by `Q` it does by `P`.
+-- holds of a value, `P` holds of what `f` gives for it. So what a run does by `Q`, it does by `P`.
 module _ {A B : Type 0} (f : A → B) (Q : Answered A) (P : Answered B) (weaker : (a : A) (lines : List (List ℕ)) (bytes : List ℕ) → Q a lines bytes → P (f a) lines bytes) where
   -- if what was written is a front of what answers the first lines as `Q` says, it is one as the weaker `P` says
   begun_mapped : (bytes written : List ℕ) → IsBegun Q bytes written → IsBegun P bytes written

@@ -217,7 +217,7 @@ module _ (R : List EntryParts) (ranges : List RangeParts) (kept : List ℕ) wher
 
 -- the lines are all that were read
 module _ (R : List EntryParts) (ranges : List RangeParts) (lines : List (List ℕ)) where
-  -- lookup finds no line where none is the closest of all
+  -- if no line is the closest of all, lookup finds none
   pub finds_none : Holds R ranges lines None → FindsNoLine R ranges lines
   finds_none held = record {
     lists = held.lists;

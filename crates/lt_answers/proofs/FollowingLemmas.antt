@@ -62,7 +62,7 @@ explanations_right R all text shown t read is =
       all = ap lines_of (are.all ∙ append_assoc are.of_steps (codes "= ") (printed.tag_line is.end)) ∙ led.2 (last ++ 10 ∷ []) ∙ ap (λ (l : List (List ℕ)). led.0 ++ l) (lines_of-ended last [] one);
     })
 
--- no bytes were taken
+-- a state that took no bytes is the same as before
 pub takes_nothing : (R : List EntryParts) (state : Following) → IsProperIf R state.here → Takes R [] state state
 takes_nothing R state proper = record {
   proper = proper;
@@ -71,7 +71,7 @@ takes_nothing R state proper = record {
   follows = λ more v one judged. judged;
 }
 
--- bytes were taken, `front`, and then more, `piece`
+-- the bytes `front` were taken and then the bytes `piece`, so both were taken as one piece
 takes_trans : (R : List EntryParts) (front piece : List ℕ) (old mid new : Following) → Takes R front old mid → Takes R piece mid new → Takes R (front ++ piece) old new
 takes_trans R front piece old mid new a b = record {
   proper = b.proper;
@@ -81,7 +81,7 @@ takes_trans R front piece old mid new a b = record {
       subst (λ (l : List ℕ). Judges R old.number old.here (lines_of (old.kept.items ++ l)) v) (sym (append_assoc front piece more)) (a.follows (piece ++ more) v was (b.follows more v (a.one was) judged));
 }
 
--- the unfinished line goes on with a part that has no line feed
+-- a part without a line feed was kept, so it was taken: the unfinished line goes on
 takes_part : {R : List EntryParts} {part : List ℕ} {old new : Following} → IsProperIf R old.here → IsOneLine part → KeepsMore part old new → Takes R part old new
 takes_part {R = R} {part = part} {old = old} proper one keeps = record {
   proper = subst (IsProperIf R) (sym keeps.here) proper;
@@ -90,7 +90,7 @@ takes_part {R = R} {part = part} {old = old} proper one keeps = record {
   follows = λ more v was judged. rw (keeps.number, keeps.here, keeps.kept, append_assoc old.kept.items part more) at judged;
 }
 
--- a line feed (10) ends the line, which was judged and settles nothing
+-- the kept line was judged and settles nothing, so the line feed (10) that ends it was taken
 takes_feed : {R : List EntryParts} {old new : Following} → GoesOn R old new → Takes R (10 ∷ []) old new
 takes_feed {old = old} g = record {
   proper = g.proper;

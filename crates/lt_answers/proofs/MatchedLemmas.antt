@@ -50,8 +50,8 @@ content-length line = elim (ends_with_byte 13 line) as (λ t. length line ≤ le
   | false ↦ omega arith
 ]
 
--- what is kept of a line tells whether it is selected: only a line that is kept whole is, and only where the line is
--- kept whole would its kept front be
+-- what is kept of a line tells whether the line is selected: a selected line is kept whole, and so is a line whose kept
+-- front would be selected as a line
 pub record TellsByFront (P : Selection) : Type 0 where
   pub short : (line : List ℕ) → P line → length line ≤ longest_kept
   pub front : (line : List ℕ) → P (take longest_kept line) → length line ≤ longest_kept

@@ -50,7 +50,7 @@ module _ {I O A : Type 0} (Finds : Finding) (Q : Answered A) (remaining : I → 
   searched (Err (faults.BadTsv line)) u is r found finds = absurd (never (Ok u) (faults.BadTsv line) refl (sym is))
   searched (Err faults.Utf16) u is r found finds = absurd (never (Ok u) faults.Utf16 refl (sym is))
 
-  -- a run that a fault ended, which is no write that failed, ends by that fault
+  -- a run that ended by a fault other than a write that failed is a search that ended by this fault
   stopped : (f g : ToolFault) → f ≡ g → (r : RunsOverText Q remaining contents input input' output output' answers (Err f))
       → EndsAs Finds remaining input input' r.reads r.read r.text (Err f) → SearchesLines Finds remaining input input' (Err g)
   stopped f g same r ends = rw (← same) (record {
@@ -70,7 +70,7 @@ module _ {I O A : Type 0} (Finds : Finding) (Q : Answered A) (remaining : I → 
     read_rises = λ lt. ap (λ (e : ToolFault). Err e) (ended_by (Err f) f faults.Read refl (r.read_rises lt));
   })
 
-  -- a write that failed is a lack of memory
+  -- a run that ended by a write that failed is a search that ended by a lack of memory
   lacking : (g : ToolFault) → faults.OutOfMemory ≡ g
       → RunsOverText Q remaining contents input input' output output' answers (Err faults.Write)
       → SearchesLines Finds remaining input input' (Err g)
@@ -91,7 +91,7 @@ module _ {I O A : Type 0} (Finds : Finding) (Q : Answered A) (remaining : I → 
         absurd (no bad);
   })
 
-  -- a run that a fault ended, where a write is into memory
+  -- a run that ended by a fault is a search that did; `end` is how the run ended, where a write is into memory
   pub search_ended : (end : Result (Unit {0}) ToolFault) (g : ToolFault) → in_memory end ≡ Err g
       → RunsOverText Q remaining contents input input' output output' answers end → SearchesLines Finds remaining input input' (Err g)
   search_ended (Ok v) g is r = absurd (never (Ok v) g refl is)

@@ -42,20 +42,21 @@ abbrev pub IsCloser : Option Closest → (range count : ℕ) → Type 0
 IsCloser None range count = Unit {0}
 IsCloser (Some closest) range count = (range < closest.range) ⊎ ((range ≡ closest.range) × (closest.count < count))
 
--- the closest of these lines, whose tags have the subtags `lists`; None if no range finds one
+-- this is the closest of these lines, whose tags have the subtags `lists`, or None if no range finds one
 abbrev pub ClosestAmong : List RangeParts → List (List ℕ) → List (List (List ℕ)) → Option Closest → Type 0
 ClosestAmong ranges lines lists None = (i : ℕ) → i < length ranges → FindsNone lists (range_at ranges i)
 ClosestAmong ranges lines lists (Some closest) = (place : ℕ) × IsClosest ranges lists closest.range closest.count place
     × (line_at lines place ≡ closest.line.items)
 
--- `closest` is the closest of these lines, None if none is found
+-- `closest` is the closest of these lines, or None if no range finds one
 pub record Holds (R : List EntryParts) (ranges : List RangeParts) (lines : List (List ℕ))
     (closest : Option Closest) : Type 0 where
   pub lists : List (List (List ℕ))
   pub have : LinesHave R lines lists
   pub among : ClosestAmong ranges lines lists closest
 
--- what was the closest of the lines becomes the closest of them and a further one, of which `kept` is kept
+-- the closest of any lines, `old`, becomes the closest of them and one line more, `new`; `kept` is what is kept of that
+-- line
 abbrev pub TakesLine : List EntryParts → List RangeParts → (kept : List ℕ) → (old new : Option Closest) → Type 0
 TakesLine R ranges kept old new = (lines : List (List ℕ)) (line : List ℕ) → kept ≡ take longest_kept line
     → Holds R ranges lines old → Holds R ranges (lines ++ line ∷ []) new
@@ -67,9 +68,7 @@ TakesSubtags ranges list line old new =
     (lines : List (List ℕ)) (lists : List (List (List ℕ))) → length lines ≡ length lists
     → ClosestAmong ranges lines lists old → ClosestAmong ranges (lines ++ line ∷ []) (lists ++ list ∷ []) new
 
--- ---- the run
-
--- how a run ends that writes into memory: a write that fails is a lack of it
+-- how a run ends if what it writes is kept in memory: a write that fails is a lack of memory
 abbrev pub in_memory : Result (Unit {0}) ToolFault → Result (Unit {0}) ToolFault
 in_memory (Err faults.Write) = Err faults.OutOfMemory
 in_memory end = end

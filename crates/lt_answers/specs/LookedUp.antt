@@ -9,7 +9,7 @@ use Rattle.lt_range.specs.Matched.{HasNoSubtags, HasSubtags}
 use Rattle.lt_answers.specs.Searching.{Finding}
 
 -- The subtags by which a line is looked up: those of the extlang form of its tag. A carriage return (13) that ends
--- the line is no part of the tag. A line without an extlang form has none, and no range finds it.
+-- the line is no part of the tag. A line that has no extlang form has no subtags, and no range finds it.
 abbrev pub LineHas : List EntryParts → List ℕ → List (List ℕ) → Type 0
 LineHas R line list = HasSubtags R (content_of line) list ⊎ (HasNoSubtags R (content_of line) × (list ≡ []))
 

@@ -22,8 +22,6 @@ abbrev pub input_members : (is_text : Bool) → List ℕ → List Member
 input_members true text = member (codes "input") (string text) ∷ member (codes "bytes") null ∷ []
 input_members false text = member (codes "input") null ∷ member (codes "bytes") (string (encode_lower text)) ∷ []
 
--- ---- its canonical text, or why it has none
-
 -- what is answered to a text: its canonical text, or why it has none
 abbrev pub Answer : Type 0
 Answer = Result (List ℕ) TextRefusal
@@ -56,8 +54,8 @@ variant_of (refusals.Invalid fault) = None
 variant_of (refusals.ReplacementRepeats variant) = Some variant
 variant_of refusals.OutOfMemory = None
 
--- the members for the answer to a text: its canonical text, the name of the fault, the place and the variant, each null
--- where it is not there
+-- the members for the answer to a text: its canonical text, the name of the fault, the place and the variant, each of
+-- which is null if the answer has none
 abbrev pub answer_members : Answer → List Member
 answer_members (Ok canonical) =
     member (codes "canonical") (string canonical)

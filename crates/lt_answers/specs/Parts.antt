@@ -74,7 +74,7 @@ field_value field =
 abbrev pub after_hyphens : List (List ℕ) → List ℕ
 after_hyphens subtags = flat_map (λ (subtag : List ℕ). 45 ∷ subtag) subtags
 
--- the text of the source of a t extension, in lower case, since a singleton is before it (RFC 5646, 2.1.1)
+-- the text of the source of a `t` extension, in lower case, since a singleton is before it (RFC 5646, 2.1.1)
 unfoldable pub source_text : CoreParts → List ℕ
 source_text core = join_with_byte 45 (spell_core core)
 
@@ -88,12 +88,12 @@ transform_value parts = object (singleton_member transform
     ∷ member (codes "source") (or_null source_value parts.source)
     ∷ member (codes "fields") (array field_value parts.fields) ∷ [])
 
--- an extension as an object of its subtags: one that is neither `u` nor `t`, or that has no parts
+-- an extension that is neither `u` nor `t`, or that has no parts, as an object of its subtags
 unfoldable pub plain_value : ExtensionParts → List ℕ
 plain_value extension =
     object (singleton_member extension.singleton ∷ member (codes "subtags") (subtags_value extension.subtags) ∷ [])
 
--- an extension as an object of its parts, which `value` gives, if it has them, else of its subtags
+-- an extension as an object: what `value` gives for its parts if it has any, else the object of its subtags
 abbrev pub parts_or_plain : {A : Type 0} → (A → List ℕ) → ExtensionParts → Option A → List ℕ
 parts_or_plain value extension (Some parts) = value parts
 parts_or_plain value extension None = plain_value extension

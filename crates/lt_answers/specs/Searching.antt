@@ -1,4 +1,4 @@
--- What a run reads that searches one of the lines of a reader, and how it ends.
+-- What a run that searches one of the lines of a reader reads, and how it ends.
 use Rattle.std.specs.Prelude.{◌≡◌, ◌<◌, ◌≤◌, ◌⊎◌, ℕ, List, Option, Result, Ok, Err, Vec}
 use Rattle.std.specs.Io.KnownBytes.{Consumes, IsAtEnd}
 use Rattle.std.specs.declared.alloc.Global.{Global}
@@ -11,13 +11,13 @@ use Rattle.lt_stream.specs.Running.{HasRead}
 use Rattle.lt_stream.specs.declared.faults.ToolFault.{ToolFault}
 use Rattle.lt_stream.specs.declared.faults.ToolFault.TheVariants as faults
 
--- a statement on lines and on the one that is found among them, None if none is
+-- a statement on lines and on the line that is found among them, or on None if no line is found
 abbrev pub Finding : Type 1
 Finding = List (List ℕ) → Option (Vec ℕ Global) → Type 0
 
--- how a run ended that read the bytes `read` in `reads` reads, of which `text` follows the mark: with what is found
--- among all its lines, or with a fault; by Utf16 where the bytes begin with a byte order mark of UTF-16. An end by
--- OutOfMemory says nothing more.
+-- How a run ended: with what is found among all lines of `text`, or with a fault. The run read the bytes `read` in
+-- `reads` reads, and `text` is those after the mark. Utf16 says that the bytes begin with a byte order mark of UTF-16,
+-- and OutOfMemory says nothing more.
 abbrev pub EndsAs : {I : Type 0} → Finding → (I → Option (List ℕ)) → (input input' : Device I)
     → ℕ → (read text : List ℕ) → Result (Option (Vec ℕ Global)) ToolFault → Type 0
 EndsAs Finds remaining input input' reads read text (Ok found) =
@@ -31,9 +31,9 @@ EndsAs Finds remaining input input' reads read text (Err (faults.BadTsv line)) =
 EndsAs Finds remaining input input' reads read text (Err faults.Utf16) = IsWide read
 EndsAs Finds remaining input input' reads read text (Err faults.OutOfMemory) = Unit {0}
 
--- A run that searches one of the lines of a reader. The byte order mark of UTF-8 with which the bytes may begin is passed
--- over. `remaining` gives the bytes that a reader has left, and `input` and `input'` are the reader before and after the
--- run.
+-- A run that searches one of the lines of a reader. The byte order mark of UTF-8 with which the bytes may begin is
+-- passed over. `remaining` gives the bytes that a reader has left, and `input` and `input'` are the reader before and
+-- after the run.
 pub record SearchesLines {I : Type 0} (Finds : Finding) (remaining : I → Option (List ℕ))
     (input input' : Device I) (result : Result (Option (Vec ℕ Global)) ToolFault) : Type 0 where
   pub read : List ℕ

@@ -21,8 +21,8 @@ pub record IsStoppedByRead {I : Type 0} (P : Selection) (input input' : Device I
   pub failed : HasFailed input input'
   pub owed : IsOwedToLastFeed P text written
 
--- the most reads that a run may make were made, the last still gave bytes, and the lines of the text that are selected up
--- to the last line feed were written
+-- all reads that a run may make were made, and the last one still gave bytes; the lines of the text that are selected
+-- up to the last line feed were written
 pub record IsStoppedByTurns {I : Type 0} (P : Selection) (input' : Device I) (reads : ℕ)
     (read text written : List ℕ) : Type 0 where
   pub all_made : reads ≡ most_reads
@@ -30,9 +30,9 @@ pub record IsStoppedByTurns {I : Type 0} (P : Selection) (input' : Device I) (re
   pub last_gave : 0 < last_given_of input'
   pub owed : IsOwedToLastFeed P text written
 
--- how a run ended that read the bytes `read` in `reads` reads, of which `text` follows the mark: with how many lines it
--- wrote, or with a fault; by Utf16 where the bytes begin with a byte order mark of UTF-16, and then nothing was written.
--- An end by OutOfMemory says nothing more.
+-- How a run ended: with how many lines it wrote, or with a fault. The run read the bytes `read` in `reads` reads, and
+-- `text` is those after the mark. Utf16 says that the bytes begin with a byte order mark of UTF-16 and that nothing was
+-- written, and OutOfMemory says nothing more.
 abbrev pub EndsAs : {I O : Type 0} → Selection → (I → Option (List ℕ)) → (input input' : Device I)
     → (output output' : Device O) → ℕ → (read text written : List ℕ) → Result ℕ ToolFault → Type 0
 EndsAs P remaining input input' output output' reads read text written (Ok count) =
@@ -48,9 +48,10 @@ EndsAs P remaining input input' output output' reads read text written (Err (fau
 EndsAs P remaining input input' output output' reads read text written (Err faults.Utf16) =
     IsWide read × (written ≡ [])
 
--- A run that writes the lines of a reader that are selected. The byte order mark of UTF-8 with which the bytes may begin
--- is passed over. Whatever ended the run, what was written is a front of those lines. `remaining` gives the bytes that a reader has left, and `contents` those that an output was given; `input'`
--- and `output'` are the reader and the output after the run.
+-- A run that writes the lines of a reader that are selected. The byte order mark of UTF-8 with which the bytes may
+-- begin is passed over. Whatever ended the run, what was written is a front of those lines. `remaining` gives the bytes
+-- that a reader has left, and `contents` those that an output was given; `input'` and `output'` are the reader and the
+-- output after the run.
 pub record SelectsLines {I O : Type 0} (P : Selection) (remaining : I → Option (List ℕ))
     (contents : O → Option (List ℕ)) (input input' : Device I) (output output' : Device O)
     (result : Result ℕ ToolFault) : Type 0 where

@@ -49,7 +49,7 @@ AreSelected P (line ∷ lines) selected =
 abbrev pub longest_kept : ℕ
 longest_kept = 1026
 
--- `written` is the selected ones of these lines, each with a line feed, and `count` is how many they are
+-- `written` is those of these lines that are selected, each with a line feed, and `count` is how many they are
 pub record AreOwed (P : Selection) (lines : List (List ℕ)) (written : List ℕ) (count : ℕ) : Type 0 where
   pub selected : List (List ℕ)
   pub are : AreSelected P lines selected

@@ -1,4 +1,4 @@
--- The line that is served, among those of a reader, to one with preferences (RFC 9110, 12.5.4).
+-- Which of the lines of a reader preferences serve (RFC 9110, 12.5.4).
 use Rattle.std.specs.Prelude.{◌≡◌, ◌++◌, ◌∷◌, ℕ, List, [], Option, Some, None, Vec, map, take}
 use Rattle.std.specs.List.{slice_get}
 use Rattle.std.specs.declared.alloc.Global.{Global}
@@ -56,13 +56,14 @@ pub record PutsLine (line : List ℕ) (list : List (List ℕ)) (old new : List (
   pub lines : texts_of new ≡ texts_of old ++ line ∷ []
   pub lists : tags' ≡ tags ++ list ∷ []
 
--- the lines that are tags become those of one line more, of which `kept` is kept
+-- `old` are those of any lines that are tags, and become `new`, those of these lines and one line more; `kept` is what
+-- is kept of that line
 abbrev pub TakesTag : List EntryParts → (kept : List ℕ) → (old new : List (Vec ℕ Global))
     → (tags tags' : List (List (List ℕ))) → Type 0
 TakesTag R kept old new tags tags' = (lines : List (List ℕ)) (line : List ℕ) → kept ≡ take longest_kept line
     → AreTagLines R lines (texts_of old) tags → AreTagLines R (lines ++ line ∷ []) (texts_of new) tags'
 
--- what is found is what preferences serve among any lines of which these are those that are tags
+-- if `kept` are the lines that are tags among some lines, `found` is what the preferences serve among these lines
 abbrev pub ServesOf : List Preference → (kept : List (Vec ℕ Global)) → (tags : List (List (List ℕ)))
     → Option (Vec ℕ Global) → Type 0
 ServesOf preferences kept tags found = (R : List EntryParts) (lines : List (List ℕ))

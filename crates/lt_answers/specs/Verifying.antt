@@ -19,8 +19,8 @@ use Rattle.lt_answers.specs.declared.verdicts.Verdict.{Verdict}
 abbrev pub IsVerdictOf : List EntryParts → TagForm → Verdict → List ℕ → Type 0
 IsVerdictOf R t v bytes = IsVerdict R t (lines_of bytes) v
 
--- how a run ended that read the bytes `read` in `reads` reads: with the verdict on all that the reader gives, read or
--- not; or with a fault, of which OutOfMemory says nothing more
+-- How a run ended that read the bytes `read` in `reads` reads: with the verdict on all bytes that the reader gives,
+-- whether they were read or not, or with a fault. OutOfMemory says nothing more.
 abbrev pub EndsAs : {I : Type 0} → List EntryParts → TagForm
     → (I → Option (List ℕ)) → (input input' : Device I) → ℕ → List ℕ
     → Result Verdict ToolFault → Type 0
@@ -103,7 +103,7 @@ TakesPiece R piece old new None = Takes R piece old new × KeepsFew R new.here (
 TakesPiece R piece old new (Some v) = (more : List ℕ) → IsOneLine old.kept.items
     → Judges R old.number old.here (lines_of (old.kept.items ++ (piece ++ more))) v
 
--- `v` is the verdict on the kept line, where nothing follows
+-- `v` is the verdict on the kept line if nothing follows it
 abbrev pub JudgesEnd : List EntryParts → Following → Verdict → Type 0
 JudgesEnd R state v = IsOneLine state.kept.items → Judges R state.number state.here (lines_of state.kept.items) v
 
@@ -122,7 +122,7 @@ Settles R first read (Ok v) =
     (more : List ℕ) → Judges R first.number first.here (lines_of (first.kept.items ++ (read ++ more))) v
 Settles R first read (Err f) = f ≡ faults.OutOfMemory
 
--- this is the verdict on the bytes `read` from the beginning, where the state was `first`, and nothing follows; or
+-- this is the verdict on the bytes `read` from the beginning, where the state was `first`, if nothing follows them; or
 -- memory ran out
 abbrev pub JudgesAll : List EntryParts → Following → List ℕ → Result Verdict ToolFault → Type 0
 JudgesAll R first read (Ok v) = Judges R first.number first.here (lines_of (first.kept.items ++ (read ++ []))) v

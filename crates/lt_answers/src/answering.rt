@@ -1,4 +1,4 @@
-//! Runs over the lines of a reader.
+//! Answering the lines of a reader by objects.
 ghost use Rattle.std.specs.Prelude.{◌≡◌, ◌||◌, IfOk};
 ghost use Rattle.lt_answers.specs.Answering.{AnswersByObjects, AppendsLine, AreObjects, longest_line};
 
@@ -30,7 +30,7 @@ fn append_line<L: Lookup>(
     Ok(refused)
 }
 
-/// Whether one of two is true, or both. It is a function so that its caller has one path.
+/// Whether `first` or `second` is true, or both. It is a function so that its caller has one path.
 fn either(first: bool, second: bool) -> bool
     ensures { result ≡ first || second }
 {
@@ -71,15 +71,15 @@ impl<'a, L: Lookup> Lines for Objects<'a, L> {
     }
 }
 
-/// Answers each line of a reader by an object of JSON (RFC 8259), each ended by a line feed, in their order, as
-/// [`append_object`] says it; and tells whether a line was refused, and how the run ended.
+/// Answers each line of a reader, in order, by an object of JSON (RFC 8259) and a line feed. [`append_object`] says what
+/// the object has. Tells whether a line was refused, and how the run ended.
 ///
-/// A line feed ends a line, and what follows the last one is a line if it is anything. A carriage return that ends a
-/// line is no part of its text, and of a line of more than 16,777,216 bytes the first of them are the text. The objects
-/// for the lines whose line feed was read are written before the next read.
+/// A line feed ends a line, and bytes after the last line feed are a line too. A line of more than 16,777,216 bytes is
+/// answered by its first 16,777,216. A carriage return that ends what is answered is no part of the text. The objects for
+/// the lines whose line feed was read are written before the next read.
 ///
 /// - `Read`, if a read fails: the object for each line whose line feed was read has been written.
-/// - `TooManyTurns`, if all 10,000,000 reads were made and the last gave bytes: the same has been written.
+/// - `TooManyTurns`, if all 10,000,000 reads were made and the last gave bytes: the same objects have been written.
 /// - `Write`, if a write fails or takes none of some bytes, and `OutOfMemory`: a front of the objects was written.
 #[tactic(auto, using(crate::proofs::AnsweringLemmas::none_answered))]
 pub fn write_objects<L: Lookup, R: Read, W: Write>(

@@ -11,7 +11,8 @@ use lt_show::{append_name, append_next_null, append_next_string, append_number};
 use lt_tag::OutOfMemory;
 use std::alloc::{AllocError, Global};
 
-/// Appends the members of the answer to a text that has a canonical text; the others are null.
+/// Appends the members of the answer to a text that has a canonical text: `canonical` is that text, and the other members
+/// are null.
 #[tactic(auto, using(lt_show::proofs::ChainLemmas::four_members))]
 fn append_canonical(objects: &mut Vec<u8>, canonical: &[u8]) -> Result<(), AllocError>
     ensures { OnOk result (objects.new.items ≡ objects.old.items ++ more_members (answer_members (Ok canonical.now))) }
@@ -58,7 +59,8 @@ fn append_variant(objects: &mut Vec<u8>, refusal: &TextRefusal) -> Result<(), Al
     }
 }
 
-/// Appends the members of the answer to a text that is refused: its fault, and the place or the variant.
+/// Appends the members of the answer to a text that is refused: `canonical` is null, `fault` is the name of the refusal,
+/// and `place` and `variant` are what the refusal names, or null.
 #[tactic(auto, using(lt_show::proofs::ChainLemmas::four_members))]
 fn append_refusal(objects: &mut Vec<u8>, refusal: &TextRefusal) -> Result<(), AllocError>
     ensures { OnOk result (objects.new.items ≡ objects.old.items ++ more_members (answer_members (Err refusal.now))) }
@@ -70,8 +72,8 @@ fn append_refusal(objects: &mut Vec<u8>, refusal: &TextRefusal) -> Result<(), Al
     Ok(())
 }
 
-/// Appends the members of the answer to a text, its canonical text or why it has none, and tells whether the text is
-/// refused. The call itself is refused only where memory runs out.
+/// Appends the members of the answer to a text, which give its canonical text or why it has none. Tells whether the text is
+/// refused. The call itself is refused only if memory runs out.
 #[tactic(auto, using(crate::proofs::ObjectLemmas::answer_canonical, crate::proofs::ObjectLemmas::answer_refused))]
 pub(crate) fn append_answer<L: Lookup>(
     objects: &mut Vec<u8>,

@@ -20,7 +20,7 @@ pub(crate) struct Closest {
     pub(crate) line: Vec<u8>,
 }
 
-/// The index of the first range that falls back to a tag, and so finds it in lookup. None if none does.
+/// The index of the first range that falls back to a tag, and so finds it in lookup. None if no range falls back to it.
 fn first_falling(ranges: &[LanguageRange], tag: &TagSubtags) -> Option<usize>
     ensures { MatchOption result (spec.NoneFalls ranges.now (length ranges.now) tag.now) (spec.FallsFirst ranges.now tag.now) }
 {
@@ -32,8 +32,8 @@ fn first_falling(ranges: &[LanguageRange], tag: &TagSubtags) -> Option<usize>
     None
 }
 
-/// Whether a tag that lookup finds is closer than what is found so far: by a range before that one, or by the same range and
-/// with more subtags. `range` is the index of its range, and `count` how many subtags it has.
+/// Whether a tag that lookup finds is closer than what is found so far: an earlier range finds it, or the same range finds it
+/// and it has more subtags. `range` is the index of the range that finds the tag, and `count` is how many subtags it has.
 fn is_closer(closest: &Option<Closest>, range: usize, count: usize) -> bool
     ensures { IsTrue result ↔ spec.IsCloser closest.now range count }
 {
@@ -64,9 +64,9 @@ fn take_subtags(
     Ok(())
 }
 
-/// Makes a line the closest one if it is a tag whose extlang form is found by an earlier range than the line so far,
-/// or by the same range and has more subtags. The caller cuts a long line to LONGEST_KEPT bytes: what follows them
-/// changes nothing.
+/// Makes a line the closest one if it is a tag, and an earlier range finds its extlang form than found the closest line so
+/// far, or the same range finds it and it has more subtags. The caller cuts a long line to LONGEST_KEPT bytes, since what
+/// follows them changes nothing.
 pub(crate) fn take_line<L: Lookup>(
     alloc: Global,
     checked: &Checked<L>,

@@ -42,7 +42,7 @@ fn append_core(objects: &mut Vec<u8>, core: &Core) -> Result<(), AllocError>
     Ok(())
 }
 
-/// Appends the members of a core where there is none, which are null and empty arrays.
+/// Appends the members of the core for a tag that has none: null and empty arrays.
 #[tactic(auto, using(lt_show::proofs::ChainLemmas::five_members))]
 pub(crate) fn append_no_core(objects: &mut Vec<u8>) -> Result<(), AllocError>
     ensures { OnOk result (objects.new.items ≡ objects.old.items ++ more_members no_core_members) }

@@ -21,7 +21,8 @@ fn append_plain(objects: &mut Vec<u8>, extension: &Extension) -> Result<(), Allo
     Ok(())
 }
 
-/// Appends a `t` extension as an object of its parts, or of its subtags if they do not have the form of RFC 6497, 2.2.
+/// Appends a `t` extension as an object of its parts, or of its subtags if they do not have the form of RFC 6497, 2.2. The
+/// singleton must be `t`.
 #[tactic(auto, using(crate::proofs::ExtensionLemmas::of_transform, crate::proofs::ExtensionLemmas::of_no_transform))]
 fn append_t(objects: &mut Vec<u8>, alloc: Global, extension: &Extension) -> Result<(), OutOfMemory>
     requires { extension.now.singleton ≡ transform }
@@ -35,7 +36,7 @@ fn append_t(objects: &mut Vec<u8>, alloc: Global, extension: &Extension) -> Resu
     Ok(())
 }
 
-/// Appends a `u` extension as an object of its parts.
+/// Appends a `u` extension as an object of its parts. The singleton must be `u`.
 #[tactic(auto, using(crate::proofs::ExtensionLemmas::of_unicode))]
 fn append_u(objects: &mut Vec<u8>, alloc: Global, extension: &Extension) -> Result<(), OutOfMemory>
     requires { extension.now.singleton ≡ unicode }

@@ -45,8 +45,8 @@ impl Following {
         Ok(())
     }
 
-    /// Goes on to the next line. `here` is the tag to which the last one led, or None if it was the end of the
-    /// explanation.
+    /// Goes on to the next line. `here` is the tag to which the last line led, or None if that line was the end of the
+    /// explanation. The number of the next line must fit into 64 bits.
     fn go_on(&mut self, here: Option<Tag>)
         requires { self.old.number + 1 < 2 ^ 64 }
         ensures { spec.GoesTo here self.old self.new }
@@ -56,7 +56,8 @@ impl Following {
         self.here = here;
     }
 
-    /// Judges the line that is kept, and goes on to the next one. None if no verdict is settled yet.
+    /// Judges the line that is kept, and goes on to the next one. None if no verdict is settled yet. The tag to which the lines
+    /// lead must be proper, and the number of the next line must fit into 64 bits.
     #[tactic(auto, using(crate::proofs::FollowingLemmas::ends_on, crate::proofs::FollowingLemmas::leads_on))]
     fn judge_kept<L: Lookup>(
         &mut self,
@@ -83,7 +84,8 @@ impl Following {
         }
     }
 
-    /// Judges the line of which the front is kept: a verdict if it can't be right however it goes on, else None.
+    /// Judges the line of which the front is kept: a verdict if the line can't be right however it goes on, else None. The tag
+    /// to which the lines lead must be proper.
     fn judge_rest<L: Lookup>(
         &self,
         alloc: Global,
@@ -102,7 +104,8 @@ impl Following {
     }
 
     /// Takes the next bytes, and judges the lines that they end and the front of the line after those. None if no verdict is
-    /// settled yet.
+    /// settled yet. The tag to which the lines lead must be proper. The number of the next line, plus one and the length of the
+    /// piece, must fit into 64 bits.
     #[tactic(auto, using(crate::proofs::FollowingLemmas::first_turn, crate::proofs::FollowingLemmas::turn_proper, crate::proofs::FollowingLemmas::next_turn, crate::proofs::FollowingLemmas::turn_room))]
     fn take_piece<L: Lookup>(
         &mut self,
@@ -126,7 +129,7 @@ impl Following {
         self.judge_rest(alloc, table)
     }
 
-    /// The verdict where the lines end: right if the explanation has ended, else a bad step.
+    /// The verdict if no line follows: right if the explanation has ended, else a bad step.
     fn at_end(&self) -> Verdict
         ensures { result ≡ end_verdict self.now.number self.now.here }
     {
@@ -136,7 +139,8 @@ impl Following {
         }
     }
 
-    /// Judges a last line without a line feed, and gives the verdict where no more bytes come.
+    /// The verdict if no more bytes come. It judges a last line that no line feed ended. The tag to which the lines lead must
+    /// be proper, and the number of a line after it must fit into 64 bits.
     fn finish<L: Lookup>(&mut self, alloc: Global, table: &L) -> Result<Verdict, OutOfMemory>
         requires proper { IsProperIf (L.listed table.now) self.old.here }
         requires room { self.old.number + 1 < 2 ^ 64 }
@@ -185,11 +189,11 @@ impl<'a, L: Lookup> Pieces<()> for Verifying<'a, L> {
     }
 }
 
-/// Judges the lines of a reader as an explanation of a proper tag (RFC 5646, 4.5). The lines `Language 1 4
-/// he-IL` and `= he-IL` explain `iw-IL` where record 4 has the value `he` for `iw`.
+/// Judges the lines of a reader as an explanation of a proper tag (RFC 5646, 4.5). For example, the lines
+/// `Language 1 4 he-IL` and `= he-IL` explain `iw-IL` if record 4 has the value `he` for `iw`.
 ///
-/// They are read up to the first that settles the verdict, or to the end. Of a line that goes on, no more is kept than the
-/// right line has, besides what one read gives; after the end of the explanation nothing is kept.
+/// The lines are read up to the first that settles the verdict, or to the end. Of an unfinished line no more bytes are kept
+/// than the right line has, besides those of one read. After the end of the explanation nothing is kept.
 ///
 /// - `Read`, if a read fails.
 /// - `TooManyTurns`, if all 10,000,000 reads were made and the last gave bytes.

@@ -38,8 +38,8 @@ fn is_longer(alloc: Global, tag: &Tag, text: &[u8]) -> Result<bool, OutOfMemory>
     Ok(written.len() < text.len())
 }
 
-/// Judges the line that says that the explanation ends with `text`: it does if that is the text of `here`, the tag to
-/// which the lines before it lead.
+/// Judges the line that says that the explanation ends with `text`. It does so if `text` is that of `here`, the tag to which
+/// the lines before lead.
 fn judge_end(alloc: Global, here: &Tag, text: &[u8]) -> Result<Flow, OutOfMemory>
     ensures { IfOk result (EndFlow here.now text.now) }
 {
@@ -50,8 +50,8 @@ fn judge_end(alloc: Global, here: &Tag, text: &[u8]) -> Result<Flow, OutOfMemory
     }
 }
 
-/// Judges a line of an explanation. `here` is the tag to which the lines before it lead, and `number` is the line's
-/// own, counted from 1.
+/// Judges a line of an explanation. `here` is the tag to which the lines before it lead, which must be proper, and `number` is
+/// the number of the line, counted from 1.
 pub(crate) fn judge_line<L: Lookup>(
     alloc: Global,
     table: &L,
@@ -85,9 +85,9 @@ pub(crate) fn judge_line<L: Lookup>(
 /// space after each.
 const LONGEST_LABEL: usize = 38;
 
-/// Judges the front of a line that goes on, with `number` and `here` as for `judge_line`. None if the line may still
-/// become right, as it may while the front is no longer than a label; a verdict if it can't, since it is longer than
-/// the right line or names a wrong step.
+/// Judges the front of a line that goes on. `here` is the tag to which the lines before it lead, which must be proper, and
+/// `number` is the number of the line, counted from 1. None if the line may still become right, which it may while its front
+/// is no longer than a label. A verdict if the front is longer than the right line, or names a wrong step.
 pub(crate) fn judge_front<L: Lookup>(
     alloc: Global,
     table: &L,

@@ -26,7 +26,7 @@ static KINDS: [StepKind; 14] = [
     StepKind::SwapFields,
 ];
 
-/// The kind of step of this name, or None if no kind has it.
+/// The kind of step that has this name. None if no kind has it.
 fn kind_named(name: &[u8]) -> Option<StepKind>
     ensures { MatchOption result (NamesNoKind name.now) (λ kind. name_of kind ≡ name.now) }
 {
@@ -38,7 +38,7 @@ fn kind_named(name: &[u8]) -> Option<StepKind>
     None
 }
 
-/// The number of 32 bits that these digits write in decimal. None if they write none, or not as it is printed, as `01`.
+/// The number of 32 bits that is printed as these digits. None if no number is, for example for `01`.
 fn number_of(digits: &[u8]) -> Option<u32>
     ensures { MatchOption result (IsNoNumber digits.now) (λ n. (n < 2 ^ 32) × (decimal n ≡ digits.now)) }
 {
@@ -65,7 +65,7 @@ struct Words<'a> {
 }
 
 /// The name, the place and the number that a line begins with, each with a space after it, and the text that follows. None
-/// if the line has fewer spaces.
+/// if the line has fewer than three spaces.
 #[tactic(auto, using(crate::proofs::LineLemmas::three_words))]
 fn words_of<'a>(line: &'a [u8]) -> Option<Words<'a>>
     ensures { MatchOption result (HasFewWords line.now) (λ w. HasWords line.now w.name.now w.place.now w.number.now w.text.now) }
@@ -82,7 +82,7 @@ fn words_of<'a>(line: &'a [u8]) -> Option<Words<'a>>
     Some(words)
 }
 
-/// The step that a line names, and the text after it. None if the line names none.
+/// The step that a line names, and the text after it. None if the line names no step.
 pub(crate) fn read_step(line: &[u8]) -> Option<(Step, &[u8])>
     ensures { MatchOption result (IsNoName line.now) (λ p. IsStepLine line.now p.0 p.1.now) }
 {
@@ -98,7 +98,7 @@ pub(crate) fn read_step(line: &[u8]) -> Option<(Step, &[u8])>
     Some((step, words.text))
 }
 
-/// The text of a line that tells the end, after `= `. None of any other line.
+/// The text after `= ` in a line that tells the end. None for any other line.
 pub(crate) fn read_end(line: &[u8]) -> Option<&[u8]>
     ensures { MatchOption result (NamesNoEnd line.now) (λ text. line.now ≡ end_line text.now) }
 {

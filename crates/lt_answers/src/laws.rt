@@ -6,23 +6,24 @@ ghost use Rattle.lt_answers.specs.Laws.{ExplanationsAreRight, HaveOneVerdict, Nu
 use lt_canon::laws::traces_have_one_end;
 use lt_registry::Lookup;
 
-/// Language ranges select one list of given lines, so that one text is to be written for the bytes of a reader. Nothing
-/// is computed here: the contract is the law.
+/// Of given lines, the same language ranges always select the same ones, so that one text is to be written for the bytes of a
+/// reader. Nothing is computed here: the contract is the law.
 pub fn selection_is_determined()
     ensures { (R : List EntryParts) → SelectionIsDetermined R }
 {}
 
-/// The same lines, judged as an explanation of the same tag, have no two verdicts, by any list of entries. Nothing is
-/// computed here: the contract is the law.
+/// By any list of entries, the same lines have no two verdicts as an explanation of the same tag. Nothing is computed here:
+/// the contract is the law.
 #[tactic(auto, using(crate::proofs::JudgingLemmas::one_verdict))]
 pub fn lines_have_one_verdict()
     ensures { (R : List EntryParts) → HaveOneVerdict R }
 {
-    // By the law of traces, which lines tell.
+    // Lines name the steps of a trace, and by this law a list of steps leads from a tag to one end at most.
     traces_have_one_end();
 }
 
-/// Changes nothing: by its clause the number of each record of a table has at most 32 bits, as entries give it.
+/// Changes nothing. Its contract says that the number of each record of a table fits into 32 bits, which is the type of
+/// numbers that entries give.
 fn numbers_fit<L: Lookup>(table: &L)
     ensures { NumbersFit (L.listed table.now) }
 {
@@ -31,11 +32,11 @@ fn numbers_fit<L: Lookup>(table: &L)
     }
 }
 
-/// What `explanation_text` gives for the text of a tag is judged right, by the same table.
+/// What `explanation_text` gives for the text of a tag is judged right by the same table.
 #[tactic(auto, using(crate::proofs::FollowingLemmas::explanations_right))]
 pub fn explanations_are_right<L: Lookup>(table: &L)
     ensures { ExplanationsAreRight (L.listed table.now) }
 {
-    // So that the number of each record is known to have 32 bits.
+    // This call tells the proof that the number of each record fits into 32 bits.
     numbers_fit(table);
 }

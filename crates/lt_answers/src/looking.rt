@@ -66,7 +66,7 @@ impl<'a, L: Lookup> LookingUp<'a, L> {
     }
 }
 
-/// How a run ends that writes into memory: a write fails only where that runs out.
+/// How a run ends if what it writes is kept in memory. A write fails then only if memory runs out.
 pub(crate) fn in_memory(end: Result<(), ToolFault>) -> Result<(), ToolFault>
     ensures { result ≡ spec.in_memory end }
 {
@@ -77,14 +77,16 @@ pub(crate) fn in_memory(end: Result<(), ToolFault>) -> Result<(), ToolFault>
 }
 
 /// The line of a reader that lookup finds by a language priority list (RFC 4647, 3.4), as it stands. The first range that
-/// finds a line counts, and of its lines the one to which it is cut the least; of equal ones the first. A line is looked up
-/// as the tag that it is, by the subtags of its extlang form (RFC 5646, 4.5): the range of `yue-HK` finds `zh-yue`, and then `zh`. No
-/// range finds a line that is no valid tag, or a tag that has no extlang form, and a range that begins with `*` finds none.
-/// None if no range finds a line: the caller takes a default then.
+/// finds a line counts, and of its lines the one to which it is cut the least, and of equal ones the first. None if no range
+/// finds a line: the caller takes a default then.
 ///
-/// A byte order mark of UTF-8 before the first line is passed over. A line feed ends a line, and what follows the last one
-/// is a line if it is anything. A carriage return that ends a line is no part of the tag, and stays with the line. No more than the closest line so far and 1,026 bytes of the
-/// line that goes on are kept.
+/// A line is looked up as the tag that it is, by the subtags of its extlang form (RFC 5646, 4.5): the range of `yue-HK` finds
+/// `zh-yue`, and then `zh`. No range finds a line that is no valid tag, or a tag that has no extlang form. A range that begins
+/// with `*` finds no line.
+///
+/// A byte order mark of UTF-8 before the first line is passed over. A line feed ends a line, and bytes after the last line
+/// feed are a line too. A carriage return that ends a line is no part of the tag, and stays with the line. No more than the
+/// closest line so far and 1,026 bytes of the unfinished line are kept.
 ///
 /// - `Utf16`, if the bytes begin with a byte order mark of UTF-16.
 /// - `Read`, if a read fails.

@@ -31,7 +31,7 @@ fn is_matched<L: Lookup>(
 ) -> Result<bool, OutOfMemory>
     ensures { IfOk result (λ matched. IsTrue matched ↔ IsMatched (L.listed checked.now) scheme ranges.now text.now) }
 {
-    // So that the table is known to pass the check.
+    // This call tells the proof that the table passes the check.
     let _ = checked.table();
     matching_is_determined();
     match known_subtags(alloc, checked, text)? {

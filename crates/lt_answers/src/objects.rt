@@ -46,13 +46,18 @@ fn append_opening(objects: &mut Vec<u8>, alloc: Global, text: &[u8]) -> Result<(
 
 /// Appends the object that is answered to a text, and tells whether the text is refused.
 ///
-/// Its members, in this order: `input`, the text, or null where it is no UTF-8; then `bytes`, its bytes as hexadecimal
-/// digits, else null; `canonical`, its canonical text, or null where it is refused (RFC 5646, 4.5); `fault`, the name of
-/// why it is refused, and `place`, that of the fault, or `variant`, which steps can repeat; and the parts of the tag that
-/// the text is read as, in conventional case (RFC 5646, 2.1 and 2.1.1): `class`, `language`, `extlangs`, `script`,
-/// `region`, `variants`, `extensions`, `private`. What is not there is null, or an array of none.
+/// Its members are, in this order:
 ///
-/// Refused only where memory runs out, after which a part may have been appended.
+/// - `input`: the text, or null if it is no UTF-8.
+/// - `bytes`: the hexadecimal digits of its bytes if it is no UTF-8, else null.
+/// - `canonical`: its canonical text (RFC 5646, 4.5), or null if it is refused.
+/// - `fault`: the name of the refusal, or null.
+/// - `place` and `variant`: the place of the fault, and the variant that steps can repeat; each is null if the refusal names
+///   none.
+/// - `class`, `language`, `extlangs`, `script`, `region`, `variants`, `extensions` and `private`: the parts of the tag that
+///   the text is read as, in conventional case (RFC 5646, 2.1 and 2.1.1). A part that is not there is null or an empty array.
+///
+/// The call is refused only if memory runs out, after which a front of the object may have been appended.
 #[tactic(auto, using(crate::proofs::ObjectLemmas::object_whole))]
 pub fn append_object<L: Lookup>(
     objects: &mut Vec<u8>,

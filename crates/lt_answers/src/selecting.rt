@@ -1,4 +1,4 @@
-//! Runs over the lines of a reader.
+//! Writing those lines of a reader that language ranges select.
 ghost use Rattle.std.specs.Prelude.{◌≡◌};
 ghost use Rattle.lt_answers.specs.Selecting.{SelectsLines};
 ghost use Rattle.lt_answers.specs.Selection.{AreOwed, IsSelected, longest_kept};
@@ -61,14 +61,14 @@ impl<'a, L: Lookup> Lines for Selecting<'a, L> {
 /// form (RFC 5646, 4.5; RFC 4647, 3.3): the ranges of `zh` and `yue` select `yue-HK`. No range matches a line that is no valid
 /// tag, or a tag that has no extlang form.
 ///
-/// A byte order mark of UTF-8 before the first line is passed over. A line feed ends a line, and what follows the last one
-/// is a line if it is anything. A carriage return that ends a line is no part of the tag, and is written with the line.
-/// What is owed for the lines of the bytes that were read is written
-/// before the next read. Of a line that goes on no more than 1,026 bytes are kept.
+/// A byte order mark of UTF-8 before the first line is passed over. A line feed ends a line, and bytes after the last line
+/// feed are a line too. A carriage return that ends a line is no part of the tag, and is written with the line. What is owed
+/// for the lines whose line feed was read is written before the next read. Of an unfinished line no more than 1,026 bytes are
+/// kept.
 ///
 /// - `Utf16`, if the bytes begin with a byte order mark of UTF-16: nothing has been written.
 /// - `Read`, if a read fails: what is owed for each line whose line feed was read has been written.
-/// - `TooManyTurns`, if all 10,000,000 reads were made and the last gave bytes: the same has been written.
+/// - `TooManyTurns`, if all 10,000,000 reads were made and the last gave bytes: what is owed for these lines has been written.
 /// - `Write`, if a write fails or takes none of some bytes, and `OutOfMemory`: a front of what is owed was written.
 pub fn select_lines<L: Lookup, R: Read, W: Write>(
     alloc: Global,

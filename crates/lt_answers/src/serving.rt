@@ -64,7 +64,7 @@ fn put_line(
     Ok(())
 }
 
-/// Puts a line after others if it is a tag that has an extlang form. The caller cuts a long line to LONGEST_KEPT bytes:
+/// Puts a line after others if it is a tag that has an extlang form. The caller cuts a long line to LONGEST_KEPT bytes, since
 /// what follows them changes nothing.
 fn take_tag<L: Lookup>(
     alloc: Global,
@@ -81,7 +81,7 @@ fn take_tag<L: Lookup>(
     }
 }
 
-/// The line at a place. None after the last line.
+/// The line at a place, counted from 0. None if the place is after the last line.
 fn line_at(mut lines: Vec<Vec<u8>>, place: usize) -> Option<Vec<u8>>
     ensures { result ≡ slice_get lines.items place }
 {
@@ -92,7 +92,7 @@ fn line_at(mut lines: Vec<Vec<u8>>, place: usize) -> Option<Vec<u8>>
     }
 }
 
-/// The line that preferences serve of those that are tags, whose subtags are `tags`.
+/// The line that preferences serve of these lines, whose subtags are `tags`. None if the preferences serve none of them.
 fn served(preferences: &[Preference], lines: Vec<Vec<u8>>, tags: &[TagSubtags]) -> Option<Vec<u8>>
     ensures { ServesOf preferences.now lines.items tags.now result }
 {
@@ -100,15 +100,16 @@ fn served(preferences: &[Preference], lines: Vec<Vec<u8>>, tags: &[TagSubtags]) 
     line_at(lines, place)
 }
 
-/// The line of a reader that is to be served by preferences, as those of an Accept-Language header (RFC 9110, 12.5.4), as it
-/// stands. Of the lines that are tags it is the one that [`best`] serves: no line that is not acceptable, and of equal ones
-/// the first. A line is matched as the tag that it is, by the subtags of its extlang form (RFC 5646, 4.5): `yue` is served
-/// `zh-yue`. No line is served that is no valid tag, or a tag that has no extlang form. None if the preferences serve no
-/// line: the caller takes a default then.
+/// The line of a reader that is to be served by preferences, such as those of an Accept-Language header (RFC 9110, 12.5.4), as
+/// it stands. It is the one that [`best`] serves of the lines that are tags: it is acceptable, and of equal lines the first.
+/// None if the preferences serve no line: the caller takes a default then.
 ///
-/// A byte order mark of UTF-8 before the first line is passed over. A line feed ends a line, and what follows the last one
-/// is a line if it is anything. A carriage return that ends a line is no part of the tag, and stays with the line. The
-/// lines that are tags are kept up to the end, so that memory grows with them, and 1,026 bytes of the line that goes on.
+/// A line is matched as the tag that it is, by the subtags of its extlang form (RFC 5646, 4.5): `yue` is served `zh-yue`. No
+/// line is served that is no valid tag, or a tag that has no extlang form.
+///
+/// A byte order mark of UTF-8 before the first line is passed over. A line feed ends a line, and bytes after the last line
+/// feed are a line too. A carriage return that ends a line is no part of the tag, and stays with the line. The lines that are
+/// tags are kept up to the end, so that memory grows with them. Of an unfinished line no more than 1,026 bytes are kept.
 ///
 /// - `Utf16`, if the bytes begin with a byte order mark of UTF-16.
 /// - `Read`, if a read fails.

@@ -24,7 +24,7 @@ fn append_members(objects: &mut Vec<u8>, alloc: Global, tag: &Tag) -> Result<(),
     Ok(())
 }
 
-/// Appends the members of a tag where there is none, which are null and empty arrays.
+/// Appends the members for a text that is no tag: null and empty arrays.
 #[tactic(auto, using(crate::proofs::ObjectLemmas::tag_is))]
 fn append_none(objects: &mut Vec<u8>) -> Result<(), AllocError>
     ensures { OnOk result (objects.new.items ≡ objects.old.items ++ more_members members_of_none) }
