@@ -23,8 +23,8 @@ pub none_placed : (start : ℕ) (ks : List PartKind) → placed start ks [] ≡ 
 none_placed start [] = refl
 none_placed start (k ∷ ks) = refl
 
--- what is left of a text from `start` on, where a hyphen is `h` bytes further: a part up to the hyphen, and the parts
--- after it; `i` is the index of the next kind
+-- if the first hyphen from `start` on is `h` bytes further, the parts from `start` on are the one up to the hyphen and
+-- those after it; `i` is the index of the next kind
 placed_cut : (kinds : List PartKind) (text : List ℕ) (i start h : ℕ) (d : PartKind) → i < length kinds → hyphen (drop start text) ≡ Some h
     → placed start (drop i kinds) (pieces (drop start text)) ≡ part (get_or kinds i d) start h ∷ placed (start + (h + 1)) (drop (i + 1) kinds) (pieces (drop (start + (h + 1)) text))
 placed_cut kinds text i start h d lt found =
@@ -42,7 +42,7 @@ placed_cut kinds text i start h d lt found =
     ∙ ap (λ n. part k start h ∷ placed n ks (pieces (drop (h + 1) rest))) sum
     ∙ ap (λ (x : List ℕ). part k start h ∷ placed (start + (h + 1)) ks (pieces x)) (drop-drop (h + 1) start text)
 
--- what is left of a text from `start` on, where no hyphen is in it: one part
+-- if the text has no hyphen from `start` on, what is left of it is one part
 placed_last : (kinds : List PartKind) (text : List ℕ) (i start : ℕ) (d : PartKind) → i < length kinds → hyphen (drop start text) ≡ None
     → placed start (drop i kinds) (pieces (drop start text)) ≡ part (get_or kinds i d) start (length (drop start text)) ∷ []
 placed_last kinds text i start d lt found =

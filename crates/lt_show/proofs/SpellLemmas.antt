@@ -26,12 +26,12 @@ use Rattle.lt_show.proofs.PlaceLemmas.{none_placed}
 
 -- ---- as many kinds as subtags
 
--- lists that are made of one list part by part are equally long if each part is
+-- if `f` and `g` give equally long lists for each element of a list, these lists, joined, are equally long
 flat_maps : {X A B : Type 0} (f : X → List A) (g : X → List B) (xs : List X) → ((x : X) → length (f x) ≡ length (g x)) → length (flat_map f xs) ≡ length (flat_map g xs)
 flat_maps f g [] h = refl
 flat_maps f g (x ∷ xs) h = omega (arith, length-append (f x) (flat_map f xs), length-append (g x) (flat_map g xs), h x, flat_maps f g xs h)
 
--- of one kind for each subtag there are as many as subtags
+-- if there is one kind for each subtag, there are as many kinds as subtags
 each_count : (kind : PartKind) (ss : List (List ℕ)) → length (each kind ss) ≡ length ss
 each_count kind ss = length-map ss (λ _. kind)
 
@@ -103,9 +103,9 @@ langtag_count core es ps =
       private_count ps,
     )
 
--- ---- each part is what it is placed at
+-- ---- each part has the text at which it is placed
 
--- what comes after `front`, cut out of the whole by its place and length
+-- a text `t` after `front` is what its place and its length cut out of the whole
 cut_again : (front t rest : List ℕ) → take (length t) (drop (length front) (front ++ (t ++ rest))) ≡ t
 cut_again front t rest = ap (take (length t)) (drop-append_seam front (t ++ rest)) ∙ take-append_seam t rest
 

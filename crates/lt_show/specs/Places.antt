@@ -26,7 +26,7 @@ placed start (k ∷ ks) (t ∷ ts) =
 abbrev pub parts_of : TagForm → List Part
 parts_of tag = placed 0 (part_kinds tag) (part_texts tag)
 
--- what a part is in the text of its tag
+-- the text of a part, cut out of the text of its tag
 abbrev pub cut_of : List ℕ → Part → List ℕ
 cut_of text part = take part.length (drop part.start text)
 

@@ -28,7 +28,7 @@ commaed value (x ∷ xs) = value x ++ after_commas value xs
 abbrev pub array : {A : Type 0} → (A → List ℕ) → List A → List ℕ
 array value xs = 91 ∷ commaed value xs ++ 93 ∷ []
 
--- what is before the value of an array at this index, counted from 0: a comma (44), but nothing before the first
+-- what is before the value of an array at this index, counted from 0: nothing before the first, else a comma (44)
 abbrev pub comma_at : ℕ → List ℕ
 comma_at zero = []
 comma_at (suc index) = 44 ∷ []

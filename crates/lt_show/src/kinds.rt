@@ -49,7 +49,7 @@ pub enum PartKind {
 }
 
 impl PartKind {
-    /// The kind's name, as it is written here: `Extlang`.
+    /// The name of the kind, such as `Extlang`.
     pub fn name(self) -> &'static str
         ensures { result.now ≡ spec.name_of self }
     {

@@ -44,7 +44,8 @@ fn copy_fields(alloc: Global, fields: &[JarField]) -> Result<Vec<JarField>, OutO
     Ok(copies)
 }
 
-/// Puts a record of copies of those of these fields that are kept after the other records. It is refused only where memory runs out.
+/// Puts a record after the other records, with copies of those of these fields that are kept. It is refused only where memory
+/// runs out.
 fn push_record(
     alloc: Global,
     records: &mut Vec<Record>,
@@ -77,8 +78,8 @@ impl Draft {
         }
     }
 
-    /// Keeps a record of copies of these fields, but for those that nobody asks for, after the others. Once memory runs out for one, no more are kept; the
-    /// file is read on, since a fault of it is answered before the lack of memory.
+    /// Keeps a record after the others, with copies of those of these fields that are kept. Once memory runs out for one, no
+    /// more are kept; the file is read on, since a fault of it is answered before the lack of memory.
     fn take(&mut self, alloc: Global, fields: &[JarField])
         ensures { Keeps fields.now self.old self.new }
     {
@@ -117,9 +118,9 @@ fn read_draft<R: Read>(alloc: Global, device: &mut Device<R>) -> Result<Draft, J
     Ok(draft)
 }
 
-/// The registry that a device gives, and of each record of its file the fields that are shown or make its entry: an
-/// entry's number is that of its record among them, counted from 1. The device is read to its end, record by record, once. It is refused
-/// as `Registry::read` refuses it; and by `OutOfMemory` where memory runs out for the records.
+/// The registry that a device gives, and the records of its file, each with the fields that are shown or make its entry. An
+/// entry's number is that of its record among them, counted from 1. The device is read to its end, record by record, once. It
+/// is refused as `Registry::read` refuses it; and by `OutOfMemory` where memory runs out for the records.
 #[tactic(auto, unfolding(crate::specs::Kept::ReadsDraft, crate::specs::Reading::ReadsRecords))]
 pub fn read_records<R: Read>(
     alloc: Global,

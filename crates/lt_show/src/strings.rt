@@ -75,9 +75,9 @@ fn append_content(texts: &mut Vec<u8>, text: &[u8]) -> Result<(), AllocError>
     }
 }
 
-/// Appends the string of a text of UTF-8 (RFC 8259, 7): its bytes within quotes, where a quote and a backslash are behind a
-/// backslash, and a control character, which is below a space, is `\u` and four digits to the base 16. So a tab is
-/// `\u0009`. The only refusal is running out of memory, after which a part may have been appended.
+/// Appends the string of a text of UTF-8 (RFC 8259, 7): its bytes within quotes, where a backslash is before each quote and
+/// each backslash, and a control character, which is below a space, is `\u` and four digits to the base 16. For example, a tab
+/// is `\u0009`. The only refusal is running out of memory, after which a part may have been appended.
 #[tactic(auto, unfolding(crate::specs::Strings::string))]
 pub fn append_string(texts: &mut Vec<u8>, text: &[u8]) -> Result<(), AllocError>
     ensures { OnOk result (texts.new.items ≡ texts.old.items ++ spec.string text.now) }

@@ -20,8 +20,8 @@ pub fn append_number(texts: &mut Vec<u8>, number: u32) -> Result<(), AllocError>
     texts.extend_from_slice(Buffer::new().format(number).as_bytes())
 }
 
-/// Appends what is before the value of an array at `index`, counted from 0: a comma, but nothing before the first (RFC
-/// 8259, 5).
+/// Appends what is before the value at `index`, counted from 0, of an array: nothing before the first value, and a comma before
+/// any other (RFC 8259, 5).
 pub fn append_comma(texts: &mut Vec<u8>, index: usize) -> Result<(), AllocError>
     ensures { OnOk result (texts.new.items ≡ texts.old.items ++ spec.comma_at index) }
 {

@@ -43,7 +43,7 @@ fn core_kinds(alloc: Global, core: &Core) -> Result<Vec<PartKind>, OutOfMemory>
     Ok(kinds)
 }
 
-/// Adds the kinds of the subtags of keywords: of each its key and its types.
+/// Adds the kinds of the subtags of keywords: for each keyword those of its key and its types.
 fn append_keywords(kinds: &mut Vec<PartKind>, keywords: &[Keyword]) -> Result<(), OutOfMemory>
     ensures { OnOk result (kinds.new.items ≡ kinds.old.items ++ flat_map spec.keyword_kinds keywords.now) }
 {
@@ -62,7 +62,7 @@ fn append_u(kinds: &mut Vec<PartKind>, parts: &UParts) -> Result<(), OutOfMemory
     append_keywords(kinds, &parts.keywords)
 }
 
-/// Adds the kinds of the subtags of a source: those of a core, each turned into the source's.
+/// Adds the kinds of the subtags of a source: those of a core, each turned into the kind that it has in a source.
 fn append_source(alloc: Global, kinds: &mut Vec<PartKind>, source: &Core) -> Result<(), OutOfMemory>
     ensures { OnOk result (kinds.new.items ≡ kinds.old.items ++ map spec.in_source (spec.core_kinds source.now)) }
 {
@@ -72,7 +72,7 @@ fn append_source(alloc: Global, kinds: &mut Vec<PartKind>, source: &Core) -> Res
     Ok(())
 }
 
-/// Adds the kinds of the subtags of fields: of each its separator and its values.
+/// Adds the kinds of the subtags of fields: for each field those of its separator and its values.
 fn append_fields(kinds: &mut Vec<PartKind>, fields: &[Field]) -> Result<(), OutOfMemory>
     ensures { OnOk result (kinds.new.items ≡ kinds.old.items ++ flat_map spec.field_kinds fields.now) }
 {
@@ -93,7 +93,7 @@ fn append_t(alloc: Global, kinds: &mut Vec<PartKind>, parts: &TParts) -> Result<
     append_fields(kinds, &parts.fields)
 }
 
-/// Adds the kinds of the subtags after the singleton of a `u` extension.
+/// Adds the kinds of the subtags after the singleton of a `u` extension. The singleton must be `u`.
 fn append_unicode(
     alloc: Global,
     kinds: &mut Vec<PartKind>,
@@ -106,8 +106,8 @@ fn append_unicode(
     append_u(kinds, &parts)
 }
 
-/// Adds the kinds of the subtags after the singleton of a `t` extension. If they don't have its form, each is an
-/// `ExtensionSubtag`.
+/// Adds the kinds of the subtags after the singleton of a `t` extension. If they don't have the form of RFC 6497, 2.2, each is
+/// an `ExtensionSubtag`. The singleton must be `t`.
 fn append_transform(
     alloc: Global,
     kinds: &mut Vec<PartKind>,
@@ -125,7 +125,7 @@ fn append_transform(
     }
 }
 
-/// Adds the kinds of extensions: of each its singleton and the subtags after it.
+/// Adds the kinds of extensions: for each extension those of its singleton and of the subtags after it.
 fn append_extensions(
     alloc: Global,
     kinds: &mut Vec<PartKind>,
@@ -144,7 +144,7 @@ fn append_extensions(
     Ok(())
 }
 
-/// Adds the kinds of an `x` and the subtags after it, if there are any.
+/// Adds the kinds of an `x` and of the subtags after it, or nothing if there is no private use.
 fn append_private(kinds: &mut Vec<PartKind>, subtags: &[Subtag]) -> Result<(), OutOfMemory>
     ensures { OnOk result (kinds.new.items ≡ kinds.old.items ++ spec.private_kinds subtags.now) }
 {
