@@ -168,9 +168,7 @@ judged_once R one n (Some t) (line ∷ lines) v w (inr (inr settles)) (inr (inr 
 pub one_verdict : (R : List EntryParts) → TracesHaveOneEnd R → HaveOneVerdict R
 one_verdict R one t lines v w is are = judged_once R one 1 (Some t) lines v w (judged_of R t lines v is) (judged_of R t lines w are)
 
--- ---- numbers
-
--- the number of an entry that may be found has 32 bits, also where none is
+-- the number of the entry that was found, or of None if none was found, is less than 2 to the 32
 pub few : (o : Option EntryParts) → ((e : EntryParts) → o ≡ Some e → e.number < 2 ^ 32) → number_of o < 2 ^ 32
 few None each = omega arith
 few (Some e) each = each e refl

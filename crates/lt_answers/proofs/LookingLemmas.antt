@@ -7,7 +7,7 @@ use Rattle.lt_answers.specs.LookedUp.{LooksUp}
 use Rattle.lt_answers.specs.declared.closest.Closest.{Closest}
 use Rattle.lt_answers.proofs.ClosestLemmas.{finds_line, finds_none}
 
--- among no lines none is the closest
+-- if there are no lines, none is the closest
 pub holds_none : (R : List EntryParts) (ranges : List RangeParts) → Holds R ranges [] None
 holds_none R ranges = record { lists = []; have = refl; among = λ i within k none. absurd (omega (arith, none)) }
 
