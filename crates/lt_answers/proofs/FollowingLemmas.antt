@@ -183,7 +183,7 @@ pub begun_line : (front more : List ℕ) → IsOneLine front → (front ≡ [] �
 begun_line [] more one some = absurd (some refl)
 begun_line (byte ∷ front) more one some = first_goes_on byte front more one
 
--- what the kept front of a line settles behind the tag `t` is settled in the state that has reached this tag
+-- if the lines so far lead to the tag `t`, what the kept front of a line settles after `t` is settled in this state
 pub settled_rest : (R : List EntryParts) (t : TagForm) (state : Following) → state.here ≡ Some t → (judged : Option Verdict) → SettlesFront R state.number t state.kept.items judged → SettlesKept R state judged
 settled_rest R t state here None settles = rw here settles
 settled_rest R t state here (Some v) settles = λ more one.

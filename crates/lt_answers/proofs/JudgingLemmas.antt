@@ -61,7 +61,7 @@ module _ (R : List EntryParts) (t here : TagForm) (before : List (List ℕ)) (n 
         nth = omega arith;
       })))
 
--- what is judged of lines behind those that lead to `here` is the verdict on all
+-- if the lines `before` lead to `here`, what is judged of the lines after them is the verdict on all lines
 pub verdict_behind : (R : List EntryParts) (t here : TagForm) (before lines : List (List ℕ)) (v : Verdict) (n : ℕ) → n ≡ length before + 1 → Lead R t before here → Judges R n (Some here) lines v
     → IsVerdict R t (before ++ lines) v
 verdict_behind R t here before [] v n nth lead is = rw (append-nil before, is) (inr (inl (record { here = here; lead = lead; nth = nth })))
@@ -74,7 +74,8 @@ verdict_behind R t here before (line ∷ lines) v n nth lead (inr (inr (inr (inr
 
 -- ---- the verdict is judged
 
--- what is judged of lines, from number `m` on, behind those that lead to `here` is judged of all, from number `n` on
+-- if the lines `before`, from number `n` on, lead to `here`, what is judged of the lines after them, from number `m`
+-- on, is judged of all lines
 judged_behind : (R : List EntryParts) (n m : ℕ) (t here : TagForm) (before lines : List (List ℕ)) (v : Verdict) → m ≡ n + length before → Lead R t before here → Judges R m (Some here) lines v
     → Judges R n (Some t) (before ++ lines) v
 judged_behind R n m t here [] lines v nth lead judged =
@@ -82,7 +83,7 @@ judged_behind R n m t here [] lines v nth lead judged =
     rw (lead, same) judged
 judged_behind R n m t here (line ∷ before) lines v nth lead judged = inl (lead.0, lead.1, judged_behind R (n + 1) m lead.0 here before lines v (omega arith) lead.2 judged)
 
--- where lines stop at one that settles a verdict, this verdict is judged of them
+-- if lines stop at a line that settles a verdict, this verdict is judged of them
 judged_at : (R : List EntryParts) (t : TagForm) (lines : List (List ℕ)) (n : ℕ) (Holds : TagForm → List ℕ → Type 0) (v : Verdict) (s : StopsAt R t lines n Holds)
     → SettlesLine R n s.here s.line v → Judges R 1 (Some t) lines v
 judged_at R t lines n Holds v s settles = rw s.there (judged_behind R 1 n t s.here s.before (s.line ∷ s.after) v (omega (arith, s.nth)) s.lead (inr (inr settles)))
@@ -98,8 +99,6 @@ judged_of R t lines (verdicts.BadStep n) (inr (inl is)) = rw (← append-nil lin
 judged_of R t lines (verdicts.BadStep n) (inr (inr is)) =
     let nth : n ≡ 1 + length is.steps + 1 = omega (arith, is.nth) in
     rw is.there (judged_behind R 1 (1 + length is.steps) t is.end is.steps (end_line (text_of is.end) ∷ is.line ∷ is.after) (verdicts.BadStep n) refl is.lead (inr (inl (refl, ap (λ (m : ℕ). verdicts.BadStep m) nth))))
-
--- ---- a line names one step
 
 -- a line names one step, with one text
 same_step : (line : List ℕ) (a b : Step) (x y : List ℕ) → IsStepLine line a x → IsStepLine line b y → (a ≡ b) × (x ≡ y)
@@ -117,7 +116,7 @@ not_both line step x text is ends =
 
 -- ---- one thing is judged
 
--- a line that names a step settles a verdict only where the step leads to no tag of the line's text; where it leads
+-- a line that names a step settles a verdict only if the step leads to no tag with the line's text; if the step leads
 -- nowhere, the verdict is NoSuchStep
 step_settles : (R : List EntryParts) → TracesHaveOneEnd R → (n : ℕ) (t : TagForm) (line text : List ℕ) (step : Step) (v : Verdict) → IsStepLine line step text → SettlesLine R n t line v
     → ((u : TagForm) → LeadsBy R t step u → text ≢ text_of u) × (((u : TagForm) → LeadsBy R t step u → ⊥) → v ≡ verdicts.NoSuchStep n)
@@ -131,7 +130,7 @@ step_settles R one n t line text step v a (inr (inr (inl other, is))) =
     (λ u led e. other.other (same.1 ∙ e ∙ ap text_of (one t u other.u (step ∷ []) (u, led, refl) (other.u, leads, refl))), λ none. absurd (none other.u leads))
 step_settles R one n t line text step v a (inr (inr (inr nothing, is))) = absurd (nothing.no_step step text a)
 
--- the line of an end is settled only by WrongEnd, and where it has another text than that of the tag
+-- the line of an end settles only the verdict WrongEnd, and only if its text is not that of the tag
 end_settles : (R : List EntryParts) (n : ℕ) (t : TagForm) (line text : List ℕ) (v : Verdict) → line ≡ end_line text → SettlesLine R n t line v → (text ≢ text_of t) × (v ≡ verdicts.WrongEnd)
 end_settles R n t line text v a (inl (stuck, is)) = absurd (not_both line stuck.step stuck.text text stuck.is_line a)
 end_settles R n t line text v a (inr (inl (ends, is))) =

@@ -66,7 +66,8 @@ fault_of default (Err f) = f
 pub ended_by : {X : Type 0} (r : Result X ToolFault) (f g : ToolFault) → r ≡ Err f → r ≡ Err g → f ≡ g
 ended_by r f g one other = sym (ap (fault_of f) one) ∙ ap (fault_of f) other
 
--- a run that answers lines by those that are selected: `Q` says it of what answers, whose count is `count`
+-- a run that answers lines by those that are selected, as `Q` says of the state that answers them; `count` gives how
+-- many lines this state has selected
 module _ {I O A : Type 0} (P : Selection) (Q : stream.Answered A) (count : A → ℕ) (owes : (answers : A) (lines : List (List ℕ)) (bytes : List ℕ) → Q answers lines bytes → AreOwed P lines bytes (count answers))
     (remaining : I → Option (List ℕ)) (contents : O → Option (List ℕ)) (input input' : Device I) (output output' : Device O) (answers : A) where
   -- what was written is a front of the selected lines
@@ -81,7 +82,7 @@ module _ {I O A : Type 0} (P : Selection) (Q : stream.Answered A) (count : A →
       let o = owes answers t.lines written t.answered in
       record { lines = t.lines; last = t.last; cut = t.cut; each_one = t.each_one; last_one = t.last_one; selected = o.selected; are = o.are; all = o.all }
 
-  -- a fault ended the run
+  -- a run that ended by a fault ended as selecting lines ends by this fault
   ends_selecting : (f : ToolFault) (reads : ℕ) (read text written : List ℕ) → EndsAfterMark Q remaining input input' output output' reads read text written answers (Err f) → EndsAs P remaining input input' output output' reads read text written (Err f)
   ends_selecting faults.Read reads read text written e = record { failed = e.failed; owed = fed_selecting text written e.owed }
   ends_selecting faults.Write reads read text written e = e
@@ -111,7 +112,7 @@ module _ {I O A : Type 0} (P : Selection) (Q : stream.Answered A) (count : A →
     write_rises = λ lt. absurd (never (Ok tt) faults.Write refl (r.write_rises lt));
   }
 
-  -- a run that a fault ended ends by it
+  -- a run that ended by a fault selects lines and ends by this fault
   pub selects_not : (f : ToolFault) → RunsOverText Q remaining contents input input' output output' answers (Err f) → SelectsLines P remaining contents input input' output output' (Err f)
   selects_not f r = record {
     read = r.read;

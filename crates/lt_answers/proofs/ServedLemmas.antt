@@ -19,7 +19,7 @@ use Rattle.lt_answers.proofs.SelectionLemmas.{selected_no, selected_yes}
 
 -- ---- lines that are tags
 
--- a line of which the kept front is a tag is kept whole
+-- a line whose kept front is a tag is kept whole
 front_short : (R : List EntryParts) (line : List ℕ) → IsTagLine R (take longest_kept line) → length line ≤ longest_kept
 front_short R line is = elim (leb_tells (length line) longest_kept) [
   | inl short ↦ short.1
@@ -85,7 +85,7 @@ module _ (all : List Preference) (tags : List (List (List ℕ))) where
 
   -- the lines with these tags
   module _ (kept : List (Vec ℕ Global)) where
-    -- where no tag is best, no line is served
+    -- if no tag is best, no line is served
     pub serves_none : IsBest all tags None → ServesOf all kept tags None
     serves_none none = λ R lines are. record { tags = texts_of kept; lists = tags; are = are; none = none }
 

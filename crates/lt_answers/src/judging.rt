@@ -38,8 +38,8 @@ fn is_longer(alloc: Global, tag: &Tag, text: &[u8]) -> Result<bool, OutOfMemory>
     Ok(written.len() < text.len())
 }
 
-/// Judges the line that says that the explanation ends with `text`. It does so if `text` is that of `here`, the tag to which
-/// the lines before lead.
+/// Judges the line that says that the explanation ends with `text`. It does if `text` is the text of `here`, the tag to which
+/// the lines before it lead.
 fn judge_end(alloc: Global, here: &Tag, text: &[u8]) -> Result<Flow, OutOfMemory>
     ensures { IfOk result (EndFlow here.now text.now) }
 {

@@ -52,8 +52,8 @@ fn append_opening(objects: &mut Vec<u8>, alloc: Global, text: &[u8]) -> Result<(
 /// - `bytes`: the hexadecimal digits of its bytes if it is no UTF-8, else null.
 /// - `canonical`: its canonical text (RFC 5646, 4.5), or null if it is refused.
 /// - `fault`: the name of the refusal, or null.
-/// - `place` and `variant`: the place of the fault, and the variant that steps can repeat; each is null if the refusal names
-///   none.
+/// - `place`: the place of the fault, or null if the refusal names none.
+/// - `variant`: the variant that steps can repeat, or null if the refusal names none.
 /// - `class`, `language`, `extlangs`, `script`, `region`, `variants`, `extensions` and `private`: the parts of the tag that
 ///   the text is read as, in conventional case (RFC 5646, 2.1 and 2.1.1). A part that is not there is null or an empty array.
 ///
