@@ -19,7 +19,7 @@ from pathlib import Path
 ROOT = Path(__file__).resolve().parent.parent
 MODULE = re.compile(r"^(pub )?mod (\S+)", re.M)
 OWN = "-- What this crate alone uses."
-IMPORT = re.compile(r"\bRattle\.(\w+)\.proofs\.(\w+)")
+IMPORT = re.compile(r"\b(\w+)(?:\.|::)proofs(?:\.|::)(\w+)")
 
 
 def declared(crate):

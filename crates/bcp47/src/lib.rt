@@ -14,7 +14,6 @@ pub use errors::RegistryError;
 pub use lt_canon::{Refusal, TextRefusal, Trace, TraceFault};
 pub use lt_check::{Condition, Finding};
 pub use lt_jar::{Device, Jar, JarFault, JarFaultKind, JarField, Record, read_jar};
-pub use lt_parts::{Part, PartKind, parts};
 pub use lt_range::{
     AcceptFault, AcceptFaultKind, AcceptLanguage, Available, AvailableRefusal, HeaderRefusal,
     LanguageRange, Preference, RangeFault, RangeRefusal, TagSubtags, WeightedRange, best,
@@ -25,7 +24,7 @@ pub use lt_registry::{
     ValidFaultKind, ValidRefusal, WholeTag,
 };
 pub use lt_rewrite::{Step, StepKind};
-pub use lt_show::{Listing, Row, Subject, fields_of, is_shown};
+pub use lt_show::{Listing, Part, PartKind, Row, Subject, fields_of, is_shown, parts};
 pub use lt_subtag::{Case, Subtag, SubtagFault};
 pub use lt_tag::{
     Class, Core, Extension, Field, Keyword, OutOfMemory, TParts, Tag, TagFault, TagFaultKind,

@@ -1,7 +1,7 @@
 -- A kind of part has a number of its own.
 use Rattle.std.proofs.Common.{◌≡◌, List, [], ◌∷◌, refl, sym, ap, ◌∙◌, get_or}
-use Rattle.lt_parts.specs.declared.kinds.PartKind.{PartKind}
-use Rattle.lt_parts.specs.declared.kinds.PartKind.TheVariants as kinds
+use Rattle.lt_show.specs.declared.kinds.PartKind.{PartKind}
+use Rattle.lt_show.specs.declared.kinds.PartKind.TheVariants as kinds
 use Rattle.bcp47_c.specs.Parts.{part_kind}
 
 -- the kinds of part in the order of their numbers, behind one for the number 0

@@ -25,8 +25,8 @@ use Rattle.lt_tag.proofs.AgainLemmas.{subtags_again}
 use Rattle.lt_tag.proofs.LetterLemmas.{same_list, to_HasList}
 use Rattle.lt_tag.proofs.ShapeLemmas.{tag_subtags}
 use Rattle.lt_tag.proofs.TagLemmas.{not_grandfathered}
-use Rattle.lt_parts.specs.Places.{parts_of}
-use Rattle.lt_parts.specs.declared.placing.Part.{Part}
+use Rattle.lt_show.specs.Places.{parts_of}
+use Rattle.lt_show.specs.declared.placing.Part.{Part}
 use Rattle.bcp47_c.specs.Replacing.{bearing, before_value, fault_said, form, has, hyphened, no_memory, with_core, with_extensions, with_private, IsNoValue, IsTooLong}
 use Rattle.bcp47_c.specs.declared.replacing.Langtag.{Langtag}
 use Rattle.bcp47_c.specs.declared.replacing.Section.{Section}

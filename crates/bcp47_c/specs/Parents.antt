@@ -3,8 +3,8 @@ use Rattle.std.specs.Prelude.{ℕ, ◌≡◌, ◌-◌, ◌+◌, ◌==◌, if◌t
 use Rattle.std.specs.Option.{option_map_or}
 use Rattle.lt_tag.specs.Parts.{TagForm}
 use Rattle.lt_tag.specs.Texts.{text_of}
-use Rattle.lt_parts.specs.Places.{parts_of}
-use Rattle.lt_parts.specs.declared.placing.Part.{Part}
+use Rattle.lt_show.specs.Places.{parts_of}
+use Rattle.lt_show.specs.declared.placing.Part.{Part}
 use Rattle.lt_canon.specs.Texts.{ReadsAs}
 
 -- the last of some parts that has more than one byte; `last` if there is none

@@ -3,10 +3,10 @@ use Rattle.std.specs.Prelude.{ℕ, ◌≡◌, ◌≢◌, ◌⊎◌, List, map, O
 use Rattle.lt_tag.specs.Faults.{HasTag}
 use Rattle.lt_tag.specs.Parts.{TagForm}
 use Rattle.lt_tag.specs.Texts.{text_of}
-use Rattle.lt_parts.specs.Places.{parts_of}
-use Rattle.lt_parts.specs.declared.kinds.PartKind.{PartKind}
-use Rattle.lt_parts.specs.declared.kinds.PartKind.TheVariants as kinds
-use Rattle.lt_parts.specs.declared.placing.Part.{Part}
+use Rattle.lt_show.specs.Places.{parts_of}
+use Rattle.lt_show.specs.declared.kinds.PartKind.{PartKind}
+use Rattle.lt_show.specs.declared.kinds.PartKind.TheVariants as kinds
+use Rattle.lt_show.specs.declared.placing.Part.{Part}
 use Rattle.bcp47_c.specs.Outcomes.{AreDelivered, IsRefusedAsOwed}
 use Rattle.bcp47_c.specs.Texts.{IsReadingRefusal}
 use Rattle.bcp47_c.specs.declared.outcomes.Outcome.{Outcome}

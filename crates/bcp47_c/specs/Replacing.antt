@@ -9,10 +9,10 @@ use Rattle.lt_tag.specs.Values.{core_of}
 use Rattle.lt_tag.specs.declared.faults.TagFault.{TagFault}
 use Rattle.lt_tag.specs.declared.faults.TagFaultKind.{TagFaultKind}
 use Rattle.lt_tag.specs.declared.faults.TagFaultKind.TheVariants as faults
-use Rattle.lt_parts.specs.Places.{parts_of}
-use Rattle.lt_parts.specs.declared.kinds.PartKind.{PartKind}
-use Rattle.lt_parts.specs.declared.kinds.PartKind.TheVariants as kinds
-use Rattle.lt_parts.specs.declared.placing.Part.{Part}
+use Rattle.lt_show.specs.Places.{parts_of}
+use Rattle.lt_show.specs.declared.kinds.PartKind.{PartKind}
+use Rattle.lt_show.specs.declared.kinds.PartKind.TheVariants as kinds
+use Rattle.lt_show.specs.declared.placing.Part.{Part}
 use Rattle.bcp47_c.specs.Numbers.{tag_fault}
 use Rattle.bcp47_c.specs.Outcomes.{ended, of_text, IsDelivered}
 use Rattle.bcp47_c.specs.declared.outcomes.Outcome.{Outcome}

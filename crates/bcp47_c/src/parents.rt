@@ -2,7 +2,7 @@
 ghost use Rattle.std.specs.Prelude.{◌≡◌, IfOk, IfErr, None};
 ghost use Rattle.std.specs.Option.{option_copied};
 ghost use Rattle.lt_tag.specs.Texts.{text_of};
-ghost use Rattle.lt_parts.specs.Places.{parts_of};
+ghost use Rattle.lt_show.specs.Places.{parts_of};
 ghost use Rattle.bcp47_c.specs.Outcomes.{Answers};
 ghost use Rattle.bcp47_c.specs.Parents as spec;
 ghost use Rattle.bcp47_c.specs.Texts.{IsReadingRefusal};

@@ -1,7 +1,7 @@
 //! The parts of a tag in numbers, for C.
 ghost use Rattle.std.specs.Prelude.{◌≡◌, ◌≢◌, [], map, IfOk, IfErr};
-ghost use Rattle.lt_parts.specs.Names.{name_of};
-ghost use Rattle.lt_parts.specs.declared.kinds.PartKind.{PartKind};
+ghost use Rattle.lt_show.specs.PartKinds.{name_of};
+ghost use Rattle.lt_show.specs.declared.kinds.PartKind.{PartKind};
 ghost use Rattle.bcp47_c.specs.Outcomes.{IsDelivered, ended};
 ghost use Rattle.bcp47_c.specs.Parts as spec;
 ghost use Rattle.bcp47_c.specs.Parts.{HasParts, IsPartKindOf, TellsParts, in_numbers};

@@ -6,7 +6,7 @@ ghost use Rattle.lt_tag.specs.Spelling.{spell_extensions, spell_private};
 ghost use Rattle.lt_tag.specs.Texts.{text_of};
 ghost use Rattle.lt_tag.specs.Values.{core_of};
 ghost use Rattle.lt_tag.specs.WellFormed.{IsTag, spell};
-ghost use Rattle.lt_parts.specs.declared.placing.Part.{Part};
+ghost use Rattle.lt_show.specs.declared.placing.Part.{Part};
 ghost use Rattle.bcp47_c.specs.Replacing as spec;
 ghost use Rattle.bcp47_c.specs.Replacing.{IsNoLangtag, IsNoValue, IsReplacement, IsReplacingRefusal, IsSectionOf, IsTooLong, ReadsLangtag, ReadsValue, Replaces, form, hyphened, replaced, with_core, with_extensions, with_private};
 

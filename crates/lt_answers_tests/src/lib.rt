@@ -1,5 +1,5 @@
-//! Tests of what `lt_show`, `lt_json`, `lt_codes`, `lt_lines`, `lt_range` and `lt_select` make public, and the uses of `bcp47`
-//! that `docs/LIBRARY.md` shows.
+//! Tests of what `lt_show`, `lt_answers`, `lt_codes`, `lt_lines` and `lt_range` make public, and the uses of `bcp47` that
+//! `docs/LIBRARY.md` shows.
 #![tactic(auto)]
 
 #[cfg(test)]

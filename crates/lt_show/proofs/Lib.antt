@@ -1,6 +1,13 @@
 -- Lemmas on what is read and shown.
+pub mod ValueLemmas
+pub mod ChainLemmas
+-- What this crate alone uses.
+mod StringLemmas
+mod PlaceLemmas
+mod KindLemmas
+mod SpellLemmas
 mod KeptLemmas
 mod NeededLemmas
 mod RowLemmas
-pub mod TableLemmas
-pub mod JsonLemmas
+mod TableLemmas
+mod JsonLemmas

@@ -2,7 +2,7 @@
 use Rattle.std.proofs.Common.{◌≡◌, ◌<◌, ◌+◌, ◌++◌, ◌∷◌, ◌∙◌, ℕ, List, [], ap, append_assoc, arith, get_or, length, sym, take}
 use Rattle.std.proofs.lemmas.List.{length-take-le, take_more}
 use Rattle.lt_tag.specs.Parts.{TagForm}
-use Rattle.lt_parts.specs.declared.placing.Part.{Part}
+use Rattle.lt_show.specs.declared.placing.Part.{Part}
 use Rattle.lt_registry.specs.Parts.{EntryParts}
 use Rattle.lt_show.specs.Rows.{part_rows, row_of}
 use Rattle.lt_show.specs.declared.rows.Row.{Row}

@@ -4,8 +4,8 @@ use Rattle.std.specs.Fmt.{decimal}
 use Rattle.lt_tag.specs.Parts.{TagForm}
 use Rattle.lt_tag.specs.Texts.{text_of}
 use Rattle.lt_jar.specs.Records.{Field}
-use Rattle.lt_json_text.specs.Strings.{string}
-use Rattle.lt_json_text.specs.Values.{after_commas, array, member, member_text, null, object}
+use Rattle.lt_show.specs.Strings.{string}
+use Rattle.lt_show.specs.Values.{after_commas, array, member, member_text, null, object}
 use Rattle.lt_registry.specs.Parts.{EntryParts}
 use Rattle.lt_show.specs.Fields.{fields_listed}
 use Rattle.lt_show.specs.Listings.{subject_name}

@@ -4,9 +4,9 @@ use Rattle.std.specs.Option.{option_and_then, option_map_or}
 use Rattle.std.specs.Result.{result_ok}
 use Rattle.lt_subtag.specs.Reading.{subtag_of}
 use Rattle.lt_tag.specs.Parts.{TagForm}
-use Rattle.lt_parts.specs.Names.{name_of}
-use Rattle.lt_parts.specs.declared.kinds.PartKind.{PartKind}
-use Rattle.lt_parts.specs.declared.kinds.PartKind.TheVariants as parts
+use Rattle.lt_show.specs.PartKinds.{name_of}
+use Rattle.lt_show.specs.declared.kinds.PartKind.{PartKind}
+use Rattle.lt_show.specs.declared.kinds.PartKind.TheVariants as parts
 use Rattle.lt_registry.specs.Entries.{entry, whole}
 use Rattle.lt_registry.specs.Parts.{EntryParts}
 use Rattle.lt_registry.specs.declared.entries.Kind.{Kind}

@@ -2,8 +2,8 @@
 use Rattle.std.specs.Prelude.{ℕ, ◌+◌, List, [], ◌∷◌, ◌++◌, length, take, drop, Option, Some, None}
 use Rattle.lt_tag.specs.Parts.{TagForm, Grandfathered}
 use Rattle.lt_tag.specs.Texts.{text_of}
-use Rattle.lt_parts.specs.Places.{cut_of, parts_of}
-use Rattle.lt_parts.specs.declared.placing.Part.{Part}
+use Rattle.lt_show.specs.Places.{cut_of, parts_of}
+use Rattle.lt_show.specs.declared.placing.Part.{Part}
 use Rattle.lt_registry.specs.Entries.{whole}
 use Rattle.lt_registry.specs.Parts.{EntryParts}
 use Rattle.lt_show.specs.Listings.{listing}

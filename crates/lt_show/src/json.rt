@@ -1,36 +1,33 @@
 //! The rows of a tag as JSON (RFC 8259).
-ghost use Rattle.std.specs.Prelude.{◌≡◌, ◌++◌, OnOk};
-ghost use Rattle.std.specs.Fmt.{decimal};
-ghost use Rattle.lt_json_text.specs.Values.{array};
+ghost use Rattle.std.specs.Prelude.{◌≡◌, ◌++◌, ◌∷◌, OnOk, codes};
+ghost use Rattle.lt_show.specs.Values.{array, member, member_text};
 ghost use Rattle.lt_show.specs.Fields.{fields_listed, shown_fields};
 ghost use Rattle.lt_show.specs.Json.{field_value, listing_name, record_value, row_end, row_front, row_value, rows_value};
 
 use crate::fields::{fields_of, is_shown};
 use crate::listings::Listing;
+use crate::members::{append_first_name, append_first_string, append_name, append_next_string};
 use crate::rows::{Row, cut, rows_of};
+use crate::values::{append_comma, append_null, append_number};
+use itoa::Buffer;
 use lt_jar::{JarField, Record};
-use lt_json_text::{
-    append_comma, append_first_name, append_name, append_null, append_number, append_string,
-};
 use lt_registry::Lookup;
 use lt_tag::{OutOfMemory, Tag, write_tag};
 use std::alloc::{AllocError, Global};
 
 /// Appends a field of a record as an object of its name and its body.
-#[tactic(auto, unfolding(crate::specs::Json::field_value))]
+#[tactic(auto, using(crate::proofs::ChainLemmas::two_object), unfolding(crate::specs::Json::field_value))]
 fn append_field(objects: &mut Vec<u8>, field: &JarField) -> Result<(), AllocError>
     ensures { OnOk result (objects.new.items ≡ objects.old.items ++ field_value field.now) }
 {
-    append_first_name(objects, b"name")?;
-    append_string(objects, field.name().as_bytes())?;
-    append_name(objects, b"body")?;
-    append_string(objects, field.body().as_bytes())?;
+    append_first_string(objects, b"name", field.name().as_bytes())?;
+    append_next_string(objects, b"body", field.body().as_bytes())?;
     objects.push(b'}')?;
     Ok(())
 }
 
 /// Appends the array of those fields of a record that are shown.
-#[tactic(auto, using(lt_json_text::proofs::ValueLemmas::commaed_more))]
+#[tactic(auto, using(crate::proofs::ValueLemmas::commaed_more))]
 fn append_fields(objects: &mut Vec<u8>, fields: &[JarField]) -> Result<(), AllocError>
     ensures { OnOk result (objects.new.items ≡ objects.old.items ++ array field_value (shown_fields fields.now)) }
 {
@@ -47,15 +44,16 @@ fn append_fields(objects: &mut Vec<u8>, fields: &[JarField]) -> Result<(), Alloc
     Ok(())
 }
 
-/// Appends the array of the shown fields of the record that is listed, which is empty if there is none. The records are
-/// those of the registry's file.
+/// Appends the member `fields`: the array of the shown fields of the record that is listed, which is empty if there is
+/// none. The records are those of the registry's file.
 fn append_listed(
     objects: &mut Vec<u8>,
     records: &[Record],
     listing: Listing,
 ) -> Result<(), AllocError>
-    ensures { OnOk result (objects.new.items ≡ objects.old.items ++ array field_value (fields_listed records.now listing)) }
+    ensures { OnOk result (objects.new.items ≡ objects.old.items ++ 44 ∷ member_text (member (codes "fields") (array field_value (fields_listed records.now listing)))) }
 {
+    append_name(objects, b"fields")?;
     match listing {
         Listing::Record(number) => append_fields(objects, fields_of(records, number)),
         _ => objects.extend_from_slice(b"[]"),
@@ -73,52 +71,37 @@ fn listing_name(listing: Listing) -> &'static str
     }
 }
 
-/// Appends the number of the record that is listed, or null if there is none.
+/// Appends the member `record`: the number of the record that is listed, or null if there is none.
 fn append_record(objects: &mut Vec<u8>, listing: Listing) -> Result<(), AllocError>
-    ensures { OnOk result (objects.new.items ≡ objects.old.items ++ record_value listing) }
+    ensures { OnOk result (objects.new.items ≡ objects.old.items ++ 44 ∷ member_text (member (codes "record") (record_value listing))) }
 {
+    append_name(objects, b"record")?;
     match listing {
         Listing::Record(number) => append_number(objects, number),
         _ => append_null(objects),
     }
 }
 
-/// Appends a number in decimal.
-fn append_decimal(objects: &mut Vec<u8>, alloc: Global, number: usize) -> Result<(), AllocError>
-    ensures { OnOk result (objects.new.items ≡ objects.old.items ++ decimal number) }
-{
-    objects.extend_from_slice(format!(in alloc; "{number}")?.as_bytes())
-}
-
 /// Appends the beginning of a row's object: its place, the name of its kind and its text, which is cut out of `text`,
 /// the text of the tag.
-#[tactic(auto, unfolding(crate::specs::Json::row_front))]
-fn append_front(
-    objects: &mut Vec<u8>,
-    alloc: Global,
-    text: &[u8],
-    row: &Row,
-) -> Result<(), AllocError>
+#[tactic(auto, using(crate::proofs::ChainLemmas::two_members), unfolding(crate::specs::Json::row_front))]
+fn append_front(objects: &mut Vec<u8>, text: &[u8], row: &Row) -> Result<(), AllocError>
     ensures { OnOk result (objects.new.items ≡ objects.old.items ++ row_front text.now row.now) }
 {
     append_first_name(objects, b"place")?;
-    append_decimal(objects, alloc, row.place)?;
-    append_name(objects, b"kind")?;
-    append_string(objects, row.subject.name().as_bytes())?;
-    append_name(objects, b"text")?;
-    append_string(objects, cut(text, row.start, row.length))
+    objects.extend_from_slice(Buffer::new().format(row.place).as_bytes())?;
+    append_next_string(objects, b"kind", row.subject.name().as_bytes())?;
+    append_next_string(objects, b"text", cut(text, row.start, row.length))
 }
 
 /// Appends the end of a row's object: what the registry has for it, the number of its record, and the fields of that.
 /// The records are those of the registry's file.
+#[tactic(auto, using(crate::proofs::ChainLemmas::three_members), unfolding(crate::specs::Json::row_end))]
 fn append_end(objects: &mut Vec<u8>, records: &[Record], listing: Listing) -> Result<(), AllocError>
     ensures { OnOk result (objects.new.items ≡ objects.old.items ++ row_end records.now listing) }
 {
-    append_name(objects, b"listing")?;
-    append_string(objects, listing_name(listing).as_bytes())?;
-    append_name(objects, b"record")?;
+    append_next_string(objects, b"listing", listing_name(listing).as_bytes())?;
     append_record(objects, listing)?;
-    append_name(objects, b"fields")?;
     append_listed(objects, records, listing)?;
     objects.push(b'}')?;
     Ok(())
@@ -128,24 +111,22 @@ fn append_end(objects: &mut Vec<u8>, records: &[Record], listing: Listing) -> Re
 /// registry's file.
 fn append_row(
     objects: &mut Vec<u8>,
-    alloc: Global,
     text: &[u8],
     records: &[Record],
     row: &Row,
 ) -> Result<(), AllocError>
     ensures { OnOk result (objects.new.items ≡ objects.old.items ++ row_value text.now records.now row.now) }
 {
-    append_front(objects, alloc, text, row)?;
+    append_front(objects, text, row)?;
     append_end(objects, records, row.listing)?;
     Ok(())
 }
 
 /// Appends the array of rows, whose texts are cut out of `text`, the text of the tag. The records are those of the
 /// registry's file.
-#[tactic(auto, using(lt_json_text::proofs::ValueLemmas::commaed_more))]
+#[tactic(auto, using(crate::proofs::ValueLemmas::commaed_more))]
 fn append_each(
     objects: &mut Vec<u8>,
-    alloc: Global,
     text: &[u8],
     records: &[Record],
     rows: &[Row],
@@ -155,7 +136,7 @@ fn append_each(
     objects.push(b'[')?;
     for (index, row) in rows.iter().enumerate() {
         append_comma(objects, index)?;
-        append_row(objects, alloc, text, records, row)?;
+        append_row(objects, text, records, row)?;
     }
     objects.push(b']')?;
     Ok(())
@@ -176,6 +157,6 @@ pub fn append_rows<L: Lookup>(
 {
     let text = write_tag(alloc, tag)?;
     let rows = rows_of(alloc, table, tag)?;
-    append_each(objects, alloc, &text, records, &rows)?;
+    append_each(objects, &text, records, &rows)?;
     Ok(())
 }

@@ -4,7 +4,7 @@ ghost use Rattle.std.specs.Option.{option_copied};
 ghost use Rattle.lt_show.specs.Listings as spec;
 ghost use Rattle.lt_show.specs.Listings.{entry_of, listing_by, subject_name};
 
-use lt_parts::PartKind;
+use crate::kinds::PartKind;
 use lt_registry::{Entry, Kind, Lookup};
 use lt_subtag::Subtag;
 use lt_tag::Tag;

@@ -5,7 +5,7 @@ ghost use Rattle.lt_tag.specs.Texts.{text_of};
 ghost use Rattle.lt_show.specs.Rows as spec;
 
 use crate::listings::{Listing, Subject, listed, look_up};
-use lt_parts::{Part, parts};
+use crate::placing::{Part, parts};
 use lt_registry::Lookup;
 use lt_tag::{OutOfMemory, Tag, write_tag};
 use std::alloc::Global;

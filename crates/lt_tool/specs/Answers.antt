@@ -5,7 +5,7 @@ use Rattle.lt_tag.specs.Classes.{class_of}
 use Rattle.lt_tag.specs.Conventional.{conventional}
 use Rattle.lt_tag.specs.Parts.{TagForm}
 use Rattle.lt_tag.specs.WellFormed.{spell}
-use Rattle.lt_json.specs.Tags.{class_word}
+use Rattle.lt_answers.specs.Tags.{class_word}
 use Rattle.lt_tool.specs.declared.answers.Answer.{Answer}
 use Rattle.lt_tool.specs.declared.answers.Answer.TheVariants as answers
 use Rattle.lt_tool.specs.declared.status.Status.{Status}

@@ -10,8 +10,8 @@ use Rattle.lt_codes.specs.declared.faults.TableFaultKind.{TableFaultKind}
 use Rattle.lt_codes.specs.declared.faults.TableFaultKind.TheVariants as table_kinds
 use Rattle.lt_upgrade.specs.Codes.{upgrade_code_of}
 use Rattle.lt_upgrade.specs.declared.conditions.UpgradeCondition.{UpgradeCondition}
-use Rattle.lt_verify.specs.declared.verdicts.Verdict.{Verdict}
-use Rattle.lt_verify.specs.declared.verdicts.Verdict.TheVariants as verdicts
+use Rattle.lt_answers.specs.declared.verdicts.Verdict.{Verdict}
+use Rattle.lt_answers.specs.declared.verdicts.Verdict.TheVariants as verdicts
 use Rattle.lt_lines.specs.Refusals.{IsRefusalLine}
 use Rattle.lt_tool.specs.Registries.{refused_end}
 use Rattle.lt_tool.specs.declared.faults.Fault.{Fault}

@@ -21,20 +21,20 @@ use Rattle.lt_codes.specs.declared.codes.Code.{Code}
 use Rattle.lt_stream.specs.declared.faults.ToolFault.{ToolFault}
 use Rattle.lt_stream.specs.declared.faults.ToolFault.TheVariants as tool_faults
 use Rattle.lt_stream.specs.declared.tallies.Tally.{Tally}
-use Rattle.lt_json.specs.Running.{AnswersByObjects}
 use Rattle.lt_lines.specs.Owed.{terms}
 use Rattle.lt_lines.specs.Running.{RunsLines}
 use Rattle.lt_lines.specs.declared.forms.LineForm.{LineForm}
 use Rattle.lt_lines.specs.declared.runs.Counts.{Counts}
-use Rattle.lt_select.specs.LookedUp.{LooksUp}
-use Rattle.lt_select.specs.Running.{SelectsLines}
-use Rattle.lt_select.specs.Searching.{Finding, SearchesLines}
-use Rattle.lt_select.specs.Selection.{IsSelected}
-use Rattle.lt_select.specs.Served.{ServesAmong}
-use Rattle.lt_select.specs.declared.schemes.Scheme.{Scheme}
-use Rattle.lt_verify.specs.Verifying.{VerifiesLines}
-use Rattle.lt_verify.specs.declared.verdicts.Verdict.{Verdict}
-use Rattle.lt_verify.specs.declared.verdicts.Verdict.TheVariants as verdicts
+use Rattle.lt_answers.specs.Answering.{AnswersByObjects}
+use Rattle.lt_answers.specs.LookedUp.{LooksUp}
+use Rattle.lt_answers.specs.Selecting.{SelectsLines}
+use Rattle.lt_answers.specs.Searching.{Finding, SearchesLines}
+use Rattle.lt_answers.specs.Selection.{IsSelected}
+use Rattle.lt_answers.specs.Served.{ServesAmong}
+use Rattle.lt_answers.specs.declared.schemes.Scheme.{Scheme}
+use Rattle.lt_answers.specs.Verifying.{VerifiesLines}
+use Rattle.lt_answers.specs.declared.verdicts.Verdict.{Verdict}
+use Rattle.lt_answers.specs.declared.verdicts.Verdict.TheVariants as verdicts
 use Rattle.lt_tool.specs.Answers.{status_if}
 use Rattle.lt_tool.specs.Ends.{End}
 use Rattle.lt_tool.specs.Results.{Gives}

@@ -14,8 +14,8 @@ use Rattle.lt_range.specs.declared.asked.HeaderRefusal.{HeaderRefusal}
 use Rattle.lt_range.specs.declared.asked.HeaderRefusal.TheVariants as header_refusals
 use Rattle.lt_range.specs.declared.preferences.Preference.{Preference}
 use Rattle.lt_range.specs.declared.refusals.RangeRefusal.{RangeRefusal}
-use Rattle.lt_select.specs.declared.schemes.Scheme.{Scheme}
-use Rattle.lt_select.specs.declared.schemes.Scheme.TheVariants as schemes
+use Rattle.lt_answers.specs.declared.schemes.Scheme.{Scheme}
+use Rattle.lt_answers.specs.declared.schemes.Scheme.TheVariants as schemes
 use Rattle.lt_words.specs.declared.commands.Matching.{Matching}
 use Rattle.lt_words.specs.declared.commands.Matching.TheVariants as matchings
 use Rattle.lt_words.specs.declared.commands.Ranges.{Ranges}

@@ -6,12 +6,12 @@ ghost use Rattle.lt_stream.specs.declared.faults.ToolFault.TheVariants as tool_f
 
 use crate::registries::RegistryRefusal;
 use crate::status::Status;
+use lt_answers::Verdict;
 use lt_canon::TextRefusal;
 use lt_codes::{TableFault, TableFaultKind};
 use lt_stream::ToolFault;
 use lt_tag::OutOfMemory;
 use lt_upgrade::UpgradeCondition;
-use lt_verify::Verdict;
 
 /// Which of its registries a command means.
 #[derive(Clone, Copy, Debug, PartialEq, Eq)]

@@ -12,6 +12,7 @@ ghost use Rattle.lt_tool.specs.Written.{Prints, Says};
 use crate::answers::Answer;
 use crate::faults::{Fault, Role};
 use crate::registries::RegistryRefusal;
+use lt_answers::Verdict;
 use lt_canon::TextRefusal;
 use lt_codes::{TableFault, TableFaultKind};
 use lt_jar::Device;
@@ -19,7 +20,6 @@ use lt_lines::append_refusal;
 use lt_stream::{ToolFault, write_fault, write_text};
 use lt_tag::OutOfMemory;
 use lt_upgrade::UpgradeCondition;
-use lt_verify::Verdict;
 use std::alloc::Global;
 use std::io::Write;
 

@@ -5,8 +5,8 @@ ghost use Rattle.lt_tag.specs.Faults.{HasTag};
 ghost use Rattle.lt_registry.specs.Validity.{IsValid};
 ghost use Rattle.lt_canon.specs.TextAnswers.{IsValidityRefusal};
 ghost use Rattle.lt_tool.specs.Runs as spec;
-ghost use Rattle.lt_select.specs.LookedUp.{LooksUp};
-ghost use Rattle.lt_select.specs.Served.{ServesAmong};
+ghost use Rattle.lt_answers.specs.LookedUp.{LooksUp};
+ghost use Rattle.lt_answers.specs.Served.{ServesAmong};
 ghost use Rattle.lt_tool.specs.Runs.{AnswersInJson, AnswersLines, IsFound, MatchesLines, PrintsLine, Runs, RunsOver, Searches, VerifiesText, tallies_after};
 ghost use Rattle.lt_tool.specs.Streams.{stream};
 
@@ -16,16 +16,14 @@ use crate::faults::Fault;
 use crate::plans::{Ground, LinesPlan, MatchPlan, Plan};
 use crate::showing::show_texts;
 use crate::status::Status;
+use lt_answers::{Verdict, look_up_line, select_lines, serve_line, verify_lines, write_objects};
 use lt_canon::{Checked, Refusal, TextRefusal};
 use lt_jar::Device;
-use lt_json::write_objects;
 use lt_lines::{Basis, Counts, LineForm, Tallies, run_tallied};
 use lt_range::Preference;
 use lt_registry::{Lookup, validate};
-use lt_select::{look_up_line, select_lines, serve_line};
 use lt_stream::ToolFault;
 use lt_tag::{OutOfMemory, Tag, read_tag};
-use lt_verify::{Verdict, verify_lines};
 use std::alloc::Global;
 use std::io::{Read, Write};
 

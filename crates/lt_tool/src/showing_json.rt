@@ -4,13 +4,13 @@ ghost use Rattle.lt_tool.specs.Shown.{EndsTag, ShowsObject};
 
 use lt_canon::{Checked, Refusal, TextRefusal, Trace, explain};
 use lt_jar::Record;
-use lt_json_text::{
-    append_comma, append_first_name, append_name, append_null, append_number, append_string,
-};
 use lt_lines::append_refusal;
 use lt_registry::Lookup;
 use lt_rewrite::Step;
-use lt_show::append_rows;
+use lt_show::{
+    append_comma, append_first_name, append_name, append_null, append_number, append_rows,
+    append_string,
+};
 use lt_tag::{OutOfMemory, Tag, TagFaultKind, read_tag, write_tag};
 use std::alloc::{AllocError, Global};
 

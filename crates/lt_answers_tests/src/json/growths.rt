@@ -1,9 +1,9 @@
 //! What a run does where a growth of memory is refused.
 use crate::pages::{Page, empty_page, text_of};
 use crate::tables::checked_sample;
+use lt_answers::write_objects;
 use lt_check::Checked;
 use lt_jar::Device;
-use lt_json::write_objects;
 use lt_registry::SortedTable;
 use lt_stream::ToolFault;
 use std::alloc::Global;

@@ -1,7 +1,7 @@
 //! Objects that were written by hand, from the examples of RFC 5646. Rows over the program have more.
 use crate::tables::checked_sample;
+use lt_answers::{append_object, class_name};
 use lt_check::Checked;
-use lt_json::{append_object, class_name};
 use lt_registry::SortedTable;
 use lt_tag::{Class, OutOfMemory};
 use std::alloc::Global;

@@ -1,7 +1,6 @@
 //! Rows by the file, the fields of records, and what is printed of controls.
 use super::{table_of_file, tag_of};
-use lt_parts::PartKind;
-use lt_show::{Listing, Row, Subject, append_printable, fields_of, is_shown, rows_of};
+use lt_show::{Listing, PartKind, Row, Subject, append_printable, fields_of, is_shown, rows_of};
 use std::test::Fail;
 
 #[test]

@@ -1,7 +1,7 @@
 //! The parts of tags: their kinds, where they are in the text, and where a growth of memory is refused.
 mod growths;
 
-use lt_parts::{Part, PartKind};
+use lt_show::{Part, PartKind};
 
 /// A tag, and the kind, the place and the length of each of its parts.
 type Row = (&'static str, &'static [(PartKind, usize, usize)]);

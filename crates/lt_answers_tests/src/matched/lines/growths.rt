@@ -2,11 +2,11 @@
 use super::ranges_of;
 use crate::pages::{Page, empty_page, text_of};
 use crate::tables::checked_sample;
+use lt_answers::{Scheme, look_up_line, select_lines, serve_line};
 use lt_check::Checked;
 use lt_jar::{Device, Pieces};
 use lt_range::{LanguageRange, Preference, header_preferences};
 use lt_registry::SortedTable;
-use lt_select::{Scheme, look_up_line, select_lines, serve_line};
 use lt_stream::ToolFault;
 use lt_testing::{again, retried};
 use std::alloc::Global;

@@ -1,6 +1,6 @@
 //! What `parts` does where a growth of memory is refused.
 use super::{ROWS, is_part};
-use lt_parts::{PartKind, parts};
+use lt_show::{PartKind, parts};
 use lt_tag::{TagFault, read_tag};
 use lt_testing::again;
 use std::alloc::Global;

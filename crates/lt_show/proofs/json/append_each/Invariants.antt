@@ -1,5 +1,5 @@
 use Rattle.std.proofs.Common.{◌≡◌, ◌++◌, take}
-use Rattle.lt_json_text.specs.Values.{commaed}
+use Rattle.lt_show.specs.Values.{commaed}
 use Rattle.lt_show.specs.Json.{row_value}
 use Rattle.lt_show.proofs.json.append_each.Given as goal
 

@@ -1,5 +1,5 @@
 use Rattle.std.proofs.Common.{◌≡◌, ◌++◌, ◌≤◌, length, take}
-use Rattle.lt_json_text.specs.Values.{commaed}
+use Rattle.lt_show.specs.Values.{commaed}
 use Rattle.lt_show.specs.Fields.{shown_fields}
 use Rattle.lt_show.specs.Json.{field_value}
 use Rattle.lt_show.proofs.json.append_fields.Given as goal

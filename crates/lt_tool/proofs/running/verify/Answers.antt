@@ -1,6 +1,6 @@
 use Rattle.std.proofs.Common.{inl, inr, refl, subst, sym}
 use Rattle.lt_registry.specs.Validity.{IsProper}
-use Rattle.lt_verify.specs.Verifying.{VerifiesLines}
+use Rattle.lt_answers.specs.Verifying.{VerifiesLines}
 use Rattle.lt_tool.proofs.running.verify.Goals as goal
 
 -- a valid tag is proper, as is asked of the tag that is explained

@@ -1,0 +1,72 @@
+-- Texts and lines that ranges match.
+use Rattle.std.proofs.Common.{◌≡◌, ◌≤◌, ◌+◌, ◌-◌, ◌↔◌, inl, inr, Bool, IsTrue, true, false, ℕ, List, length, take, subst, arith, if◌then◌else◌, length-take-le}
+use Rattle.std.proofs.lemmas.Bool.Decides.{leb_tells}
+use Rattle.std.specs.Io.BufRead.{ends_with_byte}
+use Rattle.lt_jar.specs.Lines.{content_of}
+use Rattle.lt_tag.specs.Faults.{HasTag}
+use Rattle.lt_tag.specs.Parts.{TagForm}
+use Rattle.lt_tag.proofs.OneTagLemmas.{one_tag_of_text}
+use Rattle.lt_registry.specs.Parts.{EntryParts}
+use Rattle.lt_range.specs.Ranges.{RangeParts}
+use Rattle.lt_range.specs.Laws.{MatchingIsDetermined}
+use Rattle.lt_range.specs.Matched.{HasExtlangList, HasNoSubtags, HasSubtags}
+use Rattle.lt_answers.specs.Selection.{AnyMatches, IsMatched, IsSelected, Selection, longest_kept, scheme_of}
+use Rattle.lt_answers.specs.declared.schemes.Scheme.{Scheme}
+
+-- ---- texts
+
+-- a text that is to be matched, by the entries of a registry
+module _ (R : List EntryParts) (text : List ℕ) where
+  -- the subtags that a text has are those of the tag that it is read as
+  same_tag : (tag : TagForm) → HasTag text tag → (list : List (List ℕ)) → HasSubtags R text list → HasExtlangList R tag list
+  same_tag tag read list h = subst (λ (t : TagForm). HasExtlangList R t list) (one_tag_of_text text h.tag tag h.read read) h.holds
+
+  module _ (scheme : Scheme) (ranges : List RangeParts) where
+    -- a text that is matched has the subtags that are matched
+    has_subtags : (m : IsMatched R scheme ranges text) → HasSubtags R text m.list
+    has_subtags m = record { tag = m.tag; read = m.read; holds = m.extlang }
+
+    -- a text with these subtags is matched where some range matches them; `matched` is what the program tells
+    pub matched_as : (list : List (List ℕ)) (matched : Bool) → MatchingIsDetermined R → HasSubtags R text list → IsTrue matched ↔ AnyMatches (scheme_of scheme) ranges list
+        → IsTrue matched ↔ IsMatched R scheme ranges text
+    matched_as list matched one reads tells = (
+      λ is. record { tag = reads.tag; read = reads.read; list = list; extlang = reads.holds; matches = tells.0 is },
+      λ m. tells.1 (subst (AnyMatches (scheme_of scheme) ranges) (one.list reads.tag m.list list (same_tag reads.tag reads.read m.list (has_subtags m)) reads.holds) m.matches),
+    )
+
+    -- a text without subtags is matched by no range
+    pub none_matched : HasNoSubtags R text → IsTrue false ↔ IsMatched R scheme ranges text
+    none_matched none = (
+      λ no. let bad : false ≡ true = no in cc,
+      λ m. absurd (none m.list (has_subtags m)),
+    )
+
+-- ---- long lines
+
+-- a line has at most one byte more than its content
+pub content-length : (line : List ℕ) → length line ≤ length (content_of line) + 1
+content-length line = elim (ends_with_byte 13 line) as (λ t. length line ≤ length (if t then take (length line - 1) line else line) + 1) [
+  | true ↦ omega (arith, length-take-le (length line - 1) line (omega arith))
+  | false ↦ omega arith
+]
+
+-- what is kept of a line tells whether the line is selected: a selected line is kept whole, and so is a line whose kept
+-- front would be selected as a line
+pub record TellsByFront (P : Selection) : Type 0 where
+  pub short : (line : List ℕ) → P line → length line ≤ longest_kept
+  pub front : (line : List ℕ) → P (take longest_kept line) → length line ≤ longest_kept
+
+-- a line that is selected is not too long to be kept whole
+pub selected_short : (R : List EntryParts) (scheme : Scheme) (ranges : List RangeParts) (line : List ℕ) → IsSelected R scheme ranges line → length line ≤ longest_kept
+selected_short R scheme ranges line m = omega (arith, m.read.short, content-length line)
+
+-- a line is kept whole if its kept front would be selected as a line
+pub selected_front : (R : List EntryParts) (scheme : Scheme) (ranges : List RangeParts) (line : List ℕ) → IsSelected R scheme ranges (take longest_kept line) → length line ≤ longest_kept
+selected_front R scheme ranges line m = elim (leb_tells (length line) longest_kept) [
+  | inl short ↦ short.1
+  | inr long ↦ absurd (omega (arith, m.read.short, content-length (take longest_kept line), length-take-le longest_kept line (omega (arith, long.1))))
+]
+
+-- what is kept of a line tells whether ranges select it
+pub selected_tells : (R : List EntryParts) (scheme : Scheme) (ranges : List RangeParts) → TellsByFront (IsSelected R scheme ranges)
+selected_tells R scheme ranges = record { short = selected_short R scheme ranges; front = selected_front R scheme ranges }

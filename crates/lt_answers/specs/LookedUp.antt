@@ -1,0 +1,40 @@
+-- The line that lookup by language ranges finds among those of a reader (RFC 4647, 3.4).
+use Rattle.std.specs.Prelude.{◌≡◌, ◌⊎◌, ◌∷◌, ℕ, List, [], Some, None}
+use Rattle.std.specs.List.{slice_get}
+use Rattle.lt_jar.specs.Lines.{content_of}
+use Rattle.lt_registry.specs.Parts.{EntryParts}
+use Rattle.lt_range.specs.Ranges.{RangeParts}
+use Rattle.lt_range.specs.Lookup.{IsDefault, IsFound}
+use Rattle.lt_range.specs.Matched.{HasNoSubtags, HasSubtags}
+use Rattle.lt_answers.specs.Searching.{Finding}
+
+-- The subtags by which a line is looked up: those of the extlang form of its tag. A carriage return (13) that ends
+-- the line is no part of the tag. A line that has no extlang form has no subtags, and no range finds it.
+abbrev pub LineHas : List EntryParts → List ℕ → List (List ℕ) → Type 0
+LineHas R line list = HasSubtags R (content_of line) list ⊎ (HasNoSubtags R (content_of line) × (list ≡ []))
+
+-- the subtags by which each of these lines is looked up, in order
+abbrev pub LinesHave : List EntryParts → List (List ℕ) → List (List (List ℕ)) → Type 0
+LinesHave R [] lists = lists ≡ []
+LinesHave R (line ∷ lines) lists = (list : List (List ℕ)) × (more : List (List (List ℕ))) × LineHas R line list
+    × (lists ≡ list ∷ more) × LinesHave R lines more
+
+-- lookup finds this line: by the first range that finds any, the first of those that are closest to that range
+pub record FindsLine (R : List EntryParts) (ranges : List RangeParts) (lines : List (List ℕ))
+    (line : List ℕ) : Type 0 where
+  pub lists : List (List (List ℕ))
+  pub have : LinesHave R lines lists
+  pub place : ℕ
+  pub found : IsFound ranges lists place
+  pub there : slice_get lines place ≡ Some line
+
+-- lookup finds no line, so that a default is to be used
+pub record FindsNoLine (R : List EntryParts) (ranges : List RangeParts) (lines : List (List ℕ)) : Type 0 where
+  pub lists : List (List (List ℕ))
+  pub have : LinesHave R lines lists
+  pub none : IsDefault ranges lists
+
+-- what lookup finds among lines
+abbrev pub LooksUp : List EntryParts → List RangeParts → Finding
+LooksUp R ranges lines None = FindsNoLine R ranges lines
+LooksUp R ranges lines (Some line) = FindsLine R ranges lines line.items

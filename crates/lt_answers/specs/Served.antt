@@ -1,0 +1,70 @@
+-- Which of the lines of a reader preferences serve (RFC 9110, 12.5.4).
+use Rattle.std.specs.Prelude.{◌≡◌, ◌++◌, ◌∷◌, ℕ, List, [], Option, Some, None, Vec, map, take}
+use Rattle.std.specs.List.{slice_get}
+use Rattle.std.specs.declared.alloc.Global.{Global}
+use Rattle.lt_jar.specs.Lines.{content_of}
+use Rattle.lt_registry.specs.Parts.{EntryParts}
+use Rattle.lt_range.specs.Matched.{HasSubtags}
+use Rattle.lt_range.specs.Preferences.{IsBest}
+use Rattle.lt_range.specs.declared.preferences.Preference.{Preference}
+use Rattle.lt_answers.specs.LookedUp.{LinesHave}
+use Rattle.lt_answers.specs.Searching.{Finding}
+use Rattle.lt_answers.specs.Selection.{AreSelected, longest_kept}
+
+-- the line is a tag that has an extlang form, by whose subtags it is matched; a carriage return (13) that ends the line
+-- is no part of the tag
+abbrev pub IsTagLine : List EntryParts → List ℕ → Type 0
+IsTagLine R line = (list : List (List ℕ)) × HasSubtags R (content_of line) list
+
+-- `tags` are the lines that are tags, and `lists` the subtags by which these are matched, both in order
+pub record AreTagLines (R : List EntryParts) (lines tags : List (List ℕ)) (lists : List (List (List ℕ)))
+    : Type 0 where
+  pub are : AreSelected (IsTagLine R) lines tags
+  pub have : LinesHave R tags lists
+
+-- the preferences serve this line: of the lines that are tags, the best
+pub record ServesLine (R : List EntryParts) (preferences : List Preference) (lines : List (List ℕ))
+    (line : List ℕ) : Type 0 where
+  pub tags : List (List ℕ)
+  pub lists : List (List (List ℕ))
+  pub are : AreTagLines R lines tags lists
+  pub place : ℕ
+  pub best : IsBest preferences lists (Some place)
+  pub there : slice_get tags place ≡ Some line
+
+-- the preferences serve no line, so that a default is to be used
+pub record ServesNoLine (R : List EntryParts) (preferences : List Preference) (lines : List (List ℕ)) : Type 0 where
+  pub tags : List (List ℕ)
+  pub lists : List (List (List ℕ))
+  pub are : AreTagLines R lines tags lists
+  pub none : IsBest preferences lists None
+
+-- what preferences serve among lines
+abbrev pub ServesAmong : List EntryParts → List Preference → Finding
+ServesAmong R preferences lines None = ServesNoLine R preferences lines
+ServesAmong R preferences lines (Some line) = ServesLine R preferences lines line.items
+
+-- ---- the steps; no public contract cites these
+
+-- the bytes of lines
+abbrev pub texts_of : List (Vec ℕ Global) → List (List ℕ)
+texts_of lines = map (λ (line : Vec ℕ Global). line.items) lines
+
+-- a line was put after others, and the subtags `list` after theirs
+pub record PutsLine (line : List ℕ) (list : List (List ℕ)) (old new : List (Vec ℕ Global))
+    (tags tags' : List (List (List ℕ))) : Type 0 where
+  pub lines : texts_of new ≡ texts_of old ++ line ∷ []
+  pub lists : tags' ≡ tags ++ list ∷ []
+
+-- `old` are those of any lines that are tags, and become `new`, those of these lines and one line more; `kept` is what
+-- is kept of that line
+abbrev pub TakesTag : List EntryParts → (kept : List ℕ) → (old new : List (Vec ℕ Global))
+    → (tags tags' : List (List (List ℕ))) → Type 0
+TakesTag R kept old new tags tags' = (lines : List (List ℕ)) (line : List ℕ) → kept ≡ take longest_kept line
+    → AreTagLines R lines (texts_of old) tags → AreTagLines R (lines ++ line ∷ []) (texts_of new) tags'
+
+-- if `kept` are the lines that are tags among some lines, `found` is what the preferences serve among these lines
+abbrev pub ServesOf : List Preference → (kept : List (Vec ℕ Global)) → (tags : List (List (List ℕ)))
+    → Option (Vec ℕ Global) → Type 0
+ServesOf preferences kept tags found = (R : List EntryParts) (lines : List (List ℕ))
+    → AreTagLines R lines (texts_of kept) tags → ServesAmong R preferences lines found

@@ -1,0 +1,37 @@
+//! What the program `langtag` answers to the lines of a reader besides their canonical texts: to each an object of JSON
+//! (RFC 8259), those that language ranges (RFC 4647, 3.3 and 3.4) or an Accept-Language header (RFC 9110, 12.5.4) select
+//! over extlang forms, so that `zh` and `zh-yue` select `yue-HK`, and the verdict on an explanation. A program of your own
+//! begins with the crate `bcp47`.
+#![tactic(auto)]
+
+mod answering;
+mod answers;
+mod classes;
+mod closest;
+mod cores;
+mod extensions;
+mod following;
+mod judging;
+mod labels;
+pub mod laws;
+mod looking;
+mod matching;
+mod objects;
+mod parts;
+mod schemes;
+mod selecting;
+mod serving;
+mod sources;
+mod subtags;
+mod tags;
+mod verdicts;
+
+pub use answering::write_objects;
+pub use classes::class_name;
+pub use following::verify_lines;
+pub use looking::look_up_line;
+pub use objects::append_object;
+pub use schemes::Scheme;
+pub use selecting::select_lines;
+pub use serving::serve_line;
+pub use verdicts::Verdict;

@@ -1,0 +1,140 @@
+//! Serving one of the lines of a reader by preferences.
+ghost use Rattle.std.specs.Prelude.{◌≡◌, [], OnOk};
+ghost use Rattle.std.specs.List.{slice_get};
+ghost use Rattle.lt_answers.specs.Searching.{SearchesLines};
+ghost use Rattle.lt_answers.specs.Selection.{longest_kept};
+ghost use Rattle.lt_answers.specs.Served.{AreTagLines, PutsLine, ServesAmong, ServesOf, TakesTag, texts_of};
+
+use crate::looking::in_memory;
+use crate::matching::without_return;
+use crate::selecting;
+use lt_canon::Checked;
+use lt_jar::Device;
+use lt_range::{Preference, TagSubtags, best, known_subtags};
+use lt_registry::Lookup;
+use lt_stream::{Lines, ToolFault, run_text};
+use lt_tag::OutOfMemory;
+use std::alloc::Global;
+use std::io::Read;
+
+/// What keeps the lines that are tags.
+#[derive(Drop)]
+struct Keeping<'a, L: Lookup> {
+    checked: &'a Checked<L>,
+    /// The lines that are tags.
+    lines: Vec<Vec<u8>>,
+    /// The subtags by which these are matched, in the same order.
+    tags: Vec<TagSubtags>,
+}
+
+impl<'a, L: Lookup> Lines for Keeping<'a, L> {
+    ghost longest = { longest_kept };
+
+    ghost answered = { λ first here lines bytes. (here.checked.now ≡ first.checked.now) × (bytes ≡ [])
+        × AreTagLines (L.listed here.checked.now) lines (texts_of here.lines.items) here.tags.items };
+
+    /// As many bytes as tell the tag of a line.
+    fn longest(&self) -> usize {
+        selecting::LONGEST_KEPT
+    }
+
+    /// Keeps the line if it is a tag. Nothing is written for a line.
+    fn take_line(
+        &mut self,
+        alloc: Global,
+        line: &[u8],
+        _owed: &mut Vec<u8>,
+    ) -> Result<(), OutOfMemory> {
+        take_tag(alloc, self.checked, line, &mut self.lines, &mut self.tags)
+    }
+}
+
+/// Puts a line after others, and the subtags of its tag after theirs.
+fn put_line(
+    alloc: Global,
+    line: &[u8],
+    subtags: TagSubtags,
+    lines: &mut Vec<Vec<u8>>,
+    tags: &mut Vec<TagSubtags>,
+) -> Result<(), OutOfMemory>
+    ensures { OnOk result (PutsLine line.now subtags lines.old.items lines.new.items tags.old.items tags.new.items) }
+{
+    lines.push(Vec::from_slice(alloc, line)?)?;
+    tags.push(subtags)?;
+    Ok(())
+}
+
+/// Puts a line after others if it is a tag that has an extlang form. The caller cuts a long line to LONGEST_KEPT bytes, since
+/// what follows them changes nothing.
+fn take_tag<L: Lookup>(
+    alloc: Global,
+    checked: &Checked<L>,
+    line: &[u8],
+    lines: &mut Vec<Vec<u8>>,
+    tags: &mut Vec<TagSubtags>,
+) -> Result<(), OutOfMemory>
+    ensures { OnOk result (TakesTag (L.listed checked.now) line.now lines.old.items lines.new.items tags.old.items tags.new.items) }
+{
+    match known_subtags(alloc, checked, without_return(line))? {
+        Some(subtags) => put_line(alloc, line, subtags, lines, tags),
+        None => Ok(()),
+    }
+}
+
+/// The line at a place, counted from 0. None if the place is after the last line.
+fn line_at(mut lines: Vec<Vec<u8>>, place: usize) -> Option<Vec<u8>>
+    ensures { result ≡ slice_get lines.items place }
+{
+    if place < lines.len() {
+        Some(lines.remove(place))
+    } else {
+        None
+    }
+}
+
+/// The line that preferences serve of these lines, whose subtags are `tags`. None if the preferences serve none of them.
+fn served(preferences: &[Preference], lines: Vec<Vec<u8>>, tags: &[TagSubtags]) -> Option<Vec<u8>>
+    ensures { ServesOf preferences.now lines.items tags.now result }
+{
+    let place = best(preferences, tags)?;
+    line_at(lines, place)
+}
+
+/// The line of a reader that is to be served by preferences, such as those of an Accept-Language header (RFC 9110, 12.5.4), as
+/// it stands. It is the one that [`best`] serves of the lines that are tags: it is acceptable, and of equal lines the first.
+/// None if the preferences serve no line: the caller takes a default then.
+///
+/// A line is matched as the tag that it is, by the subtags of its extlang form (RFC 5646, 4.5): `yue` is served `zh-yue`. No
+/// line is served that is no valid tag, or a tag that has no extlang form.
+///
+/// A byte order mark of UTF-8 before the first line is passed over. A line feed ends a line, and bytes after the last line
+/// feed are a line too. A carriage return that ends a line is no part of the tag, and stays with the line. The lines that are
+/// tags are kept up to the end, so that memory grows with them. Of an unfinished line no more than 1,026 bytes are kept.
+///
+/// - `Utf16`, if the bytes begin with a byte order mark of UTF-16.
+/// - `Read`, if a read fails.
+/// - `TooManyTurns`, if all 10,000,000 reads were made and the last gave bytes.
+/// - `OutOfMemory`, if memory runs out.
+pub fn serve_line<L: Lookup, R: Read>(
+    alloc: Global,
+    checked: &Checked<L>,
+    preferences: &[Preference],
+    input: &mut Device<R>,
+) -> Result<Option<Vec<u8>>, ToolFault>
+    ensures { SearchesLines (ServesAmong (L.listed checked.now) preferences.now) R.remaining input.old input.new result }
+{
+    let keeping = Keeping {
+        checked,
+        lines: Vec::new(alloc),
+        tags: Vec::new(alloc),
+    };
+    let mut none = Device::new(Vec::new(alloc));
+    let (keeping, end) = run_text(alloc, keeping, input, &mut none);
+    in_memory(end)?;
+    let Keeping {
+        checked: _,
+        lines,
+        tags,
+    } = keeping;
+    Ok(served(preferences, lines, &tags))
+}

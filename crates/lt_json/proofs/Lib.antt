@@ -1,4 +1,0 @@
-pub mod SourceLemmas
-pub mod ExtensionLemmas
-pub mod ObjectLemmas
-pub mod RunLemmas

@@ -1,3 +1,0 @@
-pub mod StringLemmas
-pub mod ValueLemmas
-pub mod ChainLemmas

@@ -1,6 +1,0 @@
-use Rattle.lt_parts.proofs.PlaceLemmas.{Reached}
-use Rattle.lt_parts.proofs.placing.place.Given as goal
-
--- the parts so far, and those of what is left, are all
-abbrev pub invariant-loop-kind : goal.invariant-loop-kind
-invariant-loop-kind l = Reached l.kinds l.text l.kind-index l.start l.parts.items

@@ -1,5 +1,0 @@
-use Rattle.lt_parts.proofs.KindLemmas.{unicode_kinds}
-use Rattle.lt_parts.proofs.walks.append_unicode.Goals as goal
-
-pub returns : goal.returns
-returns c = rw (unicode_kinds c.args.extension.now _ c.requires c.in_ok-parts.ensures.parts) c.append_u.ensures

@@ -1,4 +1,0 @@
--- Lemmas on judging an explanation.
-mod LineLemmas
-mod JudgingLemmas
-mod FollowingLemmas

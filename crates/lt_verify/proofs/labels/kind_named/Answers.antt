@@ -1,8 +1,0 @@
-use Rattle.std.proofs.Common.{arith}
-use Rattle.lt_verify.proofs.LineLemmas.{kind_at}
-use Rattle.lt_verify.proofs.labels.kind_named.Goals as goal
-
-pub returns : goal.returns
-returns c = λ kind named.
-    let at = kind_at kind in
-    c.loop-kind.invariant at.0 (omega (arith, at.1, c.loop-kind-test.false)) (cc (at.2, named))
