@@ -6,7 +6,9 @@ use Rattle.bcp47_c.specs.Numbers.{step_kind}
 
 -- the kinds of step in the order of their numbers, behind one for the number 0
 in_order : List StepKind
-in_order = steps.Extlang ∷ steps.Extlang ∷ steps.Language ∷ steps.Script ∷ steps.Region ∷ steps.Variant ∷ steps.VariantLanguage ∷ steps.Whole ∷ steps.SwapExtensions ∷ steps.DropAttribute ∷ steps.SwapAttributes ∷ steps.DropKeyword ∷ steps.SwapKeywords ∷ steps.DropTrue ∷ steps.SwapFields ∷ []
+in_order = steps.Extlang ∷ steps.Extlang ∷ steps.Language ∷ steps.Script ∷ steps.Region ∷ steps.Variant
+    ∷ steps.VariantLanguage ∷ steps.Whole ∷ steps.SwapExtensions ∷ steps.DropAttribute ∷ steps.SwapAttributes
+    ∷ steps.DropKeyword ∷ steps.SwapKeywords ∷ steps.DropTrue ∷ steps.SwapFields ∷ []
 
 -- a kind is in that list at the index that is its number
 found : (kind : StepKind) → get_or in_order (step_kind kind) steps.Extlang ≡ kind

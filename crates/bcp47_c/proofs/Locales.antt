@@ -12,5 +12,7 @@ pub no_fault_memory : (skipped : ℕ) (text : List ℕ) → HasFaultSaid skipped
 no_fault_memory skipped text = record { fault = memory_fault; owed = refl; told = refl }
 
 -- a section that is not replaced
-pub not_changed : (section : Option Section) (there : Section) (text value : List ℕ) (refused : Refused) → section ≡ Some there → IsReplacingRefusal there text value refused → IsNotChanged section text value refused.said
-not_changed section there text value refused e r = subst (λ (o : Option Section). IsNotChanged o text value refused.said) (sym e) (refused.text, r)
+pub not_changed : (section : Option Section) (there : Section) (text value : List ℕ) (refused : Refused)
+    → section ≡ Some there → IsReplacingRefusal there text value refused → IsNotChanged section text value refused.said
+not_changed section there text value refused e r = subst
+    (λ (o : Option Section). IsNotChanged o text value refused.said) (sym e) (refused.text, r)

@@ -6,7 +6,10 @@ use Rattle.bcp47_c.specs.Parts.{part_kind}
 
 -- the kinds of part in the order of their numbers, behind one for the number 0
 in_order : List PartKind
-in_order = kinds.Language ∷ kinds.Language ∷ kinds.Extlang ∷ kinds.Script ∷ kinds.Region ∷ kinds.Variant ∷ kinds.Singleton ∷ kinds.ExtensionSubtag ∷ kinds.Attribute ∷ kinds.Key ∷ kinds.Type ∷ kinds.SourceLanguage ∷ kinds.SourceExtlang ∷ kinds.SourceScript ∷ kinds.SourceRegion ∷ kinds.SourceVariant ∷ kinds.Separator ∷ kinds.Value ∷ kinds.PrivateUseSingleton ∷ kinds.PrivateUse ∷ kinds.Grandfathered ∷ []
+in_order = kinds.Language ∷ kinds.Language ∷ kinds.Extlang ∷ kinds.Script ∷ kinds.Region ∷ kinds.Variant
+    ∷ kinds.Singleton ∷ kinds.ExtensionSubtag ∷ kinds.Attribute ∷ kinds.Key ∷ kinds.Type ∷ kinds.SourceLanguage
+    ∷ kinds.SourceExtlang ∷ kinds.SourceScript ∷ kinds.SourceRegion ∷ kinds.SourceVariant ∷ kinds.Separator
+    ∷ kinds.Value ∷ kinds.PrivateUseSingleton ∷ kinds.PrivateUse ∷ kinds.Grandfathered ∷ []
 
 -- a kind is in that list at the index that is its number
 found : (kind : PartKind) → get_or in_order (part_kind kind) kinds.Language ≡ kind

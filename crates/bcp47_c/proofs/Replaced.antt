@@ -27,7 +27,8 @@ use Rattle.lt_tag.proofs.ShapeLemmas.{tag_subtags}
 use Rattle.lt_tag.proofs.TagLemmas.{not_grandfathered}
 use Rattle.lt_show.specs.Places.{parts_of}
 use Rattle.lt_show.specs.declared.placing.Part.{Part}
-use Rattle.bcp47_c.specs.Replacing.{bearing, before_value, fault_said, form, has, hyphened, no_memory, with_core, with_extensions, with_private, IsNoValue, IsTooLong}
+use Rattle.bcp47_c.specs.Replacing.{bearing, before_value, fault_said, form, has, hyphened, no_memory, with_core}
+use Rattle.bcp47_c.specs.Replacing.{with_extensions, with_private, IsNoValue, IsTooLong}
 use Rattle.bcp47_c.specs.declared.replacing.Langtag.{Langtag}
 use Rattle.bcp47_c.specs.declared.replacing.Section.{Section}
 use Rattle.bcp47_c.specs.declared.replacing.Section.TheVariants as sections
@@ -76,13 +77,41 @@ core_with sections.Extensions c d h k = h
 core_with sections.PrivateUse c d h k = h
 
 -- a langtag with a section of another has its shape
-pub replaced_shaped : (section : Section) (c d : CoreParts) (es fs : List ExtensionParts) (ps qs : List (List ℕ)) → IsLangTag c es ps → IsLangTag d fs qs → IsLangTag (with_core section c d) (with_extensions section es fs) (with_private section ps qs)
-replaced_shaped sections.Language c d es fs ps qs h k = record { shaped_core = core_with sections.Language c d h.shaped_core k.shaped_core; shaped_extensions = h.shaped_extensions; shaped_private = h.shaped_private }
-replaced_shaped sections.Script c d es fs ps qs h k = record { shaped_core = core_with sections.Script c d h.shaped_core k.shaped_core; shaped_extensions = h.shaped_extensions; shaped_private = h.shaped_private }
-replaced_shaped sections.Region c d es fs ps qs h k = record { shaped_core = core_with sections.Region c d h.shaped_core k.shaped_core; shaped_extensions = h.shaped_extensions; shaped_private = h.shaped_private }
-replaced_shaped sections.Variants c d es fs ps qs h k = record { shaped_core = core_with sections.Variants c d h.shaped_core k.shaped_core; shaped_extensions = h.shaped_extensions; shaped_private = h.shaped_private }
-replaced_shaped sections.Extensions c d es fs ps qs h k = record { shaped_core = h.shaped_core; shaped_extensions = k.shaped_extensions; shaped_private = h.shaped_private }
-replaced_shaped sections.PrivateUse c d es fs ps qs h k = record { shaped_core = h.shaped_core; shaped_extensions = h.shaped_extensions; shaped_private = k.shaped_private }
+pub replaced_shaped : (section : Section) (c d : CoreParts) (es fs : List ExtensionParts) (ps qs : List (List ℕ))
+    → IsLangTag c es ps → IsLangTag d fs qs
+    → IsLangTag (with_core section c d) (with_extensions section es fs) (with_private section ps qs)
+replaced_shaped sections.Language c d es fs ps qs h k = record {
+  shaped_core = core_with sections.Language c d h.shaped_core k.shaped_core;
+  shaped_extensions = h.shaped_extensions;
+  shaped_private = h.shaped_private;
+}
+replaced_shaped sections.Script c d es fs ps qs h k = record {
+  shaped_core = core_with sections.Script c d h.shaped_core
+      k.shaped_core;
+  shaped_extensions = h.shaped_extensions;
+  shaped_private = h.shaped_private;
+}
+replaced_shaped sections.Region c d es fs ps qs h k = record {
+  shaped_core = core_with sections.Region c d h.shaped_core
+      k.shaped_core;
+  shaped_extensions = h.shaped_extensions;
+  shaped_private = h.shaped_private;
+}
+replaced_shaped sections.Variants c d es fs ps qs h k = record {
+  shaped_core = core_with sections.Variants c d h.shaped_core k.shaped_core;
+  shaped_extensions = h.shaped_extensions;
+  shaped_private = h.shaped_private;
+}
+replaced_shaped sections.Extensions c d es fs ps qs h k = record {
+  shaped_core = h.shaped_core;
+  shaped_extensions = k.shaped_extensions;
+  shaped_private = h.shaped_private;
+}
+replaced_shaped sections.PrivateUse c d es fs ps qs h k = record {
+  shaped_core = h.shaped_core;
+  shaped_extensions = h.shaped_extensions;
+  shaped_private = k.shaped_private;
+}
 
 -- `x` is a subtag
 x_is : is_subtag x_subtag ≡ true
@@ -90,13 +119,20 @@ unfolding is_subtag
 x_is = refl
 
 -- each of the list that a shaped langtag spells is a subtag
-langtag_subtags : (c : CoreParts) (es : List ExtensionParts) (ps : List (List ℕ)) → IsLangTag c es ps → list_all is_subtag (spell (LangTag c es ps)) ≡ true
+langtag_subtags : (c : CoreParts) (es : List ExtensionParts) (ps : List (List ℕ)) → IsLangTag c es ps
+    → list_all is_subtag (spell (LangTag c es ps)) ≡ true
 langtag_subtags c es ps k =
-    let longer : IsLangTag c es (x_subtag ∷ ps) = record { shaped_core = k.shaped_core; shaped_extensions = k.shaped_extensions; shaped_private = and_from (is_subtag x_subtag) (list_all is_subtag ps) x_is k.shaped_private } in
+    let longer : IsLangTag c es (x_subtag ∷ ps) = record {
+      shaped_core = k.shaped_core;
+      shaped_extensions = k.shaped_extensions;
+      shaped_private = and_from (is_subtag x_subtag) (list_all is_subtag ps)
+          x_is k.shaped_private;
+    } in
     let all = tag_subtags (LangTag c es (x_subtag ∷ ps)) (longer, not_grandfathered c es (x_subtag ∷ ps) (inr (omega arith))) in
     by_private ps all
   where
-    by_private : (qs : List (List ℕ)) → list_all is_subtag (spell (LangTag c es (x_subtag ∷ qs))) ≡ true → list_all is_subtag (spell (LangTag c es qs)) ≡ true
+    by_private : (qs : List (List ℕ)) → list_all is_subtag (spell (LangTag c es (x_subtag ∷ qs))) ≡ true
+        → list_all is_subtag (spell (LangTag c es qs)) ≡ true
     by_private [] all = grind (arith, common_steps, all)
     by_private (q ∷ qs) all = grind (arith, common_steps, all)
 
@@ -109,7 +145,8 @@ hyphened_joined x (s ∷ ss) = ap (λ (l : List ℕ). x ++ 45 ∷ l) (hyphened_j
 
 -- the subtags of the parts of a tag, one after another, are its subtags joined by hyphens
 pub spelled_joined : (c : CoreParts) (es : List ExtensionParts) (ps : List (List ℕ))
-    → (((((c.language ++ flat_map hyphened c.extlangs) ++ flat_map hyphened (option_to_list c.script)) ++ flat_map hyphened (option_to_list c.region)) ++ flat_map hyphened c.variants)
+    → (((((c.language ++ flat_map hyphened c.extlangs) ++ flat_map hyphened (option_to_list c.script))
+    ++ flat_map hyphened (option_to_list c.region)) ++ flat_map hyphened c.variants)
     ++ flat_map hyphened (spell_extensions es)) ++ flat_map hyphened (spell_private ps)
     ≡ join_with_byte 45 (spell (LangTag c es ps))
 spelled_joined c es ps =
@@ -146,12 +183,14 @@ conventional_folded (s ∷ ss) = grind (arith, nat_tests, join_folded s ss)
 
 -- the subtags of a list, joined by hyphens, are read as that list
 pub joined_list : (s : List ℕ) (ss : List (List ℕ)) → list_all is_subtag (s ∷ ss) ≡ true → list_of (join_with_byte 45 (s ∷ ss)) ≡ s ∷ ss
-joined_list s ss h = same_list (join_with_byte 45 (s ∷ ss)) (conventional (s ∷ ss)) (sym (conventional_folded (s ∷ ss))) ∙ subtags_again (s ∷ ss) (omega arith) h
+joined_list s ss h = same_list (join_with_byte 45 (s ∷ ss)) (conventional (s ∷ ss)) (sym (conventional_folded (s ∷ ss)))
+    ∙ subtags_again (s ∷ ss) (omega arith) h
 
 -- the text of a list in conventional case is as long as its subtags joined by hyphens
 pub conventional_length : (list : List (List ℕ)) → length (conventional list) ≡ length (join_with_byte 45 list)
 conventional_length list =
-    sym (length-map (conventional list) to_ascii_lowercase) ∙ ap length (conventional_folded list) ∙ length-map (join_with_byte 45 list) to_ascii_lowercase
+    sym (length-map (conventional list) to_ascii_lowercase) ∙ ap length (conventional_folded list)
+    ∙ length-map (join_with_byte 45 list) to_ascii_lowercase
 
 -- ---- what is written, and what is refused
 
@@ -160,27 +199,35 @@ pub no_value_memory : (section : Section) (value : List ℕ) → IsNoValue secti
 no_value_memory section value = inl (inl (record { fault = memory_fault; owed = refl; told = refl }))
 
 -- a value that is read as a tag, a subtag of which is in another section
-pub foreign_value : (section : Section) (value text : List ℕ) (tag : TagForm) (parts : List Part) (index : ℕ) (langtag : Langtag) → text ≡ bearing section value → length text ≤ longest_text → IsTag tag → spell tag ≡ list_of text
-    → form langtag ≡ tag → parts ≡ parts_of tag → position (λ (part : Part). not (has section part.kind)) (drop (before_value section) parts) ≡ Some index
+pub foreign_value : (section : Section) (value text : List ℕ) (tag : TagForm) (parts : List Part) (index : ℕ) (langtag
+    : Langtag) → text ≡ bearing section value → length text ≤ longest_text → IsTag tag → spell tag ≡ list_of text
+    → form langtag ≡ tag → parts ≡ parts_of tag
+    → position (λ (part : Part). not (has section part.kind)) (drop (before_value section) parts) ≡ Some index
     → IsNoValue section value (record { status = 1; detail = 6; place = index + 1 })
 foreign_value section value text tag parts index langtag same short is_tag spelled is placed found =
     let read : HasTag text tag = record { short = short; tag = is_tag; spelled = spelled } in
     inr (record {
       tag = tag;
-      langtag = record { read = subst (λ (t : List ℕ). HasTag t tag) same read; langtag = subst (λ (t : TagForm). IsSome (core_of t)) is refl };
+      langtag = record {
+        read = subst (λ (t : List ℕ). HasTag t tag) same read;
+        langtag = subst (λ (t : TagForm). IsSome (core_of t)) is refl;
+      };
       index = index;
-      found = ap (λ (ps : List Part). position (λ (part : Part). not (has section part.kind)) (drop (before_value section) ps)) (sym placed) ∙ found;
+      found = ap (λ (ps : List Part). position (λ (part : Part). not (has section part.kind))
+          (drop (before_value section) ps)) (sym placed) ∙ found;
       told = refl;
     })
 
 -- a shaped langtag, and the text of its subtags joined by hyphens
-module _ (c : CoreParts) (es : List ExtensionParts) (ps : List (List ℕ)) (shaped : IsLangTag c es ps) (joined : List ℕ) (same : joined ≡ join_with_byte 45 (spell (LangTag c es ps))) where
+module _ (c : CoreParts) (es : List ExtensionParts) (ps : List (List ℕ)) (shaped : IsLangTag c es ps) (joined : List ℕ)
+    (same : joined ≡ join_with_byte 45 (spell (LangTag c es ps))) where
   -- the text is read as the list that the langtag spells
   reads : list_of joined ≡ spell (LangTag c es ps)
   reads = ap list_of same ∙ joined_list c.language _ (langtag_subtags c es ps shaped)
 
   -- what it is read as is written as the langtag is
-  pub made_is : (whole : TagForm) (made : List ℕ) → spell whole ≡ list_of joined → made ≡ conventional (spell whole) → made ≡ text_of (LangTag c es ps)
+  pub made_is : (whole : TagForm) (made : List ℕ) → spell whole ≡ list_of joined → made ≡ conventional (spell whole)
+      → made ≡ text_of (LangTag c es ps)
   made_is whole made spelled written = written ∙ ap conventional (spelled ∙ reads)
 
   -- the text of the langtag is as long
@@ -188,7 +235,8 @@ module _ (c : CoreParts) (es : List ExtensionParts) (ps : List (List ℕ)) (shap
   as_long = conventional_length (spell (LangTag c es ps)) ∙ ap length (sym same)
 
   -- what it is read as is written in as many bytes
-  pub made_short : (whole : TagForm) (made : List ℕ) → spell whole ≡ list_of joined → made ≡ conventional (spell whole) → length joined ≤ longest_text → length made ≤ longest_text
+  pub made_short : (whole : TagForm) (made : List ℕ) → spell whole ≡ list_of joined → made ≡ conventional (spell whole)
+      → length joined ≤ longest_text → length made ≤ longest_text
   made_short whole made spelled written short = omega (arith, as_long, ap length (made_is whole made spelled written))
 
   -- each of its pieces is a subtag
@@ -207,7 +255,8 @@ module _ (c : CoreParts) (es : List ExtensionParts) (ps : List (List ℕ)) (shap
   formed = inr (LangTag c es ps, shaped, sym reads)
 
   -- its only fault is its length
-  by_kind : (kind : TagFaultKind) (place : ℕ) → IsFault joined kind place → IsTooLong (LangTag c es ps) (fault_said 0 (record { kind = kind; place = place }))
+  by_kind : (kind : TagFaultKind) (place : ℕ) → IsFault joined kind place
+      → IsTooLong (LangTag c es ps) (fault_said 0 (record { kind = kind; place = place }))
   by_kind faults.TooLong place f = inl (omega (arith, as_long, f.0), rw f.1 refl)
   by_kind faults.EmptySubtag place f = absurd (no_bad_piece _ place f.1)
   by_kind faults.BadByte place f = absurd (no_bad_piece _ place f.1)

@@ -12,7 +12,8 @@ use Rattle.lt_answers.specs.Answering.{AppendsLine, AreObjects, text_of}
 
 -- the object for a line is appended to `old`, which gives `mid`, and then a line feed (10), which gives `new`; `front`
 -- is the first bytes of the line, as many as are looked at
-pub line_appended : (R : List EntryParts) (front old mid new : List ℕ) (refused : Bool) → AppendsObject R (content_of front) old mid refused → new ≡ mid ++ 10 ∷ [] → AppendsLine R front old new refused
+pub line_appended : (R : List EntryParts) (front old mid new : List ℕ) (refused : Bool)
+    → AppendsObject R (content_of front) old mid refused → new ≡ mid ++ 10 ∷ [] → AppendsLine R front old new refused
 line_appended R front old mid new refused a h = record {
   object = a.line;
   grown = h ∙ ap (λ (l : List ℕ). l ++ 10 ∷ []) a.grown ∙ append_assoc old a.line (10 ∷ []);
@@ -35,7 +36,8 @@ none_answered R = (refl, refl)
 
 -- One line more, after `lines`, which `bytes` answer: its object and a line feed (10) come behind `bytes`. `before` is
 -- whether one of `lines` is refused, and `refused` whether the new one is.
-pub objects_more : (R : List EntryParts) (lines : List (List ℕ)) (line bytes object : List ℕ) (before refused : Bool) → AreObjects R lines bytes before → IsObjectFor R (text_of line) object refused
+pub objects_more : (R : List EntryParts) (lines : List (List ℕ)) (line bytes object : List ℕ) (before refused : Bool)
+    → AreObjects R lines bytes before → IsObjectFor R (text_of line) object refused
     → AreObjects R (lines ++ line ∷ []) (bytes ++ (object ++ 10 ∷ [])) (before || refused)
 objects_more R [] line bytes object before refused none is = record {
   object = object;
@@ -62,20 +64,41 @@ objects_more R (first ∷ lines) line bytes object before refused owed is = reco
 
 -- `Q` says of a value of `A` which lines it has answered by which bytes, and `P` says it of a value of `B`. Where `Q`
 -- holds of a value, `P` holds of what `f` gives for it. So what a run does by `Q`, it does by `P`.
-module _ {A B : Type 0} (f : A → B) (Q : Answered A) (P : Answered B) (weaker : (a : A) (lines : List (List ℕ)) (bytes : List ℕ) → Q a lines bytes → P (f a) lines bytes) where
+module _ {A B : Type 0} (f : A → B) (Q : Answered A) (P : Answered B)
+    (weaker : (a : A) (lines : List (List ℕ)) (bytes : List ℕ) → Q a lines bytes → P (f a) lines bytes) where
   -- if what was written is a front of what answers the first lines as `Q` says, it is one as the weaker `P` says
   begun_mapped : (bytes written : List ℕ) → IsBegun Q bytes written → IsBegun P bytes written
-  begun_mapped bytes written b = record { lines = b.lines; others = b.others; cut = b.cut; answers = f b.answers; all = b.all; answered = weaker b.answers b.lines b.all b.answered; rest = b.rest; front = b.front }
+  begun_mapped bytes written b = record {
+    lines = b.lines;
+    others = b.others;
+    cut = b.cut;
+    answers = f b.answers;
+    all = b.all;
+    answered = weaker b.answers b.lines b.all b.answered;
+    rest = b.rest;
+    front = b.front;
+  }
 
   -- if the lines up to the last line feed are answered as `Q` says, they are as the weaker `P` says
   feed_mapped : (bytes written : List ℕ) (a : A) → IsAnsweredToLastFeed Q bytes written a → IsAnsweredToLastFeed P bytes written (f a)
-  feed_mapped bytes written a t = record { lines = t.lines; last = t.last; cut = t.cut; each_one = t.each_one; last_one = t.last_one; answered = weaker a t.lines written t.answered }
+  feed_mapped bytes written a t = record {
+    lines = t.lines;
+    last = t.last;
+    cut = t.cut;
+    each_one = t.each_one;
+    last_one = t.last_one;
+    answered = weaker a t.lines written t.answered;
+  }
 
   -- if a run ended as `Q` says, it did as the weaker `P` says
-  ends_mapped : {I O : Type 0} (remaining : I → Option (List ℕ)) (input input' : Device I) (output output' : Device O) (reads : ℕ) (read written : List ℕ) (a : A) (result : Result (Unit {0}) ToolFault)
-      → EndsAs Q remaining input input' output output' reads read read written a result → EndsAs P remaining input input' output output' reads read read written (f a) result
-  ends_mapped remaining input input' output output' reads read written a (Ok done) e = record { end = e.end; answered = weaker a (lines_of read) written e.answered }
-  ends_mapped remaining input input' output output' reads read written a (Err faults.Read) e = record { failed = e.failed; owed = feed_mapped read written a e.owed }
+  ends_mapped : {I O : Type 0} (remaining : I → Option (List ℕ)) (input input' : Device I) (output output' : Device O)
+      (reads : ℕ) (read written : List ℕ) (a : A) (result : Result (Unit {0}) ToolFault)
+      → EndsAs Q remaining input input' output output' reads read read written a result
+      → EndsAs P remaining input input' output output' reads read read written (f a) result
+  ends_mapped remaining input input' output output' reads read written a (Ok done) e = record
+      { end = e.end; answered = weaker a (lines_of read) written e.answered }
+  ends_mapped remaining input input' output output' reads read written a (Err faults.Read) e = record
+      { failed = e.failed; owed = feed_mapped read written a e.owed }
   ends_mapped remaining input input' output output' reads read written a (Err faults.TooManyTurns) e =
       record { all_made = e.all_made; gave_bytes = e.gave_bytes; last_gave = e.last_gave; owed = feed_mapped read written a e.owed }
   ends_mapped remaining input input' output output' reads read written a (Err faults.Write) e = e
@@ -86,8 +109,10 @@ module _ {A B : Type 0} (f : A → B) (Q : Answered A) (P : Answered B) (weaker 
 
   -- if a run answered its lines as `Q` says, it did as the weaker `P` says; `write_objects` uses it with the `f` that
   -- gives whether a line was refused
-  pub run_mapped : {I O : Type 0} (remaining : I → Option (List ℕ)) (contents : O → Option (List ℕ)) (input input' : Device I) (output output' : Device O) (a : A) (result : Result (Unit {0}) ToolFault)
-      → RunsOverLines Q remaining contents input input' output output' a result → RunsOverLines P remaining contents input input' output output' (f a) result
+  pub run_mapped : {I O : Type 0} (remaining : I → Option (List ℕ)) (contents : O → Option (List ℕ))
+      (input input' : Device I) (output output' : Device O) (a : A) (result : Result (Unit {0}) ToolFault)
+      → RunsOverLines Q remaining contents input input' output output' a result
+      → RunsOverLines P remaining contents input input' output output' (f a) result
   run_mapped remaining contents input input' output output' a result r = record {
     read = r.read;
     written = r.written;

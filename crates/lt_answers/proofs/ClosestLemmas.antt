@@ -1,5 +1,7 @@
 -- The line that lookup finds among those so far, and one more.
-use Rattle.std.proofs.Common.{◌≡◌, ◌<◌, ◌≤◌, ◌+◌, ◌++◌, ◌∷◌, ◌∙◌, ℕ, zero, suc, List, [], Option, Some, None, inl, inr, length, take, drop, get_or, sym, ap, refl, subst, arith, length-append, length-take-le, take_all}
+use Rattle.std.proofs.Common.{◌≡◌, ◌<◌, ◌≤◌, ◌+◌, ◌++◌, ◌∷◌, ◌∙◌, ℕ, zero, suc, List, [], Option, Some, None, inl, inr}
+use Rattle.std.proofs.Common.{length, take, drop, get_or, sym, ap, refl, subst, arith, length-append, length-take-le}
+use Rattle.std.proofs.Common.{take_all}
 use Rattle.std.specs.List.{AllByRecursion}
 use Rattle.std.proofs.Math.Seq.{get_or-append_seam}
 use Rattle.std.proofs.lemmas.Bool.Decides.{leb_tells}
@@ -10,7 +12,8 @@ use Rattle.lt_range.specs.Ranges.{RangeParts}
 use Rattle.lt_range.specs.Matching.{FallsBackTo}
 use Rattle.lt_range.specs.Lookup.{Finds, FindsNone, tag_at}
 use Rattle.lt_range.proofs.FrontLemmas.{parted}
-use Rattle.lt_answers.specs.Closest.{ClosestAmong, FallsFirst, Holds, IsCloser, IsClosest, NoneFalls, TakesLine, TakesSubtags, line_at, range_at}
+use Rattle.lt_answers.specs.Closest.{ClosestAmong, FallsFirst, Holds, IsCloser, IsClosest, NoneFalls, TakesLine}
+use Rattle.lt_answers.specs.Closest.{TakesSubtags, line_at, range_at}
 use Rattle.lt_range.specs.Matched.{HasNoSubtags, HasSubtags}
 use Rattle.lt_answers.specs.LookedUp.{FindsLine, FindsNoLine, LineHas, LinesHave}
 use Rattle.lt_answers.specs.Selection.{longest_kept}
@@ -35,7 +38,8 @@ module _ {X : Type 0} (xs : List X) (x d : X) where
   one_longer = length-append xs (x ∷ [])
 
   -- what is true of each element of the list and of the one that was added is true of each
-  pub each_more : (P : X → Type 0) → ((i : ℕ) → i < length xs → P (get_or xs i d)) → P x → (i : ℕ) → i < length (xs ++ x ∷ []) → P (get_or (xs ++ x ∷ []) i d)
+  pub each_more : (P : X → Type 0) → ((i : ℕ) → i < length xs → P (get_or xs i d)) → P x → (i : ℕ)
+      → i < length (xs ++ x ∷ []) → P (get_or (xs ++ x ∷ []) i d)
   each_more P each last i within = elim (leb_tells (suc i) (length xs)) [
     | inl before ↦ subst P (sym (before_last i (omega (arith, before.1)))) (each i (omega (arith, before.1)))
     | inr after ↦
@@ -44,10 +48,15 @@ module _ {X : Type 0} (xs : List X) (x d : X) where
   ]
 
 -- what is true of the range at each place below `n` is true of the first `n` ranges
-pub all_front : (P : RangeParts → Type 0) (ranges : List RangeParts) (n : ℕ) → n ≤ length ranges → ((i : ℕ) → i < n → P (range_at ranges i)) → AllByRecursion P (take n ranges)
+pub all_front : (P : RangeParts → Type 0) (ranges : List RangeParts) (n : ℕ) → n ≤ length ranges
+    → ((i : ℕ) → i < n → P (range_at ranges i)) → AllByRecursion P (take n ranges)
 all_front P ranges zero few each = tt
 all_front P [] (suc n) few each = tt
-all_front P (range ∷ ranges) (suc n) few each = (each 0 (omega arith), all_front P ranges n (omega (arith, few)) (λ i within. each (suc i) (omega (arith, within))))
+all_front P (range ∷ ranges) (suc n) few each = (
+  each 0 (omega arith),
+  all_front P ranges n (omega (arith, few))
+      (λ i within. each (suc i) (omega (arith, within))),
+)
 
 -- ---- one more tag
 
@@ -58,13 +67,16 @@ module _ (lists : List (List (List ℕ))) (list : List (List ℕ)) where
   none_more range none not = each_more lists list [] (λ (l : List (List ℕ)). FallsBackTo range l → ⊥) none not
 
   -- a range finds the same tag still if it does not fall back to the further one, or if that has no more subtags
-  finds_still : (range : RangeParts) (place : ℕ) → Finds range lists place → (FallsBackTo range list → length list ≤ length (tag_at lists place)) → Finds range (lists ++ list ∷ []) place
+  finds_still : (range : RangeParts) (place : ℕ) → Finds range lists place
+      → (FallsBackTo range list → length list ≤ length (tag_at lists place)) → Finds range (lists ++ list ∷ []) place
   finds_still range place f short =
       let same : tag_at (lists ++ list ∷ []) place ≡ tag_at lists place = before_last lists list [] place f.within in
       record {
         within = omega (arith, f.within, one_longer lists list []);
         found = subst (FallsBackTo range) (sym same) f.found;
-        longest = subst (λ (t : List (List ℕ)). (i : ℕ) → i < length (lists ++ list ∷ []) → FallsBackTo range (tag_at (lists ++ list ∷ []) i) → length (tag_at (lists ++ list ∷ []) i) ≤ length t) (sym same)
+        longest = subst (λ (t : List (List ℕ)). (i : ℕ) → i < length (lists ++ list ∷ [])
+            → FallsBackTo range (tag_at (lists ++ list ∷ []) i) → length (tag_at (lists ++ list ∷ []) i) ≤ length t)
+            (sym same)
             (each_more lists list [] (λ (l : List (List ℕ)). FallsBackTo range l → length l ≤ length (tag_at lists place)) f.longest short);
         first = λ i before falls.
             let here : tag_at (lists ++ list ∷ []) i ≡ tag_at lists i = before_last lists list [] i (omega (arith, before, f.within)) in
@@ -73,14 +85,19 @@ module _ (lists : List (List (List ℕ))) (list : List (List ℕ)) where
       }
 
   -- a range that falls back to the further tag finds it, if each earlier one to which it falls back has fewer subtags
-  finds_last : (range : RangeParts) → FallsBackTo range list → ((i : ℕ) → i < length lists → FallsBackTo range (tag_at lists i) → length (tag_at lists i) < length list) → Finds range (lists ++ list ∷ []) (length lists)
+  finds_last : (range : RangeParts) → FallsBackTo range list
+      → ((i : ℕ) → i < length lists → FallsBackTo range (tag_at lists i) → length (tag_at lists i) < length list)
+      → Finds range (lists ++ list ∷ []) (length lists)
   finds_last range falls longer =
       let same : tag_at (lists ++ list ∷ []) (length lists) ≡ list = at_last lists list [] in
       record {
         within = omega (arith, one_longer lists list []);
         found = subst (FallsBackTo range) (sym same) falls;
-        longest = subst (λ (t : List (List ℕ)). (i : ℕ) → i < length (lists ++ list ∷ []) → FallsBackTo range (tag_at (lists ++ list ∷ []) i) → length (tag_at (lists ++ list ∷ []) i) ≤ length t) (sym same)
-            (each_more lists list [] (λ (l : List (List ℕ)). FallsBackTo range l → length l ≤ length list) (λ i within f. omega (arith, longer i within f)) (λ f. omega arith));
+        longest = subst (λ (t : List (List ℕ)). (i : ℕ) → i < length (lists ++ list ∷ [])
+            → FallsBackTo range (tag_at (lists ++ list ∷ []) i) → length (tag_at (lists ++ list ∷ []) i) ≤ length t)
+            (sym same)
+            (each_more lists list [] (λ (l : List (List ℕ)). FallsBackTo range l → length l ≤ length list)
+            (λ i within f. omega (arith, longer i within f)) (λ f. omega arith));
         first = λ i before f.
             let here : tag_at (lists ++ list ∷ []) i ≡ tag_at lists i = before_last lists list [] i before in
             let less : length (tag_at lists i) < length list = longer i before (subst (FallsBackTo range) here f) in
@@ -90,7 +107,8 @@ module _ (lists : List (List (List ℕ))) (list : List (List ℕ)) where
   module _ (ranges : List RangeParts) where
     -- the closest tag stays the closest if no range before its own falls back to the further tag, and if that has no
     -- more subtags where its own range falls back to it
-    still : (range count place : ℕ) → IsClosest ranges lists range count place → NoneFalls ranges range list → (FallsBackTo (range_at ranges range) list → length list ≤ count)
+    still : (range count place : ℕ) → IsClosest ranges lists range count place → NoneFalls ranges range list
+        → (FallsBackTo (range_at ranges range) list → length list ≤ count)
         → IsClosest ranges (lists ++ list ∷ []) range count place
     still range count place c none short = record {
       within = c.within;
@@ -102,7 +120,9 @@ module _ (lists : List (List (List ℕ))) (list : List (List ℕ)) where
     -- the further tag is the closest if `range` is the first that falls back to it, no range before that found any tag,
     -- and `range` falls back only to earlier tags of fewer subtags
     last : (range : ℕ) → FallsFirst ranges list range → ((i : ℕ) → i < range → FindsNone lists (range_at ranges i))
-        → ((i : ℕ) → i < length lists → FallsBackTo (range_at ranges range) (tag_at lists i) → length (tag_at lists i) < length list) → IsClosest ranges (lists ++ list ∷ []) range (length list) (length lists)
+        → ((i : ℕ) → i < length lists → FallsBackTo (range_at ranges range) (tag_at lists i)
+        → length (tag_at lists i) < length list)
+        → IsClosest ranges (lists ++ list ∷ []) range (length list) (length lists)
     last range f before longer = record {
       within = f.within;
       before = λ i less. none_more (range_at ranges i) (before i less) (f.before i less);
@@ -111,16 +131,21 @@ module _ (lists : List (List (List ℕ))) (list : List (List ℕ)) where
     }
 
 -- a line with a tag to which no range falls back changes nothing
-pub takes_none : (ranges : List RangeParts) (list : List (List ℕ)) (line : List ℕ) (old : Option Closest) → NoneFalls ranges (length ranges) list → TakesSubtags ranges list line old old
-takes_none ranges list line None none = λ lines lists same held. λ i within. none_more lists list (range_at ranges i) (held i within) (none i within)
+pub takes_none : (ranges : List RangeParts) (list : List (List ℕ)) (line : List ℕ) (old : Option Closest)
+    → NoneFalls ranges (length ranges) list → TakesSubtags ranges list line old old
+takes_none ranges list line None none = λ lines lists same held. λ i within. none_more lists list (range_at ranges i)
+    (held i within) (none i within)
 takes_none ranges list line (Some closest) none = λ lines lists same held. (
   held.0,
-  still lists list ranges closest.range closest.count held.0 held.1 (λ i less. none i (omega (arith, less, held.1.within))) (λ falls. absurd (none closest.range held.1.within falls)),
+  still lists list ranges closest.range closest.count held.0 held.1
+      (λ i less. none i (omega (arith, less, held.1.within)))
+      (λ falls. absurd (none closest.range held.1.within falls)),
   before_last lines line [] held.0 (omega (arith, held.1.finds.within, same)) ∙ held.2,
 )
 
 -- a line with a tag that is not closer changes nothing; `range` is the first that falls back to it
-pub takes_other : (ranges : List RangeParts) (list : List (List ℕ)) (line : List ℕ) (old : Option Closest) (range : ℕ) → FallsFirst ranges list range → (IsCloser old range (length list) → ⊥) → TakesSubtags ranges list line old old
+pub takes_other : (ranges : List RangeParts) (list : List (List ℕ)) (line : List ℕ) (old : Option Closest) (range : ℕ)
+    → FallsFirst ranges list range → (IsCloser old range (length list) → ⊥) → TakesSubtags ranges list line old old
 takes_other ranges list line None range f not = absurd (not tt)
 takes_other ranges list line (Some closest) range f not = λ lines lists same held. (
   held.0,
@@ -144,47 +169,60 @@ takes_other ranges list line (Some closest) range f not = λ lines lists same he
 
 -- if a tag is closer by `range`, then no range before that found a tag, and `range` falls back only to tags of fewer
 -- subtags so far
-before_closer : (ranges : List RangeParts) (list : List (List ℕ)) (old : Option Closest) (range : ℕ) → range < length ranges → IsCloser old range (length list)
+before_closer : (ranges : List RangeParts) (list : List (List ℕ)) (old : Option Closest) (range : ℕ)
+    → range < length ranges → IsCloser old range (length list)
     → (lines : List (List ℕ)) (lists : List (List (List ℕ))) → ClosestAmong ranges lines lists old
-    → ((i : ℕ) → i < range → FindsNone lists (range_at ranges i)) × ((i : ℕ) → i < length lists → FallsBackTo (range_at ranges range) (tag_at lists i) → length (tag_at lists i) < length list)
-before_closer ranges list None range within closer lines lists held = (λ i less. held i (omega (arith, less, within)), λ i here falls. absurd (held range within i here falls))
+    → ((i : ℕ) → i < range → FindsNone lists (range_at ranges i))
+    × ((i : ℕ) → i < length lists → FallsBackTo (range_at ranges range) (tag_at lists i)
+    → length (tag_at lists i) < length list)
+before_closer ranges list None range within closer lines lists held = (
+  λ i less. held i (omega (arith, less, within)),
+  λ i here falls. absurd (held range within i here falls),
+)
 before_closer ranges list (Some closest) range within (inl sooner) lines lists held =
     (λ i less. held.1.before i (omega (arith, less, sooner)), λ i here falls. absurd (held.1.before range sooner i here falls))
 before_closer ranges list (Some closest) range within (inr same) lines lists held = (
   λ i less. held.1.before i (omega (arith, less, same.0)),
   λ i here falls.
-      let most : length (tag_at lists i) ≤ length (tag_at lists held.0) = held.1.finds.longest i here (subst (λ (n : ℕ). FallsBackTo (range_at ranges n) (tag_at lists i)) same.0 falls) in
+      let most : length (tag_at lists i) ≤ length (tag_at lists held.0) = held.1.finds.longest i here
+      (subst (λ (n : ℕ). FallsBackTo (range_at ranges n) (tag_at lists i)) same.0 falls) in
       omega (arith, most, held.1.counted, same.1),
 )
 
 -- a line with a tag that is closer becomes the closest line, `new`
-pub takes_closer : (ranges : List RangeParts) (list : List (List ℕ)) (line : List ℕ) (old : Option Closest) (new : Closest) → FallsFirst ranges list new.range → IsCloser old new.range (length list)
+pub takes_closer : (ranges : List RangeParts) (list : List (List ℕ)) (line : List ℕ) (old : Option Closest) (new
+    : Closest) → FallsFirst ranges list new.range → IsCloser old new.range (length list)
     → new.count ≡ length list → new.line.items ≡ line → TakesSubtags ranges list line old (Some new)
 takes_closer ranges list line old new f closer counted copied = λ lines lists same held.
     let rest = before_closer ranges list old new.range f.within closer lines lists held in (
       length lists,
-      subst (λ (n : ℕ). IsClosest ranges (lists ++ list ∷ []) new.range n (length lists)) (sym counted) (last lists list ranges new.range f rest.0 rest.1),
+      subst (λ (n : ℕ). IsClosest ranges (lists ++ list ∷ []) new.range n (length lists)) (sym counted)
+          (last lists list ranges new.range f rest.0 rest.1),
       subst (λ (n : ℕ). line_at (lines ++ line ∷ []) n ≡ new.line.items) same (at_last lines line [] ∙ sym copied),
     )
 
 -- ---- lines
 
 -- the subtags of some lines, and of one more
-pub lines_more : (R : List EntryParts) (lines : List (List ℕ)) (lists : List (List (List ℕ))) (line : List ℕ) (list : List (List ℕ)) → LinesHave R lines lists → LineHas R line list
+pub lines_more : (R : List EntryParts) (lines : List (List ℕ)) (lists : List (List (List ℕ))) (line : List ℕ) (list
+    : List (List ℕ)) → LinesHave R lines lists → LineHas R line list
     → LinesHave R (lines ++ line ∷ []) (lists ++ list ∷ [])
 lines_more R [] lists line list none has = rw none (list, [], has, refl, refl)
 lines_more R (first ∷ lines) lists line list (one, more, here, split, have) has =
     (one, more ++ list ∷ [], here, ap (λ (l : List (List (List ℕ))). l ++ list ∷ []) split, lines_more R lines more line list have has)
 
 -- there are as many lists of subtags as lines
-pub same_count : (R : List EntryParts) (lines : List (List ℕ)) (lists : List (List (List ℕ))) → LinesHave R lines lists → length lines ≡ length lists
+pub same_count : (R : List EntryParts) (lines : List (List ℕ)) (lists : List (List (List ℕ))) → LinesHave R lines lists
+    → length lines ≡ length lists
 same_count R [] lists none = ap length (sym none)
 same_count R (first ∷ lines) lists (one, more, here, split, have) = ap suc (same_count R lines more have) ∙ ap length (sym split)
 
 -- `kept` is what is kept of a further line
 module _ (R : List EntryParts) (ranges : List RangeParts) (kept : List ℕ) where
   -- a further line changes what its subtags change
-  line_taken : (list : List (List ℕ)) (line : List ℕ) (old new : Option Closest) → LineHas R line list → TakesSubtags ranges list line old new → (lines : List (List ℕ)) → Holds R ranges lines old → Holds R ranges (lines ++ line ∷ []) new
+  line_taken : (list : List (List ℕ)) (line : List ℕ) (old new : Option Closest) → LineHas R line list
+      → TakesSubtags ranges list line old new → (lines : List (List ℕ)) → Holds R ranges lines old
+      → Holds R ranges (lines ++ line ∷ []) new
   line_taken list line old new has takes lines held = record {
     lists = held.lists ++ list ∷ [];
     have = lines_more R lines held.lists line list held.have has;
@@ -192,26 +230,37 @@ module _ (R : List EntryParts) (ranges : List RangeParts) (kept : List ℕ) wher
   }
 
   -- a line with subtags is short enough to be kept whole, and changes what they change
-  pub takes_line : (list : List (List ℕ)) (old new : Option Closest) → HasSubtags R (content_of kept) list → TakesSubtags ranges list kept old new → TakesLine R ranges kept old new
+  pub takes_line : (list : List (List ℕ)) (old new : Option Closest) → HasSubtags R (content_of kept) list
+      → TakesSubtags ranges list kept old new → TakesLine R ranges kept old new
   takes_line list old new has takes = λ lines line is held.
       let short : length line ≤ longest_kept = front_short line list (subst (λ (l : List ℕ). HasSubtags R (content_of l) list) is has) in
       let whole : kept ≡ line = is ∙ take_all longest_kept line short in
       subst (λ (l : List ℕ). Holds R ranges (lines ++ l ∷ []) new) whole (line_taken list kept old new (inl has) takes lines held)
     where
-      front_short : (line : List ℕ) (list : List (List ℕ)) → HasSubtags R (content_of (take longest_kept line)) list → length line ≤ longest_kept
+      front_short : (line : List ℕ) (list : List (List ℕ)) → HasSubtags R (content_of (take longest_kept line)) list
+          → length line ≤ longest_kept
       front_short line list h = elim (leb_tells (length line) longest_kept) [
         | inl short ↦ short.1
-        | inr long ↦ absurd (omega (arith, h.read.short, content-length (take longest_kept line), length-take-le longest_kept line (omega (arith, long.1))))
+        | inr long ↦ absurd
+            (omega (
+              arith,
+              h.read.short,
+              content-length (take longest_kept line),
+              length-take-le longest_kept line
+                  (omega (arith, long.1)),
+            ))
       ]
 
   -- a line without subtags is found by no range, and changes nothing
   pub takes_nothing : (old : Option Closest) → HasNoSubtags R (content_of kept) → TakesLine R ranges kept old old
   takes_nothing old none = λ lines line is held.
-      line_taken [] line old old (inr (none_whole line is, refl)) (takes_none ranges [] line old (λ i within falls. absurd (omega (arith, falls.left.some)))) lines held
+      line_taken [] line old old (inr (none_whole line is, refl))
+      (takes_none ranges [] line old (λ i within falls. absurd (omega (arith, falls.left.some)))) lines held
     where
       none_whole : (line : List ℕ) → kept ≡ take longest_kept line → HasNoSubtags R (content_of line)
       none_whole line is = λ list h.
-          none list (subst (λ (l : List ℕ). HasSubtags R (content_of l) list) (sym (is ∙ take_all longest_kept line (omega (arith, h.read.short, content-length line)))) h)
+          none list (subst (λ (l : List ℕ). HasSubtags R (content_of l) list)
+          (sym (is ∙ take_all longest_kept line (omega (arith, h.read.short, content-length line)))) h)
 
 -- ---- the end
 
@@ -222,7 +271,8 @@ module _ (R : List EntryParts) (ranges : List RangeParts) (lines : List (List �
   finds_none held = record {
     lists = held.lists;
     have = held.have;
-    none = subst (AllByRecursion (FindsNone held.lists)) (take_all (length ranges) ranges (omega arith)) (all_front (FindsNone held.lists) ranges (length ranges) (omega arith) held.among);
+    none = subst (AllByRecursion (FindsNone held.lists)) (take_all (length ranges) ranges (omega arith))
+        (all_front (FindsNone held.lists) ranges (length ranges) (omega arith) held.among);
   }
 
   -- lookup finds the closest of all lines
@@ -242,5 +292,7 @@ module _ (R : List EntryParts) (ranges : List RangeParts) (lines : List (List �
           none_before = all_front (FindsNone held.lists) ranges closest.range (omega (arith, is.within)) is.before;
           finds = is.finds;
         };
-        there = slice_get-get_or lines place [] (omega (arith, is.finds.within, same_count R lines held.lists held.have)) ∙ ap (λ (l : List ℕ). Some l) held.among.2;
+        there = slice_get-get_or lines place [] (omega
+            (arith, is.finds.within, same_count R lines held.lists held.have))
+            ∙ ap (λ (l : List ℕ). Some l) held.among.2;
       }

@@ -14,7 +14,8 @@ unfolding extension_value
 of_unicode e p s is = let found : unicode_of e.subtags ≡ Some p = (u_decided e.subtags p).1 is in rw (s, found) refl
 
 -- the value of a `t` extension with the parts `p` is the object of these parts
-pub of_transform : (e : ExtensionParts) (p : TForm) → e.singleton ≡ transform → IsTransform e.subtags p → transform_value p ≡ extension_value e
+pub of_transform : (e : ExtensionParts) (p : TForm) → e.singleton ≡ transform → IsTransform e.subtags p
+    → transform_value p ≡ extension_value e
 unfolding extension_value
 of_transform e p s is = let found : transform_of e.subtags ≡ Some p = (t_decided e.subtags p).1 is in rw (s, found) refl
 
@@ -24,7 +25,8 @@ none_found e None is none = refl
 none_found e (Some p) is none = absurd (none p ((t_decided e.subtags p).0 is))
 
 -- the value of a `t` extension whose subtags have no parts of one is the object of its subtags
-pub of_no_transform : (e : ExtensionParts) → e.singleton ≡ transform → ((p : TForm) → IsTransform e.subtags p → ⊥) → plain_value e ≡ extension_value e
+pub of_no_transform : (e : ExtensionParts) → e.singleton ≡ transform → ((p : TForm) → IsTransform e.subtags p → ⊥)
+    → plain_value e ≡ extension_value e
 unfolding extension_value
 of_no_transform e s none = let found : transform_of e.subtags ≡ None = none_found e (transform_of e.subtags) refl none in rw (s, found) refl
 

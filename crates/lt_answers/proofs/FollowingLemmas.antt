@@ -1,5 +1,7 @@
 -- Lines that are judged piece by piece, as a reader gives them.
-use Rattle.std.proofs.Common.{IsErrAnd, ◌≡◌, ◌≢◌, ◌<◌, ◌^◌, ◌++◌, ◌∷◌, ◌∙◌, ℕ, List, [], Option, Some, sym, ap, refl, arith, ◌+◌, inl, inr, length, append_assoc, length-append, None, subst, append-nil, codes, Ok, Err, Result}
+use Rattle.std.proofs.Common.{IsErrAnd, ◌≡◌, ◌≢◌, ◌<◌, ◌^◌, ◌++◌, ◌∷◌, ◌∙◌, ℕ, List, [], Option, Some, sym, ap, refl}
+use Rattle.std.proofs.Common.{arith, ◌+◌, inl, inr, length, append_assoc, length-append, None, subst, append-nil, codes}
+use Rattle.std.proofs.Common.{Ok, Err, Result}
 use Rattle.std.proofs.lemmas.List.Elements.{All-append, All-cons, All-nil}
 use Rattle.lt_rewrite.specs.declared.steps.Step.{Step}
 use Rattle.lt_answers.specs.StepLines.{end_line}
@@ -12,7 +14,9 @@ use Rattle.lt_answers.specs.Laws.{NumbersFit, ExplanationsAreRight}
 use Rattle.lt_jar.proofs.CutLemmas.{lines_of-ended, first_goes_on, lines_of-last}
 use Rattle.lt_jar.specs.Lines.{IsOneLine, lines_of}
 use Rattle.lt_tag.proofs.OneTagLemmas.{one_tag_of_text}
-use Rattle.lt_answers.specs.Verifying.{GoesOn, GoesTo, JudgesEnd, IsFollowed, JudgesAll, KeepsMore, Settles, SettlesKept, Takes, TakesPiece, Begins, EndsAs, IsVerdictOf, VerifiesLines, JudgesKept}
+use Rattle.lt_answers.specs.Verifying.{GoesOn, GoesTo, JudgesEnd, IsFollowed, JudgesAll, KeepsMore, Settles}
+use Rattle.lt_answers.specs.Verifying.{SettlesKept, Takes, TakesPiece, Begins, EndsAs, IsVerdictOf, VerifiesLines}
+use Rattle.lt_answers.specs.Verifying.{JudgesKept}
 use Rattle.lt_answers.specs.declared.following.Following.{Following}
 use Rattle.std.proofs.lemmas.Result.{err_from_is_err_and}
 use Rattle.std.proofs.KnownBytes.{Consumes-nil}
@@ -33,7 +37,8 @@ use Rattle.lt_answers.proofs.JudgingLemmas.{IsNoFeed, few, step_fits, tag_line, 
 -- ---- the lines
 
 -- the printed lines of steps, `text`, lead from `t` to `end`, and what follows them begins a line of its own
-steps_led : (R : List EntryParts) → NumbersFit R → (steps : List Step) (end t : TagForm) (text : List ℕ) → printed.AreStepLines R steps end t text
+steps_led : (R : List EntryParts) → NumbersFit R → (steps : List Step) (end t : TagForm) (text : List ℕ)
+    → printed.AreStepLines R steps end t text
     → (lines : List (List ℕ)) × Lead R t lines end × ((more : List ℕ) → lines_of (text ++ more) ≡ lines ++ lines_of more)
 steps_led R all [] end t text are = ([], are.0, λ more. ap (λ (l : List ℕ). lines_of (l ++ more)) are.1)
 steps_led R all (step ∷ steps) end t text are =
@@ -54,12 +59,15 @@ explanations_right R all text shown t read is =
     let are = is.are_lines in
     let led = steps_led R all is.steps is.end is.tag are.of_steps are.are_steps in
     let last = end_line (text_of is.end) in
-    let one : IsOneLine last = All-cons IsNoFeed 61 (32 ∷ text_of is.end) (λ e. absurd (omega (arith, e))) (All-cons IsNoFeed 32 (text_of is.end) (λ e. absurd (omega (arith, e))) (tag_line is.end is.is_explanation.form.canonical.valid.proper.tag.tag)) in
+    let one : IsOneLine last = All-cons IsNoFeed 61 (32 ∷ text_of is.end) (λ e. absurd (omega (arith, e)))
+    (All-cons IsNoFeed 32 (text_of is.end) (λ e. absurd (omega (arith, e)))
+    (tag_line is.end is.is_explanation.form.canonical.valid.proper.tag.tag)) in
     subst (λ (u : TagForm). IsVerdict R u (lines_of shown) verdicts.Right) (one_tag_of_text text is.tag t is.read read) (record {
       steps = led.0;
       end = is.end;
       lead = led.1;
-      all = ap lines_of (are.all ∙ append_assoc are.of_steps (codes "= ") (printed.tag_line is.end)) ∙ led.2 (last ++ 10 ∷ []) ∙ ap (λ (l : List (List ℕ)). led.0 ++ l) (lines_of-ended last [] one);
+      all = ap lines_of (are.all ∙ append_assoc are.of_steps (codes "= ") (printed.tag_line is.end))
+          ∙ led.2 (last ++ 10 ∷ []) ∙ ap (λ (l : List (List ℕ)). led.0 ++ l) (lines_of-ended last [] one);
     })
 
 -- a state that took no bytes is the same as before
@@ -72,17 +80,20 @@ takes_nothing R state proper = record {
 }
 
 -- the bytes `front` were taken and then the bytes `piece`, so both were taken as one piece
-takes_trans : (R : List EntryParts) (front piece : List ℕ) (old mid new : Following) → Takes R front old mid → Takes R piece mid new → Takes R (front ++ piece) old new
+takes_trans : (R : List EntryParts) (front piece : List ℕ) (old mid new : Following) → Takes R front old mid
+    → Takes R piece mid new → Takes R (front ++ piece) old new
 takes_trans R front piece old mid new a b = record {
   proper = b.proper;
   counted = omega (arith, a.counted, b.counted, length-append front piece);
   one = λ was. b.one (a.one was);
   follows = λ more v was judged.
-      subst (λ (l : List ℕ). Judges R old.number old.here (lines_of (old.kept.items ++ l)) v) (sym (append_assoc front piece more)) (a.follows (piece ++ more) v was (b.follows more v (a.one was) judged));
+      subst (λ (l : List ℕ). Judges R old.number old.here (lines_of (old.kept.items ++ l)) v)
+      (sym (append_assoc front piece more)) (a.follows (piece ++ more) v was (b.follows more v (a.one was) judged));
 }
 
 -- a part without a line feed was kept, so it was taken: the unfinished line goes on
-takes_part : {R : List EntryParts} {part : List ℕ} {old new : Following} → IsProperIf R old.here → IsOneLine part → KeepsMore part old new → Takes R part old new
+takes_part : {R : List EntryParts} {part : List ℕ} {old new : Following} → IsProperIf R old.here → IsOneLine part
+    → KeepsMore part old new → Takes R part old new
 takes_part {R = R} {part = part} {old = old} proper one keeps = record {
   proper = subst (IsProperIf R) (sym keeps.here) proper;
   counted = omega (arith, keeps.number);
@@ -113,15 +124,27 @@ pub first_turn : {R : List EntryParts} {piece : List ℕ} {state : Following} �
 first_turn {R = R} {state = state} proper = record { front = []; cut = refl; takes = takes_nothing R state proper }
 
 -- the tag to which the lines lead so far is proper
-pub turn_proper : {R : List EntryParts} {piece rest part : List ℕ} {old now mid : Following} → PieceTurn R piece rest old now → KeepsMore part now mid → IsProperIf R mid.here
+pub turn_proper : {R : List EntryParts} {piece rest part : List ℕ} {old now mid : Following}
+    → PieceTurn R piece rest old now → KeepsMore part now mid → IsProperIf R mid.here
 turn_proper {R = R} t keeps = subst (IsProperIf R) (sym keeps.here) t.takes.proper
 
 -- the next line of a piece ends: its last bytes, `part`, were kept, which gives the state `mid`, and `after` follows
 -- the line feed
-module _ {R : List EntryParts} {piece rest : List ℕ} {old now mid : Following} (part after : List ℕ) (t : PieceTurn R piece rest old now) (split : IsOneLine part × (rest ≡ part ++ 10 ∷ after)) (keeps : KeepsMore part now mid) where
+module _ {R : List EntryParts} {piece rest : List ℕ} {old now mid : Following} (part after : List ℕ)
+    (t : PieceTurn R piece rest old now) (split : IsOneLine part × (rest ≡ part ++ 10 ∷ after))
+    (keeps : KeepsMore part now mid) where
   -- the number of the line after it is less than 2 to the 64
   pub turn_room : old.number + length piece + 1 < 2 ^ 64 → mid.number + 1 < 2 ^ 64
-  turn_room few = omega (arith, few, keeps.number, t.takes.counted, ap length t.cut, length-append t.front rest, ap length split.1, length-append part (10 ∷ after))
+  turn_room few = omega (
+    arith,
+    few,
+    keeps.number,
+    t.takes.counted,
+    ap length t.cut,
+    length-append t.front rest,
+    ap length split.1,
+    length-append part (10 ∷ after),
+  )
 
   -- the bytes before the line feed were taken
   part_taken : Takes R (t.front ++ part) old mid
@@ -132,7 +155,8 @@ module _ {R : List EntryParts} {piece rest : List ℕ} {old now mid : Following}
   cut_more = t.cut ∙ ap (λ l. t.front ++ l) split.1 ∙ sym (append_assoc t.front part (10 ∷ after))
 
   -- the line settles nothing, and `after` is left
-  pub next_turn : {new : Following} (judged : Option Verdict) → JudgesKept R mid new judged → judged ≡ None → PieceTurn R piece after old new
+  pub next_turn : {new : Following} (judged : Option Verdict) → JudgesKept R mid new judged → judged ≡ None
+      → PieceTurn R piece after old new
   next_turn {new = new} judged g none = record {
     front = (t.front ++ part) ++ 10 ∷ [];
     cut = cut_more ∙ sym (append_assoc (t.front ++ part) (10 ∷ []) after);
@@ -140,29 +164,39 @@ module _ {R : List EntryParts} {piece rest : List ℕ} {old now mid : Following}
   }
 
   -- the line settles the verdict `v`, whatever follows
-  pub settled_turn : (new : Following) (v : Verdict) → ((lines : List (List ℕ)) → Judges R mid.number mid.here (mid.kept.items ∷ lines) v) → TakesPiece R piece old new (Some v)
+  pub settled_turn : (new : Following) (v : Verdict)
+      → ((lines : List (List ℕ)) → Judges R mid.number mid.here (mid.kept.items ∷ lines) v)
+      → TakesPiece R piece old new (Some v)
   settled_turn new v judged = λ more was.
-      let same : piece ++ more ≡ (t.front ++ part) ++ 10 ∷ (after ++ more) = ap (λ l. l ++ more) cut_more ∙ append_assoc (t.front ++ part) (10 ∷ after) more in
-      rw same (part_taken.follows (10 ∷ (after ++ more)) v was (rw (lines_of-ended mid.kept.items (after ++ more) (part_taken.one was)) (judged (lines_of (after ++ more)))))
+      let same : piece ++ more ≡ (t.front ++ part) ++ 10 ∷ (after ++ more) = ap (λ l. l ++ more) cut_more
+      ∙ append_assoc (t.front ++ part) (10 ∷ after) more in
+      rw same (part_taken.follows (10 ∷ (after ++ more)) v was
+      (rw (lines_of-ended mid.kept.items (after ++ more) (part_taken.one was)) (judged (lines_of (after ++ more)))))
 
 -- the rest of a piece, which has no line feed, was kept
-takes_rest : {R : List EntryParts} {piece rest : List ℕ} {old now new : Following} → PieceTurn R piece rest old now → IsOneLine rest → KeepsMore rest now new → Takes R piece old new
+takes_rest : {R : List EntryParts} {piece rest : List ℕ} {old now new : Following} → PieceTurn R piece rest old now
+    → IsOneLine rest → KeepsMore rest now new → Takes R piece old new
 takes_rest {R = R} {rest = rest} {old = old} {now = now} {new = new} t one keeps =
-    subst (λ (l : List ℕ). Takes R l old new) (sym t.cut) (takes_trans R t.front rest old now new t.takes (takes_part t.takes.proper one keeps))
+    subst (λ (l : List ℕ). Takes R l old new) (sym t.cut)
+    (takes_trans R t.front rest old now new t.takes (takes_part t.takes.proper one keeps))
 
 -- The end of the loop over the lines of a piece: `rest`, which has no line feed, was kept, which led from `now` to
 -- `new`. What the kept front of a line settles, `judged`, the whole piece settles from `old` on: a verdict, or that it
 -- was taken.
-pub last_turn : {R : List EntryParts} {piece rest : List ℕ} {old now new : Following} → PieceTurn R piece rest old now → IsOneLine rest → KeepsMore rest now new
+pub last_turn : {R : List EntryParts} {piece rest : List ℕ} {old now new : Following} → PieceTurn R piece rest old now
+    → IsOneLine rest → KeepsMore rest now new
     → (judged : Option Verdict) → SettlesKept R new judged → TakesPiece R piece old new judged
 last_turn t one keeps None settles = (takes_rest t one keeps, settles)
-last_turn t one keeps (Some v) settles = λ more was. let takes = takes_rest t one keeps in takes.follows more v was (settles more (takes.one was))
+last_turn t one keeps (Some v) settles = λ more was. let takes = takes_rest t one keeps in
+    takes.follows more v was (settles more (takes.one was))
 
 -- ---- the line that is kept
 
 -- a line that leads to the tag `here`, or, if that is None, is that of the end, was judged and settles nothing
-pub went_on : {R : List EntryParts} {t : TagForm} {here : Option TagForm} {old new : Following} → old.here ≡ Some t → GoesTo here old new → IsProperIf R here
-    → ((lines : List (List ℕ)) (v : Verdict) → Judges R (old.number + 1) here lines v → Judges R old.number (Some t) (old.kept.items ∷ lines) v) → GoesOn R old new
+pub went_on : {R : List EntryParts} {t : TagForm} {here : Option TagForm} {old new : Following} → old.here ≡ Some t
+    → GoesTo here old new → IsProperIf R here
+    → ((lines : List (List ℕ)) (v : Verdict) → Judges R (old.number + 1) here lines v
+    → Judges R old.number (Some t) (old.kept.items ∷ lines) v) → GoesOn R old new
 went_on {R = R} there to proper follows = record {
   proper = subst (IsProperIf R) (sym to.there) proper;
   emptied = to.emptied;
@@ -171,20 +205,27 @@ went_on {R = R} there to proper follows = record {
 }
 
 -- the line of the end was judged, and settles nothing
-pub ends_on : {R : List EntryParts} {t : TagForm} {line : List ℕ} {old new : Following} (flow : _) → old.here ≡ Some t → line ≡ old.kept.items → FlowIs R old.number t line flow → flow ≡ flows.Ends → GoesTo None old new → GoesOn R old new
+pub ends_on : {R : List EntryParts} {t : TagForm} {line : List ℕ} {old new : Following} (flow : _) → old.here ≡ Some t
+    → line ≡ old.kept.items → FlowIs R old.number t line flow → flow ≡ flows.Ends → GoesTo None old new
+    → GoesOn R old new
 ends_on flow there same goes is to = went_on there to tt (λ lines v judged. inr (inl (rw (is, same) at goes, judged)))
 
 -- the line of a step to `u` was judged, and settles nothing
-pub leads_on : {R : List EntryParts} {t u : TagForm} {line : List ℕ} {old new : Following} (flow : _) → old.here ≡ Some t → line ≡ old.kept.items → FlowIs R old.number t line flow → flow ≡ flows.Leads u → GoesTo (Some u) old new → GoesOn R old new
-leads_on {u = u} flow there same goes is to = let leads = rw (is, same) at goes in went_on there to leads.0 (λ lines v judged. inl (u, leads.1, judged))
+pub leads_on : {R : List EntryParts} {t u : TagForm} {line : List ℕ} {old new : Following} (flow : _)
+    → old.here ≡ Some t → line ≡ old.kept.items → FlowIs R old.number t line flow → flow ≡ flows.Leads u
+    → GoesTo (Some u) old new → GoesOn R old new
+leads_on {u = u} flow there same goes is to = let leads = rw (is, same) at goes in
+    went_on there to leads.0 (λ lines v judged. inl (u, leads.1, judged))
 
 -- the first line of a text begins with the front of the text, which has no line feed and is not empty
-pub begun_line : (front more : List ℕ) → IsOneLine front → (front ≡ [] → ⊥) → (rest : List ℕ) × (after : List (List ℕ)) × (lines_of (front ++ more) ≡ (front ++ rest) ∷ after)
+pub begun_line : (front more : List ℕ) → IsOneLine front → (front ≡ [] → ⊥) → (rest : List ℕ) × (after : List (List ℕ))
+    × (lines_of (front ++ more) ≡ (front ++ rest) ∷ after)
 begun_line [] more one some = absurd (some refl)
 begun_line (byte ∷ front) more one some = first_goes_on byte front more one
 
 -- if the lines so far lead to the tag `t`, what the kept front of a line settles after `t` is settled in this state
-pub settled_rest : (R : List EntryParts) (t : TagForm) (state : Following) → state.here ≡ Some t → (judged : Option Verdict) → SettlesFront R state.number t state.kept.items judged → SettlesKept R state judged
+pub settled_rest : (R : List EntryParts) (t : TagForm) (state : Following) → state.here ≡ Some t
+    → (judged : Option Verdict) → SettlesFront R state.number t state.kept.items judged → SettlesKept R state judged
 settled_rest R t state here None settles = rw here settles
 settled_rest R t state here (Some v) settles = λ more one.
     let goes = begun_line state.kept.items more one (λ e. absurd (omega (arith, settles.0, ap length e))) in
@@ -193,13 +234,15 @@ settled_rest R t state here (Some v) settles = λ more one.
 -- ---- the end
 
 -- the verdict on a kept last line, which no line feed ends, is the verdict at the end of the bytes
-pub last_judged : (R : List EntryParts) (state : Following) (v : Verdict) → (state.kept.items ≡ [] → ⊥) → Judges R state.number state.here (state.kept.items ∷ []) v → JudgesEnd R state v
+pub last_judged : (R : List EntryParts) (state : Following) (v : Verdict) → (state.kept.items ≡ [] → ⊥)
+    → Judges R state.number state.here (state.kept.items ∷ []) v → JudgesEnd R state v
 last_judged R state v some judged = λ one. rw (lines_of-last state.kept.items one (some_long state.kept.items some)) judged
 
 -- ---- the bytes of a reader
 
 -- at the beginning of a run no bytes were taken
-pub followed_none : (R : List EntryParts) (t : TagForm) (first : Following) → Begins t first → IsProperIf R (Some t) → IsFollowed R first [] first
+pub followed_none : (R : List EntryParts) (t : TagForm) (first : Following) → Begins t first → IsProperIf R (Some t)
+    → IsFollowed R first [] first
 followed_none R t first begins proper = record {
   one = subst IsOneLine (sym begins.kept) (All-nil (λ byte. byte ≢ 10));
   number = begins.number;
@@ -207,7 +250,8 @@ followed_none R t first begins proper = record {
 }
 
 -- the bytes `read` were taken; `S` is the entries by the table that the state has, which are those at the beginning
-module _ (R S : List EntryParts) (same : S ≡ R) (first : Following) (read : List ℕ) (old : Following) (f : IsFollowed R first read old) where
+module _ (R S : List EntryParts) (same : S ≡ R) (first : Following) (read : List ℕ) (old : Following)
+    (f : IsFollowed R first read old) where
   -- the tag to which the lines lead so far is proper
   pub followed_proper : IsProperIf S old.here
   followed_proper = rw same f.takes.proper
@@ -217,43 +261,68 @@ module _ (R S : List EntryParts) (same : S ≡ R) (first : Following) (read : Li
   followed_room count few = omega (arith, few, f.number, f.takes.counted)
 
   -- one piece more was taken, and settled no verdict
-  pub followed_piece : (piece : List ℕ) (new : Following) (judged : Option Verdict) → judged ≡ None → TakesPiece S piece old new judged → IsFollowed R first (read ++ piece) new
-  followed_piece piece new judged none takes = record { one = f.one; number = f.number; takes = takes_trans R read piece first old new f.takes (rw (none, same) at takes).0 }
+  pub followed_piece : (piece : List ℕ) (new : Following) (judged : Option Verdict) → judged ≡ None
+      → TakesPiece S piece old new judged → IsFollowed R first (read ++ piece) new
+  followed_piece piece new judged none takes = record {
+    one = f.one;
+    number = f.number;
+    takes = takes_trans R read piece
+        first old new f.takes (rw (none, same) at takes).0;
+  }
 
   -- one piece more settled the verdict `v`
-  pub settled_piece : (piece : List ℕ) (new : Following) (judged : Option Verdict) (v : Verdict) → judged ≡ Some v → TakesPiece S piece old new judged → Settles R first (read ++ piece) (Ok v)
+  pub settled_piece : (piece : List ℕ) (new : Following) (judged : Option Verdict) (v : Verdict) → judged ≡ Some v
+      → TakesPiece S piece old new judged → Settles R first (read ++ piece) (Ok v)
   settled_piece piece new judged v is takes = λ more.
       rw (append_assoc read piece more) (f.takes.follows (piece ++ more) v f.one ((rw (is, same) at takes) more (f.takes.one f.one)))
 
   -- the verdict at the end of the bytes is that on all of them
   pub judged_all : (v : Verdict) → JudgesEnd S old v → JudgesAll R first read (Ok v)
   judged_all v ends =
-      f.takes.follows [] v f.one (subst (λ (l : List ℕ). Judges R old.number old.here (lines_of l) v) (sym (append-nil old.kept.items)) ((rw same at ends) (f.takes.one f.one)))
+      f.takes.follows [] v f.one (subst (λ (l : List ℕ). Judges R old.number old.here (lines_of l) v)
+      (sym (append-nil old.kept.items)) ((rw same at ends) (f.takes.one f.one)))
 
 -- a run over the pieces of a reader that begins at the tag `t`: `here` is its state at the end, and `T` is true of the
 -- bytes read and this state
-module _ {I A : Type 0} (R : List EntryParts) (t : TagForm) (first : Following) (remaining : I → Option (List ℕ)) (input input' : Device I) (here : A) (T : List ℕ → A → Type 0) (begins : Begins t first) where
+module _ {I A : Type 0} (R : List EntryParts) (t : TagForm) (first : Following) (remaining : I → Option (List ℕ))
+    (input input' : Device I) (here : A) (T : List ℕ → A → Type 0) (begins : Begins t first) where
   -- what such a run did, by its result
   abbrev Runs : Result Verdict ToolFault → Type 0
-  Runs r = RunsPieces {O = Unit {0}} (λ _ _ read state. T read state) (λ _ _ read _ r. Settles R first read r) (λ _ _ read _ r. JudgesAll R first read r) remaining input input' tt tt here r
+  Runs r = RunsPieces {O = Unit {0}} (λ _ _ read state. T read state) (λ _ _ read _ r. Settles R first read r)
+      (λ _ _ read _ r. JudgesAll R first read r) remaining input input' tt tt here r
 
   -- what is judged of the lines from the beginning is the verdict on them
-  verdict_of : (bytes : List ℕ) (v : Verdict) → Judges R first.number first.here (lines_of (first.kept.items ++ bytes)) v → IsVerdictOf R t v bytes
-  verdict_of bytes v judged = verdict_behind R t t [] (lines_of bytes) v 1 refl refl (rw (begins.kept, begins.number, begins.here) at judged)
+  verdict_of : (bytes : List ℕ) (v : Verdict)
+      → Judges R first.number first.here (lines_of (first.kept.items ++ bytes)) v → IsVerdictOf R t v bytes
+  verdict_of bytes v judged = verdict_behind R t t [] (lines_of bytes) v 1 refl refl
+      (rw (begins.kept, begins.number, begins.here) at judged)
 
   -- a run verified lines, if its end is one of those that are allowed, and if a failed read is its fault
-  verifies : (r : Result Verdict ToolFault) (p : Runs r) → EndsAs R t remaining input input' p.reads p.read r → (failures_of input < failures_of input' → r ≡ Err faults.Read) → VerifiesLines R t remaining input input' r
-  verifies r p ends rises = record { read = p.read; reads = p.reads; consumes = p.consumes; calls = p.calls; bounded = p.bounded; ends = ends; read_rises = rises }
+  verifies : (r : Result Verdict ToolFault) (p : Runs r) → EndsAs R t remaining input input' p.reads p.read r
+      → (failures_of input < failures_of input' → r ≡ Err faults.Read) → VerifiesLines R t remaining input input' r
+  verifies r p ends rises = record {
+    read = p.read;
+    reads = p.reads;
+    consumes = p.consumes;
+    calls = p.calls;
+    bounded = p.bounded;
+    ends = ends;
+    read_rises = rises;
+  }
 
   -- a run that ended as memory ran out
-  verifies_by : (r : Result Verdict ToolFault) (p : Runs r) (f : ToolFault) → r ≡ Err f → (f ≡ faults.OutOfMemory) → failures_of input' ≡ failures_of input → VerifiesLines R t remaining input input' r
+  verifies_by : (r : Result Verdict ToolFault) (p : Runs r) (f : ToolFault) → r ≡ Err f → (f ≡ faults.OutOfMemory)
+      → failures_of input' ≡ failures_of input → VerifiesLines R t remaining input input' r
   verifies_by r p f is memory same = verifies r p (rw (is, memory) tt) (λ lt. absurd (omega (arith, lt, same)))
 
   -- a run over the pieces of a reader verified the lines of the reader, however it ended
   pub run_verifies : (r : Result Verdict ToolFault) → Runs r → VerifiesLines R t remaining input input' r
   run_verifies (Ok v) p = elim p.ends [
-    | inl e ↦ verifies (Ok v) p (inr (e.end, subst (IsVerdictOf R t v) (append-nil p.read) (verdict_of (p.read ++ []) v e.finished))) (λ lt. absurd (omega (arith, lt, e.same)))
-    | inr (inl s) ↦ verifies (Ok v) p (inl (λ more. verdict_of (p.read ++ more) v (s.stopped more))) (λ lt. absurd (omega (arith, lt, s.same)))
+    | inl e ↦ verifies (Ok v) p
+        (inr (e.end, subst (IsVerdictOf R t v) (append-nil p.read) (verdict_of (p.read ++ []) v e.finished)))
+        (λ lt. absurd (omega (arith, lt, e.same)))
+    | inr (inl s) ↦ verifies (Ok v) p (inl (λ more. verdict_of (p.read ++ more) v (s.stopped more)))
+        (λ lt. absurd (omega (arith, lt, s.same)))
     | inr (inr (inl s)) ↦ let bad = s.fault in cc
     | inr (inr (inr (inl s))) ↦ let bad = s.fault in cc
     | inr (inr (inr (inr s))) ↦ let bad = s.fault in cc
@@ -267,19 +336,24 @@ module _ {I A : Type 0} (R : List EntryParts) (t : TagForm) (first : Following) 
   ]
     where
       -- a failed read ended it
-      run_failed : (r : Result Verdict ToolFault) (p : Runs r) → IsStoppedByRead (λ bytes. T bytes here) input input' p.read r → VerifiesLines R t remaining input input' r
+      run_failed : (r : Result Verdict ToolFault) (p : Runs r)
+          → IsStoppedByRead (λ bytes. T bytes here) input input' p.read r → VerifiesLines R t remaining input input' r
       run_failed r p s = verifies r p (rw s.fault s.failed) (λ _. s.fault)
 
       -- all reads that it may make were made
-      run_turned : (r : Result Verdict ToolFault) (p : Runs r) → IsStoppedByTurns (λ bytes. T bytes here) input input' p.reads p.read r → VerifiesLines R t remaining input input' r
+      run_turned : (r : Result Verdict ToolFault) (p : Runs r)
+          → IsStoppedByTurns (λ bytes. T bytes here) input input' p.reads p.read r
+          → VerifiesLines R t remaining input input' r
       run_turned r p s = verifies r p (rw s.fault (s.all_made, s.last_gave)) (λ lt. absurd (omega (arith, lt, s.same)))
 
       -- there was no memory for a further piece
-      run_lacked : (r : Result Verdict ToolFault) (p : Runs r) → IsWithoutMemory (λ bytes. T bytes here) input input' p.read r → VerifiesLines R t remaining input input' r
+      run_lacked : (r : Result Verdict ToolFault) (p : Runs r)
+          → IsWithoutMemory (λ bytes. T bytes here) input input' p.read r → VerifiesLines R t remaining input input' r
       run_lacked r p s = verifies r p (rw s.fault tt) (λ lt. absurd (omega (arith, lt, s.same)))
 
 -- a run that ran out of memory before the first read
-pub run_lacks : {I : Type 0} {R : List EntryParts} {t : TagForm} {remaining : I → Option (List ℕ)} {input : Device I} → (r : _) → IsErrAnd r (λ e. e ≡ faults.OutOfMemory) → VerifiesLines R t remaining input input r
+pub run_lacks : {I : Type 0} {R : List EntryParts} {t : TagForm} {remaining : I → Option (List ℕ)} {input : Device I}
+    → (r : _) → IsErrAnd r (λ e. e ≡ faults.OutOfMemory) → VerifiesLines R t remaining input input r
 run_lacks r lacks = let p = err_from_is_err_and r lacks in rw (p.1, p.2) (record {
   read = [];
   reads = 0;
@@ -292,9 +366,12 @@ run_lacks r lacks = let p = err_from_is_err_and r lacks in rw (p.1, p.2) (record
 
 -- a piece was taken by the program, or settled the verdict: `judged` is what it settled, `T` what is true while the run
 -- reads, and `S` where a piece ends it
-pub takes_or_settles : {A : Type 0} (T : A → RunFact (Unit {0}) A) (S : A → EndFact (Unit {0}) A Verdict) (piece : List ℕ) (before after : Unit {0}) (old new : A) (judged : Option Verdict)
-    → (judged ≡ None → (first : A) (start : Unit {0}) (read : List ℕ) → T first start before read old → T first start after (read ++ piece) new)
-    → ((v : Verdict) → judged ≡ Some v → (first : A) (start : Unit {0}) (read : List ℕ) → T first start before read old → S first start after (read ++ piece) new (Ok v))
+pub takes_or_settles : {A : Type 0} (T : A → RunFact (Unit {0}) A) (S : A → EndFact (Unit {0}) A Verdict)
+    (piece : List ℕ) (before after : Unit {0}) (old new : A) (judged : Option Verdict)
+    → (judged ≡ None → (first : A) (start : Unit {0}) (read : List ℕ) → T first start before read old
+    → T first start after (read ++ piece) new)
+    → ((v : Verdict) → judged ≡ Some v → (first : A) (start : Unit {0}) (read : List ℕ) → T first start before read old
+    → S first start after (read ++ piece) new (Ok v))
     → pieces.TakesPiece T S piece before after old new (Ok judged)
 takes_or_settles T S piece before after old new None more settles = more refl
 takes_or_settles T S piece before after old new (Some v) more settles = settles v refl

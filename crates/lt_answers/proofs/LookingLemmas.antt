@@ -12,7 +12,8 @@ pub holds_none : (R : List EntryParts) (ranges : List RangeParts) → Holds R ra
 holds_none R ranges = record { lists = []; have = refl; among = λ i within k none. absurd (omega (arith, none)) }
 
 -- the closest of the lines `each` is what lookup finds among them
-pub found_is : (R : List EntryParts) (ranges : List RangeParts) (each : List (List ℕ)) (closest : Option Closest) → Holds R ranges each closest
+pub found_is : (R : List EntryParts) (ranges : List RangeParts) (each : List (List ℕ)) (closest : Option Closest)
+    → Holds R ranges each closest
     → (found : _) → found ≡ option_map (λ (c : Closest). c.line) closest → LooksUp R ranges each found
 found_is R ranges each None h found same = rw same (finds_none R ranges each h)
 found_is R ranges each (Some closest) h found same = rw same (finds_line R ranges each closest h)

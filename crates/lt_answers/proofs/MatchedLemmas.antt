@@ -1,5 +1,6 @@
 -- Texts and lines that ranges match.
-use Rattle.std.proofs.Common.{◌≡◌, ◌≤◌, ◌+◌, ◌-◌, ◌↔◌, inl, inr, Bool, IsTrue, true, false, ℕ, List, length, take, subst, arith, if◌then◌else◌, length-take-le}
+use Rattle.std.proofs.Common.{◌≡◌, ◌≤◌, ◌+◌, ◌-◌, ◌↔◌, inl, inr, Bool, IsTrue, true, false, ℕ, List, length, take}
+use Rattle.std.proofs.Common.{subst, arith, if◌then◌else◌, length-take-le}
 use Rattle.std.proofs.lemmas.Bool.Decides.{leb_tells}
 use Rattle.std.specs.Io.BufRead.{ends_with_byte}
 use Rattle.lt_jar.specs.Lines.{content_of}
@@ -27,11 +28,15 @@ module _ (R : List EntryParts) (text : List ℕ) where
     has_subtags m = record { tag = m.tag; read = m.read; holds = m.extlang }
 
     -- a text with these subtags is matched where some range matches them; `matched` is what the program tells
-    pub matched_as : (list : List (List ℕ)) (matched : Bool) → MatchingIsDetermined R → HasSubtags R text list → IsTrue matched ↔ AnyMatches (scheme_of scheme) ranges list
+    pub matched_as : (list : List (List ℕ)) (matched : Bool) → MatchingIsDetermined R → HasSubtags R text list
+        → IsTrue matched ↔ AnyMatches (scheme_of scheme) ranges list
         → IsTrue matched ↔ IsMatched R scheme ranges text
     matched_as list matched one reads tells = (
       λ is. record { tag = reads.tag; read = reads.read; list = list; extlang = reads.holds; matches = tells.0 is },
-      λ m. tells.1 (subst (AnyMatches (scheme_of scheme) ranges) (one.list reads.tag m.list list (same_tag reads.tag reads.read m.list (has_subtags m)) reads.holds) m.matches),
+      λ m. tells.1
+          (subst (AnyMatches (scheme_of scheme) ranges)
+          (one.list reads.tag m.list list (same_tag reads.tag reads.read m.list (has_subtags m)) reads.holds)
+          m.matches),
     )
 
     -- a text without subtags is matched by no range
@@ -57,14 +62,23 @@ pub record TellsByFront (P : Selection) : Type 0 where
   pub front : (line : List ℕ) → P (take longest_kept line) → length line ≤ longest_kept
 
 -- a line that is selected is not too long to be kept whole
-pub selected_short : (R : List EntryParts) (scheme : Scheme) (ranges : List RangeParts) (line : List ℕ) → IsSelected R scheme ranges line → length line ≤ longest_kept
+pub selected_short : (R : List EntryParts) (scheme : Scheme) (ranges : List RangeParts) (line : List ℕ)
+    → IsSelected R scheme ranges line → length line ≤ longest_kept
 selected_short R scheme ranges line m = omega (arith, m.read.short, content-length line)
 
 -- a line is kept whole if its kept front would be selected as a line
-pub selected_front : (R : List EntryParts) (scheme : Scheme) (ranges : List RangeParts) (line : List ℕ) → IsSelected R scheme ranges (take longest_kept line) → length line ≤ longest_kept
+pub selected_front : (R : List EntryParts) (scheme : Scheme) (ranges : List RangeParts) (line : List ℕ)
+    → IsSelected R scheme ranges (take longest_kept line) → length line ≤ longest_kept
 selected_front R scheme ranges line m = elim (leb_tells (length line) longest_kept) [
   | inl short ↦ short.1
-  | inr long ↦ absurd (omega (arith, m.read.short, content-length (take longest_kept line), length-take-le longest_kept line (omega (arith, long.1))))
+  | inr long ↦ absurd
+      (omega (
+        arith,
+        m.read.short,
+        content-length (take longest_kept line),
+        length-take-le longest_kept line
+            (omega (arith, long.1)),
+      ))
 ]
 
 -- what is kept of a line tells whether ranges select it

@@ -1,5 +1,6 @@
 -- What a run that selects lines did.
-use Rattle.std.proofs.Common.{◌≡◌, ◌≤◌, ◌+◌, ◌++◌, ◌∷◌, ◌∙◌, inl, inr, ℕ, List, [], Bool, true, false, Option, Result, Ok, Err, length, take, sym, ap, refl, subst, arith, append-nil, length-append, take_all}
+use Rattle.std.proofs.Common.{◌≡◌, ◌≤◌, ◌+◌, ◌++◌, ◌∷◌, ◌∙◌, inl, inr, ℕ, List, [], Bool, true, false, Option, Result}
+use Rattle.std.proofs.Common.{Ok, Err, length, take, sym, ap, refl, subst, arith, append-nil, length-append, take_all}
 use Rattle.lt_jar.specs.Lines.{whole_lines}
 use Rattle.lt_jar.specs.declared.devices.Device.{Device}
 use Rattle.lt_jar.proofs.TurnLemmas.{whole-append}
@@ -24,7 +25,8 @@ owed_few P lines bytes count o = omega (arith, o.counted, few_selected P lines o
 
 -- a further line, of which `front` is kept, after lines for which `bytes` are to be written, and `count` of which are
 -- selected
-module _ (P : Selection) (tells : TellsByFront P) (lines : List (List ℕ)) (bytes line front : List ℕ) (count : ℕ) (kept : front ≡ take longest_kept line) (o : AreOwed P lines bytes count) where
+module _ (P : Selection) (tells : TellsByFront P) (lines : List (List ℕ)) (bytes line front : List ℕ) (count : ℕ)
+    (kept : front ≡ take longest_kept line) (o : AreOwed P lines bytes count) where
   -- the further line is selected: it is to be written, with a line feed (10), and is counted
   pub owed_yes : P front → AreOwed P (lines ++ line ∷ []) (bytes ++ (front ++ 10 ∷ [])) (count + 1)
   owed_yes is =
@@ -41,7 +43,8 @@ module _ (P : Selection) (tells : TellsByFront P) (lines : List (List ℕ)) (byt
   pub owed_no : (P front → ⊥) → AreOwed P (lines ++ line ∷ []) (bytes ++ []) count
   owed_no not = record {
     selected = o.selected;
-    are = selected_no P lines o.selected line o.are (λ is. not (subst P (sym (kept ∙ take_all longest_kept line (tells.short line is))) is));
+    are = selected_no P lines o.selected line o.are
+        (λ is. not (subst P (sym (kept ∙ take_all longest_kept line (tells.short line is))) is));
     all = append-nil bytes ∙ o.all;
     counted = o.counted;
   }
@@ -68,38 +71,71 @@ ended_by r f g one other = sym (ap (fault_of f) one) ∙ ap (fault_of f) other
 
 -- a run that answers lines by those that are selected, as `Q` says of the state that answers them; `count` gives how
 -- many lines this state has selected
-module _ {I O A : Type 0} (P : Selection) (Q : stream.Answered A) (count : A → ℕ) (owes : (answers : A) (lines : List (List ℕ)) (bytes : List ℕ) → Q answers lines bytes → AreOwed P lines bytes (count answers))
-    (remaining : I → Option (List ℕ)) (contents : O → Option (List ℕ)) (input input' : Device I) (output output' : Device O) (answers : A) where
+module _ {I O A : Type 0} (P : Selection) (Q : stream.Answered A) (count : A → ℕ)
+    (owes : (answers : A) (lines : List (List ℕ)) (bytes : List ℕ) → Q answers lines bytes
+    → AreOwed P lines bytes (count answers))
+    (remaining : I → Option (List ℕ)) (contents : O → Option (List ℕ)) (input input' : Device I)
+    (output output' : Device O) (answers : A) where
   -- what was written is a front of the selected lines
   begun_selecting : (text written : List ℕ) → stream.IsBegun Q text written → IsBegun P text written
   begun_selecting text written b =
       let o = owes b.answers b.lines b.all b.answered in
-      record { lines = b.lines; others = b.others; cut = b.cut; selected = o.selected; are = o.are; rest = b.rest; front = sym o.all ∙ b.front }
+      record {
+        lines = b.lines;
+        others = b.others;
+        cut = b.cut;
+        selected = o.selected;
+        are = o.are;
+        rest = b.rest;
+        front = sym o.all ∙ b.front;
+      }
 
   -- the selected lines up to the last line feed were written
   fed_selecting : (text written : List ℕ) → stream.IsAnsweredToLastFeed Q text written answers → IsOwedToLastFeed P text written
   fed_selecting text written t =
       let o = owes answers t.lines written t.answered in
-      record { lines = t.lines; last = t.last; cut = t.cut; each_one = t.each_one; last_one = t.last_one; selected = o.selected; are = o.are; all = o.all }
+      record {
+        lines = t.lines;
+        last = t.last;
+        cut = t.cut;
+        each_one = t.each_one;
+        last_one = t.last_one;
+        selected = o.selected;
+        are = o.are;
+        all = o.all;
+      }
 
   -- a run that ended by a fault ended as selecting lines ends by this fault
-  ends_selecting : (f : ToolFault) (reads : ℕ) (read text written : List ℕ) → EndsAfterMark Q remaining input input' output output' reads read text written answers (Err f) → EndsAs P remaining input input' output output' reads read text written (Err f)
+  ends_selecting : (f : ToolFault) (reads : ℕ) (read text written : List ℕ)
+      → EndsAfterMark Q remaining input input' output output' reads read text written answers (Err f)
+      → EndsAs P remaining input input' output output' reads read text written (Err f)
   ends_selecting faults.Read reads read text written e = record { failed = e.failed; owed = fed_selecting text written e.owed }
   ends_selecting faults.Write reads read text written e = e
-  ends_selecting faults.TooManyTurns reads read text written e = record { all_made = e.all_made; gave_bytes = e.gave_bytes; last_gave = e.last_gave; owed = fed_selecting text written e.owed }
+  ends_selecting faults.TooManyTurns reads read text written e = record {
+    all_made = e.all_made;
+    gave_bytes = e.gave_bytes;
+    last_gave = e.last_gave;
+    owed = fed_selecting text written
+        e.owed;
+  }
   ends_selecting faults.OutOfMemory reads read text written e = e
   ends_selecting (faults.BadCsv line) reads read text written e = e
   ends_selecting (faults.BadTsv line) reads read text written e = e
   ends_selecting faults.Utf16 reads read text written e = e
 
   -- a run that read all lines selects them
-  pub selects : RunsOverText Q remaining contents input input' output output' answers (Ok tt) → SelectsLines P remaining contents input input' output output' (Ok (count answers))
+  pub selects : RunsOverText Q remaining contents input input' output output' answers (Ok tt)
+      → SelectsLines P remaining contents input input' output output' (Ok (count answers))
   selects r = record {
     read = r.read;
     mark = r.mark;
     text = r.text;
     split = r.split;
-    narrow = λ wide. elim (r.narrow wide) [ inl bad ↦ absurd (never (Ok tt) faults.Utf16 refl bad) | inr bad ↦ absurd (never (Ok tt) faults.OutOfMemory refl bad) ];
+    narrow = λ wide. elim (r.narrow wide) [
+      | inl bad ↦ absurd (never (Ok tt) faults.Utf16 refl bad)
+      | inr bad ↦ absurd
+          (never (Ok tt) faults.OutOfMemory refl bad)
+    ];
     written = r.written;
     reads = r.reads;
     consumes = r.consumes;
@@ -113,7 +149,8 @@ module _ {I O A : Type 0} (P : Selection) (Q : stream.Answered A) (count : A →
   }
 
   -- a run that ended by a fault selects lines and ends by this fault
-  pub selects_not : (f : ToolFault) → RunsOverText Q remaining contents input input' output output' answers (Err f) → SelectsLines P remaining contents input input' output output' (Err f)
+  pub selects_not : (f : ToolFault) → RunsOverText Q remaining contents input input' output output' answers (Err f)
+      → SelectsLines P remaining contents input input' output output' (Err f)
   selects_not f r = record {
     read = r.read;
     mark = r.mark;

@@ -5,16 +5,19 @@ use Rattle.lt_answers.specs.Laws.{SelectionIsDetermined}
 use Rattle.lt_answers.specs.Selection.{AreSelected, IsSelected, Selection}
 
 -- one line more, which is selected, comes last among those that are
-pub selected_yes : (P : Selection) (lines selected : List (List ℕ)) (line : List ℕ) → AreSelected P lines selected → P line → AreSelected P (lines ++ line ∷ []) (selected ++ line ∷ [])
+pub selected_yes : (P : Selection) (lines selected : List (List ℕ)) (line : List ℕ) → AreSelected P lines selected
+    → P line → AreSelected P (lines ++ line ∷ []) (selected ++ line ∷ [])
 selected_yes P [] selected line none is = rw none (inl (is, [], refl, refl))
 selected_yes P (first ∷ lines) selected line (inl (here, rest, split, are)) is =
     inl (here, rest ++ line ∷ [], ap (λ (l : List (List ℕ)). l ++ line ∷ []) split, selected_yes P lines rest line are is)
 selected_yes P (first ∷ lines) selected line (inr (other, are)) is = inr (other, selected_yes P lines selected line are is)
 
 -- one line more, which is not selected, changes nothing of those that are
-pub selected_no : (P : Selection) (lines selected : List (List ℕ)) (line : List ℕ) → AreSelected P lines selected → (P line → ⊥) → AreSelected P (lines ++ line ∷ []) selected
+pub selected_no : (P : Selection) (lines selected : List (List ℕ)) (line : List ℕ) → AreSelected P lines selected
+    → (P line → ⊥) → AreSelected P (lines ++ line ∷ []) selected
 selected_no P [] selected line none not = inr (not, none)
-selected_no P (first ∷ lines) selected line (inl (here, rest, split, are)) not = inl (here, rest, split, selected_no P lines rest line are not)
+selected_no P (first ∷ lines) selected line (inl (here, rest, split, are)) not =
+    inl (here, rest, split, selected_no P lines rest line are not)
 selected_no P (first ∷ lines) selected line (inr (other, are)) not = inr (other, selected_no P lines selected line are not)
 
 -- a selection gives one list of lines

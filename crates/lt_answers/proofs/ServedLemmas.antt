@@ -1,5 +1,6 @@
 -- The lines that are tags, and the one of them that is served.
-use Rattle.std.proofs.Common.{◌≡◌, ◌<◌, ◌≤◌, ◌++◌, ◌∷◌, ◌∙◌, inl, inr, ℕ, Bool, true, false, List, [], Option, Some, None, Vec, length, take, sym, ap, subst, arith}
+use Rattle.std.proofs.Common.{◌≡◌, ◌<◌, ◌≤◌, ◌++◌, ◌∷◌, ◌∙◌, inl, inr, ℕ, Bool, true, false, List, [], Option, Some}
+use Rattle.std.proofs.Common.{None, Vec, length, take, sym, ap, subst, arith}
 use Rattle.std.proofs.Common.{length-take-le, option_map, take_all}
 use Rattle.std.proofs.lemmas.Bool.Decides.{leb_tells}
 use Rattle.std.proofs.lemmas.List.{length-map}

@@ -17,16 +17,23 @@ after ss ts = flat_map-append (λ (s : List ℕ). 45 ∷ s) ss ts
 
 -- The text of a source is made step by step: `a` is its language, and `b`, `c`, `d` and `e` are the texts after its
 -- extlangs, its script, its region and its variants are appended, each after a hyphen.
-pub source_is : (core : CoreParts) (a b c d e : List ℕ) → a ≡ core.language → b ≡ a ++ after_hyphens core.extlangs → c ≡ b ++ after_hyphens (option_to_list core.script)
+pub source_is : (core : CoreParts) (a b c d e : List ℕ) → a ≡ core.language → b ≡ a ++ after_hyphens core.extlangs
+    → c ≡ b ++ after_hyphens (option_to_list core.script)
     → d ≡ c ++ after_hyphens (option_to_list core.region) → e ≡ d ++ after_hyphens core.variants → e ≡ source_text core
 unfolding source_text
 source_is core a b c d e ha hb hc hd he =
     let script = option_to_list core.script in
     let region = option_to_list core.region in
-    let whole : e ≡ (((core.language ++ after_hyphens core.extlangs) ++ after_hyphens script) ++ after_hyphens region) ++ after_hyphens core.variants =
+    let whole : e ≡ (((core.language ++ after_hyphens core.extlangs) ++ after_hyphens script) ++ after_hyphens region)
+    ++ after_hyphens core.variants =
     rw (he, hd, hc, hb, ha) refl in
     whole ∙ sym (joined core.language (core.extlangs ++ (script ++ (region ++ core.variants)))
-    ∙ ap (λ (l : List ℕ). core.language ++ l) (after core.extlangs (script ++ (region ++ core.variants)) ∙ ap (λ (l : List ℕ). after_hyphens core.extlangs ++ l) (after script (region ++ core.variants) ∙ ap (λ (l : List ℕ). after_hyphens script ++ l) (after region core.variants)))
-    ∙ sym (append_assoc core.language (after_hyphens core.extlangs) (after_hyphens script ++ (after_hyphens region ++ after_hyphens core.variants)))
-    ∙ sym (append_assoc (core.language ++ after_hyphens core.extlangs) (after_hyphens script) (after_hyphens region ++ after_hyphens core.variants))
-    ∙ sym (append_assoc ((core.language ++ after_hyphens core.extlangs) ++ after_hyphens script) (after_hyphens region) (after_hyphens core.variants)))
+    ∙ ap (λ (l : List ℕ). core.language ++ l) (after core.extlangs (script ++ (region ++ core.variants))
+    ∙ ap (λ (l : List ℕ). after_hyphens core.extlangs ++ l) (after script (region ++ core.variants)
+    ∙ ap (λ (l : List ℕ). after_hyphens script ++ l) (after region core.variants)))
+    ∙ sym (append_assoc core.language (after_hyphens core.extlangs)
+    (after_hyphens script ++ (after_hyphens region ++ after_hyphens core.variants)))
+    ∙ sym (append_assoc (core.language ++ after_hyphens core.extlangs) (after_hyphens script)
+    (after_hyphens region ++ after_hyphens core.variants))
+    ∙ sym (append_assoc ((core.language ++ after_hyphens core.extlangs) ++ after_hyphens script) (after_hyphens region)
+    (after_hyphens core.variants)))

@@ -21,36 +21,44 @@ use Rattle.lt_show.proofs.NeededLemmas.{entries_kept, refusal_kept}
 
 -- before the first record: the reader `s` has lent none, and the draft `d` has none, so `d` has kept what was read so
 -- far
-pub kept_none : {R : Type 0} (remaining : R → Option (List ℕ)) (s : JarSource) (device : Device R) (d : Draft) → IsFresh s → d.records.items ≡ [] → HasReadSoFar remaining s s device device (HasKept d)
+pub kept_none : {R : Type 0} (remaining : R → Option (List ℕ)) (s : JarSource) (device : Device R) (d : Draft)
+    → IsFresh s → d.records.items ≡ [] → HasReadSoFar remaining s s device device (HasKept d)
 kept_none remaining s device d fresh records = read_none remaining s device (HasKept d) fresh (λ _. records)
 
 -- A record more is lent by the reader, which was `first` when the reading began, and goes from `old` to `new`; the
 -- draft `d` takes it and becomes `e`. `before`, `now` and `after` are the device at these three times.
-pub kept_more : {R : Type 0} (remaining : R → Option (List ℕ)) (first old new : JarSource) (before now after : Device R) (d e : Draft) → HasReadSoFar remaining first old before now (HasKept d)
+pub kept_more : {R : Type 0} (remaining : R → Option (List ℕ)) (first old new : JarSource) (before now after : Device
+    R) (d e : Draft) → HasReadSoFar remaining first old before now (HasKept d)
     → Advances remaining old new now after (Ok true) → Keeps (record_in new) d e → HasReadSoFar remaining first new before after (HasKept e)
 kept_more remaining first old new before now after d e so advances takes =
     read_more remaining first old new before now after (HasKept d) (HasKept e) so advances
     (λ records kept full. let more = takes full in
-    more.more ∙ ap (λ (l : List (List Field)). l ++ kept_fields (record_in new) ∷ []) (kept more.before) ∙ sym (map-append kept_fields records (record_in new ∷ [])))
+    more.more ∙ ap (λ (l : List (List Field)). l ++ kept_fields (record_in new) ∷ []) (kept more.before)
+    ∙ sym (map-append kept_fields records (record_in new ∷ [])))
 
 -- The text has ended, so the draft `d`, which has kept the records so far, is the answer. `first`, `old` and `new` are
 -- the reader as the reading began, before this call and after it; `before`, `now` and `after` are the device at these
 -- times.
-pub kept_ended : {R : Type 0} (remaining : R → Option (List ℕ)) (first old new : JarSource) (before now after : Device R) (d : Draft) → HasReadSoFar remaining first old before now (HasKept d)
+pub kept_ended : {R : Type 0} (remaining : R → Option (List ℕ)) (first old new : JarSource) (before now after : Device
+    R) (d : Draft) → HasReadSoFar remaining first old before now (HasKept d)
     → Advances remaining old new now after (Ok false) → ReadsDraft remaining before after (Ok d)
 unfolding ReadsDraft
 kept_ended remaining first old new before now after d so advances =
-    read_ended remaining first old new before now after (HasKept d) _ _ so advances (λ bytes reads records whole kept. (records, whole, kept))
+    read_ended remaining first old new before now after (HasKept d) _ _ so advances
+    (λ bytes reads records whole kept. (records, whole, kept))
 
 -- The reader answers a fault, which is the answer of the reading too. `first`, `old` and `new` are the reader as the
 -- reading began, before this call and after it; `before`, `now` and `after` are the device at these times.
-pub kept_stops : {R : Type 0} (remaining : R → Option (List ℕ)) (first old new : JarSource) (before now after : Device R) (d : Draft) (fault : JarFault) → HasReadSoFar remaining first old before now (HasKept d)
+pub kept_stops : {R : Type 0} (remaining : R → Option (List ℕ)) (first old new : JarSource) (before now after : Device
+    R) (d : Draft) (fault : JarFault) → HasReadSoFar remaining first old before now (HasKept d)
     → Advances remaining old new now after (Err fault) → ReadsDraft remaining before after (Err fault)
 unfolding ReadsDraft
-kept_stops remaining first old new before now after d fault so advances = read_stops remaining first old new before now after (HasKept d) _ _ fault so advances (λ bytes reads is. is) (λ is. is)
+kept_stops remaining first old new before now after d fault so advances = read_stops remaining first old new before now
+    after (HasKept d) _ _ fault so advances (λ bytes reads is. is) (λ is. is)
 
 -- what was kept of a file gives these entries, and so do its records
-pub read_kept : {R : Type 0} (remaining : R → Option (List ℕ)) (before after : Device R) (d : Draft) (es : List EntryParts) → ReadsDraft remaining before after (Ok d) → d.lacks ≡ false → HasEntries d.records.items es
+pub read_kept : {R : Type 0} (remaining : R → Option (List ℕ)) (before after : Device R) (d : Draft) (es : List
+    EntryParts) → ReadsDraft remaining before after (Ok d) → d.lacks ≡ false → HasEntries d.records.items es
     → ReadsRecords remaining before after (Ok (es, d.records.items))
 unfolding ReadsDraft ReadsRecords
 read_kept remaining before after d es r full has =
@@ -68,7 +76,8 @@ read_kept remaining before after d es r full has =
     }
 
 -- what was kept of a file is refused with this fault, and so are its records
-pub read_refused : {R : Type 0} (remaining : R → Option (List ℕ)) (before after : Device R) (d : Draft) (fault : RecordFault) → ReadsDraft remaining before after (Ok d) → d.lacks ≡ false → IsRecordRefusal d.records.items fault
+pub read_refused : {R : Type 0} (remaining : R → Option (List ℕ)) (before after : Device R) (d : Draft) (fault
+    : RecordFault) → ReadsDraft remaining before after (Ok d) → d.lacks ≡ false → IsRecordRefusal d.records.items fault
     → ReadsRecords remaining before after (Err (faults.Registry (registry_faults.Record fault)))
 unfolding ReadsDraft ReadsRecords
 read_refused remaining before after d fault r full refuses =

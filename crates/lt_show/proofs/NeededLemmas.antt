@@ -1,5 +1,6 @@
 -- Records whose fields that nobody asks for are left out give the same entries and faults.
-use Rattle.std.proofs.Common.{◌≡◌, ◌+◌, ◌++◌, ◌∷◌, ◌∙◌, inl, inr, ℕ, Bool, true, false, List, [], Some, ap, refl, sym, subst, length, map, filter, find, count_by, if◌then◌else◌}
+use Rattle.std.proofs.Common.{◌≡◌, ◌+◌, ◌++◌, ◌∷◌, ◌∙◌, inl, inr, ℕ, Bool, true, false, List, [], Some, ap, refl, sym}
+use Rattle.std.proofs.Common.{subst, length, map, filter, find, count_by, if◌then◌else◌}
 use Rattle.std.proofs.lemmas.Bool.{cases_Bool, false_from_ne_true, or_left, or_right}
 use Rattle.std.proofs.lemmas.List.{length-map, map-append}
 use Rattle.std.proofs.lemmas.List.Sums.{length-filter}
@@ -7,7 +8,11 @@ use Rattle.lt_jar.specs.Records.{Field}
 use Rattle.lt_registry.specs.Entries.{is_whole_kind}
 use Rattle.lt_registry.specs.Parts.{EntryParts}
 use Rattle.lt_registry.specs.RecordRefusals.{IsRecordRefusal}
-use Rattle.lt_registry.specs.Records.{EntriesFrom, HasEntries, HasFaultAt, HasRecordFault, IsEntryOf, IsFirstRecordFault, IsRecordReached, IsValueOf, bodies, body, date_name, has_prefixes, is_called, is_header, is_repeated, name_field, prefix_name, prefixes_in, prefixes_of, repeats_field, subtag_name, tag_name, type_name, value_name}
+use Rattle.lt_registry.specs.Records.{EntriesFrom, HasEntries, HasFaultAt, HasRecordFault, IsEntryOf}
+use Rattle.lt_registry.specs.Records.{IsFirstRecordFault, IsRecordReached, IsValueOf, bodies, body, date_name}
+use Rattle.lt_registry.specs.Records.{has_prefixes, is_called, is_header, is_repeated, name_field, prefix_name}
+use Rattle.lt_registry.specs.Records.{prefixes_in, prefixes_of, repeats_field, subtag_name, tag_name, type_name}
+use Rattle.lt_registry.specs.Records.{value_name}
 use Rattle.lt_registry.specs.declared.entries.Kind.{Kind}
 use Rattle.lt_registry.specs.declared.faults.RecordFault.{RecordFault}
 use Rattle.lt_registry.specs.declared.faults.RecordFaultKind.{RecordFaultKind}
@@ -77,11 +82,13 @@ record Alike (r s : List Field) : Type 0 where
   repeats : repeats_field r ≡ repeats_field s
 
 -- the body of the first field of a name is the same, as all fields of it are kept
-body_kept : (name : List ℕ) → ((f : Field) → is_called name f ≡ true → is_kept f ≡ true) → (r : List Field) → body name (kept_fields r) ≡ body name r
+body_kept : (name : List ℕ) → ((f : Field) → is_called name f ≡ true → is_kept f ≡ true) → (r : List Field)
+    → body name (kept_fields r) ≡ body name r
 body_kept name kept r = rw (find_kept (is_called name) kept r) refl
 
 -- whether a field of a name is repeated is the same
-repeated_kept : (name : List ℕ) → ((f : Field) → is_called name f ≡ true → is_kept f ≡ true) → (r : List Field) → is_repeated name (kept_fields r) ≡ is_repeated name r
+repeated_kept : (name : List ℕ) → ((f : Field) → is_called name f ≡ true → is_kept f ≡ true) → (r : List Field)
+    → is_repeated name (kept_fields r) ≡ is_repeated name r
 repeated_kept name kept r = rw (count_kept (is_called name) kept r) refl
 
 -- what is kept of a record is like the record
@@ -93,17 +100,31 @@ kept_alike r = record {
   values = body_kept value_name value_kept r;
   dates = body_kept date_name date_kept r;
   prefixes = rw (filter_kept (is_called prefix_name) prefix_kept r) refl;
-  repeats = rw (repeated_kept type_name type_kept r, repeated_kept subtag_name subtag_kept r, repeated_kept tag_name tag_kept r, repeated_kept value_name value_kept r) refl;
+  repeats = rw (
+    repeated_kept type_name type_kept r,
+    repeated_kept subtag_name subtag_kept r,
+    repeated_kept tag_name tag_kept r,
+    repeated_kept value_name value_kept r,
+  ) refl;
 }
 
 -- likeness goes both ways
 turned : (r s : List Field) → Alike r s → Alike s r
-turned r s a = record { types = sym a.types; subtags = sym a.subtags; tags = sym a.tags; values = sym a.values; dates = sym a.dates; prefixes = sym a.prefixes; repeats = sym a.repeats }
+turned r s a = record {
+  types = sym a.types;
+  subtags = sym a.subtags;
+  tags = sym a.tags;
+  values = sym a.values;
+  dates = sym a.dates;
+  prefixes = sym a.prefixes;
+  repeats = sym a.repeats;
+}
 
 -- `r` and `s` are alike
 module _ (r s : List Field) (a : Alike r s) where
   names : (k : Kind) → body (name_field k) s ≡ body (name_field k) r
-  names k = elim (is_whole_kind k) as (λ w. body (if w then tag_name else subtag_name) s ≡ body (if w then tag_name else subtag_name) r) [ true ↦ sym a.tags | false ↦ sym a.subtags ]
+  names k = elim (is_whole_kind k) as (λ w. body (if w then tag_name else subtag_name) s
+      ≡ body (if w then tag_name else subtag_name) r) [ true ↦ sym a.tags | false ↦ sym a.subtags ]
 
   prefixes_same : (k : Kind) → prefixes_in k s ≡ prefixes_in k r
   prefixes_same k = ap (λ b. if has_prefixes k then prefixes_of b else Some []) (sym a.prefixes)
@@ -138,10 +159,14 @@ module _ (r s : List Field) (a : Alike r s) where
 -- ---- records
 
 -- the entries of what is kept of records are those of the records
-entries_from : (number : ℕ) (records : List (List Field)) (es : List EntryParts) → EntriesFrom number (map kept_fields records) es → EntriesFrom number records es
+entries_from : (number : ℕ) (records : List (List Field)) (es : List EntryParts)
+    → EntriesFrom number (map kept_fields records) es → EntriesFrom number records es
 unfolding EntriesFrom
 entries_from number [] es h = h
-entries_from number (r ∷ records) es (inl h) = inl (rw (header_same (kept_fields r) r (kept_alike r)) h.0, entries_from (number + 1) records es h.1)
+entries_from number (r ∷ records) es (inl h) = inl (
+  rw (header_same (kept_fields r) r (kept_alike r)) h.0,
+  entries_from (number + 1) records es h.1,
+)
 entries_from number (r ∷ records) es (inr h) = inr (
   rw (header_same (kept_fields r) r (kept_alike r)) h.0,
   (h.1.0, h.1.1, h.1.2, entry_of (kept_fields r) r (kept_alike r) number h.1.0 h.1.3, entries_from (number + 1) records h.1.1 h.1.4),
@@ -159,7 +184,8 @@ record Was (records before : List (List Field)) (here : List Field) (after : Lis
   fronts : map kept_fields front ≡ before
   is : kept_fields one ≡ here
 
-was : (records before : List (List Field)) (here : List Field) (after : List (List Field)) → map kept_fields records ≡ before ++ here ∷ after → Was records before here after
+was : (records before : List (List Field)) (here : List Field) (after : List (List Field))
+    → map kept_fields records ≡ before ++ here ∷ after → Was records before here after
 was [] [] here after e = let bad = e in cc
 was [] (b ∷ before) here after e = let bad = e in cc
 was (r ∷ records) [] here after e = record { front = []; one = r; rest = records; there = refl; fronts = refl; is = let same = e in cc }
@@ -167,14 +193,23 @@ was (r ∷ records) (b ∷ before) here after e =
     let rest : map kept_fields records ≡ before ++ here ∷ after = (let same = e in cc) in
     let first : kept_fields r ≡ b = (let same = e in cc) in
     let w = was records before here after rest in
-    record { front = r ∷ w.front; one = w.one; rest = w.rest; there = ap (λ (l : List (List Field)). r ∷ l) w.there; fronts = rw (first, w.fronts) refl; is = w.is }
+    record {
+      front = r ∷ w.front;
+      one = w.one;
+      rest = w.rest;
+      there = ap (λ (l : List (List Field)). r ∷ l) w.there;
+      fronts = rw (first, w.fronts) refl;
+      is = w.is;
+    }
 
 -- as many records come before it
-before_same : (records before : List (List Field)) (here : List Field) (after : List (List Field)) (w : Was records before here after) → length before ≡ length w.front
+before_same : (records before : List (List Field)) (here : List Field) (after : List (List Field)) (w : Was records
+    before here after) → length before ≡ length w.front
 before_same records before here after w = sym (ap length w.fronts) ∙ length-map w.front kept_fields
 
 -- a record at fault among those of which fields are left out is at fault itself
-fault_was : (records : List (List Field)) (kind : RecordFaultKind) (number : ℕ) → HasFaultAt (map kept_fields records) kind number → HasFaultAt records kind number
+fault_was : (records : List (List Field)) (kind : RecordFaultKind) (number : ℕ)
+    → HasFaultAt (map kept_fields records) kind number → HasFaultAt records kind number
 fault_was records kind number f =
     let w = was records f.before f.here f.after f.there in
     let alike : Alike f.here w.one = subst (λ h. Alike h w.one) w.is (kept_alike w.one) in
@@ -189,7 +224,8 @@ fault_was records kind number f =
     }
 
 -- a record at fault is at fault, too, among those of which fields are left out
-fault_is : (records : List (List Field)) (kind : RecordFaultKind) (number : ℕ) → HasFaultAt records kind number → HasFaultAt (map kept_fields records) kind number
+fault_is : (records : List (List Field)) (kind : RecordFaultKind) (number : ℕ) → HasFaultAt records kind number
+    → HasFaultAt (map kept_fields records) kind number
 fault_is records kind number f =
     let alike = turned (kept_fields f.here) f.here (kept_alike f.here) in
     record {
@@ -203,7 +239,8 @@ fault_is records kind number f =
     }
 
 -- the first record at fault is the same
-first_was : (records : List (List Field)) (kind : RecordFaultKind) (number : ℕ) → IsFirstRecordFault (map kept_fields records) kind number → IsFirstRecordFault records kind number
+first_was : (records : List (List Field)) (kind : RecordFaultKind) (number : ℕ)
+    → IsFirstRecordFault (map kept_fields records) kind number → IsFirstRecordFault records kind number
 first_was records kind number f = record {
   fault = fault_was records kind number f.fault;
   lowest = λ other elsewhere at. f.lowest other elsewhere (fault_is records other elsewhere at);
@@ -226,6 +263,7 @@ reached_was records number f =
     }
 
 -- records are refused as what is kept of them is
-pub refusal_kept : (records : List (List Field)) (fault : RecordFault) → IsRecordRefusal (map kept_fields records) fault → IsRecordRefusal records fault
+pub refusal_kept : (records : List (List Field)) (fault : RecordFault) → IsRecordRefusal (map kept_fields records) fault
+    → IsRecordRefusal records fault
 refusal_kept records fault (inl lacks) = inl (lacks.0, reached_was records fault.number lacks.1)
 refusal_kept records fault (inr first) = inr (first_was records fault.kind fault.number first)

@@ -1,5 +1,6 @@
 -- Lemmas on where the parts of a tag are in its text.
-use Rattle.std.proofs.Common.{◌≡◌, ℕ, ◌≤◌, ◌<◌, ◌+◌, ◌-◌, ◌==◌, true, false, List, [], ◌∷◌, ◌++◌, length, take, drop, refl, sym, ap, ◌∙◌, arith, append_assoc, length-drop, get_or}
+use Rattle.std.proofs.Common.{◌≡◌, ℕ, ◌≤◌, ◌<◌, ◌+◌, ◌-◌, ◌==◌, true, false, List, [], ◌∷◌, ◌++◌, length, take, drop}
+use Rattle.std.proofs.Common.{refl, sym, ap, ◌∙◌, arith, append_assoc, length-drop, get_or}
 use Rattle.std.specs.Prelude.{Option, Some, None, position, is_some, unwrap_or}
 use Rattle.std.proofs.lemmas.List.{take_rest, drop_more, drop-drop, length-take-le, append-nil}
 use Rattle.std.proofs.lemmas.List.Quantifiers.{position-Some}
@@ -26,7 +27,8 @@ none_placed start (k ∷ ks) = refl
 -- if the first hyphen from `start` on is `h` bytes further, the parts from `start` on are the one up to the hyphen and
 -- those after it; `i` is the index of the next kind
 placed_cut : (kinds : List PartKind) (text : List ℕ) (i start h : ℕ) (d : PartKind) → i < length kinds → hyphen (drop start text) ≡ Some h
-    → placed start (drop i kinds) (pieces (drop start text)) ≡ part (get_or kinds i d) start h ∷ placed (start + (h + 1)) (drop (i + 1) kinds) (pieces (drop (start + (h + 1)) text))
+    → placed start (drop i kinds) (pieces (drop start text)) ≡ part (get_or kinds i d) start h
+    ∷ placed (start + (h + 1)) (drop (i + 1) kinds) (pieces (drop (start + (h + 1)) text))
 placed_cut kinds text i start h d lt found =
     let rest : List ℕ = drop start text in
     let k : PartKind = get_or kinds i d in
@@ -61,7 +63,8 @@ pub record Reached (kinds : List PartKind) (text : List ℕ) (i start : ℕ) (pa
 
 -- one part was placed: `end` is the next hyphen's index in what is left, `size` the part's length, and `more` the parts
 -- with it
-pub record Places (kinds : List PartKind) (text : List ℕ) (i start : ℕ) (parts : List Part) (end : Option ℕ) (size : ℕ) (more : List Part) : Type 0 where
+pub record Places (kinds : List PartKind) (text : List ℕ) (i start : ℕ) (parts : List Part) (end : Option ℕ) (size : ℕ)
+    (more : List Part) : Type 0 where
   pub kind : PartKind
   pub there : i < length kinds
   pub before : Reached kinds text i start parts
@@ -70,7 +73,9 @@ pub record Places (kinds : List PartKind) (text : List ℕ) (i start : ℕ) (par
   pub pushed : more ≡ parts ++ part (get_or kinds i kind) start size ∷ []
 
 -- if a hyphen ends the part, what is left begins after it
-pub reached_next : (kinds : List PartKind) (text : List ℕ) (i start : ℕ) (parts : List Part) (end : Option ℕ) (size : ℕ) (more : List Part) → Places kinds text i start parts end size more → is_some end ≡ true → Reached kinds text (i + 1) (start + (size + 1)) more
+pub reached_next : (kinds : List PartKind) (text : List ℕ) (i start : ℕ) (parts : List Part) (end : Option ℕ) (size
+    : ℕ) (more : List Part) → Places kinds text i start parts end size more → is_some end ≡ true
+    → Reached kinds text (i + 1) (start + (size + 1)) more
 reached_next kinds text i start parts None size more p some = cc
 reached_next kinds text i start parts (Some h) size more p some =
     let found : hyphen (drop start text) ≡ Some h = ap hyphen (sym (take_rest text start)) ∙ sym p.found in
@@ -79,12 +84,16 @@ reached_next kinds text i start parts (Some h) size more p some =
     let last : List Part = part (get_or kinds i p.kind) start h ∷ [] in
     let on : List Part = placed (start + (h + 1)) (drop (i + 1) kinds) (pieces (drop (start + (h + 1)) text)) in
     let all : (parts ++ last) ++ on ≡ placed 0 kinds (pieces text) =
-    append_assoc parts last on ∙ ap (λ (x : List Part). parts ++ x) (sym (placed_cut kinds text i start h p.kind p.there found)) ∙ p.before.all in
+    append_assoc parts last on
+    ∙ ap (λ (x : List Part). parts ++ x) (sym (placed_cut kinds text i start h p.kind p.there found))
+    ∙ p.before.all in
     let next : Reached kinds text (i + 1) (start + (h + 1)) (parts ++ last) = record { within = within; all = all } in
     rw (p.pushed, p.is_size) next
 
 -- if no hyphen ends the part, the parts with it are all
-pub reached_last : (kinds : List PartKind) (text : List ℕ) (i start : ℕ) (parts : List Part) (end : Option ℕ) (size : ℕ) (more : List Part) → Places kinds text i start parts end size more → is_some end ≡ false → more ≡ placed 0 kinds (pieces text)
+pub reached_last : (kinds : List PartKind) (text : List ℕ) (i start : ℕ) (parts : List Part) (end : Option ℕ) (size
+    : ℕ) (more : List Part) → Places kinds text i start parts end size more → is_some end ≡ false
+    → more ≡ placed 0 kinds (pieces text)
 reached_last kinds text i start parts (Some h) size more p none = cc
 reached_last kinds text i start parts None size more p none =
     let found : hyphen (drop start text) ≡ None = ap hyphen (sym (take_rest text start)) ∙ sym p.found in
@@ -93,7 +102,8 @@ reached_last kinds text i start parts None size more p none =
     ∙ ap (λ (x : List Part). parts ++ x) (sym (placed_last kinds text i start p.kind p.there found)) ∙ p.before.all
 
 -- past the last kind, the parts so far are all
-pub reached_end : (kinds : List PartKind) (text : List ℕ) (i start : ℕ) (parts : List Part) → Reached kinds text i start parts → length kinds ≤ i → parts ≡ placed 0 kinds (pieces text)
+pub reached_end : (kinds : List PartKind) (text : List ℕ) (i start : ℕ) (parts : List Part)
+    → Reached kinds text i start parts → length kinds ≤ i → parts ≡ placed 0 kinds (pieces text)
 reached_end kinds text i start parts r past =
     let empty : drop i kinds ≡ [] = drop_of_length-le kinds past in
     sym (ap (λ (x : List PartKind). parts ++ placed start x (pieces (drop start text))) empty ∙ append-nil parts) ∙ r.all

@@ -15,11 +15,15 @@ after_that old mid new text rest first next = next ∙ ap (λ (l : List ℕ). l 
 -- The table of a tag is appended to `old`: the tag's text (`named`), a line feed (`ended`) and the lines of its rows
 -- (`new`). `text`, `shown` and `again` are the tag's text, and `rows` and `lines` are its rows, each as one of the
 -- calls has it.
-pub table_told : (R : List EntryParts) (records : List (List Field)) (tag : TagForm) (text shown again : List ℕ) (rows lines : List Row) (old named ended new : List ℕ) → text ≡ text_of tag → rows ≡ rows_of R tag → shown ≡ text → again ≡ text → lines ≡ rows
+pub table_told : (R : List EntryParts) (records : List (List Field)) (tag : TagForm) (text shown again : List ℕ) (rows
+    lines : List Row) (old named ended new : List ℕ) → text ≡ text_of tag → rows ≡ rows_of R tag → shown ≡ text
+    → again ≡ text → lines ≡ rows
     → named ≡ old ++ shown → ended ≡ named ++ 10 ∷ [] → new ≡ ended ++ rows_text again records lines → new ≡ old ++ table_of R records tag
 table_told R records tag text shown again rows lines old named ended new is_text are_rows is_shown is_again are_lines first feed last =
     let rest : rows_text again records lines ≡ rows_text (text_of tag) records (rows_of R tag) =
-    ap (λ (t : List ℕ). rows_text t records lines) (is_again ∙ is_text) ∙ ap (λ (r : List Row). rows_text (text_of tag) records r) (are_lines ∙ are_rows) in
-    after_that old named new shown (10 ∷ rows_text again records lines) first (after_that named ended new (10 ∷ []) (rows_text again records lines) feed last)
+    ap (λ (t : List ℕ). rows_text t records lines) (is_again ∙ is_text)
+    ∙ ap (λ (r : List Row). rows_text (text_of tag) records r) (are_lines ∙ are_rows) in
+    after_that old named new shown (10 ∷ rows_text again records lines) first
+    (after_that named ended new (10 ∷ []) (rows_text again records lines) feed last)
     ∙ ap (λ (t : List ℕ). old ++ (t ++ 10 ∷ rows_text again records lines)) (is_shown ∙ is_text)
     ∙ ap (λ (l : List ℕ). old ++ (text_of tag ++ 10 ∷ l)) rest

@@ -1,5 +1,6 @@
 -- What was written of the lines of an explanation and of the bytes around them, and what it says of the command.
-use Rattle.std.proofs.Common.{◌≡◌, ◌∙◌, inl, inr, ℕ, List, [], ◌++◌, Option, Result, Ok, Err, IsErrAnd, refl, subst, sym, ap, append_assoc, append-nil}
+use Rattle.std.proofs.Common.{◌≡◌, ◌∙◌, inl, inr, ℕ, List, [], ◌++◌, Option, Result, Ok, Err, IsErrAnd, refl, subst}
+use Rattle.std.proofs.Common.{sym, ap, append_assoc, append-nil}
 use Rattle.std.proofs.KnownBytes.{Appends-nil, Appends-trans}
 use Rattle.std.proofs.lemmas.Result.{IfErr-weaker, IfOk-weaker, err_from_is_err_and}
 use Rattle.std.specs.Prelude.{codes}

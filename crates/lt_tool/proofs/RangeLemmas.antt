@@ -9,7 +9,8 @@ use Rattle.lt_tool.specs.declared.ranges.RefusedRange.{RefusedRange}
 use Rattle.lt_tool.specs.Selected.{AreRanges, RefusesRange}
 
 -- `ranges` are those of `texts`: with the range of one text more they are those of all
-ranges_more : (R : List EntryParts) (texts : List (List ℕ)) (ranges : List RangeParts) (text : List ℕ) (range : RangeParts) → AreRanges R texts ranges → IsExtlangRange R text range
+ranges_more : (R : List EntryParts) (texts : List (List ℕ)) (ranges : List RangeParts) (text : List ℕ) (range
+    : RangeParts) → AreRanges R texts ranges → IsExtlangRange R text range
     → AreRanges R (texts ++ text ∷ []) (ranges ++ range ∷ [])
 ranges_more R [] ranges text range none is = rw none (range, [], is, refl, refl)
 ranges_more R (first ∷ texts) ranges text range (one, more, here, split, are) is =
@@ -27,11 +28,15 @@ module _ {X : Type 0} (f : X → List ℕ) (xs : List X) (i : ℕ) (x : X) (with
       ∙ ap (λ (l : List X). map f (take i xs) ++ map f l) (drop_more xs i x within ∙ ap (λ (y : X). y ∷ drop (i + 1) xs) (sym is))
 
   -- the texts up to the index `i` are read as ranges, if those before it are and the text at it is
-  pub next_range : (R : List EntryParts) (ranges : List RangeParts) (range : RangeParts) → AreRanges R (map f (take i xs)) ranges → IsExtlangRange R (f x) range → AreRanges R (map f (take (i + 1) xs)) (ranges ++ range ∷ [])
-  next_range R ranges range are is_range = subst (λ (l : List (List ℕ)). AreRanges R l (ranges ++ range ∷ [])) (sym front_more) (ranges_more R (map f (take i xs)) ranges (f x) range are is_range)
+  pub next_range : (R : List EntryParts) (ranges : List RangeParts) (range : RangeParts)
+      → AreRanges R (map f (take i xs)) ranges → IsExtlangRange R (f x) range
+      → AreRanges R (map f (take (i + 1) xs)) (ranges ++ range ∷ [])
+  next_range R ranges range are is_range = subst (λ (l : List (List ℕ)). AreRanges R l (ranges ++ range ∷ []))
+      (sym front_more) (ranges_more R (map f (take i xs)) ranges (f x) range are is_range)
 
   -- the text of the index `i` is the first that is refused as a range
-  pub range_refused : (R : List EntryParts) (ranges : List RangeParts) (refused : RefusedRange) → AreRanges R (map f (take i xs)) ranges → refused.number ≡ i + 1 → IsRangeRefusal R (f x) refused.refusal
+  pub range_refused : (R : List EntryParts) (ranges : List RangeParts) (refused : RefusedRange)
+      → AreRanges R (map f (take i xs)) ranges → refused.number ≡ i + 1 → IsRangeRefusal R (f x) refused.refusal
       → RefusesRange R (map f xs) refused
   range_refused R ranges refused are numbered is_refusal = record {
     before = map f (take i xs);

@@ -24,28 +24,33 @@ is_fault fault (Ok value) is = absurd is
 is_fault fault (Err f) is = rw is refl
 
 -- a step for which memory ran out
-pub gives_no_memory : {A : Type 0} (P : A → Type 0) (Q : Fault → Type 0) (result : Result A Fault) → IsErrAnd result (λ f. f ≡ no_memory) → Gives P Q result
+pub gives_no_memory : {A : Type 0} (P : A → Type 0) (Q : Fault → Type 0) (result : Result A Fault)
+    → IsErrAnd result (λ f. f ≡ no_memory) → Gives P Q result
 gives_no_memory P Q (Ok value) is = absurd is
 gives_no_memory P Q (Err f) is = inr is
 
 -- a step that refuses a text
-pub gives_text_fault : {A : Type 0} (P : A → Type 0) (Q : TextRefusal → Type 0) (refusal : TextRefusal) (result : Result A Fault) → Q refusal → IsErrAnd result (λ f. f ≡ faults.Text refusal)
+pub gives_text_fault : {A : Type 0} (P : A → Type 0) (Q : TextRefusal → Type 0) (refusal : TextRefusal) (result : Result
+    A Fault) → Q refusal → IsErrAnd result (λ f. f ≡ faults.Text refusal)
     → Gives P (IsTextFault Q) result
 gives_text_fault P Q refusal (Ok value) is_refusal is = absurd is
 gives_text_fault P Q refusal (Err f) is_refusal is = inl (refusal, is_refusal, is)
 
 -- the registry of a command is refused, and the command gives that
-pub registry_refused : {F A : Type 0} (file : Stream F) (Goes : List EntryParts → Result A Fault → Type 0) (fault : Fault) (result : Result A Fault) → ReadsJudged file roles.Only (Err fault)
+pub registry_refused : {F A : Type 0} (file : Stream F) (Goes : List EntryParts → Result A Fault
+    → Type 0) (fault : Fault) (result : Result A Fault) → ReadsJudged file roles.Only (Err fault)
     → IsErrAnd result (λ f. f ≡ fault) → ByRegistry file Goes result
 registry_refused file Goes fault result reads is = record { had = Err fault; reads = reads; goes_on = is_fault fault result is }
 
 -- the registry of a command is had, and the command gives what follows
-pub registry_had : {F A : Type 0} (file : Stream F) (Goes : List EntryParts → Result A Fault → Type 0) (R : List EntryParts) (result : Result A Fault) → ReadsJudged file roles.Only (Ok R)
+pub registry_had : {F A : Type 0} (file : Stream F) (Goes : List EntryParts → Result A Fault
+    → Type 0) (R : List EntryParts) (result : Result A Fault) → ReadsJudged file roles.Only (Ok R)
     → Goes R result → ByRegistry file Goes result
 registry_had file Goes R result reads goes = record { had = Ok R; reads = reads; goes_on = goes }
 
 -- the codes of a table that is lent are its codes
-pub codes_lent : (lent : Option (Bor (List Code))) (codes : Option (List Code)) → option_copied lent ≡ codes → codes_in lent ≡ codes_of codes
+pub codes_lent : (lent : Option (Bor (List Code))) (codes : Option (List Code)) → option_copied lent ≡ codes
+    → codes_in lent ≡ codes_of codes
 codes_lent None codes is = subst (λ o. codes_in None ≡ codes_of o) is refl
 codes_lent (Some table) codes is = subst (λ o. codes_in (Some table) ≡ codes_of o) is refl
 
@@ -62,6 +67,7 @@ prints_none IsLine output (Ok done) none is = absurd is
 prints_none IsLine output (Err f) none is = inl (rw is refl, none)
 
 -- a line was written
-pub prints_line : {O : Type 0} (IsLine : List ℕ → Type 0) (output : Stream O) (line : List ℕ) (printed : Result (Unit {0}) ToolFault) → IsLine line
+pub prints_line : {O : Type 0} (IsLine : List ℕ → Type 0) (output : Stream O) (line : List ℕ) (printed : Result
+    (Unit {0}) ToolFault) → IsLine line
     → WritesText output.bytes line output.before output.after printed → Prints IsLine output printed
 prints_line IsLine output line printed is writes = inr (line, is, writes)

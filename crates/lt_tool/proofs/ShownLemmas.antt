@@ -1,5 +1,6 @@
 -- Tags that are shown one after another, and the file whose records are kept.
-use Rattle.std.proofs.Common.{◌≡◌, ◌<◌, ◌≤◌, ◌+◌, ◌++◌, ◌∷◌, ◌∙◌, ℕ, Bool, true, false, List, [], ap, append_assoc, drop, get_or, inl, inr, length, map, refl, subst, sym, Option, Result, Ok, Err}
+use Rattle.std.proofs.Common.{◌≡◌, ◌<◌, ◌≤◌, ◌+◌, ◌++◌, ◌∷◌, ◌∙◌, ℕ, Bool, true, false, List, [], ap, append_assoc}
+use Rattle.std.proofs.Common.{drop, get_or, inl, inr, length, map, refl, subst, sym, Option, Result, Ok, Err}
 use Rattle.std.proofs.lemmas.List.{drop_all, drop_more}
 use Rattle.std.specs.Borrow.{Bor}
 use Rattle.std.specs.Prelude.{◌||◌}

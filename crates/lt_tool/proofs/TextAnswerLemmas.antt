@@ -7,7 +7,9 @@ use Rattle.lt_registry.specs.Parts.{EntryParts}
 use Rattle.lt_tool.specs.TagCommands.{IsTextAnswer}
 
 -- a canonical text or a refusal is what is answered
-pub text_answer : (R : List EntryParts) (text : List ℕ) (own : Result (Vec ℕ Global) TextRefusal) → IfOk own (λ canonical. IsCanonicalTextOf R text canonical.items) → IfErr own (λ refusal. IsTextRefusal R text refusal)
+pub text_answer : (R : List EntryParts) (text : List ℕ) (own : Result (Vec ℕ Global) TextRefusal)
+    → IfOk own (λ canonical. IsCanonicalTextOf R text canonical.items)
+    → IfErr own (λ refusal. IsTextRefusal R text refusal)
     → IsTextAnswer R text own
 text_answer R text (Ok canonical) is none = is
 text_answer R text (Err refusal) none is = is

@@ -15,5 +15,6 @@ returns c =
     let i = c.loop-numbers.numbers-index in
     elim c.loop-numbers-test.branch [
       | else-loop-numbers-test w ↦ front_of_all told steps i w.loop-numbers-test.false c.loop-numbers.invariant
-      | then-loop-numbers-test+in_default w ↦ front_until told steps i none w.loop-numbers-test.true c.loop-numbers.invariant (w.in_default.ensures {u = tt})
+      | then-loop-numbers-test+in_default w ↦ front_until told steps i none w.loop-numbers-test.true
+          c.loop-numbers.invariant (w.in_default.ensures {u = tt})
     ]

@@ -11,4 +11,5 @@ returns-in_err-equivalent-clause-refusal c =
     let b = (c.in_ok-other.ensures {u = tt}).tag in
     let first : HasTag c.args.first.now c.in_ok-tag.tag = a in
     let second : HasTag c.args.second.now c.in_ok-other.other = b in
-    rw (p.1, p.2) (pair_refused c.args.registry.now c.args.first.now c.args.second.now c.in_ok-tag.tag c.in_ok-other.other c.in_err-equivalent.field-0.0 first second ((c.in_err-equivalent.ensures {u = tt}).refusal))
+    rw (p.1, p.2) (pair_refused c.args.registry.now c.args.first.now c.args.second.now c.in_ok-tag.tag
+    c.in_ok-other.other c.in_err-equivalent.field-0.0 first second ((c.in_err-equivalent.ensures {u = tt}).refusal))

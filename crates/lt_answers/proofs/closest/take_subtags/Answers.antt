@@ -9,8 +9,11 @@ returns-in_default c = takes_none c.args.ranges.now c.args.tag.now c.args.line.n
 -- the tag is closer than what was found so far, so its line becomes the closest one
 pub returns-in_ok-line : goal.returns-in_ok-line
 returns-in_ok-line c =
-    takes_closer c.args.ranges.now c.args.tag.now c.args.line.now c.args.closest.now (record { range = c.in-Some.range; count = length c.subtags-count.result.now; line = c.in_ok-line.line }) c.in-Some.ensures
-    (rw c.subtags-count.ensures at (c.is_closer.ensures.0 c.if-is_closer.true)) (ap length c.subtags-count.ensures) c.in_ok-line.ensures.items
+    takes_closer c.args.ranges.now c.args.tag.now c.args.line.now c.args.closest.now
+    (record { range = c.in-Some.range; count = length c.subtags-count.result.now; line = c.in_ok-line.line })
+    c.in-Some.ensures
+    (rw c.subtags-count.ensures at (c.is_closer.ensures.0 c.if-is_closer.true)) (ap length c.subtags-count.ensures)
+    c.in_ok-line.ensures.items
 
 -- the tag is not closer than what was found so far, so the closest line stays
 pub returns-else-is_closer : goal.returns-else-is_closer

@@ -16,4 +16,5 @@ pub returns : goal.returns
 returns g c =
     let R = g.L.Lookup.listed c.args.table.now in
     let first = c.in_ok-new.field-0 in
-    run_verifies R c.args.tag.now first g.R.Read.remaining _ _ _ (λ read here. (g.L.Lookup.listed here.table.now ≡ R) × IsFollowed R first read here.following) c.in_ok-new.ensures _ c.run_pieces.ensures
+    run_verifies R c.args.tag.now first g.R.Read.remaining _ _ _ (λ read here. (g.L.Lookup.listed here.table.now ≡ R)
+    × IsFollowed R first read here.following) c.in_ok-new.ensures _ c.run_pieces.ensures

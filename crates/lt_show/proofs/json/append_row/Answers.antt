@@ -7,6 +7,7 @@ use Rattle.lt_show.proofs.json.append_row.Goals as goal
 -- the beginning and the end, appended one after the other, are the object of the row
 pub returns : goal.returns
 returns c =
-    after_that c.args.objects.now.items c.append_front.new.objects.items c.append_end.new.objects.items (row_front c.args.text.now c.args.row.now) (row_end c.args.records.now c.args.row.now.listing)
+    after_that c.args.objects.now.items c.append_front.new.objects.items c.append_end.new.objects.items
+    (row_front c.args.text.now c.args.row.now) (row_end c.args.records.now c.args.row.now.listing)
     (c.in_ok-append_front.ensures {u = tt}) (c.in_ok-append_end.ensures {u = tt})
     ∙ ap (λ (l : List ℕ). c.args.objects.now.items ++ l) (row_joined c.args.text.now c.args.records.now c.args.row.now)

@@ -10,4 +10,5 @@ returns-clause-parts c = first_of (search rules, grind (arith, common_steps))
 
 -- the result is the parts of the tag, and these spell its text
 pub returns-clause-spell : goal.returns-clause-spell
-returns-clause-spell c = IfOk-weaker c.place.result _ _ (λ parts e. spelled c.args.tag.now parts.items c.grandfathered.ensures.tag.tag e) (returns-clause-parts c)
+returns-clause-spell c = IfOk-weaker c.place.result _ _
+    (λ parts e. spelled c.args.tag.now parts.items c.grandfathered.ensures.tag.tag e) (returns-clause-parts c)

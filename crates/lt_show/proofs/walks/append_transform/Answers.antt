@@ -8,5 +8,6 @@ returns-in-Ok c = rw (transform_kinds c.args.extension.now _ c.requires c.in-Ok.
 -- the subtags have no parts of a `t` extension, so each is an ExtensionSubtag
 pub returns-in-Err-BadTransform : goal.returns-in-Err-BadTransform
 returns-in-Err-BadTransform c =
-    let plain = no_transform_kinds c.args.extension.now c.requires (rw c.in-Err-BadTransform.field-0-is at c.in-Err-BadTransform.ensures.fault) in
+    let plain = no_transform_kinds c.args.extension.now c.requires
+    (rw c.in-Err-BadTransform.field-0-is at c.in-Err-BadTransform.ensures.fault) in
     rw plain (rw c.subtags.ensures.value at c.append_each.ensures)

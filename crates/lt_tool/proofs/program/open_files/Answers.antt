@@ -5,7 +5,11 @@ use Rattle.lt_tool.proofs.program.open_files.Goals as goal
 -- the first file can't be opened, and the second one is not tried
 pub returns-in_err-first : goal.returns-in_err-first
 returns-in_err-first g c =
-    inr (c.in_err-first.field-0.0, rw (c.first_file.ensures, c.reads_input-is_taken.ensures) at c.in_err-first.ensures, is_fault _ _ c.from_residual.ensures.1)
+    inr (
+      c.in_err-first.field-0.0,
+      rw (c.first_file.ensures, c.reads_input-is_taken.ensures) at c.in_err-first.ensures,
+      is_fault _ _ c.from_residual.ensures.1,
+    )
 
 -- the first file is opened, and the second one can't be
 pub returns-in_err-second : goal.returns-in_err-second

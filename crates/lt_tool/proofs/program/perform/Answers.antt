@@ -5,4 +5,9 @@ use Rattle.lt_tool.proofs.program.perform.Goals as goal
 -- the number is the code of the status in which the run ended
 pub returns : goal.returns
 returns g c =
-    record { outcome = c.carry_out-outcome.result; performs = c.carry_out-outcome.ensures; status_is = c.code.ensures ∙ ap code_of c.status.ensures }
+    record {
+      outcome = c.carry_out-outcome.result;
+      performs = c.carry_out-outcome.ensures;
+      status_is = c.code.ensures
+          ∙ ap code_of c.status.ensures;
+    }

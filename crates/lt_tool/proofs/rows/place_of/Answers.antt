@@ -11,4 +11,8 @@ returns-in-Ok g c = rw c.in-Name.is (c.find_column.result, rw c.deref.ensures at
 
 -- no heading was read, or the name is not in it once: that fault is given
 pub returns-in-Err : goal.returns-in-Err
-returns-in-Err g c = rw c.in-Name.is (c.find_column.result, rw c.deref.ensures at c.find_column.ensures, rw (c.in-Err.is, c.from.ensures) refl)
+returns-in-Err g c = rw c.in-Name.is (
+  c.find_column.result,
+  rw c.deref.ensures at c.find_column.ensures,
+  rw (c.in-Err.is, c.from.ensures) refl,
+)

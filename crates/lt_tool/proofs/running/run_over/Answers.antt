@@ -9,7 +9,9 @@ pub returns : goal.returns
 returns g c = record {
   end = c.run_tallied-end.result;
   all = c.run_tallied-end.new.tallies;
-  runs = subst (λ l. RunsLines (terms (record { entries = c.args.ground.now.checked; codes = l }) c.args.form) g.I.Read.remaining g.O.Write.contents c.args.input.now c.run_tallied-end.new.input c.args.output.now c.run_tallied-end.new.output c.run_tallied-end.new.tallies c.run_tallied-end.result)
+  runs = subst (λ l. RunsLines (terms (record { entries = c.args.ground.now.checked; codes = l }) c.args.form)
+      g.I.Read.remaining g.O.Write.contents c.args.input.now c.run_tallied-end.new.input c.args.output.now
+      c.run_tallied-end.new.output c.run_tallied-end.new.tallies c.run_tallied-end.result)
       (codes_lent c.as_ref.result c.args.ground.now.codes c.as_ref.ensures.value) c.run_tallied-end.ensures;
   tallied = c.drop_unknown.ensures;
   ends = c.counted.ensures;

@@ -18,6 +18,8 @@ pub returns-in-Err-clause-refusal : goal.returns-in-Err-clause-refusal
 returns-in-Err-clause-refusal g c =
     let a = c.in_ok-tag.ensures {u = tt} in
     let read : HasTag c.args.text.now c.in_ok-tag.tag = record { short = a.short; tag = a.tag; spelled = a.spelled } in
-    let refused = validity_refused (g.L.Lookup.listed c.table.result.now) c.args.text.now c.in_ok-tag.tag c.in-Err.refused read (c.in-Err.ensures {u = tt}).err in
+    let refused = validity_refused (g.L.Lookup.listed c.table.result.now) c.args.text.now c.in_ok-tag.tag
+    c.in-Err.refused read (c.in-Err.ensures {u = tt}).err in
     rw (c.from-in-Err.ensures, c.from.ensures)
-    (subst (λ l. IsValidityRefusal (g.L.Lookup.listed l) c.args.text.now (of_refusal (of_valid c.in-Err.refused))) c.table.ensures.value refused)
+    (subst (λ l. IsValidityRefusal (g.L.Lookup.listed l) c.args.text.now (of_refusal (of_valid c.in-Err.refused)))
+    c.table.ensures.value refused)

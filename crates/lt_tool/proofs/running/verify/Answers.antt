@@ -14,7 +14,8 @@ returns-in-Ok g c = inr (
   c.verify_lines.result,
   c.in-Ok.ensures.read,
   c.in-Ok.ensures.valid,
-  subst (λ l. VerifiesLines (g.L.Lookup.listed l) c.in-Ok.tag g.I.Read.remaining c.args.input.now c.verify_lines.new.input c.verify_lines.result) c.table.ensures.value c.verify_lines.ensures,
+  subst (λ l. VerifiesLines (g.L.Lookup.listed l) c.in-Ok.tag g.I.Read.remaining c.args.input.now
+      c.verify_lines.new.input c.verify_lines.result) c.table.ensures.value c.verify_lines.ensures,
   c.judged.ensures,
 )
 

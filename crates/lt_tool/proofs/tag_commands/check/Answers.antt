@@ -12,4 +12,5 @@ returns-in_err-line g c = registry_had _ _ _ _ c.in_ok-checked.ensures (gives_no
 
 -- the registry is had, and the line tells the number of its entries
 pub returns : goal.returns
-returns g c = registry_had _ _ _ _ c.in_ok-checked.ensures (c.in_ok-line.line, rw c.count_of-count.ensures at c.in_ok-line.ensures, rw c.count_of-count.ensures refl)
+returns g c = registry_had _ _ _ _ c.in_ok-checked.ensures
+    (c.in_ok-line.line, rw c.count_of-count.ensures at c.in_ok-line.ensures, rw c.count_of-count.ensures refl)

@@ -11,4 +11,6 @@ returns-in_err-equivalent-clause-refusal g c =
     let b = c.in_ok-other.ensures {u = tt} in
     let first : HasTag c.args.first.now c.in_ok-tag.tag = record { short = a.short; tag = a.tag; spelled = a.spelled } in
     let second : HasTag c.args.second.now c.in_ok-other.other = record { short = b.short; tag = b.tag; spelled = b.spelled } in
-    rw (p.1, p.2) (pair_refused (g.L.Lookup.listed c.args.checked.now) c.args.first.now c.args.second.now c.in_ok-tag.tag c.in_ok-other.other c.in_err-equivalent.field-0.0 first second ((c.in_err-equivalent.ensures {u = tt}).refusal))
+    rw (p.1, p.2) (pair_refused (g.L.Lookup.listed c.args.checked.now) c.args.first.now c.args.second.now
+    c.in_ok-tag.tag c.in_ok-other.other c.in_err-equivalent.field-0.0 first second
+    ((c.in_err-equivalent.ensures {u = tt}).refusal))

@@ -35,7 +35,17 @@ returns-in-Err-Fails g c = record {
   older = Ok c.in_ok-older.older;
   reads_older = c.in_ok-older.ensures;
   unread = tt;
-  goes_on = (Ok c.in_ok-newer.newer, c.in_ok-newer.ensures, inl (c.in-Err-Fails.condition, c.in-Err-Fails.number, rw c.in-Err-Fails.field-0-is at (c.in-Err-Fails.ensures {u = tt}).fault, refl));
+  goes_on = (
+    Ok c.in_ok-newer.newer,
+    c.in_ok-newer.ensures,
+    inl (
+      c.in-Err-Fails.condition,
+      c.in-Err-Fails.number,
+      rw c.in-Err-Fails.field-0-is at
+          (c.in-Err-Fails.ensures {u = tt}).fault,
+      refl,
+    ),
+  );
 }
 
 -- both registries are had, but memory ran out in the comparison

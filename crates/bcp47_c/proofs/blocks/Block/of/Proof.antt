@@ -12,7 +12,8 @@ use contract.Monad.{fact}
 use contract.Running.{tables}
 use prog.Wp.{WpFn}
 use types.Logic.{sem}
-use types.Kit.{Item, ‵, raw, prop, ◌⊛◌, some, later, ◌$◌, ◌∵◌, !, qed, move, drop, use1, join, split, split3, pick, rewrite, regoal, fsplit, fjoin, fpick, feq_l, suffices, await, done}
+use types.Kit.{Item, ‵, raw, prop, ◌⊛◌, some, later, ◌$◌, ◌∵◌, !, qed, move, drop, use1, join, split, split3, pick}
+use types.Kit.{rewrite, regoal, fsplit, fjoin, fpick, feq_l, suffices, await, done}
 use types.Part.{whole, sub, agg}
 use types.Run.{stop, fld, no_more, and_then, of_opd, returns, enter}
 use types.ByLocal.{alloc_all, pass_all, free_all, look_at, get, get_in, sets, lands_as}
@@ -42,7 +43,8 @@ pub of_spec : {M : Type 1} → statement M
 of_spec 𝓤 𝓛 𝓜 𝓡 wired X Z LX LZ g d drops dx allocator met-drops met-dx =
     let E : Bx = record { row = X; laws = LX; al = record { row = Z; laws = LZ; g = g; d = d; drops = drops } } in
     let given : Args = bounded (a_type ∷ a_type ∷ []) (X, (Z, tt)) (dcons d (dcons drops (dcons dx dnil))) in
-    let ended = f.ended X Z g d drops dx in let stayed : Stays ended.signature.params ended.kept = (stay_dropped (plain (λ _. B E)) no, tt) in
+    let ended = f.ended X Z g d drops dx in let stayed : Stays ended.signature.params ended.kept =
+    (stay_dropped (plain (λ _. B E)) no, tt) in
     let c = f.clauses X Z g d drops dx 𝓛 𝓜.mem 𝓡.returns in let 𝓣 = tables 𝓤 𝓛.H 𝓜 𝓡 𝓡.env in
     let W = walk_of 𝓛 ended stayed c in let fn = inst_fn given code.function in
     let To = block.the_row (R E) (P E) g in
@@ -61,7 +63,9 @@ of_spec 𝓤 𝓛 𝓜 𝓡 wired X Z LX LZ g d drops dx allocator met-drops met
     enter ! _ _ _ _ _ $ alloc_all ! (λ l. pass_all ! refl (box_typed E hv b o fits, tt) $
     sets ! (of_opd ! (get ! refl)) refl (box_typed E hv b o fits) $
     fjoin ! $ move ! (1 ∷ 0 ∷ []) $ join ! $ join ! $ use1 𝓛 (raw (G.pre z)) (id⊢ 𝓤 _) $
-    calls_at ! (framed 𝓤 𝓛.H 𝓜 (tables 𝓤 𝓛.H 𝓜 𝓡 𝓡.env)) G (met 𝓤 𝓛 𝓜 𝓡 (code.calls-std_alloc::boxed::Box::into_raw_with_allocator 𝓡.env wired) X Z LX LZ g d drops dx allocator met-drops met-dx) z
+    calls_at ! (framed 𝓤 𝓛.H 𝓜 (tables 𝓤 𝓛.H 𝓜 𝓡 𝓡.env)) G
+    (met 𝓤 𝓛 𝓜 𝓡 (code.calls-std_alloc::boxed::Box::into_raw_with_allocator 𝓡.env wired) X Z LX LZ g d drops dx
+    allocator met-drops met-dx) z
     (and_then ! (get ! refl) (no_more !)) (λ v.
     use1 𝓛 (later (some (λ (r : Ptr × Z.Denot). (tokens ⊛ ‵ ((Tuple (RawPtr ∷ P E ∷ [])).own_val r (v ∷ []))) ⊛
     some (λ (_ : (Unit {0} × (Unit {0} × Unit {0})) × Unit {0}). ‵ (fsep (fsep ftrue (fsep ftrue ftrue)) ftrue) ⊛
@@ -73,13 +77,17 @@ of_spec 𝓤 𝓛 𝓜 𝓡 wired X Z LX LZ g d drops dx allocator met-drops met
     rewrite ! 0 (λ (s : Z.Denot). ‵ (Z.own_val s vss.1.0)) same refl $ handle_tells E.al ! a vss.1.0 (λ hw is_handle fits'.
     let spread : D E = record { ptr = block_ptr b' o'; alloc = a; value = x } in
     let made : To.Denot = record { place = block_ptr b' o'; alloc = a; value = x } in
-    lands_as ! (ap only (is_pair ∙ (λ j. vstruct (of_list ((is_place ∙ ap (λ (p : Ptr). ptr_val p ∷ []) e') j ++ (is_handle j ++ []))) ∷ []))) refl (box_typed E hw b' o' fits') $
+    lands_as !
+    (ap only (is_pair
+    ∙ (λ j. vstruct (of_list ((is_place ∙ ap (λ (p : Ptr). ptr_val p ∷ []) e') j ++ (is_handle j ++ []))) ∷ [])))
+    refl (box_typed E hw b' o' fits') $
     sets ! (of_opd ! (get_in ! (fld ! refl (stop !)) (sub ! 0 refl (whole !)))) refl (tt, tt) $
     sets ! (of_opd ! (get_in ! (fld ! refl (stop !)) (sub ! 1 refl (whole !)))) refl fits' $
     sets ! (of_opd ! (get ! refl)) refl fits' $
     sets ! (agg ! (and_then ! (get ! refl) (and_then ! (get ! refl) (no_more !)))) refl (box_typed E hw b' o' fits') $
     returns ! (look_at ! 0 refl) $ free_all ! refl $
     -- [the handle; true; the tokens; what is owned at the place]
-    move ! (3 ∷ []) $ fsplit ! $ box_in E ! spread b' o' x refl refl $ use1 𝓛 (‵ (To.own_val made (word E hw b' o' ∷ []))) (id⊢ 𝓤 _) $ move ! (1 ∷ []) $ drop ! $
+    move ! (3 ∷ []) $ fsplit ! $ box_in E ! spread b' o' x refl refl $ use1 𝓛
+    (‵ (To.own_val made (word E hw b' o' ∷ []))) (id⊢ 𝓤 _) $ move ! (1 ∷ []) $ drop ! $
     suffices ! _ (ends_at 𝓛 ended stayed c y (word E hw b' o') made ((tt, (tt, tt)), tt) (tt, tt)) $ says ! refl $
     nothing ! $ nothing ! $ fjoin ! $ join ! $ move ! (1 ∷ 0 ∷ []) $ join ! $ done !))))))))))))

@@ -38,7 +38,9 @@ into_block_spec 𝓤 𝓛 𝓜 𝓡 wired =
     let made : held_block.Denot = record { place = handle.place; alloc = handle.alloc; value = registry } in
     qed 𝓛 ((‵ ftrue ⊛ ‵ (fsep (held_handle.own_val handle y.0.4.0) ftrue)) ∷ raw (fact 𝓤 (handle.held ≡ Some registry)) ∷ []) ∵
     split ! $ drop ! $ move ! (1 ∷ []) $ heard ! (handle.held ≡ Some registry) (λ holds. fsplit ! $
-    rewrite ! 0 (λ (h : Held). ‵ (held_handle.own_val (record { place = handle.place; alloc = handle.alloc; held = h }) y.0.4.0)) holds refl $
+    rewrite ! 0
+    (λ (h : Held). ‵ (held_handle.own_val (record { place = handle.place; alloc = handle.alloc; held = h })
+    y.0.4.0)) holds refl $
     use1 𝓛 (‵ ((B E).own_val spread y.0.4.0)) (id⊢ 𝓤 _) $
     box_out E ! spread y.0.4.0 (λ b o hv e ws fits. box_in E ! spread b o registry e refl $
     let w = word E hv b o in

@@ -8,8 +8,10 @@ pub returns : goal.returns
 returns c =
     let tags = (c.in-Ok.ensures {u = tt}).tags in
     let same : c.deref.result.now ≡ c.args.self.now.entries = search rules in
-    let owed = subst (λ R. IsToldFault R c.in-Ok.pair.0 c.args.steps.now c.in-Ok.pair.1 c.in-Err-judge.fault) same ((c.in-Err-judge.ensures {u = tt}).fault) in
-    let told : c.deliver-in-Err-judge.result ≡ outcome (trace_said c.in-Err-judge.fault) 0 = (c.deliver-in-Err-judge.ensures.fits (omega arith)).0 ∙ ap (λ said. outcome said 0) c.trace_said.ensures in
+    let owed = subst (λ R. IsToldFault R c.in-Ok.pair.0 c.args.steps.now c.in-Ok.pair.1 c.in-Err-judge.fault) same
+    ((c.in-Err-judge.ensures {u = tt}).fault) in
+    let told : c.deliver-in-Err-judge.result ≡ outcome (trace_said c.in-Err-judge.fault) 0 =
+    (c.deliver-in-Err-judge.ensures.fits (omega arith)).0 ∙ ap (λ said. outcome said 0) c.trace_said.ensures in
     inl (record {
       tag = c.in-Ok.pair.0;
       read = tags.0;

@@ -7,7 +7,10 @@ use Rattle.lt_answers.proofs.following.VerifyingPiecesUnit.finish.Goals as goal
 pub finish-requires : goal.finish-requires
 finish-requires g c =
     let r = c.requires in
-    record { proper = followed_proper _ _ r.taken.0 _ _ _ r.taken.1; room = omega (arith, followed_room _ _ r.taken.0 _ _ _ r.taken.1 0 r.few) }
+    record {
+      proper = followed_proper _ _ r.taken.0 _ _ _ r.taken.1;
+      room = omega (arith, followed_room _ _ r.taken.0 _ _ _ r.taken.1 0 r.few);
+    }
 
 -- judging the last line fails only if memory runs out
 pub returns-in_err-finish : goal.returns-in_err-finish

@@ -20,6 +20,9 @@ returns-in_err-take_piece g c =
 pub returns : goal.returns
 returns g c =
     let listed = g.L.Lookup.listed in
-    takes_or_settles (λ first _ _ read here. (listed here.table.now ≡ listed first.table.now) × IsFollowed (listed first.table.now) first.following read here.following)
-    (λ first _ _ read _ r. Settles (listed first.table.now) first.following read r) _ _ _ c.args.self.now (record { table = c.args.self.now.table; following = c.take_piece.new.self }) c.in_ok-take_piece.field-0 (λ none first start read t. (t.0, followed_piece _ _ t.0 _ read _ t.1 _ _ _ none c.in_ok-take_piece.ensures))
+    takes_or_settles (λ first _ _ read here. (listed here.table.now ≡ listed first.table.now)
+    × IsFollowed (listed first.table.now) first.following read here.following)
+    (λ first _ _ read _ r. Settles (listed first.table.now) first.following read r) _ _ _ c.args.self.now
+    (record { table = c.args.self.now.table; following = c.take_piece.new.self }) c.in_ok-take_piece.field-0
+    (λ none first start read t. (t.0, followed_piece _ _ t.0 _ read _ t.1 _ _ _ none c.in_ok-take_piece.ensures))
     (λ v is first start read t. settled_piece _ _ t.0 _ read _ t.1 _ _ _ v is c.in_ok-take_piece.ensures)

@@ -15,7 +15,14 @@ returns-then-not-branch g c =
     record {
       part = [];
       grown = sym (append-nil c.args.owed.now.items);
-      taken = λ line one kept first lines bytes q. (q.0, q.1, q.2, owed_no _ (selected_tells (g.L.Lookup.listed here.checked.now) here.scheme here.ranges.now) lines bytes line c.args.line.now here.count kept q.3 (λ is. let bad : true ≡ false = sym (c.in_ok-is_selected.ensures.1 is) ∙ not in cc));
+      taken = λ line one kept first lines bytes q. (
+        q.0,
+        q.1,
+        q.2,
+        owed_no _ (selected_tells (g.L.Lookup.listed here.checked.now) here.scheme here.ranges.now)
+            lines bytes line c.args.line.now here.count kept q.3
+            (λ is. let bad : true ≡ false = sym (c.in_ok-is_selected.ensures.1 is) ∙ not in cc),
+      );
     }
 
 -- the line is selected: it is to be written with a line feed (10), and is counted
@@ -25,6 +32,13 @@ returns g c =
     let yes = c.if-not-branch.false in
     record {
       part = c.args.line.now ++ 10 ∷ [];
-      grown = c.in_ok-push.ensures.items ∙ ap (λ l. l ++ 10 ∷ []) c.in_ok-extend_from_slice.ensures.items ∙ append_assoc c.args.owed.now.items c.args.line.now (10 ∷ []);
-      taken = λ line one kept first lines bytes q. (q.0, q.1, q.2, owed_yes _ (selected_tells (g.L.Lookup.listed here.checked.now) here.scheme here.ranges.now) lines bytes line c.args.line.now here.count kept q.3 (c.in_ok-is_selected.ensures.0 yes));
+      grown = c.in_ok-push.ensures.items ∙ ap (λ l. l ++ 10 ∷ []) c.in_ok-extend_from_slice.ensures.items
+          ∙ append_assoc c.args.owed.now.items c.args.line.now (10 ∷ []);
+      taken = λ line one kept first lines bytes q. (
+        q.0,
+        q.1,
+        q.2,
+        owed_yes _ (selected_tells (g.L.Lookup.listed here.checked.now) here.scheme here.ranges.now)
+            lines bytes line c.args.line.now here.count kept q.3 (c.in_ok-is_selected.ensures.0 yes),
+      );
     }

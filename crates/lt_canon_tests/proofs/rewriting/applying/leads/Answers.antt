@@ -4,6 +4,7 @@ use Rattle.lt_tag.specs.Parts.{TagForm}
 use Rattle.lt_registry.proofs.ValidityLaws.{proper_law}
 use Rattle.lt_canon_tests.proofs.rewriting.applying.leads.Goals as goal
 
+-- the tag is proper, as was asked before, so its extensions can be settled
 pub applied-answer-requires : goal.applied-answer-requires
 applied-answer-requires g c =
     let R : List EntryParts = g.L.Lookup.listed c.args.table.now in

@@ -9,6 +9,7 @@ use Rattle.lt_registry.proofs.ValidityLaws.{valid_law}
 use Rattle.lt_canon_tests.proofs.ValidExtensions.{can_settle, few_in_tag}
 use Rattle.lt_canon_tests.proofs.rewriting.extensions_explaining.explained_tag.Goals as goal
 
+-- the tag is valid, so no two of its extensions have one singleton
 pub explain_extensions-requires-clause-singletons : goal.explain_extensions-requires-clause-singletons
 explain_extensions-requires-clause-singletons c =
     let R : List EntryParts = c.args.table.now in
@@ -17,6 +18,7 @@ explain_extensions-requires-clause-singletons c =
     subst (λ (es : List ExtensionParts). Distinct (map (λ (e : ExtensionParts). e.singleton) es))
     (sym (c.in_ok-extensions.ensures ∙ c.extensions.ensures.value)) (can_settle R t valid.proper.parts).singletons
 
+-- the tag is valid, so each of its `t` extensions has the parts of one
 pub explain_extensions-requires-clause-transforms : goal.explain_extensions-requires-clause-transforms
 explain_extensions-requires-clause-transforms c =
     let R : List EntryParts = c.args.table.now in
@@ -26,6 +28,7 @@ explain_extensions-requires-clause-transforms c =
     × IsTransform e.subtags p) es) (sym (c.in_ok-extensions.ensures ∙ c.extensions.ensures.value))
     (can_settle R t valid.proper.parts).transforms
 
+-- a tag has few subtags, and so have its extensions
 pub explain_extensions-requires-clause-few : goal.explain_extensions-requires-clause-few
 explain_extensions-requires-clause-few c =
     omega (
