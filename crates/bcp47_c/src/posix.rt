@@ -105,7 +105,7 @@ fn section_of(modifier: Modifier) -> Option<Section>
     }
 }
 
-/// The value that a modifier puts in place of a section.
+/// The value that a modifier puts in place of the section that it replaces. It is empty for `Silent`, which replaces none.
 fn value_of(modifier: Modifier) -> &'static [u8]
     ensures { result.now ≡ spec.value_of modifier }
 {

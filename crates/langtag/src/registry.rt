@@ -9,8 +9,8 @@ fn installed_path(rt: &HostRuntime) -> Option<String> {
     format!(in rt.alloc(); "{folder}/share/langtag/registry.txt").ok()
 }
 
-/// The path of the registry that `@` means: of the one that LANGTAG_REGISTRY names, or else of the installed one. None if that
-/// variable is not UTF-8, or the program's own path is not known.
+/// The path of the registry that `@` means: of the one that LANGTAG_REGISTRY names, or else of the installed one. An empty
+/// variable names none. None if the variable is not UTF-8, or if no path of an installed one can be made.
 fn known_path(rt: &HostRuntime) -> Option<String> {
     match env::var(rt, "LANGTAG_REGISTRY") {
         Ok(path) if !path.is_empty() => Some(path),

@@ -44,7 +44,7 @@ fn text_of(alloc: Global, core: &Core) -> Result<Vec<u8>, OutOfMemory>
     Ok(text)
 }
 
-/// Appends the member `source`: the text of the source of a `t` extension, or null if there is none.
+/// Appends a comma (44) and the member `source`: the text of the source of a `t` extension, or null if there is none.
 pub(crate) fn append_source(
     objects: &mut Vec<u8>,
     alloc: Global,

@@ -33,7 +33,8 @@ pub(crate) fn split_end(text: &[u8], longest: usize) -> Option<(&[u8], &[u8])>
     None
 }
 
-/// Whether two bytes are a separator of a field: a letter and a digit.
+/// Whether two bytes are a separator of a field: a letter and a digit. The clause says only what true means. False is always
+/// safe, since the end is then worked out as any other is.
 #[inline(always)]
 #[tactic(auto, using(crate::proofs::SourceLemmas::pair_separator))]
 fn is_separator(letter: u8, digit: u8) -> bool

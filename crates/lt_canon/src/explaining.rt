@@ -17,10 +17,17 @@ use lt_tag::{OutOfMemory, Tag, copy_extensions};
 use std::alloc::Global;
 
 /// The steps that lead from a tag to its canonical form (RFC 5646, 4.5), and that form. Each step is the
-/// first that leads on: on the core Extlang before Language, Script, Region, the leftmost Variant and
-/// VariantLanguage; Whole; the leftmost SwapExtensions; in a `u` extension the leftmost DropAttribute,
-/// SwapAttributes, DropKeyword, SwapKeywords and DropTrue; on the source of a `t` extension the steps
-/// on a core; the leftmost SwapFields. It is refused as `canonical` refuses.
+/// first that leads on, in this order:
+///
+/// - on the core Extlang, Language, Script, Region, the leftmost Variant, VariantLanguage;
+/// - Whole;
+/// - the leftmost SwapExtensions;
+/// - in a `u` extension the leftmost DropAttribute, SwapAttributes, DropKeyword, SwapKeywords and DropTrue;
+/// - on the source of a `t` extension the steps on a core;
+/// - the leftmost SwapFields.
+///
+/// Refused as `canonical` refuses: with `Invalid` if the tag is not valid, with `ReplacementRepeats` if steps can repeat a
+/// variant of it, and with `OutOfMemory` where memory runs out.
 #[tactic(auto, using(crate::proofs::CanonicalForms::refused))]
 pub fn explain<L: Lookup>(alloc: Global, checked: &Checked<L>, tag: &Tag) -> Result<Trace, Refusal>
     ensures ok { IfOk result (λ trace. IsExplanation (L.listed checked.now) tag.now trace.steps.items trace.last) }

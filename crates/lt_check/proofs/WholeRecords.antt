@@ -147,8 +147,8 @@ same_verdict = same_exactly core_total cores_apart
 pub differ : (c d : CoreParts) (b : Bool) → b ≡ eq_by_cmp core_cmp c d → b ≡ false → c ≢ d
 differ c d b e f k = let t : b ≡ true = (same_verdict c d b e).1 k in cc
 
--- `form` is the core normal form of the tag's core `c`: whether the tag agrees with `end` is decided by whether `form`
--- comes to `end`, unless it is `c`
+-- `form` is the core normal form of the tag's core `c`: if `b` tells whether `form` is `c` or comes to `end`, it tells
+-- whether the tag agrees with `end`
 pub at_form : (R : List EntryParts) → MeetsBelow 10 R → (t : TagForm) (c form end : CoreParts) → t ≡ core_alone c
     → IsCoreNormalForm R c form → (b : Bool) → Decides b (form ≢ c → ComesTo R form end) → Decides b (Agrees R t end)
 at_form R M t c form end e n b d =

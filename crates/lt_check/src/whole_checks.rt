@@ -21,7 +21,8 @@ use lt_rewrite::values::{tag_and_value, whole_value};
 use lt_tag::{Core, OutOfMemory, Tag};
 use std::alloc::Global;
 
-/// Whether a tag is a valid langtag without extensions and private use. It takes no memory.
+/// Whether a tag is a valid langtag without extensions and private use. It takes no memory, since `validate` takes some only
+/// for a `t` extension: so no refusal is for memory.
 fn is_valid_plain<L: Lookup>(alloc: Global, table: &L, tag: &Tag) -> bool
     ensures { IsTrue result ↔ IsValidCoreAlone (L.listed table.now) tag.now }
 {

@@ -32,7 +32,8 @@ pub record TakesLine {A : Type 0} (Q : A → Answered A) (longest : ℕ) (front 
       → (first : A) (lines : List (List ℕ)) (bytes : List ℕ) → Q first old lines bytes
       → Q first new (lines ++ line ∷ []) (bytes ++ part)
 
--- what was written answers the lines of the bytes up to the last line feed (10)
+-- what was written answers the lines of the bytes up to the last line feed (10), and `last`, which none ends, is not
+-- answered yet; `answers` is the state of what answers them
 pub record IsAnsweredToLastFeed {A : Type 0} (Q : Answered A) (bytes written : List ℕ) (answers : A) : Type 0 where
   pub lines : List (List ℕ)
   pub last : List ℕ

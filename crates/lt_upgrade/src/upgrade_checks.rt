@@ -216,7 +216,8 @@ pub(crate) fn had_variant_language<L: Lookup>(older: &L, entry: &Entry) -> bool
     }
 }
 
-/// Whether two tags have the same canonical form. False if one of them has none. Neither tag may repeat a variant.
+/// Whether two tags have the same canonical form. False if one of them has none. Neither tag may
+/// repeat a variant: `equivalent` refuses such a tag even where steps lead from it to a canonical one.
 #[tactic(auto, using(crate::proofs::UpgradeChecks::forms_compared, crate::proofs::UpgradeChecks::refused_apart))]
 fn meet_in_canonical<L: Lookup>(
     alloc: Global,

@@ -34,6 +34,7 @@ use Rattle.bcp47_c.specs.contracts.handle.Handle.empty as f
 use Rattle.bcp47_c.proofs.handle.Handle.empty.Statement.{statement}
 use Rattle.bcp47_c.proofs.handle.Handle.empty.Code as code
 
+-- neither parameter is kept by the caller
 abbrev stayed : Stays f.ended.signature.params f.ended.kept
 stayed = (stay_dropped (plain (λ _. RawPtr)) yes, (stay_dropped (plain (λ _. allocator.the_row)) yes, tt))
 
@@ -49,6 +50,8 @@ word_typed : (p : Ptr) (hv : Val) → Fits held_box.al hv → T (has_ty (box_ty 
 word_typed (block_ptr b o) hv fits = box_typed held_box hv b o fits
 word_typed null_ptr hv fits = (and_tt (has_ty (α held_box.al) hv) fits.0, (record { fits = lit< tt }, (fits.1, tt)))
 
+-- the function meets its contract, by its code step by step: the two parameters are moved into the fields, and nothing is
+-- owned at the place
 pub empty_spec : {M : Type 1} → statement M
 empty_spec 𝓤 𝓛 𝓜 𝓡 wired =
     let c = f.clauses 𝓛 𝓜.mem 𝓡.returns in let 𝓣 = tables 𝓤 𝓛.H 𝓜 𝓡 𝓡.env in let W = walk_of 𝓛 f.ended stayed c in
