@@ -274,11 +274,11 @@ static inline PyObject *written(text *it, bcp47_outcome outcome, const char *buf
 }
 
 /* The one argument of a call, by its place or its name: borrowed. */
-static inline PyObject *tag_of(PyObject *arguments, PyObject *words) {
-    static char *names[] = {"tag", NULL};
-    PyObject *tag;
-    if (!words && PyTuple_Size(arguments) == 1) return PyTuple_GetItem(arguments, 0);
-    return PyArg_ParseTupleAndKeywords(arguments, words, "O", names, &tag) ? tag : NULL;
+static inline PyObject *tag_of(PyObject *const *arguments, Py_ssize_t count, PyObject *names) {
+    Py_ssize_t named = names ? PyTuple_Size(names) : 0;
+    if (count + named == 1 && (!named || !PyUnicode_CompareWithASCIIString(PyTuple_GetItem(names, 0), "tag"))) return arguments[0];
+    PyErr_SetString(PyExc_TypeError, "expected one argument: tag");
+    return NULL;
 }
 
 /* What a call writes for a tag. */
@@ -292,12 +292,12 @@ static inline PyObject *text_by(writer *writes, PyObject *self, PyObject *tag) {
     return NULL;
 }
 
-static PyObject *registry_canonical(PyObject *self, PyObject *arguments, PyObject *words) {
-    return text_by(bcp47_canonical, self, tag_of(arguments, words));
+static PyObject *registry_canonical(PyObject *self, PyObject *const *arguments, Py_ssize_t count, PyObject *names) {
+    return text_by(bcp47_canonical, self, tag_of(arguments, count, names));
 }
 
-static PyObject *registry_extlang(PyObject *self, PyObject *arguments, PyObject *words) {
-    return text_by(bcp47_extlang, self, tag_of(arguments, words));
+static PyObject *registry_extlang(PyObject *self, PyObject *const *arguments, Py_ssize_t count, PyObject *names) {
+    return text_by(bcp47_extlang, self, tag_of(arguments, count, names));
 }
 
 /* What a call writes for a text by no registry. */
@@ -348,12 +348,12 @@ static PyObject *ask_validity(PyObject *self, PyObject *tag, int is_told) {
     return made;
 }
 
-static PyObject *registry_validate(PyObject *self, PyObject *arguments, PyObject *words) {
-    return ask_validity(self, tag_of(arguments, words), 0);
+static PyObject *registry_validate(PyObject *self, PyObject *const *arguments, Py_ssize_t count, PyObject *names) {
+    return ask_validity(self, tag_of(arguments, count, names), 0);
 }
 
-static PyObject *registry_is_valid(PyObject *self, PyObject *arguments, PyObject *words) {
-    return ask_validity(self, tag_of(arguments, words), 1);
+static PyObject *registry_is_valid(PyObject *self, PyObject *const *arguments, Py_ssize_t count, PyObject *names) {
+    return ask_validity(self, tag_of(arguments, count, names), 1);
 }
 
 /* given(tag, most): the lines of its explanation, with at most so many steps; below 0 what the records say of it, as JSON, for which the
@@ -693,17 +693,22 @@ static PyObject *module_setup(PyObject *module, PyObject *all) {
     return PyDict_SetItemString(kept, GIVEN, all) ? NULL : same(Py_None);
 }
 
-/* A call whose arguments have names. */
+/* A call whose arguments have names. One that is made for each tag gets them in place, not in a tuple: each Python from 3.7 on knows
+   this way, and the limited API from 3.10 on. */
+#ifndef METH_FASTCALL
+#define METH_FASTCALL 0x0080
+#endif
 #define NAMED(call) (PyCFunction)(void (*)(void))call, METH_VARARGS | METH_KEYWORDS
+#define QUICK(call) (PyCFunction)(void (*)(void))call, METH_FASTCALL | METH_KEYWORDS
 
 static PyMethodDef registry_methods[] = {
-    {"canonical", NAMED(registry_canonical),
+    {"canonical", QUICK(registry_canonical),
      "canonical($self, tag)\n--\n\nThe canonical text of a tag (RFC 5646, 4.5). Raises RefusedTag."},
-    {"extlang", NAMED(registry_extlang),
+    {"extlang", QUICK(registry_extlang),
      "extlang($self, tag)\n--\n\nThe canonical text of a tag with its extlang prefix. Raises RefusedTag."},
-    {"validate", NAMED(registry_validate),
+    {"validate", QUICK(registry_validate),
      "validate($self, tag)\n--\n\nReturns where a tag is valid (RFC 5646, 2.2.9). Raises RefusedTag where it is not."},
-    {"is_valid", NAMED(registry_is_valid),
+    {"is_valid", QUICK(registry_is_valid),
      "is_valid($self, tag)\n--\n\nWhether a text is a tag that is valid (RFC 5646, 2.2.9)."},
     {"equivalent", NAMED(registry_equivalent),
      "equivalent($self, first, second)\n--\n\nWhether two tags are equivalent. Raises RefusedTag for the first tag, or else "
