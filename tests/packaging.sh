@@ -224,7 +224,7 @@ passes "the copy's program" env -C "$folder/use/Go/page" GOFLAGS=-mod=vendor go 
 is "the copy answers" yue "$(cat "$folder/out")"
 passes "the crates' tests, of what is packed" env -C "$folder/use/Rust/bcp47-$version" cargo test -q --config "patch.crates-io.bcp47-sys.path='../bcp47-sys-$version'" \
     --config "patch.crates-io.bcp47-registry.path='../bcp47-registry-2025.5.15'" --all-features
-for made in "$folder"/dist/*.{crate,tgz}; do
+for made in "$folder"/dist/*.{crate,tgz} "$folder/dist/bcp47-go-$version.tar.gz"; do
     is "$(basename "$made") has its licence and a page" 4 "$(tar -tzf "$made" | grep -cE '^[^/]*/(LICENSE(-MIT|-APACHE)?|README.md|RUST.md)$')"
 done
 
