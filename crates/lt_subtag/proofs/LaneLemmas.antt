@@ -1,4 +1,5 @@
--- From the mask of one load to the bytes that pass a test, and the select of two vectors that were computed from it.
+-- A load is bytes of a text in a vector, a lane for each, and a mask has a bit for each lane. From the mask of a load
+-- to the bytes that pass a test, and the choice between two vectors, lane by lane.
 use Rattle.std.proofs.Common.{◌≡◌, ℕ, ◌+◌, ◌%◌, ◌^◌, ◌<◌, ◌≤◌, eqb, Bool, true, not, List, [], ◌∷◌, map, length, get_or}
 use Rattle.std.proofs.Common.{cond, Fits, w8, refl, ap, ap₂, ◌∙◌, arith}
 use Rattle.std.proofs.lemmas.Bool.{agree_below, agree_below_at, eqb-true}

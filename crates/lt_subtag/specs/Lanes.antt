@@ -12,6 +12,7 @@ padded s = s ++ replicate (8 - length s) 0
 unfoldable pub number : List ℕ → ℕ
 number s = from_be_bytes w64 (padded s)
 
--- the index, from 0, of the lowest bit that is set in the mask of a vector of `lanes` lanes, or `lanes` if none is
+-- the index, from 0, of the lowest bit that is set in a mask, which has a bit for each of the `lanes` lanes of a
+-- vector; `lanes` if none is
 abbrev pub first_set : ℕ → ℕ → ℕ
 first_set mask lanes = if mask == 0 then lanes else count_trailing_zeros 64 mask

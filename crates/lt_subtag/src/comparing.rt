@@ -1,4 +1,5 @@
-//! Equality, order and hash of subtags: those of their lower-case bytes.
+//! Equality, order and hash of subtags: those of their lower-case bytes. Each `impl` says by `eq`, `partial_cmp`, `cmp`
+//! or `hash_input` what it computes. Its other `ghost` lines are the proofs that the trait asks for.
 ghost use Rattle.std.specs.Prelude.{nat_eq, refl};
 ghost use Rattle.std.specs.Ordering.{nat_cmp, as_partial_cmp};
 ghost use Rattle.std.specs.Cmp.{partial_equiv_from_equiv};
@@ -32,6 +33,7 @@ impl PartialOrd for Subtag {
 
     ghost laws = { texts_po };
 
+    /// The order of `cmp`, which any two subtags have.
     fn partial_cmp(&self, other: &Subtag) -> Option<Ordering> {
         Some(self.cmp(other))
     }

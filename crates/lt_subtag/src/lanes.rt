@@ -1,4 +1,5 @@
-//! Up to eight bytes of a text, looked at all at once.
+//! Up to eight bytes of a text, looked at all at once, by which `Subtag::read` reads a piece. A vector has a lane for
+//! each byte, and a mask a bit for each lane.
 ghost use Rattle.std.specs.Prelude.{◌≡◌, ◌≤◌, ◌<◌, true, false, length, take, IfSome, IfNone};
 ghost use Rattle.std.specs.List.{list_all, prefix_len};
 ghost use Rattle.std.specs.Char.{is_ascii_alphanumeric};

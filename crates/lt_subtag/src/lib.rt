@@ -1,5 +1,8 @@
 //! Subtags of BCP 47 language tags (RFC 5646, 2.1): 1 to 8 letters or digits, whose case doesn't matter. A
 //! program begins with the crate `bcp47`, which gives these types too.
+//!
+//! A *piece* is what stands between two hyphens of a text. By the clause `subtag` of a call a caller's proof knows that
+//! the bytes are a subtag's. In an `impl Display`, `ghost output` is the text that `{}` writes.
 #![tactic(auto)]
 
 ghost use Rattle.std.specs.Prelude.{◌≡◌, ◌≤◌, ◌<◌, [], ◌∷◌, ◌++◌, true, length, take, drop, Err, Some};
@@ -78,7 +81,8 @@ pub struct Subtag {
     count: u8,
 }
 
-// A contract sees a subtag as its lower-case bytes (RFC 5646, 2.1.1).
+// A contract sees a subtag as its lower-case bytes (RFC 5646, 2.1.1), the first `count` of `letters`. By `invariant`
+// each subtag has 1 to 8 of them, lower-case letters or digits, and zeros after them.
 impl Model for Subtag {
     ghost use Rattle.std.specs.Prelude.{◌≡◌, ◌≤◌, ℕ, List, take, true};
     ghost use Rattle.lt_subtag.specs.Bytes.{is_subtag};
@@ -94,7 +98,7 @@ impl Model for Subtag {
 impl Default for Subtag {
     ghost is_default = { λ subtag. subtag ≡ 120 ∷ [] };
 
-    /// The subtag `x`, which fills the unused places of an `ArrayVec`.
+    /// The subtag `x` (byte 120), which fills the unused places of an `ArrayVec`.
     #[tactic(auto, unfolding(crate::specs::Bytes::is_subtag))]
     fn default() -> Subtag {
         Subtag {
@@ -140,7 +144,7 @@ impl Subtag {
         }
     }
 
-    /// The lower-case bytes, 1 to 8 of them.
+    /// The lower-case bytes, 1 to 8 of them. The clauses `subtag`, `some` and `few` tell a caller's proof so.
     #[tactic(auto, using(crate::proofs::BytesLemmas::subtag_length))]
     pub fn bytes(&self) -> &[u8]
         ensures same { result.now ≡ self.now }
@@ -169,7 +173,7 @@ impl Subtag {
         u64::from_be_bytes(self.letters)
     }
 
-    /// An equal subtag.
+    /// An equal subtag, in place of a `clone`, which the type doesn't have.
     pub fn copy(&self) -> Subtag
         ensures { result ≡ self.now }
     {
@@ -287,7 +291,8 @@ fn is_numeric(bytes: &[u8]) -> bool
     bytes.iter().all(|byte| byte.is_ascii_digit())
 }
 
-/// The fault of a piece, which must have more than 8 bytes: `BadByte` if one is no letter or digit, else `TooLong`.
+/// The fault with which `Subtag::read` refuses a piece of more than 8 bytes, which the piece must have: `BadByte` if
+/// one is no letter or digit, else `TooLong`.
 fn long_fault(bytes: &[u8]) -> SubtagFault
     requires { 8 < length bytes.now }
     ensures { Err result ≡ subtag_of bytes.now }

@@ -19,7 +19,7 @@ returns-clause-good c =
     padded_passes s _ (omega arith) (c.run_of_8.ensures
     ∙ ap (λ v. prefix_len is_ascii_alphanumeric (take 8 v)) c.pad-padded.ensures) (omega arith)
 
--- lower case leaves zeros as they are, so it is the same to pad before it or after it
+-- the array given is the bytes in lower case, padded: zeros stay as they are, so it is the same to pad before or after
 pub returns-clause-folded : goal.returns-clause-folded
 returns-clause-folded c =
     let s = c.args.bytes.now in

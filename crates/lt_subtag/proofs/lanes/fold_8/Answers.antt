@@ -5,7 +5,8 @@ use lib.Lanes.{chunk}
 use Rattle.lt_subtag.proofs.LaneLemmas.{joined, itself, selected, lanes_agree, bytes_of}
 use Rattle.lt_subtag.proofs.lanes.fold_8.Goals as goal
 
--- in each lane, as in `to_ascii_lowercase`, bit 0x20 is set in a capital, and any other byte stays
+-- the array given is the first eight bytes in lower case: in each lane, as in `to_ascii_lowercase`, the bit 32 is set
+-- in a capital (the 26 from `A`, 65, on), and any other byte stays
 pub returns : goal.returns
 returns c =
     let v = chunk 0 8 c.args.text.now in

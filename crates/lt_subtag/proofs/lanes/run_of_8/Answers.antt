@@ -5,7 +5,8 @@ use lib.Lanes.{chunk}
 use Rattle.lt_subtag.proofs.LaneLemmas.{joined, front_of}
 use Rattle.lt_subtag.proofs.lanes.run_of_8.Goals as goal
 
--- a bit of the mask is set exactly where a byte is neither a letter nor a digit, and the lowest ends the front
+-- The answer is how many of the first eight bytes are letters and digits, up to one that is neither. A bit of the mask
+-- is set exactly where a byte is neither, and the lowest is found. (97 is `a`, 48 is `0`, 32 the bit of lower case.)
 pub returns : goal.returns
 returns c =
     let v = chunk 0 8 c.args.text.now in
