@@ -19,6 +19,7 @@ lower-lower b = grind (arith, common_steps)
 lower_range : (b : ℕ) → is_ascii_alphabetic b ≡ true → (97 ≤ to_ascii_lowercase b) × (to_ascii_lowercase b ≤ 122)
 lower_range b h = grind (arith, common_steps)
 
+-- a letter has the same number in lower case
 letter-lower : (b : ℕ) → letter_of (to_ascii_lowercase b) ≡ letter_of b
 letter-lower b = rw (lower-alphabetic, lower-lower) refl
 

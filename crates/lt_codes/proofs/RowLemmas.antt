@@ -20,6 +20,7 @@ pub record AreLetters (count : ℕ) (code : List ℕ) : Type 0 where
   pub letters : is_alphabetic code ≡ true
   pub long : length code ≡ count
 
+-- what is found to be this many letters is, where r is what was read of the field
 letters_are : (count : ℕ) (r : Result (List ℕ) SubtagFault) (code : List ℕ) → if_letters count r ≡ Some code → AreLetters count code
 letters_are count (Err fault) code h = cc
 letters_are count (Ok s) code h = elim (cases_Bool (is_alphabetic s && (length s == count))) [

@@ -1,4 +1,5 @@
--- Codes of languages, and the registered language subtags that replace them.
+-- Codes of languages, and the registered language subtags that replace them. The list is that of the table, in its
+-- order.
 use Rattle.std.specs.Prelude.{ℕ, List, ◌++◌, ◌==◌, Option, bytes_eq, drop, find, length}
 use Rattle.std.specs.List.{before_first}
 use Rattle.std.specs.Option.{option_map_or}

@@ -7,7 +7,7 @@ use Rattle.lt_subtag.specs.Bytes.{folded}
 use Rattle.lt_codes.specs.Codes.{found_in}
 use Rattle.lt_codes.specs.declared.codes.Code.{Code}
 
--- the number of a letter, counted from 0, whatever its case
+-- the number of a letter, from 0 for `a` (97) to 25, whatever its case
 abbrev pub letter_of : ℕ → Option ℕ
 letter_of byte = if is_ascii_alphabetic byte then Some (to_ascii_lowercase byte - 97) else None
 

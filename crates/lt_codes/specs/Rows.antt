@@ -57,7 +57,7 @@ row_of b t w = row_from (code_of 3 b) (code_or_none 3 t) (code_or_none 2 w)
 abbrev pub registered_in : Row → List ℕ
 registered_in row = unwrap_or (option_or row.two_letters row.terminologic) row.bibliographic
 
--- the code with what is registered for it, if there is a code
+-- the code with what is registered for it, the second argument, if there is a code
 abbrev pub code_if : Option (List ℕ) → List ℕ → List Code
 code_if None registered = []
 code_if (Some code) registered = record { code = code; registered = registered } ∷ []

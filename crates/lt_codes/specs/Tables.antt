@@ -38,14 +38,14 @@ AddsLine before line (Err kinds.TableTooLong) = ⊥
 AddsLine before line (Err kinds.Read) = ⊥
 AddsLine before line (Err kinds.OutOfMemory) = Unit {0}
 
--- reading these lines, each of which adds its codes, makes `codes` of the codes before them; a carriage return (13)
--- that ends a line is no part of it
+-- reading these lines (the second argument), each of which adds its codes, makes `codes` of the codes before them; a
+-- carriage return (13) that ends a line is no part of it
 abbrev pub AddLines : List Code → List (List ℕ) → List Code → Type 0
 AddLines before [] codes = codes ≡ before
 AddLines before (line ∷ lines) codes =
     (more : List Code) × AddsLine before (content_of line) (Ok more) × AddLines (before ++ more) lines codes
 
--- the most bytes of a table
+-- the most bytes of a table: 1 MiB (this project's own)
 abbrev pub longest_table : ℕ
 longest_table = 1048576
 
@@ -82,6 +82,6 @@ pub record IsTooLong (text : List ℕ) (fault : TableFault) : Type 0 where
   pub kind : fault.kind ≡ kinds.TableTooLong
   pub number : fault.line ≡ line_reached text
 
--- why a text is no table: it is too long, or a line is refused; running out of memory aside
+-- why a text is no table: it is too long, or a line is refused; OutOfMemory may be answered of any text
 abbrev pub RefusesTable : List ℕ → TableFault → Type 0
 RefusesTable text fault = (fault.kind ≡ kinds.OutOfMemory) ⊎ (IsTooLong text fault ⊎ RefusesLine text fault)

@@ -1,4 +1,5 @@
-//! Codes of languages, and what is registered for them.
+//! Codes of languages, and what is registered for them. A contract sees a table as its codes, and not the numbers and
+//! places by which they are looked up.
 ghost use Rattle.std.specs.Prelude.{◌≡◌, ◌<◌, ◌≤◌, ◌++◌, ◌∷◌, [], IfOk, IfSome, IsSome, MatchBool, OnOk, length, option_map};
 ghost use Rattle.std.specs.List.{All};
 ghost use Rattle.lt_subtag.specs.Bytes.{folded};
@@ -40,7 +41,7 @@ impl Model for CodeTable {
     ghost invariant = { λ table. AreIndexed table.codes.items table.places.items };
 }
 
-/// The number of a letter, counted from 0, whatever its case. None for any other byte.
+/// The number of a letter, from 0 to 25, whatever its case. None for any other byte.
 fn letter_of(byte: u8) -> Option<usize>
     ensures number { result ≡ spec.letter_of byte }
     ensures small { IfSome result (λ number. number < 26) }
@@ -52,8 +53,8 @@ fn letter_of(byte: u8) -> Option<usize>
     }
 }
 
-/// The number of a text of three letters, whatever their case: the letters are its digits to the base 26. None for any other
-/// text.
+/// The number of a text of three letters, whatever their case: the letters are its digits to the base 26. So it is
+/// below 17,576, and an index of `places`. None for any other text.
 fn number_of(text: &[u8]) -> Option<usize>
     ensures number { result ≡ spec.number_of text.now }
     ensures small { IfSome result (λ number. number < 17576) }
@@ -83,15 +84,16 @@ impl CodeTable {
         })
     }
 
-    /// Does nothing when it runs: by its clause the form of the codes is known.
+    /// Does nothing when it runs: by its clause a caller's proof knows the form of the codes, which every table keeps.
     pub fn know_codes(&self)
         ensures { All IsCode self.now }
     {
         let _ = &self.codes;
     }
 
-    /// Adds a code after the others, with the subtag that is registered for it. The code must be three letters in lower case,
-    /// and the subtag at least two bytes long. Refused where memory runs out.
+    /// Adds a code after the others, with the subtag that is registered for it. The code must be three letters in lower
+    /// case, and the subtag at least two bytes long, so that a text gets at most one byte shorter by it. Refused where
+    /// memory runs out.
     pub(crate) fn push(&mut self, code: Subtag, registered: Subtag) -> Result<(), AllocError>
         requires { IsCode (record { code = code; registered = registered }) }
         ensures { OnOk result (self.new ≡ self.old ++ record { code = code; registered = registered } ∷ []) }
@@ -107,8 +109,8 @@ impl CodeTable {
         Ok(())
     }
 
-    /// The subtag that is registered for a code, whatever the case of its letters. None if the text is no code of the
-    /// table.
+    /// The subtag that is registered for a code, whatever the case of its letters: that of the first code that is this
+    /// text. None if the text is no code of the table.
     pub(crate) fn registered(&self, text: &[u8]) -> Option<&Subtag>
         ensures { option_map (λ subtag. subtag.now) result ≡ option_map (λ c. c.registered) (found_in self.now text.now) }
     {

@@ -45,6 +45,7 @@ impl TableFaultKind {
 impl From<AllocError> for TableFaultKind {
     ghost from_gives = { λ _ kind. kind ≡ kinds.OutOfMemory };
 
+    /// The refusal of a growth of memory.
     fn from(_error: AllocError) -> TableFaultKind {
         TableFaultKind::OutOfMemory
     }

@@ -1,4 +1,5 @@
-//! Reading a table from a reader.
+//! Reading a table from a reader. `run_pieces` reads it, and hands its bytes piece by piece to a `Whole`, which keeps
+//! them.
 ghost use Rattle.std.specs.Prelude.{◌≡◌};
 ghost use Rattle.lt_codes.specs.Reading as spec;
 ghost use Rattle.lt_codes.specs.Reading.{EndsBytes, IsCutOff, IsWhole, ReadsTable};
@@ -20,6 +21,7 @@ struct Whole {
 impl Pieces<()> for Whole {
     type Answer = ();
 
+    // Of the five arguments only two matter here: `read`, the bytes that were read, and `here`, this value now.
     ghost taken = { λ first start now read here. IsWhole read here };
 
     ghost stopped = { λ first start now read here result. IsCutOff read here result };
@@ -47,7 +49,7 @@ impl Pieces<()> for Whole {
     }
 }
 
-/// The fault of a table whose reading was ended by a fault: `OutOfMemory`, or else `Read`.
+/// The fault of a table whose reading was ended by a fault of the run: `OutOfMemory`, or else `Read`.
 fn kind_of(fault: ToolFault) -> TableFaultKind
     ensures { result ≡ spec.kind_of fault }
 {

@@ -26,7 +26,8 @@ pub struct Row {
     pub two_letters: Option<Subtag>,
 }
 
-/// The field before the next vertical bar of a line, and what follows the bar. None if there is no bar.
+/// The field before the next vertical bar of a line, and what follows the bar. None if there is no bar: then the rest
+/// is the last field.
 #[tactic(auto, using(crate::proofs::SplitLemmas::field_next, crate::proofs::SplitLemmas::field_last))]
 fn next_field(rest: &[u8]) -> Option<(&[u8], &[u8])>
     ensures { MatchOption result (spec.fields_of rest.now ≡ rest.now ∷ []) (λ p. spec.fields_of rest.now ≡ p.0.now ∷ spec.fields_of p.1.now) }
@@ -35,7 +36,7 @@ fn next_field(rest: &[u8]) -> Option<(&[u8], &[u8])>
 }
 
 /// The first three fields of a line, which are codes. The other two are names, and are left out. None if the line doesn't
-/// have five fields, with a vertical bar between each two.
+/// have five fields, with a vertical bar between each two: then it has no three such fields b, t and w.
 #[tactic(auto, using(crate::proofs::SplitLemmas::field_some))]
 pub(crate) fn fields_of(line: &[u8]) -> Option<Fields<'_>>
     ensures { MatchOption result ((b t w : List ℕ) → HasFields line.now b t w → ⊥)
@@ -103,7 +104,7 @@ fn is_range(field: &[u8]) -> bool
 }
 
 impl Fields<'_> {
-    /// Whether these are the fields of a range, for which nothing is registered.
+    /// Whether these are the fields of a range, `qaa-qtz` and two empty ones, for which nothing is registered.
     pub(crate) fn are_of_range(&self) -> bool
         ensures { result ≡ (is_range self.now.bibliographic.now && (spec.is_empty self.now.terminologic.now && spec.is_empty self.now.two_letters.now)) }
     {

@@ -84,7 +84,8 @@ fn add_line(table: &mut CodeTable, line: &[u8]) -> Result<(), TableFaultKind>
     }
 }
 
-/// The first line of a text, and what follows its line feed. None if the text is empty.
+/// The first line of a text, and what follows its line feed, which is shorter than the text, so that reading ends. None
+/// if the text is empty.
 #[tactic(auto, using(crate::proofs::SplitLemmas::line_next, crate::proofs::SplitLemmas::line_last))]
 fn next_line(text: &[u8]) -> Option<(&[u8], &[u8])>
     ensures { MatchOption result (lines_of text.now ≡ []) (λ p. (lines_of text.now ≡ p.0.now ∷ lines_of p.1.now) × (length p.1.now < length text.now)) }

@@ -1,4 +1,4 @@
-//! Texts whose first subtag is replaced.
+//! Texts whose first subtag is replaced: a line that begins with a code of the table becomes the text of a tag.
 ghost use Rattle.std.specs.Prelude.{◌≡◌, IfOk, MatchBool, length};
 ghost use Rattle.lt_codes.specs.Codes.{first_subtag, registered_text};
 
@@ -18,8 +18,8 @@ fn first_end(text: &[u8]) -> usize
 
 impl CodeTable {
     /// Puts a text into a buffer with the subtag that is registered for its first subtag in place of that: of `eng-US` it
-    /// puts `en-US`. Tells whether the table has that first subtag as a code, whatever the case of its letters. If not, the
-    /// buffer stays as it is. Refused only where memory runs out.
+    /// puts `en-US`. Tells whether the table has that first subtag as a code, whatever the case of its letters. If not,
+    /// the buffer stays as it is: the clause says that the same text would be put. Refused only where memory runs out.
     pub fn replace(&self, text: &[u8], buffer: &mut Vec<u8>) -> Result<bool, AllocError>
         ensures { IfOk result (λ done. MatchBool done (buffer.new.items ≡ registered_text self.now text.now) (registered_text self.now text.now ≡ text.now)) }
     {

@@ -3,7 +3,8 @@ use Rattle.lt_codes.proofs.RowLemmas.{are_codes, row_is}
 use Rattle.lt_codes.proofs.TableLemmas.{range_adds, row_adds}
 use Rattle.lt_codes.proofs.tables.add_line.Goals as goal
 
--- the line is that of a range, and adds no code
+-- The call adds the codes of the line or refuses it, as AddsCodes says. Here the line is that of a range, and adds
+-- none.
 pub returns-then-are_of_range : goal.returns-then-are_of_range
 returns-then-are_of_range c =
     let f = c.in-Some.fields in
@@ -11,7 +12,7 @@ returns-then-are_of_range c =
     f.two_letters.now c.in-Ok.ensures.cases.1 c.in-Some.ensures (sym c.are_of_range.ensures
     ∙ c.if-are_of_range.true) refl
 
--- the fields have the forms of codes, so the row has codes of three letters
+-- the fields have the forms of codes, so the codes of the row are three letters, as `add_row` asks
 pub add_row-requires : goal.add_row-requires
 add_row-requires c =
     let f = c.in-Some.fields in

@@ -4,7 +4,7 @@ use Rattle.lt_codes.specs.Tables.{Agrees}
 use Rattle.lt_codes.proofs.RowLemmas.{holds_first, holds_second}
 use Rattle.lt_codes.proofs.tables.add_row.Goals as goal
 
--- the bibliographic code stands before with another subtag, so not all codes agree
+-- the bibliographic code stands before with another subtag, so not all codes agree, and `RepeatedCode` is right
 pub returns-then-not-agrees : goal.returns-then-not-agrees
 returns-then-not-agrees c = λ all.
     let agrees = subst

@@ -2,7 +2,8 @@ use Rattle.std.proofs.Common.{◌≡◌, replicate}
 use Rattle.lt_codes.proofs.IndexLemmas.{indexed_none}
 use Rattle.lt_codes.proofs.codes.CodeTable.new.Goals as goal
 
--- there are no codes, and each number of three letters has the place 0
+-- the new table keeps what each table keeps (AreIndexed): it has no codes, and each of the 17,576 numbers of three
+-- letters has the place 0, which says that there is none
 pub invariant_of-result : goal.invariant_of-result
 invariant_of-result c =
     let places = c.in_ok-vec.field-0.items in

@@ -19,7 +19,8 @@ place : (c : After-index) → c.index.result.now ≡ get_or c.self.inside.places
 place c = c.index.ensures ∙ get_or_default_zero c.self.inside.places.items c.in-Some.number c.index.result.now
     (omega (arith, number_small c.args.code c.in-Some.number (number c), c.self.invariant.full))
 
--- no code before has these letters: their place is that of the new code, which is last
+-- The table keeps its places right (AreIndexed) where a code is added. Here no code before has these letters: their
+-- place is that of the new code, which is last.
 pub invariant_of-self-then-index-eq0 : goal.invariant_of-self-then-index-eq0
 invariant_of-self-then-index-eq0 c =
     let at = (goal.at.invariant_of-self-then-index-eq0 c).After-index in

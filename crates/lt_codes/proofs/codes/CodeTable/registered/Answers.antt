@@ -6,7 +6,7 @@ use Rattle.lt_codes.proofs.IndexLemmas.{at_place, found_none, place_at}
 use Rattle.lt_codes.proofs.codes.CodeTable.registered.Goals as goal
 use Rattle.lt_codes.proofs.codes.CodeTable.registered.Goals.{Else-place-eq0}
 
--- the text is no three letters, so no code is this text
+-- the text is no three letters, so no code is this text, and None is right
 pub returns-in_err-number : goal.returns-in_err-number
 returns-in_err-number c =
     let none : found_in c.args.self.now c.args.text.now ≡ None = rw (← c.self.view_is)
@@ -27,7 +27,7 @@ index-requires c =
     let f = found c in
     omega (arith, slice_get_within c.self.inside.codes.items (c.index-place.result.now - 1) f.0 f.2, c.self.inside.codes.ok.0)
 
--- the code at the place that was read is the first that is this text
+-- the code at the place that was read is the first that is this text, so what is registered for it is the answer
 pub returns : goal.returns
 returns c =
     let f = found (goal.at.returns c).Else-place-eq0 in
