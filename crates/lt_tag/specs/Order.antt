@@ -1,4 +1,5 @@
 -- An order of tags by their parts, one after another as they are in a tag. Tags without a core come first.
+-- `ordering_then` is the first of two orders, or the second where the first says that the two are equal.
 use Rattle.std.specs.Prelude.{ℕ, List, ◌++◌}
 use Rattle.std.specs.Ordering.{nat_cmp, ordering_then}
 use Rattle.std.specs.Option.{option_cmp}

@@ -1,4 +1,5 @@
--- The orders of cores, extensions and tags are total, and tell any two apart.
+-- The orders of cores, extensions and tags are total, and tell any two apart: what is equal by them is the same. `Eq`,
+-- `Ord` and `Hash` of these types rest on it.
 use Rattle.std.proofs.Common.{◌≡◌, ◌↔◌, Bool, true, false, IsTrue, [], Some, None, refl, ap, sym, ◌∙◌, true≢false}
 use Rattle.std.specs.Ordering.{ordering_then, is_eq, eq_by_cmp}
 use Rattle.std.specs.Option.{option_cmp}

@@ -1,5 +1,6 @@
-//! Equality, order and hash of cores, extensions and tags: those of their parts, one after another. The order
-//! is that of the parts' lower-case bytes, with tags without a core first.
+//! Equality, order and hash of cores, extensions and tags: those of their parts, one after another. The order is that
+//! of the parts' lower-case bytes, with tags without a core first. Each `impl` says by `eq`, `partial_cmp`, `cmp` or
+//! `hash_input` what it computes. Its other `ghost` lines are the proofs that the trait asks for.
 ghost use Rattle.std.specs.Prelude.{◌≡◌, refl};
 ghost use Rattle.std.specs.Option.{option_cmp, option_copied};
 ghost use Rattle.std.proofs.Common.{ap};
@@ -32,14 +33,14 @@ fn compare_extensions(left: &[Extension], right: &[Extension]) -> Ordering
     left.cmp(right)
 }
 
-/// The order of two subtags, where None comes before any.
+/// The order of two subtags, where None comes before any. The clause compares what the references show.
 fn compare_options(left: Option<&Subtag>, right: Option<&Subtag>) -> Ordering
     ensures { result ≡ option_cmp subtag_cmp (option_copied left.entry) (option_copied right.entry) }
 {
     left.cmp(&right)
 }
 
-/// The order of two cores, where None comes before any.
+/// The order of two cores, where None comes before any. The clause compares what the references show.
 fn compare_optional_cores(left: Option<&Core>, right: Option<&Core>) -> Ordering
     ensures { result ≡ option_cmp core_cmp (option_copied left.entry) (option_copied right.entry) }
 {
@@ -66,6 +67,7 @@ impl PartialOrd for Core {
 
     ghost laws = { partial_order_from_total core_total };
 
+    /// The order of `cmp`, which any two have.
     fn partial_cmp(&self, other: &Core) -> Option<Ordering> {
         Some(self.cmp(other))
     }
@@ -127,6 +129,7 @@ impl PartialOrd for Extension {
 
     ghost laws = { partial_order_from_total extension_total };
 
+    /// The order of `cmp`, which any two have.
     fn partial_cmp(&self, other: &Extension) -> Option<Ordering> {
         Some(self.cmp(other))
     }
@@ -181,6 +184,7 @@ impl PartialOrd for Tag {
 
     ghost laws = { partial_order_from_total tag_total };
 
+    /// The order of `cmp`, which any two have.
     fn partial_cmp(&self, other: &Tag) -> Option<Ordering> {
         Some(self.cmp(other))
     }

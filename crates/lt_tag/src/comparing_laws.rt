@@ -1,5 +1,5 @@
-//! What the comparisons of cores, extensions and tags compute: `==` is equality of their parts. Nothing
-//! else is computed here.
+//! What the comparisons of cores, extensions and tags compute: `==` is equality of their parts. Each function only
+//! compares, and states this law by its contract.
 ghost use Rattle.std.specs.Prelude.{◌≡◌, ◌↔◌, IsTrue};
 
 use crate::cores::Core;

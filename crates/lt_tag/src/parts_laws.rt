@@ -22,28 +22,29 @@ pub fn one_transform()
     ensures { (subtags : List (List ℕ)) (p q : TForm) → IsTransform subtags p → IsTransform subtags q → p ≡ q }
 {}
 
-/// Whether subtags are those of a core is decided, and by which core.
+/// `core_of_list` decides whether subtags are those of a core: it gives a core exactly if that is shaped and spells
+/// them.
 pub fn core_is_decided()
     ensures { (subtags : List (List ℕ)) (core : CoreParts) → (core_of_list subtags ≡ Some core) ↔ (IsCore core × (spell_core core ≡ subtags)) }
 {}
 
-/// Whether subtags are those of a `u` extension is decided, and by which parts.
+/// `unicode_of` decides whether subtags are those of a `u` extension: it gives parts exactly if these spell them.
 pub fn unicode_is_decided()
     ensures { (subtags : List (List ℕ)) (parts : UForm) → (unicode_of subtags ≡ Some parts) ↔ IsUnicode subtags parts }
 {}
 
-/// Whether subtags have the form of a `t` extension is decided, and by which parts.
+/// `transform_of` decides whether subtags have the form of a `t` extension: it gives parts exactly if these spell them.
 pub fn transform_is_decided()
     ensures { (subtags : List (List ℕ)) (parts : TForm) → (transform_of subtags ≡ Some parts) ↔ IsTransform subtags parts }
 {}
 
-/// What the parts of a `u` extension spell is an extension.
+/// What the parts of a `u` extension spell is an extension, after the singleton `u`.
 #[tactic(auto, using(crate::proofs::PartsLemmas::u_extension), unfolding(lt_subtag::specs::Shapes::is_singleton, lt_subtag::specs::Bytes::is_subtag))]
 pub fn unicode_is_extension()
     ensures { (parts : UForm) → IsU parts → IsExtension (record { singleton = unicode; subtags = spell_u parts }) }
 {}
 
-/// What the parts of a `t` extension spell is an extension.
+/// What the parts of a `t` extension spell is an extension, after the singleton `t`.
 #[tactic(auto, using(crate::proofs::PartsLemmas::t_extension), unfolding(lt_subtag::specs::Shapes::is_singleton, lt_subtag::specs::Bytes::is_subtag))]
 pub fn transform_is_extension()
     ensures { (parts : TForm) → IsT parts → IsExtension (record { singleton = transform; subtags = spell_t parts }) }

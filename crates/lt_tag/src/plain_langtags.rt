@@ -1,4 +1,5 @@
-//! Langtags without extensions and private use, as lists of subtags.
+//! Langtags without extensions and private use, as lists of subtags. The check of a registry asks whether each Prefix
+//! is one, and needs no memory for it.
 ghost use Rattle.std.specs.Prelude.{◌≡◌, ◌↔◌, IsTrue};
 ghost use Rattle.lt_tag.specs.PlainLangTags.{IsPlainLangTag, room_after};
 

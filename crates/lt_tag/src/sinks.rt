@@ -1,4 +1,4 @@
-//! What the text of a tag is printed to: a vector of bytes, or the formatter of a `Display`.
+//! What the text of a tag is printed to: a vector of bytes, or the formatter of a `Display`. One code prints to both.
 ghost use Rattle.std.specs.Prelude.{◌≡◌, ◌≤◌, ℕ, List, [], ◌++◌, OnOk, take};
 ghost use Rattle.std.specs.Fmt.{HasWritten, IsPlainFormatter};
 ghost use Rattle.lt_tag.specs.Keeping.{IsKept};
@@ -17,7 +17,8 @@ pub(crate) trait Sink {
     /// The bytes that it is known to hold; of a formatter none are known.
     ghost held: { Self → List ℕ };
 
-    /// Takes bytes, after those before. The sink still holds what it held, also if it refuses the bytes.
+    /// Takes bytes, after those before. The sink still holds what it held, also if it refuses the bytes, so that
+    /// `append_tag` can cut off what came after that.
     fn add(&mut self, bytes: &[u8]) -> Result<(), Self::Refusal>
         ensures took { OnOk result (took self.old bytes.now self.new) }
         ensures kept { IsKept (held self.old) (held self.new) };
@@ -37,6 +38,7 @@ impl Sink for Vec<u8> {
 
     ghost held = { λ text. text.items };
 
+    /// Takes the bytes at the end.
     #[inline(always)]
     fn add(&mut self, bytes: &[u8]) -> Result<(), OutOfMemory> {
         Ok(self.extend_from_slice(bytes)?)
@@ -55,6 +57,7 @@ impl Sink for Vec<u8> {
 impl<W: fmt::Write> Sink for fmt::Formatter<W> {
     type Refusal = fmt::Error;
 
+    // Of a formatter with a width or another option nothing is said.
     ghost took = { λ old bytes new. IsPlainFormatter old → HasWritten W.write_str_gives old bytes new };
 
     ghost held = { λ _. [] };
@@ -65,6 +68,7 @@ impl<W: fmt::Write> Sink for fmt::Formatter<W> {
         self.write_str(text)
     }
 
+    /// Takes the front alone.
     fn add_front(&mut self, bytes: &[u8; 9], count: usize) -> fmt::Result {
         self.add(&bytes[..count])
     }

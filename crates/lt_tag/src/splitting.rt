@@ -1,4 +1,5 @@
-//! Splitting `u` and `t` extensions into their parts.
+//! Splitting `u` and `t` extensions into their parts. A key begins each keyword, and a separator each field. A contract
+//! cuts subtags at the first: `before` gives those before it, and `onward` it and all after it.
 ghost use Rattle.std.specs.Prelude.{◌≡◌, ◌≤◌, ◌++◌, ⊤, true, false, length, position, IfOk, IfErr, OnOk};
 ghost use Rattle.std.specs.List.{list_all};
 ghost use Rattle.lt_subtag.specs.Shapes.{is_key, is_separator};
@@ -126,8 +127,8 @@ fn read_fields(alloc: Global, subtags: &[Subtag]) -> Result<Vec<Field>, Transfor
     Ok(fields)
 }
 
-/// The source that subtags spell, or None without a subtag. There must be at most 1,024 subtags. It is refused with
-/// `BadTransform` if they aren't those of a core, and with `OutOfMemory`.
+/// The source that subtags spell, or None without a subtag. There must be at most 1,024 subtags, as a core has no more
+/// variants. It is refused with `BadTransform` if they aren't those of a core, and with `OutOfMemory`.
 fn read_source(alloc: Global, subtags: &[Subtag]) -> Result<Option<Core>, TransformFault>
     requires { length subtags.now ≤ longest_text }
     ensures source { IfOk result (λ source. source_of_list subtags.now ≡ Some source) }
@@ -151,7 +152,7 @@ fn read_source(alloc: Global, subtags: &[Subtag]) -> Result<Option<Core>, Transf
 /// The parts that spell a `u` extension (RFC 6067, 2.1), which must have the singleton `u`. There is one such value
 /// for each `u` extension. Its keys are the subtags of two characters. Its attributes are the subtags before the
 /// first key, and the types of a key are the subtags up to the next key. So `u-attr-co-trad` has the attribute `attr`
-/// and the keyword `co-trad`. The only refusal is running out of memory.
+/// and the keyword `co-trad`. By `few` they can be joined again. The only refusal is running out of memory.
 pub fn split_u(alloc: Global, extension: &Extension) -> Result<UParts, OutOfMemory>
     requires { extension.now.singleton ≡ unicode }
     ensures parts { IfOk result (λ parts. IsUnicode extension.now.subtags parts) }
@@ -167,8 +168,8 @@ pub fn split_u(alloc: Global, extension: &Extension) -> Result<UParts, OutOfMemo
 
 /// The parts that spell a `t` extension (RFC 6497, 2.2), which must have the singleton `t`: a source, fields, or a
 /// source and fields after it. So `t-he-m0-true` has the source `he` and the field `m0-true`. A separator may occur
-/// twice. There is at most one such value. If there is none, the extension is refused with `BadTransform`, though its
-/// tag is well-formed. The other refusal is running out of memory.
+/// twice. There is at most one such value, which by `few` can be joined again. If there is none, the extension is
+/// refused with `BadTransform`, though its tag is well-formed. The other refusal is running out of memory.
 #[tactic(auto, using(crate::proofs::PartsLemmas::length_before))]
 pub fn split_t(alloc: Global, extension: &Extension) -> Result<TParts, TransformFault>
     requires { extension.now.singleton ≡ transform }

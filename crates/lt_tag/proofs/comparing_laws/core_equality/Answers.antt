@@ -1,6 +1,6 @@
 use Rattle.lt_tag.specs.OrderLaws.{core_total, cores_apart, same_exactly}
 use Rattle.lt_tag.proofs.comparing_laws.core_equality.Goals as goal
 
--- `==` compares by the order of cores, which is total and tells any two apart
+-- `==` is true exactly of cores that are the same: it compares by their order, which is total and tells any two apart
 pub returns : goal.returns
 returns c = same_exactly core_total cores_apart c.args.left.now c.args.right.now _ c.eq.ensures

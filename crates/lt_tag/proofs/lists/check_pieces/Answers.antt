@@ -35,7 +35,7 @@ loop-rest-preserved c =
       ),
     )
 
--- no piece is left, so all are subtags
+-- no piece is left, so all are subtags, and Ok is right
 pub returns : goal.returns
 returns c =
     let whole = rw c.in_default.is at c.loop-rest.invariant.1.1 in

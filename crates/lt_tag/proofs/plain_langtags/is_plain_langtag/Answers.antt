@@ -16,7 +16,7 @@ loop-subtag-init c =
       | else-bytes-le3 w ↦ grind (arith, nat_tests, bytes, w.if-bytes-le3, w.extlangs-is)
     ])
 
--- this subtag may not follow the core so far, so no core spells the subtags
+-- this subtag may not follow the core so far, so no core spells the subtags, and false is right
 pub returns-in-None : goal.returns-in-None
 returns-in-None c = (
   (λ t. cc),

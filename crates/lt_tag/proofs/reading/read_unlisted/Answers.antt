@@ -12,7 +12,7 @@ use Rattle.lt_tag.proofs.MisplacedLemmas.{read_next, fault_behind, misplaced_her
 use Rattle.lt_tag.proofs.MisplacedLemmas.{whole_length, whole_value, whole_unfinished}
 use Rattle.lt_tag.proofs.reading.read_unlisted.Goals as goal
 
--- a text of at most 1,024 bytes has at most 1,025 pieces
+-- the numbers of the pieces fit in 32 bits, as `check_pieces` asks: a text of at most 1,024 bytes has at most 1,025
 pub check_pieces-requires : goal.check_pieces-requires
 check_pieces-requires c =
     let split = c.cut_piece.ensures.pieces in
@@ -28,7 +28,7 @@ returns-in_err-check_pieces-clause-fault c =
     (fault_behind_first c.args.text.now _ _ _ split read c.in_err-check_pieces.field-0.0
     c.in_err-check_pieces.ensures))
 
--- all pieces are subtags, and no tag begins with the first of them
+-- the fault is BadLanguage at 1: all pieces are subtags, and no tag begins with the first of them
 pub returns-in_default-clause-fault : goal.returns-in_default-clause-fault
 returns-in_default-clause-fault c =
     let split = c.cut_piece.ensures.pieces in
@@ -43,7 +43,7 @@ loop-rest-init c =
     (draft_view c.in-Some.draft) (sym c.in-Some.ensures) in
     (omega (arith, ap length split, length-pieces c.args.text.now, c.requires.short), first)
 
--- all pieces before this one are subtags, so it is the leftmost that is none
+-- all pieces before this one are subtags, so it is the leftmost that is none, and its fault is that of the text
 pub returns-in_err-subtag_at-2-clause-fault : goal.returns-in_err-subtag_at-2-clause-fault
 returns-in_err-subtag_at-2-clause-fault c =
     let p = err_from_is_err_and c.from_residual-in_err-subtag_at-2.result c.from_residual-in_err-subtag_at-2.ensures.1 in
@@ -89,7 +89,7 @@ returns-in_err-check_pieces-2-clause-fault c =
     (fault_behind c.args.text.now c.loop-rest.place (draft_view c.loop-rest.draft) _ _ has
     c.in_ok-subtag_at-2.field-0 read c.in_err-check_pieces-2.field-0.0 c.in_err-check_pieces-2.ensures))
 
--- all pieces are subtags; those before this one begin a tag, and with this one they begin none
+-- the fault is Misplaced here: all pieces are subtags; those before this one begin a tag, and with it they begin none
 pub returns-then-not-branch-clause-fault : goal.returns-then-not-branch-clause-fault
 returns-then-not-branch-clause-fault c =
     let has = subst (λ (left : List (List ℕ)). HasRead c.args.text.now c.loop-rest.place left
@@ -138,7 +138,7 @@ finish-requires-clause-other c =
     subst (λ (l : List (List ℕ)). IsNotGrandfathered l)
     (sym (whole_draft c.args.text.now c.loop-rest.place (draft_view c.loop-rest.draft) has).1) c.requires.other
 
--- the list of the text begins a tag, but the part that it ends with has no subtag yet
+-- the fault is Unfinished: the list of the text begins a tag, but the part that it ends with has no subtag yet
 pub returns-in_default-2-clause-fault : goal.returns-in_default-2-clause-fault
 returns-in_default-2-clause-fault c =
     let has = rw c.in_default-rest.is at c.loop-rest.invariant.1 in

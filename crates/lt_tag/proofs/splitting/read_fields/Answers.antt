@@ -7,7 +7,7 @@ use Rattle.lt_tag.proofs.splitting.read_fields.Goals as goal
 pub loop-separator-init : goal.loop-separator-init
 loop-separator-init c = fields_begin c.args.subtags.now _ _ c.new-fields.ensures.items c.before_separator.ensures.rest
 
--- this separator has no values after it, or one of another form, so not all fields have values
+-- BadTransform is right: this separator has no values after it, or one of another form, so not all fields have values
 pub returns-then-not-are_values-clause-fault : goal.returns-then-not-are_values-clause-fault
 returns-then-not-are_values-clause-fault c =
     fields_fail _ _ _ c.in-Some.separator.now c.in-Some.others.now _ c.loop-separator.invariant

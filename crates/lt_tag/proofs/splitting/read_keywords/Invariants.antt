@@ -7,5 +7,6 @@ use Rattle.lt_tag.proofs.splitting.read_keywords.Given as goal
 abbrev pub invariant-loop-key : goal.invariant-loop-key
 invariant-loop-key l = AreKeywords (keywords_of l.fn.subtags) l.keywords.items l.rest
 
+-- the subtags that are left get fewer with each turn, so the loop ends
 abbrev pub decreases-loop-key : goal.decreases-loop-key
 decreases-loop-key l = length l.rest

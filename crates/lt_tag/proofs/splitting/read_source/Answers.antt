@@ -4,7 +4,7 @@ use Rattle.lt_tag.specs.Growth.{of_language, grown}
 use Rattle.lt_tag.proofs.CompleteLemmas.{source_first, source_begin, source_more, source_stop, source_end}
 use Rattle.lt_tag.proofs.splitting.read_source.Goals as goal
 
--- each core begins with a language, which the first subtag is not
+-- BadTransform is right: each core begins with a language, which the first subtag is not
 pub returns-then-not-is_language-clause-fault : goal.returns-then-not-is_language-clause-fault
 returns-then-not-is_language-clause-fault c =
     source_first c.args.subtags.now c.in-Some.others.now c.in-Some.language.now c.in-Some.ensures.cases.0 (sym c.if-not-is_language.ensures)

@@ -4,7 +4,8 @@ use Rattle.lt_tag.specs.Spelling.{x_subtag}
 use Rattle.lt_tag.proofs.MisplacedLemmas.{few_closed}
 use Rattle.lt_tag.proofs.drafts.TagDraft.finish.Goals as goal
 
--- at most 1,025 subtags are a language and at least a singleton for each extension, the open one too
+-- there are at most 1,024 extensions, as `from_parts` asks: at most 1,025 subtags are a language and at least a
+-- singleton for each extension, the open one too
 pub from_parts-requires-in-InExtension-clause-few_extensions : goal.from_parts-requires-in-InExtension-clause-few_extensions
 from_parts-requires-in-InExtension-clause-few_extensions c =
     let few = rw c.in-InExtension.is at c.requires.few in
@@ -17,7 +18,7 @@ from_parts-requires-in-InExtension-clause-few_extensions c =
           (c.of_parts.result ∷ []),
     )
 
--- at most 1,025 subtags are a language and at least a singleton for each extension
+-- the same, where private use is open and no extension
 pub from_parts-requires-in-InPrivate-clause-few_extensions : goal.from_parts-requires-in-InPrivate-clause-few_extensions
 from_parts-requires-in-InPrivate-clause-few_extensions c =
     let few = rw c.in-InPrivate.is at c.requires.few in

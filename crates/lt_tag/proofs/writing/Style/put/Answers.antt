@@ -5,7 +5,7 @@ use Rattle.lt_tag.specs.Conventional.{shown}
 use Rattle.lt_tag.proofs.PrintingLemmas.{prints_first, prints_next}
 use Rattle.lt_tag.proofs.writing.Style.put.Goals as goal
 
--- the first subtag is added as it is, without a hyphen
+-- The subtag is printed in its style, as `Prints` says. The first is added as it is, without a hyphen.
 pub returns-then-not-style-clause-put : goal.returns-then-not-style-clause-put
 returns-then-not-style-clause-put g c =
     IfOk-weaker c.add.result _ _ (λ u took. prints_first _ _ _ _ _ _ c.after.ensures c.if-not-style.true took) c.add.ensures.took

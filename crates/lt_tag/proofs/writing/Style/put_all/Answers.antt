@@ -1,7 +1,7 @@
 use Rattle.lt_tag.proofs.PrintingLemmas.{prints_append, prints_as, kept_trans, take_turn}
 use Rattle.lt_tag.proofs.writing.Style.put_all.Goals as goal
 
--- a turn prints one subtag more
+-- a turn prints one subtag more, and the sink keeps what it held
 pub loop-subtag-preserved : goal.loop-subtag-preserved
 loop-subtag-preserved g c = record {
   put = prints_as

@@ -3,7 +3,8 @@ use Rattle.std.proofs.lemmas.Result.{IfOk-weaker}
 use Rattle.lt_tag.proofs.PrintingLemmas.{prints_append, prints_as}
 use Rattle.lt_tag.proofs.writing.Style.put_core.Goals as goal
 
--- language, extlangs, script, region and variants, in this order, are the subtags of the core
+-- the core is printed, as `Prints` says: language, extlangs, script, region and variants, in this order, are its
+-- subtags
 pub returns-clause-put : goal.returns-clause-put
 returns-clause-put g c =
     IfOk-weaker c.put_all-2.result _ _ (λ u last.

@@ -5,7 +5,7 @@ use Rattle.lt_tag.specs.Spelling.{spell_extension, spell_extensions}
 use Rattle.lt_tag.proofs.PrintingLemmas.{prints_append, prints_as, kept_trans, take_turn}
 use Rattle.lt_tag.proofs.writing.Style.put_extensions.Goals as goal
 
--- a turn prints the subtags of one extension more
+-- a turn prints the subtags of one extension more, and the sink keeps what it held
 pub loop-extension-preserved : goal.loop-extension-preserved
 loop-extension-preserved g c = record {
   put = prints_as

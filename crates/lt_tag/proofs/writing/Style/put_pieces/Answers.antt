@@ -21,7 +21,7 @@ loop-others-preserved g c =
       kept = kept_trans _ _ _ c.loop-others.invariant.kept c.put.ensures.kept;
     }
 
--- no hyphen is left, so this piece is the last
+-- no hyphen is left, so this piece is the last, and all pieces are printed
 pub returns-in-None-clause-put : goal.returns-in-None-clause-put
 returns-in-None-clause-put g c =
     let before = c.loop-others.invariant.put in

@@ -9,7 +9,7 @@ some_private : (ss : List (List ℕ)) → (length ss == 0) ≡ false → x_subta
 some_private [] e = cc
 some_private (s ∷ ss) e = refl
 
--- there are subtags, so the `x` is printed before them
+-- the private use is printed, as `Prints` says: there are subtags, so the `x` comes before them
 pub returns-clause-put : goal.returns-clause-put
 returns-clause-put g c =
     IfOk-weaker c.put_all.result _ _

@@ -5,7 +5,7 @@ use Rattle.lt_tag.specs.Conventional.{shown}
 use Rattle.lt_tag.proofs.PrintingLemmas.{prints_first, prints_hyphened}
 use Rattle.lt_tag.proofs.writing.Style.put_subtag.Goals as goal
 
--- the first subtag is added in lower case, without a hyphen
+-- The subtag is printed in its style, as `Prints` says. The first is added in lower case, without a hyphen.
 pub returns-then-not-style-clause-put : goal.returns-then-not-style-clause-put
 returns-then-not-style-clause-put g c =
     IfOk-weaker c.add_first.result _ _ (λ u took. prints_first _ _ _ c.args.self.now c.after.result c.args.subtag.now
