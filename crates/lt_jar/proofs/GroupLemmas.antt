@@ -1,4 +1,5 @@
--- Lines are groups in one way. How a field of a group grows, what records groups make, and how many begin with them.
+-- A group is the fields between two separators. Lines are groups in one way. How a field of a group grows, what records
+-- groups make, and how many begin with them.
 use Rattle.std.proofs.Common.{◌≡◌, ◌∙◌, ◌++◌, ◌∷◌, ℕ, List, [], true, refl, sym, ap, append_assoc, append-nil, map}
 use Rattle.std.proofs.Common.{Bool, false, Result, Ok, nat_lt, ◌+◌, ◌&&◌, arith, length, length-append, MatchResult}
 use Rattle.std.specs.List.{filter, flat_map}

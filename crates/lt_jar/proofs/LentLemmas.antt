@@ -1,4 +1,4 @@
--- What is wrong with a text after whole lines, and what was lent or read of it so far.
+-- What is wrong with a text after whole lines, and what was lent (given as records) or read of it so far.
 use Rattle.std.proofs.Common.{◌≡◌, ◌∙◌, ◌++◌, ◌∷◌, ◌⊎◌, inl, inr, ℕ, List, [], false, refl, sym, ap, subst}
 use Rattle.std.proofs.Common.{append_assoc, append-nil, length, ◌+◌, ◌≤◌, arith, length-append, Option}
 use Rattle.std.specs.List.{AllByRecursion, filter, flat_map}

@@ -1,4 +1,5 @@
--- What lines that ran make of a text, and that nothing is wrong with them.
+-- Lines *ran* if reading them one by one came to no fault. What they make of a text, and that nothing is wrong with
+-- them.
 use Rattle.std.proofs.Common.{◌≡◌, ◌≢◌, ◌∙◌, ◌≤◌, ◌+◌, ◌∷◌, ℕ, List, [], Result, Ok, Err, refl, sym, ap, length, arith}
 use Rattle.std.proofs.Common.{MatchResult, inl, inr, ◌++◌, subst, append_assoc, append-nil, add-zero, length-append}
 use Rattle.std.proofs.Common.{Option, Some, None, zero-add}

@@ -1,4 +1,4 @@
--- What the records that are read of a text leave, and its end.
+-- The turns of `read_jar`, each of which reads one record: what they leave of the text, and its end.
 use Rattle.std.proofs.Common.{if◌then◌else◌, ◌≡◌, ◌∙◌, ◌++◌, ◌∷◌, inl, inr, ℕ, List, [], Bool, refl, sym, ap, subst}
 use Rattle.std.proofs.Common.{length, ◌+◌, ◌≤◌, arith, length-append}
 use Rattle.lt_jar.specs.Lines.{lines_of, whole_lines}

@@ -1,4 +1,4 @@
--- What the turns of one call keep, and how the call ends.
+-- What the turns of the loop in one call of `read_record` keep, and how the call ends: each turn reads once.
 use Rattle.std.proofs.Common.{Bor, MatchResult, is_ok, ◌≡◌, ◌≤◌, ◌+◌, ◌-◌, ◌++◌, ◌∷◌, ◌∙◌, inl, inr, ℕ, Bool, true}
 use Rattle.std.proofs.Common.{false, List, [], Option, Result, Ok, Err, length, take, drop, sym, ap, refl, subst, arith}
 use Rattle.std.proofs.Common.{zero, suc, add-zero, append_assoc, append-nil, length-append, length-drop}

@@ -1,4 +1,4 @@
--- What a line does to the record that goes on, and what the turns over a piece keep.
+-- What a line does to the record that goes on, and what the turns over a piece keep: each turn takes one of its lines.
 use Rattle.std.proofs.Common.{◌≡◌, ◌≢◌, Bool, true, false, if◌then◌else◌, ◌∙◌, ◌≤◌, ◌<◌, ◌+◌, ◌∷◌, ℕ, zero, suc, List}
 use Rattle.std.proofs.Common.{[], Result, Ok, Err, refl, sym, ap, length, get_or, arith, nat_lt, MatchResult, ◌⊎◌, inl}
 use Rattle.std.proofs.Common.{inr, ◌++◌, subst, append_assoc, append-nil, add-zero, length-append}

@@ -1,4 +1,4 @@
--- What contracts see of a device, a reader or writer that counts its reads and failures.
+-- What contracts see of a device, a reader or writer that counts its reads and failures, up to the greatest u64.
 use Rattle.std.specs.Prelude.{◌≡◌, ◌<◌, ◌-◌, ◌+◌, ◌^◌, ◌⊎◌, ◌&&◌, ℕ, zero, suc, List, length, min, if◌then◌else◌}
 use Rattle.std.specs.Prelude.{nat_lt, nat_eq, Result, Ok, Err}
 use Rattle.lt_jar.specs.declared.devices.Device.{Device}

@@ -1,4 +1,4 @@
--- How a text of records is cut into one record after another.
+-- How a text of records is cut into one record after another. `earlier` counts the records before the text.
 use Rattle.std.specs.Prelude.{◌≡◌, ◌≢◌, ◌≤◌, ◌+◌, ℕ, List, [], ◌∷◌, ◌++◌, length, map}
 use Rattle.std.specs.List.{AllByRecursion, filter, flat_map}
 use Rattle.lt_jar.specs.Lines.{IsOneLine, whole_lines}

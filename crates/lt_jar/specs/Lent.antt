@@ -25,7 +25,8 @@ pub record Moves {R : Type 0} (remaining : R → Option (List ℕ)) (old : JarRe
   pub fields : IfOk result (λ lent. IfSome lent (λ r. r.fields.now ≡ record_in new.source))
 
 -- Once the record of this answer is no longer borrowed, the reader is what the call made of it. R is the type of the
--- device's own reader, which has still to give what `remaining` tells.
+-- device's own reader, which has still to give what `remaining` tells. `the_row` is the type `JarReader` with its
+-- parameters: its lifetime, the first (0) of the call, R, and `JarSource`.
 abbrev pub LendsAs : (R : RattleType) → (R.Denot → Option (List ℕ))
     → MutBor (JarReader R.Denot JarSource) → Result (Option RecordRef) JarFault → Fml
 LendsAs R remaining reader result =

@@ -1,4 +1,5 @@
--- What the engine that reads records does with a piece of a text, and with the text's end.
+-- What the engine that reads records does with a piece of a text, and with the text's end. `partial.items` are the
+-- bytes that it keeps of a line, and `steps` (Reading) computes what lines make of the fields that go on (`going_on`).
 use Rattle.std.specs.Prelude.{◌≡◌, ◌≢◌, ◌≤◌, ◌<◌, ◌+◌, ◌⊎◌, ℕ, Bool, true, false, List, [], ◌∷◌, ◌++◌, length, take}
 use Rattle.std.specs.Prelude.{Option, Some, None, Result, Ok, Err, MatchOption}
 use Rattle.std.specs.Borrow.{Bor}

@@ -1,4 +1,5 @@
--- How records are read line by line, as a function, which contracts compare the code with.
+-- How records are read line by line, as a function, which contracts compare the code with. `ended` is how many records
+-- have ended before a line, and `earlier` how many before the text.
 use Rattle.std.specs.Prelude.{◌≡◌, ◌<◌, ◌+◌, ◌∷◌, ◌++◌, ℕ, List, [], length, get_or, Result, Ok, Err, nat_lt}
 use Rattle.std.specs.Prelude.{if◌then◌else◌}
 use Rattle.std.specs.List.{All, filter}

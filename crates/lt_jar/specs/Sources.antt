@@ -1,4 +1,5 @@
--- What a reader of records keeps from one call to the next, and what each call does.
+-- What a reader of records keeps from one call to the next, and what each call does. No read of this project gives more
+-- than 65,536 bytes.
 use Rattle.std.specs.Prelude.{◌≡◌, ◌≢◌, ◌<◌, ◌≤◌, ◌+◌, ◌-◌, ◌*◌, ◌⊎◌, ℕ, Bool, true, false, List, [], ◌∷◌, ◌++◌, length}
 use Rattle.std.specs.Prelude.{take, drop, Option, Some, Result, Ok, Err}
 use Rattle.std.specs.Io.KnownBytes.{Consumes, IsAtEnd}
@@ -140,8 +141,9 @@ pub record LendsLast {R : Type 0} (remaining : R → Option (List ℕ)) (old new
   pub end : IsAtEnd (remaining (inner_of after))
   pub status : new.status ≡ state.Ended
 
--- Why no record came: a fault of this kind, and the line that was being read. `old` and `new` are the source, `before`
--- and `after` its device, and `reads` reads gave the bytes `read`.
+-- Why no record came, by the kind of fault: of the format, of memory, of the device, or all reads were made; never
+-- Failed. Each names the line that was being read. `old` and `new` are the source, `before` and `after` its device, and
+-- `reads` reads gave the bytes `read`.
 pub record Stops {R : Type 0} (remaining : R → Option (List ℕ)) (old new : JarSource)
     (before after : Device R) (read : List ℕ) (reads : ℕ) (kind : JarFaultKind) : Type 0 where
   pub format : (fault : faults.Fault) → fault_in kind ≡ Some fault

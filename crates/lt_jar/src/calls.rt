@@ -13,7 +13,8 @@ pub trait Reads: Read {
     /// call twice.
     ghost gives: { Self → List ℕ → Result ℕ Error → Self → List ℕ → Type 0 };
 
-    /// Calls `read` once.
+    /// Calls `read` once. `bound` and `bytes` are what each `Read` promises: at most the slice's bytes, and the next
+    /// ones.
     fn read_once(&mut self, buf: &mut [u8]) -> io::Result<usize>
         ensures bound { ReadsAtMost result buf.new }
         ensures bytes { ReadConsumes (Self.remaining self.old) (Self.remaining self.new) result buf.new }
@@ -38,7 +39,7 @@ pub trait Writes: Write {
     /// What a call of `flush` did: the writer before it, the answer, the writer after it.
     ghost flushes: { Self → Result (Unit {0}) Error → Self → Type 0 };
 
-    /// Calls `write` once.
+    /// Calls `write` once. `bound` and `bytes` are what each `Write` promises.
     fn write_once(&mut self, buf: &[u8]) -> io::Result<usize>
         ensures bound { WritesAtMost result buf.now }
         ensures bytes { WriteAppends (Self.contents self.old) (Self.contents self.new) result buf.now }

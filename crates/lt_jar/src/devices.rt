@@ -13,8 +13,10 @@ use std::io::{self, Read, Write};
 /// A device failed in a call where its count of failures rose, or is at its greatest value, 2^64 - 1.
 #[derive(Drop)]
 pub struct Device<T> {
+    /// The reader or the writer.
     inner: T,
     failures: u64,
+    /// How often it was read.
     reads: u64,
     /// How many bytes the last read gave.
     last_given: usize,
@@ -47,7 +49,8 @@ impl<T> Device<T> {
 impl<R: Reads> Read for Device<R> {
     ghost remaining = { λ device. R.remaining (inner_of device) };
 
-    /// Calls the reader once. The call is counted, and so is a failure.
+    /// Calls the reader once. The call is counted, and so is a failure. By `passes` the answer is the reader's.
+    /// `counts` says all of the failures; `works` and `fails` follow from it, as a caller needs them.
     fn read(&mut self, buf: &mut [u8]) -> io::Result<usize>
         ensures bound { ReadsAtMost result buf.new }
         ensures bytes { ReadConsumes (R.remaining (inner_of self.old)) (R.remaining (inner_of self.new))
@@ -77,7 +80,9 @@ impl<R: Reads> Read for Device<R> {
 impl<W: Writes> Write for Device<W> {
     ghost contents = { λ device. W.contents (inner_of device) };
 
-    /// Calls the writer once. A failure is counted: an error, or no byte taken of a slice that is not empty.
+    /// Calls the writer once. A failure is counted: an error, or no byte taken of a slice that is not empty. By
+    /// `passes` the answer is the writer's. `counts` says all of the failures; `works`, `takes_none` and `fails` follow
+    /// from it.
     fn write(&mut self, buf: &[u8]) -> io::Result<usize>
         ensures bound { WritesAtMost result buf.now }
         ensures bytes { WriteAppends (W.contents (inner_of self.old)) (W.contents (inner_of self.new))

@@ -1,5 +1,9 @@
 //! The record that is being read. A field is written over one of the record before, so that a registry is read without
 //! an allocation for each. What a reader keeps grows to the longest bodies that came.
+//!
+//! A contract speaks of the fields of the record so far, `take count fields.items`. `IsTaken result said fields` says
+//! that the answer is what the definition computes (`said`), after which the record has these fields; or it is
+//! OutOfMemory.
 ghost use Rattle.std.specs.Prelude.{◌≡◌, ◌≤◌, ◌<◌, [], IfSome, OnOk, get_or, string_bytes, take, vec_len};
 ghost use Rattle.lt_jar.specs.LineKinds as lines;
 ghost use Rattle.lt_jar.specs.Reading as reading;
@@ -225,7 +229,8 @@ impl Draft {
         self.put_body(body, ended)
     }
 
-    /// Begins a field whose name is in its place already, which must be there. `body` is what its body begins with.
+    /// Begins a field whose name is in its place already, behind the fields so far, where there must be one. The clause
+    /// reads it there by `get_or`, whose default is `nothing`. `body` is what its body begins with.
     /// `ended` is how many records have ended before this one. Refused if the record is one too many, or where memory
     /// runs out.
     #[inline(always)]

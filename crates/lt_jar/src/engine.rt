@@ -1,4 +1,5 @@
-//! The engine that reads records from pieces of a text.
+//! The engine that reads records from pieces of a text. A contract speaks of the fields of the record so far as
+//! `fields_in` it, and of the bytes that are kept of a line as `partial`.
 ghost use Rattle.std.specs.Prelude.{◌≤◌, vec_len};
 
 use crate::drafts::{Draft, LONGEST_LINE, Progress};
@@ -10,7 +11,7 @@ use std::alloc::Global;
 /// What is read so far of a line and of a record.
 #[derive(Drop)]
 pub(crate) struct Engine {
-    /// The bytes so far of the line that is being read: at most those of the longest line.
+    /// The bytes so far of the line that is being read: at most those of the longest line, 65,536.
     partial: Vec<u8>,
     /// The fields so far of the record that is being read.
     draft: Draft,
@@ -43,7 +44,8 @@ impl Engine {
 
     /// Takes the end of a line, and tells whether the line ends the record. `last` are its bytes, without the line
     /// feed, that come after those kept from pieces before. The number after that of the line must fit in 64 bits.
-    /// Refused with what is wrong with the line, or where memory runs out. A line that is refused is not counted.
+    /// Refused with what is wrong with the line, or where memory runs out. A line that is refused is not counted. The
+    /// clause `counted` supposes that no line feed is kept, as callers know.
     fn end_line(&mut self, alloc: Global, last: &[u8]) -> Result<Progress, JarFaultKind>
         requires { self.old.line + 1 < 2 ^ 64 }
         ensures taken { IsTaken result (reading.take_line self.old.ended (fields_in self.old)
@@ -63,8 +65,8 @@ impl Engine {
         Ok(progress)
     }
 
-    /// Takes the end of a line as `end_line` does, with the same demand on its number. `last` is UTF-8, and is not
-    /// checked again if no byte of the line is kept.
+    /// Takes the end of a line as `end_line` does, with the same demand on its number and the same clauses. `last` is
+    /// UTF-8, and is not checked again if no byte of the line is kept.
     #[inline(always)]
     fn end_text(&mut self, alloc: Global, last: &str) -> Result<Progress, JarFaultKind>
         requires { self.old.line + 1 < 2 ^ 64 }
@@ -98,8 +100,9 @@ impl Engine {
     }
 
     /// Takes a piece of the text up to the end of a record, and gives what follows that. None if the piece is used up
-    /// and the record goes on. The kept bytes must have no line feed, and the number of the line and the length of
-    /// the piece must add up to less than 2^64. Refused at the first line with a fault, or where memory runs out.
+    /// and the record goes on. The kept bytes must have no line feed. The number of the line and the length of the
+    /// piece must add up to less than 2^64, so that all lines of the piece have numbers. Refused at the first line with
+    /// a fault, or where memory runs out.
     pub(crate) fn take<'p>(
         &mut self,
         alloc: Global,
@@ -166,8 +169,8 @@ impl Engine {
         self.draft.clear();
     }
 
-    /// Takes out the record that ended, and counts it: fewer than 100,000 must have been counted before. Another one
-    /// begins.
+    /// Takes out the record that ended, and counts it: fewer than 100,000, the most of a text, must have been counted
+    /// before. Another one begins.
     pub(crate) fn take_record(&mut self, alloc: Global) -> Record
         requires { self.old.ended < 100000 }
         ensures record { result ≡ fields_in self.old }
@@ -178,8 +181,8 @@ impl Engine {
         self.draft.take_record(alloc)
     }
 
-    /// Counts the record that ended: fewer than 100,000 must have been counted before. Its fields stay, as they are
-    /// lent until the next call.
+    /// Counts the record that ended: fewer than 100,000, the most of a text, must have been counted before. Its fields
+    /// stay, as they are lent until the next call.
     pub(crate) fn count_record(&mut self)
         requires { self.old.ended < 100000 }
         ensures ended { self.new.ended ≡ self.old.ended + 1 }

@@ -52,6 +52,7 @@ impl JarFaultKind {
 impl From<AllocError> for JarFaultKind {
     ghost from_gives = { λ _ kind. kind ≡ kinds.OutOfMemory };
 
+    /// The refusal of a growth of memory.
     fn from(_error: AllocError) -> JarFaultKind {
         JarFaultKind::OutOfMemory
     }
@@ -60,6 +61,7 @@ impl From<AllocError> for JarFaultKind {
 impl<T: Drop> From<AllocFailed<T>> for JarFaultKind {
     ghost from_gives = { λ _ kind. kind ≡ kinds.OutOfMemory };
 
+    /// The refusal of a growth of memory.
     fn from(_error: AllocFailed<T>) -> JarFaultKind {
         JarFaultKind::OutOfMemory
     }

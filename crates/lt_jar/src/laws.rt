@@ -9,19 +9,19 @@ pub fn one_list_of_records()
     ensures { (text : List ℕ) (a b : List (List Field)) → HasRecords text a → HasRecords text b → a ≡ b }
 {}
 
-/// A text has one fault at most.
+/// A text that comes after `earlier` records has one fault at most, in one line; m and n are numbers of lines.
 pub fn one_fault()
     ensures { (earlier : ℕ) (text : List ℕ) (a b : Fault) (m n : ℕ)
         → IsTheFault earlier text a m → IsTheFault earlier text b n → (a ≡ b) × (m ≡ n) }
 {}
 
-/// Nothing is wrong with a text that has records and keeps the limits.
+/// Nothing is wrong with a text that has records and keeps the limits, where no records come before it (0).
 pub fn records_without_fault()
     ensures { (text : List ℕ) (records : List (List Field)) → HasRecords text records → IsWithin text records
         → (fault : Fault) (number : ℕ) → ¬ IsWrongAt 0 text fault number }
 {}
 
-/// A text has records and keeps the limits, or it has a fault.
+/// A text, before which no records come (0), has records and keeps the limits, or it has a fault.
 pub fn records_or_fault()
     ensures { (text : List ℕ)
         → ((records : List (List Field)) × HasRecords text records × IsWithin text records)

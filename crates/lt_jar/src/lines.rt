@@ -1,4 +1,4 @@
-//! The lines of a text, and what a line is.
+//! The lines of a text, and what a line is, which a contract sees by `line_in`.
 ghost use Rattle.std.specs.Prelude.{◌≡◌, ◌<◌, ◌≤◌, ◌∷◌, length, IfSome, MatchOption};
 ghost use Rattle.std.specs.List.{list_all};
 ghost use Rattle.lt_jar.specs.Lines.{content_of, lines_of};
@@ -42,6 +42,7 @@ pub(crate) enum LineKind<'a> {
     Continuation(&'a str),
     /// A field's name, and what its body begins with.
     Start(&'a str, &'a str),
+    /// None of these.
     Bad,
 }
 
@@ -159,8 +160,8 @@ fn split_name(text: &str) -> (&str, &str)
 ghost use Rattle.std.specs.Prelude.{drop};
 
 /// What the body begins with, if the line begins a field with just this name, which the field in its place had in the
-/// record before. The name must have only letters, digits and hyphens. None for any other line, and for some that
-/// write such a field in another way, for example with a space before the colon.
+/// record before. So the name is compared, and not looked for. It must have only letters, digits and hyphens. None for
+/// any other line, and for some that write such a field in another way, for example with a space before the colon.
 pub(crate) fn body_again<'l>(line: &'l str, name: &str) -> Option<&'l str>
     requires { lines.IsNamed name.now }
     ensures { IfSome result (λ body. lines.line_of line.now ≡ lines.Start name.now body.now) }

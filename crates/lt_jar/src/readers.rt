@@ -31,7 +31,7 @@ impl<'a> RecordRef<'a> {
     }
 
     /// The name of the field at an index, counted from 0, in the case in which the text has it. There must be a field
-    /// at the index.
+    /// at the index, so `IfSome` always speaks.
     pub fn name(&self, i: usize) -> &'a str
         requires { i < length self.now.fields.now }
         ensures { IfSome (slice_get self.now.fields.now i) (λ field. result.now ≡ field.0) }
@@ -40,7 +40,7 @@ impl<'a> RecordRef<'a> {
     }
 
     /// The body of the field at an index, counted from 0, with its continuation lines joined to it by single spaces.
-    /// There must be a field at the index.
+    /// There must be a field at the index, so `IfSome` always speaks.
     pub fn body(&self, i: usize) -> &'a str
         requires { i < length self.now.fields.now }
         ensures { IfSome (slice_get self.now.fields.now i) (λ field. result.now ≡ field.1) }
@@ -64,7 +64,7 @@ impl<'d, R: Read> JarReader<'d, R, JarSource> {
     ghost use Rattle.lt_jar.specs.Sources.{IsFresh};
 
     /// A reader at the start of what the device gives. It takes no memory, so it is never refused,
-    /// and the device is as it was.
+    /// and the device is as it was. By `same_reference` it is this very device that the reader changes.
     pub fn new(
         alloc: Global,
         device: &'d mut Device<R>,
@@ -92,6 +92,7 @@ impl<'d, R: Read> JarReader<'d, R, JarSource> {
     /// - `OutOfMemory`, if memory runs out.
     ///
     /// After a fault the answer is `Failed`, with that fault's line.
+    // While the record is borrowed, nothing can be said of the reader: `ends` says what it is after that.
     pub fn next<'a>(&'a mut self) -> Result<Option<RecordRef<'a>>, JarFault>
         ensures* ends { sem 𝓛 (LendsAs R.row R.remaining self.entry result) }
     {
@@ -106,7 +107,7 @@ impl<'d, R: Read> JarReader<'d, R, JarSource> {
 }
 
 impl<R, S: Drop> Drop for JarReader<'_, R, S> {
-    /// Ends the reader. The device stays as the reader left it.
+    /// Ends the reader. The device, which `exit.0` shows as the call ends, stays as the reader left it.
     fn drop(self)
         ensures { self.exit.0.now ≡ self.entry.device.now }
     {

@@ -1,4 +1,5 @@
-//! The records of a reader, one by one.
+//! The records of a reader, one by one. A *source* reads into a buffer of 8,192 bytes, hands these on to the engine,
+//! and *lends* the record that this has. `turns` counts the reads.
 ghost use Rattle.std.specs.Prelude.{◌≡◌, ◌≤◌, ◌+◌, ◌-◌, ◌*◌, true, false, length, take, drop};
 ghost use Rattle.std.specs.Str.{is_utf8};
 ghost use Rattle.lt_jar.specs.Lines.{IsOneLine};
@@ -38,6 +39,8 @@ pub struct JarSource {
     /// How many reads were made.
     turns: u32,
     status: Status,
+    // No read of this project gives more than 65,536 bytes. So after as many reads as there may be, the numbers of
+    // lines fit in 64 bits (`bounded`). The other bounds are those of the buffer and of the records.
     ghost placed: { (start ≤ end) × (end ≤ 8192) },
     ghost bounded: { (turns ≤ 10000000) × (engine.line + (end - start) ≤ 1 + 65536 * turns) },
     ghost begun: { IsOneLine engine.partial.items },
@@ -160,7 +163,7 @@ impl JarSource {
 
     /// Takes the end of the text, and tells whether a record ends there. All bytes read must have been handed on.
     /// Such a record must be the 100,000th at most. The number after that of the line must be within the bound that
-    /// the reads give. Refused if the last line has a fault, or where memory runs out.
+    /// the reads give, 65,536 bytes for each. Refused if the last line has a fault, or where memory runs out.
     fn finish(&mut self, alloc: Global) -> Result<bool, JarFaultKind>
         requires room { line_of_kept self.old + 1 ≤ 1 + 65536 * self.old.turns }
         requires few { HasRoom self.old }
@@ -235,7 +238,7 @@ impl JarSource {
     }
 }
 
-/// The bytes of a buffer from `start` up to `end`. Both must be places in the buffer, in this order.
+/// The bytes of a buffer, which has 8,192, from `start` up to `end`. Both must be places in it, in this order.
 fn between(buffer: &[u8; PIECE], start: usize, end: usize) -> &[u8]
     requires { (start ≤ end) × (end ≤ 8192) }
     ensures bytes { result.now ≡ take (end - start) (drop start buffer.now) }

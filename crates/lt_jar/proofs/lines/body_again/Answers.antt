@@ -4,7 +4,7 @@ use Rattle.lt_jar.specs.LineKinds.{Start, trim}
 use Rattle.lt_jar.proofs.NameLemmas.{line_again, again_split}
 use Rattle.lt_jar.proofs.lines.body_again.Goals as goal
 
--- a colon is before the body, and no character is cut behind an ASCII byte
+-- the slice of the text behind the colon cuts no character, since a colon is an ASCII byte (58)
 pub range_from-requires : goal.range_from-requires
 range_from-requires c =
     let text = c.content-text.result.now in

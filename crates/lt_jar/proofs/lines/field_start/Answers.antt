@@ -3,7 +3,7 @@ use Rattle.std.specs.Prelude.{slice_index}
 use Rattle.std.proofs.lemmas.Str.{IsCharBoundary-after_ascii}
 use Rattle.lt_jar.proofs.lines.field_start.Goals as goal
 
--- the first byte of the rest is a colon, and no character is cut behind an ASCII byte
+-- the slice of the rest behind its first byte cuts no character, since that is a colon, an ASCII byte (58)
 pub range_from-requires : goal.range_from-requires
 range_from-requires c =
     let first = rw c.as_bytes.ensures.value at c.in-Some-eq58.ensures.item.3 in

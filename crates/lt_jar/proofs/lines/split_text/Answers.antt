@@ -4,7 +4,7 @@ use Rattle.lt_jar.specs.Lines.{IsOneLine}
 use Rattle.lt_jar.proofs.CutLemmas.{IsFirstFeed, cut_at, feed_at}
 use Rattle.lt_jar.proofs.lines.split_text.Goals as goal
 
--- the byte at this index is a line feed, and no character is cut behind an ASCII byte
+-- the slice of the text behind this index cuts no character, since the byte there is a line feed, an ASCII byte (10)
 pub range_from-requires : goal.range_from-requires
 range_from-requires c =
     let text = c.args.text.now in

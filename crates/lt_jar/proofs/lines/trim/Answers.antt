@@ -4,7 +4,7 @@ use Rattle.lt_jar.specs.LineKinds.{is_blank}
 use Rattle.lt_jar.proofs.TrimLemmas.{trim_spaced}
 use Rattle.lt_jar.proofs.lines.trim.Goals as goal
 
--- the first byte is a space, and no character is cut behind an ASCII byte
+-- the slice of the text behind its first byte cuts no character, since that is a space, an ASCII byte (32)
 pub range_from-requires : goal.range_from-requires
 range_from-requires c =
     let text = c.args.text.now in

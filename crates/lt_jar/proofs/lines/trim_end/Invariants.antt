@@ -11,5 +11,6 @@ invariant-loop-end l = record {
   boundary : IsCharBoundary l.text l.end;
 }
 
+-- the end moves to the front with each turn, so the loop ends
 abbrev pub decreases-loop-end : goal.decreases-loop-end
 decreases-loop-end l = l.end

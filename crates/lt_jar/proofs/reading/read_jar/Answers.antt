@@ -59,7 +59,7 @@ returns-clause-fault c =
     let runs = runs_taken (text_runs c.loop-after.invariant) takes in
     rw c.line-in-Err-finish.ensures (said_of c.loop-after.invariant (runs_stops_last runs takes.over.begun c.in-Err-finish.ensures tt))
 
--- the text has ended: its records are those before and the one that its end ended
+-- the text has ended: its records, within the limits, are those before and the one that its end ended
 pub returns-in-Ok-true : goal.returns-in-Ok-true
 returns-in-Ok-true c =
     let takes = rw c.in-Ok-None.field-0-is at c.in-Ok-None.ensures in

@@ -6,5 +6,6 @@ use Rattle.lt_jar.proofs.reading.read_jar.Given as goal
 abbrev pub invariant-loop-after : goal.invariant-loop-after
 invariant-loop-after l = TextTurn l.text l.rest l.records.items l.engine
 
+-- the bytes that are left get fewer with each turn, so the loop ends
 abbrev pub decreases-loop-after : goal.decreases-loop-after
 decreases-loop-after l = length l.rest

@@ -7,7 +7,8 @@ use Rattle.lt_jar.specs.Reading.{lengthened}
 use Rattle.lt_jar.proofs.TurnLemmas.{continued-set}
 use Rattle.lt_jar.proofs.drafts.Draft.continue_field.Goals as goal
 
--- the last field of the record, at the index below the count, has the longer body, and the others stay as they are
+-- the fields are what `continued` makes of those before: the last field of the record, at the index below the count,
+-- has the longer body, and the others stay as they are
 pub returns : goal.returns
 returns c =
     let draft = c.args.self.now in

@@ -7,7 +7,7 @@ use Rattle.lt_jar.specs.LineKinds.{line_of}
 use Rattle.lt_jar.specs.Faults as faults
 use Rattle.lt_jar.proofs.drafts.Draft.take_line.Goals as goal
 
--- the line is short and UTF-8, so what it does to the record depends on its kind alone
+-- the answer is that of the definition `take_line`: the line is short and UTF-8, so its kind alone decides
 pub returns-in-Ok : goal.returns-in-Ok
 returns-in-Ok c =
     let kind = ap line_of c.in-Ok.ensures.cases.0 in
@@ -18,7 +18,7 @@ returns-in-Ok c =
       ← kind,
     ) c.take_short_line.ensures
 
--- the line is short and not UTF-8, and that is its fault
+-- NotUtf8 is the fault that the definition `take_line` gives: the line is short and not UTF-8
 pub returns-in-Err : goal.returns-in-Err
 returns-in-Err c =
     let line = c.args.line.now in

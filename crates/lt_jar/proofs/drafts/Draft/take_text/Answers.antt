@@ -4,7 +4,7 @@ use Rattle.std.proofs.lemmas.Str.{is_utf8-from_IsUtf8}
 use Rattle.lt_jar.specs.Limits.{longest_line}
 use Rattle.lt_jar.proofs.drafts.Draft.take_text.Goals as goal
 
--- the line is short, and UTF-8 by its type, so what it does to the record depends on its kind alone
+-- the answer is that of the definition `take_line`: the line is short, and UTF-8 by its type, so its kind alone decides
 pub returns : goal.returns
 returns c =
     let line = c.args.line.now in

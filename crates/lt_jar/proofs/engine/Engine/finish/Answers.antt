@@ -9,7 +9,8 @@ use Rattle.lt_jar.proofs.TurnLemmas.{last_some}
 use Rattle.lt_jar.proofs.ReadingLemmas.{last_taken}
 use Rattle.lt_jar.proofs.engine.Engine.finish.Goals as goal
 
--- no bytes are kept, so no line is left, and the fields so far are the last record, if there are any
+-- The engine did with the end of the text what `FinishesOr` says. Here no bytes are kept, so no line is left, and the
+-- fields so far are the last record, if there are any.
 pub returns-then-is_empty : goal.returns-then-is_empty
 returns-then-is_empty c =
     let old = c.args.self.now in

@@ -2,7 +2,7 @@ use Rattle.std.proofs.Common.{◌<◌, ◌++◌, arith, inr, refl, ap, length, l
 use Rattle.lt_jar.specs.Limits.{longest_line}
 use Rattle.lt_jar.proofs.engine.Engine.keep.Goals as goal
 
--- the kept bytes and this part are more than a line may have, wherever the line ends
+-- LineTooLong is right: the kept bytes and this part are more than a line may have, wherever the line ends
 pub returns-then-part-saturating_sub-clause-kept : goal.returns-then-part-saturating_sub-clause-kept
 returns-then-part-saturating_sub-clause-kept c =
     let partial = c.args.self.now.partial in

@@ -7,7 +7,8 @@ use Rattle.lt_jar.proofs.CutLemmas.{IsNoEnd}
 use Rattle.lt_jar.proofs.TurnLemmas.{first_refused, turn_all, turn_ends, turn_next, turn_stops, unended_refused}
 use Rattle.lt_jar.proofs.engine.Engine.take.Goals as goal
 
--- the line with the next line feed is refused, whatever bytes follow the piece
+-- The engine did with the piece what `TakesPiece` says. Here the line with the next line feed is refused, whatever
+-- bytes follow the piece.
 pub returns-in_err-end_line : goal.returns-in_err-end_line
 returns-in_err-end_line c =
     let p = err_from_is_err_and c.from_residual.result c.from_residual.ensures.1 in

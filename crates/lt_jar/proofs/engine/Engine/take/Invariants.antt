@@ -6,5 +6,6 @@ use Rattle.lt_jar.proofs.engine.Engine.take.Given as goal
 abbrev pub invariant-loop-line : goal.invariant-loop-line
 invariant-loop-line l = PieceTurn l.fn.self l.self l.piece l.rest
 
+-- the bytes that are left get fewer with each turn, so the loop ends
 abbrev pub decreases-loop-line : goal.decreases-loop-line
 decreases-loop-line l = length l.rest

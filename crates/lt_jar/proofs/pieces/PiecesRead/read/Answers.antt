@@ -4,7 +4,8 @@ use Rattle.lt_jar.specs.TestDevices.{next_place}
 use Rattle.lt_jar.proofs.TestDeviceLemmas.{part-from, remaining-moves}
 use Rattle.lt_jar.proofs.pieces.PiecesRead.read.Goals as goal
 
--- the bytes given are a front of what remained, and the rest of it remains
+-- ReadConsumes: the bytes given are the front of what remained, the rest of it remains, and that is nothing if none
+-- came into a buffer with room
 pub returns-clause-bytes : goal.returns-clause-bytes
 returns-clause-bytes c =
     let reader = c.args.self.now in

@@ -3,7 +3,8 @@ use Rattle.std.specs.Str.{is_utf8}
 use Rattle.lt_jar.proofs.SourceLemmas.{found_text}
 use Rattle.lt_jar.proofs.sources.JarSource.fill.Goals as goal
 
--- `is_text` is true only if the check accepted the bytes that the read gave
+-- the source keeps that unread bytes are UTF-8 where `is_text` is true: so it is only if the check accepted those that
+-- the read gave
 pub invariant_of-self-in-Ok-clause-text : goal.invariant_of-self-in-Ok-clause-text
 invariant_of-self-in-Ok-clause-text g c =
     let count = c.in-Ok.count in

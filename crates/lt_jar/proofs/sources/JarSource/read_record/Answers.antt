@@ -14,7 +14,7 @@ loop-self-init g c =
     turn_begins g.R.Read.remaining old _ c.args.device.now c.begin_record.ensures.fields
     (ap (λ l. l ++ unread_in old) same.0) same.2 same.1 refl old.bounded.0 c.requires old.few
 
--- a line of the bytes that were read is refused, or memory ran out at it
+-- the call stops with the fault: a line of the bytes that were read is refused, or memory ran out at it
 pub returns-in_err-take_unread : goal.returns-in_err-take_unread
 returns-in_err-take_unread g c =
     let p = err_from_is_err_and c.from_residual.result c.from_residual.ensures.1 in
@@ -27,7 +27,7 @@ count_record-requires g c =
     let takes = rw c.if-branch.true at c.in_ok-take_unread.ensures.takes in
     omega (arith, (runs_out c.loop-self.invariant.runs takes).few, takes.ended, c.loop-self.invariant.runs.ended)
 
--- with this record at most 100,000 have ended, and counting it changes nothing else
+-- the source keeps its bounds: with this record at most 100,000 have ended, and counting it changes nothing else
 pub invariant_of-self-then-branch : goal.invariant_of-self-then-branch
 invariant_of-self-then-branch g c =
     let mid = c.take_unread.new.self in

@@ -1,7 +1,8 @@
 use Rattle.lt_jar.proofs.SourceLemmas.{unread_rest}
 use Rattle.lt_jar.proofs.sources.JarSource.take_unread_bytes.Goals as goal
 
--- the rest that the engine leaves is at the end of the bytes read, so it begins its own length before that end
+-- The bytes still unread are the rest that the engine leaves: it is at the end of the bytes read, so it begins its own
+-- length before that end.
 pub returns-in-Ok-Some-clause-takes : goal.returns-in-Ok-Some-clause-takes
 returns-in-Ok-Some-clause-takes c =
     let old = c.args.self.now in

@@ -10,7 +10,7 @@ from_utf8_unchecked-text-requires c =
     let piece = c.between-piece in
     IsUtf8-from_is_utf8 piece.result.now (ap is_utf8 piece.ensures.bytes ∙ c.args.self.now.text c.requires)
 
--- the rest that the engine leaves is UTF-8 by its type
+-- `is_text` stays right: the rest that the engine leaves is UTF-8 by its type
 pub invariant_of-self-clause-text : goal.invariant_of-self-clause-text
 invariant_of-self-clause-text c =
     let old = c.args.self.now in
@@ -20,7 +20,8 @@ invariant_of-self-clause-text c =
     λ is. ap is_utf8 (unread_rest old.buffer old.start old.end takes.front rest old.placed.0 piece.room takes.split)
     ∙ is_utf8-from_IsUtf8 rest (subst IsUtf8 c.as_bytes.ensures.value c.as_bytes.ensures.utf8)
 
--- the rest that the engine leaves is at the end of the bytes read, so it begins its own length before that end
+-- The bytes still unread are the rest that the engine leaves: it is at the end of the bytes read, so it begins its own
+-- length before that end.
 pub returns-in-Ok-Some-clause-takes : goal.returns-in-Ok-Some-clause-takes
 returns-in-Ok-Some-clause-takes c =
     let old = c.args.self.now in
