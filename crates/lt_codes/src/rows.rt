@@ -111,7 +111,8 @@ impl Fields<'_> {
         is_range(self.bibliographic) && self.terminologic.is_empty() && self.two_letters.is_empty()
     }
 
-    /// The codes of the row, or None if a field doesn't have the form of its code.
+    /// The codes of the row, of three, three and two letters, or None if a field isn't such a code. The second and the
+    /// third may be empty.
     pub(crate) fn row(&self) -> Option<Row>
         ensures { result ≡ spec.row_of self.now.bibliographic.now self.now.terminologic.now self.now.two_letters.now }
     {

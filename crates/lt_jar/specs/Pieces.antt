@@ -1,5 +1,6 @@
 -- What the engine that reads records does with a piece of a text, and with the text's end. `partial.items` are the
--- bytes that it keeps of a line, and `steps` (Reading) computes what lines make of the fields that go on (`going_on`).
+-- bytes that it keeps of a line. `steps` (Reading) computes what lines make of the fields that go on (`going_on`). By
+-- `room` each line took a byte at least, so that the numbers of lines stay small.
 use Rattle.std.specs.Prelude.{◌≡◌, ◌≢◌, ◌≤◌, ◌<◌, ◌+◌, ◌⊎◌, ℕ, Bool, true, false, List, [], ◌∷◌, ◌++◌, length, take}
 use Rattle.std.specs.Prelude.{Option, Some, None, Result, Ok, Err, MatchOption}
 use Rattle.std.specs.Borrow.{Bor}

@@ -119,8 +119,8 @@ Finished old new (Ok some) = Finishes old new some
 Finished old new (Err kind) = StopsAtLast old.engine new.engine kind × (new.turns ≡ old.turns)
 
 -- A record that a separator ends was lent. The bytes that were kept and those that were read are its lines, and then
--- the bytes that are kept. `old` and `new` are the source, `before` and `after` its device, and `reads` reads gave the
--- bytes `read`.
+-- the bytes that are kept. Each read gave bytes. `old` and `new` are the source, `before` and `after` its
+-- device, and `reads` reads gave the bytes `read`.
 pub record LendsEnded {R : Type 0} (old new : JarSource)
     (before after : Device R) (read : List ℕ) (reads : ℕ) : Type 0 where
   pub lines : List (List ℕ)
@@ -174,8 +174,8 @@ EndsAs remaining old new before after read reads (Ok false) =
     (lent_by new ≡ lent_by old) × LendsLast remaining old new after read []
 EndsAs remaining old new before after read reads (Err kind) = Stops remaining old new before after read reads kind
 
--- what a call on an open source did; `old` and `new` are the source before and after it, `before` and `after` its
--- device
+-- what a call on an open source did: a failure of the device is counted only where the answer is Read; `old` and `new`
+-- are the source before and after it, `before` and `after` its device
 pub record ReadsRecord {R : Type 0} (remaining : R → Option (List ℕ)) (old new : JarSource)
     (before after : Device R) (result : Result Bool JarFaultKind) : Type 0 where
   pub read : List ℕ

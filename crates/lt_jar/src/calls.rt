@@ -45,7 +45,7 @@ pub trait Writes: Write {
         ensures bytes { WriteAppends (Self.contents self.old) (Self.contents self.new) result buf.now }
         ensures takes { takes self.old buf.now result self.new };
 
-    /// Calls `flush` once.
+    /// Calls `flush` once. By `bytes` the bytes that were taken stay.
     fn flush_once(&mut self) -> io::Result<()>
         ensures bytes { Keeps (Self.contents self.old) (Self.contents self.new) }
         ensures flushes { flushes self.old result self.new };

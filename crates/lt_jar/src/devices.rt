@@ -49,7 +49,8 @@ impl<T> Device<T> {
 impl<R: Reads> Read for Device<R> {
     ghost remaining = { λ device. R.remaining (inner_of device) };
 
-    /// Calls the reader once. The call is counted, and so is a failure. By `passes` the answer is the reader's.
+    /// Calls the reader once. The call, a failure, and the bytes of this call are counted. By `passes` the answer is
+    /// the reader's.
     /// `counts` says all of the failures; `works` and `fails` follow from it, as a caller needs them.
     fn read(&mut self, buf: &mut [u8]) -> io::Result<usize>
         ensures bound { ReadsAtMost result buf.new }
@@ -110,7 +111,7 @@ impl<W: Writes> Write for Device<W> {
         }
     }
 
-    /// Calls the writer's `flush`. If that fails, the failure is not counted.
+    /// Calls the writer's `flush`. If that fails, the failure is not counted: all counts stay.
     fn flush(&mut self) -> io::Result<()>
         ensures bytes { Keeps (W.contents (inner_of self.old)) (W.contents (inner_of self.new)) }
         ensures passes { W.flushes (inner_of self.old) result (inner_of self.new) }

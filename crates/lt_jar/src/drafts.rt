@@ -156,8 +156,8 @@ impl Draft {
     }
 
     /// What the body begins with, if the line begins a field with the name that the field in its place had in the
-    /// record before. None for any other line, and for some that write such a field in another way, for example with
-    /// a space before the colon.
+    /// record before: it is there already, and not written again. None for any other line, and for some that write such
+    /// a field in another way, for example with a space before the colon.
     #[inline(always)]
     fn body_again<'l>(&self, line: &'l str) -> Option<&'l str>
         ensures { IfSome result (λ body. reading.BeginsAgain self.now.count self.now.fields.items line.now body.now) }

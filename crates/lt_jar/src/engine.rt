@@ -83,8 +83,8 @@ impl Engine {
         Ok(progress)
     }
 
-    /// Keeps the bytes of a line whose end is not read yet, after those that are kept. Refused if the line is too long,
-    /// or where memory runs out.
+    /// Keeps the bytes of a line whose end is not read yet, after those that are kept, and changes nothing else.
+    /// Refused if the line is too long, or where memory runs out.
     fn keep(&mut self, part: &[u8]) -> Result<(), JarFaultKind>
         ensures kept { KeepsBytes self.old self.new part.now result }
         ensures same { (fields_in self.new ≡ fields_in self.old) × (self.new.ended ≡ self.old.ended) × (self.new.line ≡ self.old.line) }
@@ -160,7 +160,8 @@ impl Engine {
         Ok(!self.draft.is_empty())
     }
 
-    /// Begins a record, without fields. Its fields will be written over those of the record before.
+    /// Begins a record, without fields, and changes nothing else. Its fields will be written over those of the record
+    /// before.
     pub(crate) fn begin_record(&mut self)
         ensures fields { fields_in self.new ≡ [] }
         ensures same { (self.new.partial.items ≡ self.old.partial.items) × (self.new.ended ≡ self.old.ended)
@@ -170,7 +171,7 @@ impl Engine {
     }
 
     /// Takes out the record that ended, and counts it: fewer than 100,000, the most of a text, must have been counted
-    /// before. Another one begins.
+    /// before. Another one begins. The kept bytes and the number of the line stay.
     pub(crate) fn take_record(&mut self, alloc: Global) -> Record
         requires { self.old.ended < 100000 }
         ensures record { result ≡ fields_in self.old }
@@ -181,8 +182,8 @@ impl Engine {
         self.draft.take_record(alloc)
     }
 
-    /// Counts the record that ended: fewer than 100,000, the most of a text, must have been counted before. Its fields
-    /// stay, as they are lent until the next call.
+    /// Counts the record that ended: fewer than 100,000, the most of a text, must have been counted before. All else
+    /// stays, its fields too, as they are lent until the next call.
     pub(crate) fn count_record(&mut self)
         requires { self.old.ended < 100000 }
         ensures ended { self.new.ended ≡ self.old.ended + 1 }

@@ -71,7 +71,7 @@ impl JarSource {
     }
 
     /// Takes the bytes that were read, up to the end of a record, and tells whether one ended. If none did, all bytes
-    /// were taken. Refused at the first line with a fault, or where memory runs out.
+    /// were taken. It reads nothing (`same`). Refused at the first line with a fault, or where memory runs out.
     fn take_unread(&mut self, alloc: Global) -> Result<bool, JarFaultKind>
         ensures takes { TakesUnread self.old self.new result }
         ensures same { (self.new.turns ≡ self.old.turns) × (self.new.status ≡ self.old.status) }
@@ -137,7 +137,8 @@ impl JarSource {
     }
 
     /// Reads once into the buffer, and tells whether bytes came; if none did, the text has ended. All bytes read
-    /// before must have been handed on. Refused if the read fails or is one too many.
+    /// before must have been handed on. The engine takes nothing of it (`same`). Refused if the read fails or is one
+    /// too many.
     fn fill<R: Read>(&mut self, device: &mut Device<R>) -> Result<bool, JarFaultKind>
         requires { self.old.start ≡ self.old.end }
         ensures fills { Fills R.remaining self.old self.new device.old device.new result }
