@@ -73,7 +73,8 @@ TakesUnread old new (Ok false) = TakesAll old.engine new.engine (unread_in old) 
 TakesUnread old new (Err kind) = StopsAt old.engine new.engine (unread_in old) kind
 
 -- What one read did, by its answer. It gave the bytes `read`, came to the end, or failed, or it was one too many, so
--- that no read was made (`reads` is 0). `old` and `new` are the source, `before` and `after` its device.
+-- that no read was made (`reads` is 0). At the end there is a number for one line more, as `finish` asks. `old` and
+-- `new` are the source, `before` and `after` its device.
 abbrev pub FillsAs : {R : Type 0} → (R → Option (List ℕ)) → (old new : JarSource)
     → (before after : Device R) → List ℕ → ℕ → Result Bool JarFaultKind → Type 0
 FillsAs remaining old new before after read reads (Ok true) = (unread_in new ≡ read) × (0 < length read)

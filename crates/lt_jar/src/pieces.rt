@@ -127,7 +127,7 @@ pub struct Takes {
 }
 
 impl Takes {
-    /// A writer that takes at most `piece` bytes in a call.
+    /// A writer that takes at most `piece` bytes in a call, has none yet, and doesn't fail.
     pub fn new(alloc: Global, piece: usize) -> Takes
         ensures { IsUnwritten result piece }
     {

@@ -3,8 +3,7 @@ use Rattle.lt_codes.proofs.RowLemmas.{are_codes, row_is}
 use Rattle.lt_codes.proofs.TableLemmas.{range_adds, row_adds}
 use Rattle.lt_codes.proofs.tables.add_line.Goals as goal
 
--- The call adds the codes of the line or refuses it, as AddsCodes says. Here the line is that of a range, and adds
--- none.
+-- The call adds the codes of the line or refuses it, as AddsCodes says. Here the line is a range, and adds none.
 pub returns-then-are_of_range : goal.returns-then-are_of_range
 returns-then-are_of_range c =
     let f = c.in-Some.fields in
