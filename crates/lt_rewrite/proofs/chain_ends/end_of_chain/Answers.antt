@@ -5,7 +5,7 @@ use Rattle.lt_rewrite.specs.Conditions.{next_value}
 use Rattle.lt_rewrite.proofs.ChainWalks.{chase_more, walk_cycles}
 use Rattle.lt_rewrite.proofs.chain_ends.end_of_chain.Goals as goal
 
--- a value follows even after as many values as there are records, so the chain has no end
+-- Cycle is right: a value follows even after as many values as there are records, so the chain has no end
 pub returns-in-Some-next_value-clause-cycle : goal.returns-in-Some-next_value-clause-cycle
 returns-in-Some-next_value-clause-cycle g c =
     let R = g.L.Lookup.listed c.args.table.now in

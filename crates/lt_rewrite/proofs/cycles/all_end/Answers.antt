@@ -8,7 +8,7 @@ use Rattle.lt_rewrite.specs.declared.cycles.Order.TheVariants as orders
 use Rattle.lt_rewrite.proofs.ChainWalks.{all_end_in_order}
 use Rattle.lt_rewrite.proofs.cycles.all_end.Goals as goal
 
--- the chain of this record has no end, so not each has one
+-- false is right: the chain of this record has no end, so not each has one
 pub returns-then-not-ends_or_falls : goal.returns-then-not-ends_or_falls
 returns-then-not-ends_or_falls g c = λ all.
     let R = g.L.Lookup.listed c.args.table.now in

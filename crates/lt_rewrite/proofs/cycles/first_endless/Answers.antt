@@ -9,7 +9,7 @@ use Rattle.lt_rewrite.proofs.ChainWalks.{file_order}
 use Rattle.lt_rewrite.proofs.ShortcutWalks.{lower_are_before, first_there}
 use Rattle.lt_rewrite.proofs.cycles.first_endless.Goals as goal
 
--- the chain of this record has no end, and those of all before it, which have the lower numbers, end
+-- this record is the first cycle: its chain has no end, and those of all before it, which have the lower numbers, end
 pub returns-then-not-ends_or_falls : goal.returns-then-not-ends_or_falls
 returns-then-not-ends_or_falls g c =
     let R = g.L.Lookup.listed c.args.table.now in

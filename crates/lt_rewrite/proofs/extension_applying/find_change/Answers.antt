@@ -7,7 +7,7 @@ use Rattle.lt_rewrite.specs.Applying.{LeadsAt}
 use Rattle.lt_rewrite.proofs.FirstSteps.{flat_more}
 use Rattle.lt_rewrite.proofs.extension_applying.find_change.Goals as goal
 
--- the subtags before this extension are among all, so its place is within the bound
+-- the place of this extension is within the bound 1,150,000: the subtags before it are among all
 pub apply_to_extension-requires : goal.apply_to_extension-requires
 apply_to_extension-requires g c =
     let few = length-flat_map-take spell_extension c.args.extensions.now c.loop-index.index

@@ -27,7 +27,7 @@ loop-steps-preserved g c =
       lead = subst (LeadOn R (steps * 2)) same (subst (λ n. LeadOn R n places) twice further);
     }
 
--- the shortcuts lead over as many values as there are records, or more
+-- the shortcuts are as long as asked for: they lead over as many values as there are records, or more
 pub returns : goal.returns
 returns g c =
     let R = g.L.Lookup.listed c.args.table.now in
