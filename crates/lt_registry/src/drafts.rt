@@ -1,4 +1,4 @@
-//! A draft: the registry that is being read, record by record, from a device. `Registry::read` makes one.
+//! A draft: the registry that is being read, record by record. `Registry::read` makes one.
 ghost use Rattle.std.specs.Prelude.{◌≡◌, ◌<◌, [], IfErr, OnOk, None};
 ghost use Rattle.lt_jar.specs.Sources.{lent_by};
 ghost use Rattle.lt_registry.specs.AddedRecords.{IsAdded, IsPut, IsRefusedAt, Takes, TakesNext, finished};

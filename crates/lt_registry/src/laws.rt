@@ -1,6 +1,6 @@
 //! Laws: what follows from the definitions alone. A law computes nothing and has no arguments; its clause speaks of
-//! every list of entries `R` and every tag `t`, or of all the records of a file. So the definitions fit together. A
-//! proper tag is one that is valid, but for variants that may repeat.
+//! every list of entries `R` and every tag `t`, or of all the records of a file. A proper tag is one that is valid, but
+//! for variants that may repeat.
 ghost use Rattle.std.specs.Prelude.{ℕ, ◌≡◌, ◌↔◌, List};
 ghost use Rattle.lt_tag.specs.Parts.{TagForm};
 ghost use Rattle.lt_tag.specs.Values.{IsTagValue};
@@ -12,7 +12,7 @@ ghost use Rattle.lt_registry.specs.Records.{HasEntries, HasFaultAt, IsFirstRecor
 ghost use Rattle.lt_registry.specs.declared.faults.ValidFaultKind.{ValidFaultKind};
 ghost use Rattle.lt_registry.specs.declared.faults.RecordFaultKind.{RecordFaultKind};
 
-/// A tag is valid exactly if it has no fault. So `validate`, which looks for faults, decides whether a tag is valid.
+/// A tag is valid exactly if it has no fault. So `validate`, which looks for faults, decides it.
 pub fn valid_is_faultless()
     ensures { (R : List EntryParts) (t : TagForm) → IsTagValue t → IsValid R t ↔ HasNoFault R t }
 {}
