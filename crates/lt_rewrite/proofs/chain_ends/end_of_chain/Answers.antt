@@ -19,7 +19,7 @@ returns-in-Some-next_value-clause-cycle g c =
     (c.loop-step.invariant ∙ ap (λ n. chase (next_value R c.args.kind) n c.args.subtag.now) steps)
     (sym c.next_value-2.ensures ∙ ap option_copied c.in-Some-next_value.is)
 
--- a turn follows one value more
+-- the invariant stays true: a turn follows one value more
 pub loop-step-preserved : goal.loop-step-preserved
 loop-step-preserved g c =
     c.copy-end-in-Some.ensures

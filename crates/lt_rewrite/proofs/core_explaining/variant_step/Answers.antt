@@ -21,7 +21,7 @@ returns-in-Some g c =
     (sym c.next_value.ensures ∙ ap option_copied c.in-Some.is)
     c.loop-index.invariant
 
--- a turn passes over a variant that has no variant as its value
+-- the invariant stays true: a turn passes over a variant that has no variant as its value
 pub loop-index-preserved : goal.loop-index-preserved
 loop-index-preserved g c =
     let P : List ℕ → Type 0 = λ v. variant_value (g.L.Lookup.listed c.args.table.now) v ≡ None in

@@ -8,7 +8,7 @@ use Rattle.lt_rewrite.proofs.core_settling.first_variant_language.Goals as goal
 pub returns-in-Some-clause-variant_language : goal.returns-in-Some-clause-variant_language
 returns-in-Some-clause-variant_language g c = search (rules, first_variant_language_at)
 
--- a turn passes over a variant without a VariantLanguage step
+-- the invariant stays true: a turn passes over a variant without a VariantLanguage step
 pub loop-index-preserved : goal.loop-index-preserved
 loop-index-preserved g c = search (rules, none_more (g.L.Lookup.listed c.args.table.now) c.args.core.now)
 

@@ -19,7 +19,8 @@ returns-then-not-ends_or_falls g c = λ all.
     (subst (HasEndingChain R) (sym there)
     (all i e (omega (arith, c.loop-entry-test.true, ap length c.entries-entry-items.ensures.value))))
 
--- a turn judges one record more: its chain ends if those of the records before it in the order do
+-- the invariant stays true: a turn judges one record more: its chain ends if those of the records before it in the
+-- order do
 pub loop-entry-preserved : goal.loop-entry-preserved
 loop-entry-preserved g c =
     let P : EntryParts → Type 0 = EndsAfterEarlier (g.L.Lookup.listed c.args.table.now) orders.Mixed in

@@ -39,7 +39,7 @@ returns-in-None g c =
     ∙ sym c.following.ensures ∙ ap option_copied c.in-None.is in
     λ earlier. ends_there R e k c.in-Some.value.now s c.loop-step._step walk none
 
--- a turn follows one value more
+-- the invariant stays true: a turn follows one value more
 pub loop-step-preserved : goal.loop-step-preserved
 loop-step-preserved g c = λ v from.
     let R = g.L.Lookup.listed c.args.table.now in

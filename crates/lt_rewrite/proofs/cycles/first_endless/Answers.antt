@@ -22,7 +22,7 @@ returns-then-not-ends_or_falls g c =
     subst (IsFirstCycle R) (sym c.number.ensures.value) (first_there R i e c.entries-entry-items.ensures.rising within
     there so_far c.if-not-ends_or_falls.ensures)
 
--- the chains of the records of lower numbers end, so the chain of this one does
+-- the invariant stays true: the chains of the records of lower numbers end, so the chain of this one does
 pub loop-entry-preserved : goal.loop-entry-preserved
 loop-entry-preserved g c =
     let R = g.L.Lookup.listed c.args.table.now in

@@ -32,7 +32,8 @@ overflow_add-place-in-loop-index g c =
     let same = ap (λ (x : ExtensionParts). length (spell_extension x)) c.index-extensions-index.is in
     omega (arith, few, same, c.subtag_count-place.ensures, c.loop-index.invariant.here, c.requires)
 
--- a turn passes over an extension inside which the step leads nowhere, and adds its subtags to the place
+-- the invariant stays true: a turn passes over an extension inside which the step leads nowhere, and adds its subtags
+-- to the place
 pub loop-index-preserved : goal.loop-index-preserved
 loop-index-preserved g c =
     let R = g.L.Lookup.listed c.args.table.now in

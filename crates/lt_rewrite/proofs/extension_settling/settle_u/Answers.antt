@@ -12,7 +12,7 @@ use Rattle.lt_rewrite.proofs.PartForms.{u_shaped, u_step_length}
 use Rattle.lt_rewrite.proofs.ExtensionLaws.{unicode_settles}
 use Rattle.lt_rewrite.proofs.extension_settling.settle_u.Goals as goal
 
--- a turn takes a sole type `true` from one keyword more
+-- the invariant stays true: a turn takes a sole type `true` from one keyword more
 pub loop-keyword-preserved : goal.loop-keyword-preserved
 loop-keyword-preserved c =
     let ys : List KeywordParts = c.loop-keyword.keyword-items in

@@ -30,7 +30,8 @@ same_count : (ks ls : List KeywordParts) (i : ℕ) (k l : KeywordParts) (n : ℕ
 same_count ks ls i k l n h e was is count = count ∙ ap (λ x. length (spell_keyword x)) (is ∙ ap (λ xs. get_or xs i l) e
     ∙ sym (get_or_read ks i k h was l))
 
--- a turn takes the sole type `true` from this keyword by a DropTrue step, or it has none and stays as it is
+-- the invariant stays true: a turn takes the sole type `true` from this keyword by a DropTrue step, or it has none and
+-- stays as it is
 pub loop-index-preserved : goal.loop-index-preserved
 loop-index-preserved c =
     let ks = c.loop-index.keywords.items in
