@@ -1,4 +1,5 @@
--- The faults of a core and of an extension, part by part.
+-- What is shown: `core_check` answers the first fault of a core, and `source_check` the first of a `t` extension. Each
+-- part has its own places, so the first part with a fault decides.
 use Rattle.std.proofs.Common.{◌≡◌, ◌≢◌, ℕ, ◌+◌, ◌<◌, ◌≤◌, Bool, true, false, ◌⊎◌, inl, inr, List, [], ◌∷◌, ◌++◌, length}
 use Rattle.std.proofs.Common.{Option, Some, None, is_some, refl, sym, ap, ◌∙◌, subst, arith, length-append}
 use Rattle.std.proofs.Common.{append_assoc}

@@ -1,4 +1,4 @@
--- The test that no variant occurs twice, from the front on.
+-- What the loop of `none_repeats` needs: variants are distinct exactly if none is among those before it.
 use Rattle.std.proofs.Common.{◌≡◌, ◌≢◌, ℕ, ◌+◌, ◌<◌, Bool, true, false, ◌||◌, List, [], ◌∷◌, ◌++◌, length, get_or, take}
 use Rattle.std.proofs.Common.{drop, refl, sym, ap, ◌∙◌, subst, bytes_eq, append_assoc}
 use Rattle.std.specs.List.{AllByRecursion}

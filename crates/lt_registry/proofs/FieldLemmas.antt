@@ -1,4 +1,5 @@
--- Which name a text has, and one field more of a record.
+-- What `Found` notes of a record: which of five names a field has, and what one field more changes: the first place,
+-- the body and the repeats of its name.
 use Rattle.std.proofs.Common.{◌≡◌, ◌≢◌, ℕ, suc, ◌+◌, ◌-◌, ◌≤◌, Bool, true, false, ◌||◌, List, [], ◌∷◌, ◌++◌, length}
 use Rattle.std.proofs.Common.{Option, Some, None, refl, sym, ap, ◌∙◌, arith}
 use Rattle.std.specs.Prelude.{find, is_some, nat_lt, cond, count_by, option_map, if◌then◌else◌}

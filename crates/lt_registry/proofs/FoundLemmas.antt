@@ -1,4 +1,4 @@
--- What is found with a field more, by the name of that field.
+-- What `Found::put` notes stays true with a field more (`HasFound`), by each name that the field may have.
 use Rattle.std.proofs.Common.{get_or, ◌≡◌, ℕ, Bool, true, false, ◌||◌, List, [], ◌∷◌, ◌++◌, length, Some, refl, sym, ap, ◌∙◌, arith}
 use Rattle.std.specs.Prelude.{is_some}
 use Rattle.std.specs.Option.{option_or}
@@ -206,7 +206,7 @@ module _ (r : List Field) (f : Field) (place : ℕ) (old : Found) (l : length r 
 
 -- The type of a language, as it is written in most records.
 
--- a text of the eight bytes of `language` names the kind Language
+-- a text of the eight bytes of `language` (108 is `l`) names the kind Language
 pub language_spelled : (s : List ℕ) → length s ≡ 8 → get_or s 0 0 ≡ 108 → get_or s 1 0 ≡ 97 → get_or s 2 0 ≡ 110 → get_or s 3 0 ≡ 103
     → get_or s 4 0 ≡ 117 → get_or s 5 0 ≡ 97 → get_or s 6 0 ≡ 103 → get_or s 7 0 ≡ 101 → kind_of s ≡ Some kinds.Language
 language_spelled [] long = absurd (omega (arith, long))

@@ -1,4 +1,5 @@
--- How the rows of indexes are gathered, and what the indexes of a sorted table find.
+-- How the rows of indexes are gathered, and what the indexes of a sorted table find: the same as a search through all
+-- entries from the first on.
 use Rattle.std.proofs.Common.{◌≡◌, ℕ, ◌+◌, ◌<◌, ◌≤◌, Bool, true, false, cond, eqb, List, [], ◌∷◌, ◌++◌, length, get_or}
 use Rattle.std.proofs.Common.{refl, sym, ap, ◌∙◌, arith, inl, inr, ◌&&◌, Option, Some, None, subst}
 use Rattle.std.specs.List.{All, Contains, find, slice_get, HoldsAt, cons_option}

@@ -1,4 +1,5 @@
--- The numbers of subtags, by which they are ordered and found.
+-- The numbers of subtags, by which they are ordered and found: they are in the letter order of the subtags, and only
+-- equal subtags have equal numbers.
 use Rattle.std.proofs.Common.{Ordering, ◌≡◌, ◌≢◌, ℕ, ◌+◌, ◌*◌, ◌^◌, ◌<◌, ◌≤◌, Bool, true, false, ◌||◌, eqb, ltb, leb}
 use Rattle.std.proofs.Common.{List, [], ◌∷◌, length, map, get_or, true≢false, refl, sym, ap, ◌∙◌, arith, inl, inr, ◌&&◌}
 use Rattle.std.proofs.Common.{Result, Ok, Err}

@@ -1,4 +1,5 @@
--- What is read of the texts of a record: subtags, Prefixes and names.
+-- What is read of the texts of a record: subtags, Prefixes and names. A loop that reads a text from the left gives what
+-- the recursive definition gives: `front` is what was read so far.
 use Rattle.std.proofs.Common.{◌≡◌, ℕ, Bool, ◌==◌, ◌+◌, ◌<◌, ◌≤◌, true, false, List, [], ◌∷◌, ◌++◌, length, take, drop}
 use Rattle.std.proofs.Common.{get_or, Option, Some, None, refl, sym, ap, ◌∙◌, arith, add-one, append_assoc, suc, ◌⊎◌}
 use Rattle.std.proofs.Common.{inl, inr, subst, Result, Ok, Err, append-nil}

@@ -1,4 +1,5 @@
--- Where rows of one beginning start, and what a search among them finds.
+-- Where rows of one beginning start, and what a search among them finds: the same as a search in all rows. A span is
+-- the part of the rows that have one beginning.
 use Rattle.std.proofs.Common.{◌≡◌, ℕ, ◌+◌, ◌-◌, ◌<◌, ◌≤◌, Bool, true, eqb, List, [], ◌∷◌, ◌++◌, length, length-append}
 use Rattle.std.proofs.Common.{replicate, get_or, refl, sym, ap, ◌∙◌, arith, inl, inr, Option, Some, None, ◌⊎◌, subst}
 use Rattle.std.proofs.Common.{take, drop}

@@ -1,4 +1,5 @@
--- The faults of a tag and of its extensions.
+-- The faults of a tag and of its extensions: the check, which goes from left to right, answers the first of those that
+-- `HasFault` states.
 use Rattle.std.proofs.Common.{◌≡◌, ℕ, ◌+◌, ◌<◌, ◌≤◌, Bool, true, false, inl, inr, List, [], ◌∷◌, ◌++◌, length, take}
 use Rattle.std.proofs.Common.{drop, get_or, refl, sym, subst, arith, ◌||◌, eqb, ◌⊎◌, ap, ◌∙◌, length-append}
 use Rattle.std.proofs.Common.{append_assoc}

@@ -1,4 +1,4 @@
--- A tag is valid exactly if it has no fault.
+-- A tag is valid exactly if it has no fault, and proper exactly if it has none but that variants repeat.
 use Rattle.std.proofs.Common.{◌≡◌, ℕ, ◌+◌, ◌≤◌, true, if◌then◌else◌, eqb, inl, inr, List, [], ◌∷◌, ◌++◌, length, Option}
 use Rattle.std.proofs.Common.{Some, None, refl, sym, ap, ◌∙◌, subst, arith}
 use Rattle.std.specs.Prelude.{◌↔◌, IfSome}

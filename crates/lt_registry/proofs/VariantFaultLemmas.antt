@@ -1,4 +1,5 @@
--- The first of several faults, and the faults of variants.
+-- The first of several faults, and the faults of variants: which fault is the first where checks follow one another,
+-- and that the check of variants answers the first of theirs.
 use Rattle.std.proofs.Common.{◌≡◌, ℕ, ◌≤◌, ◌<◌, Bool, true, false, ◌⊎◌, inl, inr, refl, sym, subst, ◌∙◌, arith, ◌+◌}
 use Rattle.std.proofs.Common.{◌||◌, not, List, [], ◌∷◌, ◌++◌, length, ap, append_assoc, bytes_eq, ◌≢◌, take, drop}
 use Rattle.std.proofs.Common.{get_or}
@@ -108,8 +109,8 @@ pub record Part (m n : ℕ) (F : Faults) (a : Check) : Type 0 where
   pub upto : Upto n F
   pub tells : Tells F a
 
--- a check of faults after `l` and up to `m`, and after it one of faults after `i` and up to `n`, where `m` is at most
--- `i`: together they are a check of faults after `l` and up to `n`
+-- a check of faults after `l` up to `m`, and after it one of faults after `i` up to `n`, where `m` is at most `i`, are
+-- together a check of faults after `l` up to `n`
 pub part_then : {l m i n : ℕ} {F G : Faults} {a b : Check} → Part l m F a → Part i n G b → l ≤ i → m ≤ i → i ≤ n
     → Part l n (Or F G) (and_then a b)
 part_then {l} {m} {i} {n} {F} {G} {a} {b} f g li mi le = record {

@@ -37,13 +37,14 @@ TakesFrom r number old new None None = IsAdded r number old new
 TakesFrom r number old new None (Some fault) = IsRefusedAt r number fault
 TakesFrom r number old new (Some first) fault = fault ≡ Some first
 
--- the draft took a further record
+-- the draft took a further record, `r`: it counted that, and took its entry or its fault, as `TakesFrom` tells
 pub record Takes (r : List Field) (old new : Draft) : Type 0 where
   pub numbered : new.number ≡ old.number + 1
   pub takes : TakesFrom r new.number old.entries.items new.entries.items old.fault new.fault
 
--- A call for the next record: the draft took the record that the reader lent (`draft` to `drafted`), or is as it was
--- if there was none. `remaining` is what a device has left to read.
+-- A call for the next record: the draft took the record that the reader lent (`draft` to `drafted`), or is as it was if
+-- there was none. The reader is on the same device (`same_reference`), and did what `Advances` tells. `remaining` is
+-- what a device has left to read.
 pub record TakesNext {R : Type 0} (remaining : R → Option (List ℕ)) (old new : JarReader R JarSource)
     (draft drafted : Draft) (result : Result Bool JarFault) : Type 0 where
   pub same_reference : new.device.ghost_name ≡ old.device.ghost_name

@@ -105,7 +105,8 @@ ListFault R here before (e ∷ after) kind place =
     HeadFault R here before e kind place
     ⊎ ListFault R (here + (1 + length e.subtags)) (before ++ e ∷ []) after kind place
 
--- a fault of `F` that counts: each does, but if variants may repeat, DuplicateVariant doesn't
+-- a fault of `F` that counts: each does, but if variants may repeat, DuplicateVariant doesn't; `F` tells of a kind and
+-- a place whether there is such a fault
 abbrev pub Counted : Bool → (ValidFaultKind → ℕ → Type 0) → ValidFaultKind → ℕ → Type 0
 Counted may_repeat F kind place = F kind place × (may_repeat ≡ true → kind ≢ faults.DuplicateVariant)
 

@@ -1,4 +1,5 @@
--- The entries of a registry, and what they say of a subtag or a tag (RFC 5646, 3.1).
+-- The entries of a registry, and what they say of a subtag or a tag (RFC 5646, 3.1). `R` are the entries in the order
+-- of the file, `k` or `kind` is a kind, `s` a subtag, `l` a language, `x` an extlang, `v` a variant, and `t` a tag.
 use Rattle.std.specs.Prelude.{ℕ, ◌≡◌, ◌<◌, ◌⊎◌, Bool, true, false, if◌then◌else◌, ◌==◌, nat_lt, nat_le, ◌&&◌, ◌||◌}
 use Rattle.std.specs.Prelude.{List, [], ◌∷◌, length, Option, Some, None, find, is_some, bytes_eq, IfSome, All}
 use Rattle.std.specs.Prelude.{unwrap_or}
@@ -32,7 +33,8 @@ is_whole_kind kinds.Grandfathered = true
 is_whole_kind kinds.Redundant = true
 is_whole_kind _ = false
 
--- whether a text comes before another of the same length in letter order, or is equal (RFC 5646, 3.1.4)
+-- whether the first of two texts of one length comes before the second in letter order, or is equal to it (RFC 5646,
+-- 3.1.4)
 abbrev pub letters_le : List ℕ → List ℕ → Bool
 letters_le [] _ = true
 letters_le (x ∷ xs) [] = false
@@ -128,7 +130,7 @@ preferred_value R k s = option_and_then (λ (e : EntryParts). one_of e.value) (e
 abbrev pub prefixes : List EntryParts → Kind → List ℕ → List (List (List ℕ))
 prefixes R k s = option_map_or (λ (e : EntryParts). e.prefixes) (entry R k s) []
 
--- the number of an entry's record, 0 where there is no entry
+-- the number of an entry's record, 0 where there is no entry: a step that uses no record has the number 0
 abbrev pub number_of : Option EntryParts → ℕ
 number_of (Some e) = e.number
 number_of None = 0

@@ -25,7 +25,8 @@ before_region c = before_script c + length (option_to_list c.script)
 abbrev pub before_variants : CoreParts → ℕ
 before_variants c = before_region c + length (option_to_list c.region)
 
--- a core that begins after `start` subtags has this fault at this place (RFC 5646, 2.2.9)
+-- a core that begins after `start` subtags has this fault at this place; of a variant that occurs twice the place is
+-- that of the second (RFC 5646, 2.2.9)
 abbrev pub HasCoreFault : List EntryParts → ℕ → CoreParts → ValidFaultKind → ℕ → Type 0
 HasCoreFault R start c faults.UnknownLanguage place =
     (place ≡ start + 1) × (is_registered R kinds.Language c.language ≡ false)

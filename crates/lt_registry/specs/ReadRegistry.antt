@@ -1,4 +1,5 @@
--- What reading a registry from a device answers: its entries, or the fault for which there are none.
+-- What reading a registry from a device answers: its entries, or the fault for which there are none. `before` and
+-- `after` are the device before and after the reading, and `remaining` tells what a device has left to read.
 use Rattle.std.specs.Prelude.{◌≡◌, ◌≢◌, ◌≤◌, ◌<◌, ◌*◌, ℕ, List, length, Option, Some, Result, Ok, Err}
 use Rattle.std.specs.Io.KnownBytes.{Consumes, IsAtEnd}
 use Rattle.lt_jar.specs.Devices.{HasFailed, after_reads, failures_of, inner_of, last_given_of, reads_of}
@@ -21,8 +22,8 @@ use Rattle.lt_registry.specs.declared.faults.RegistryFault.TheVariants as faults
 abbrev pub Reading : Type 0
 Reading = Result (List EntryParts) RegistryFault
 
--- the bytes have these records, nothing is left to read, and the device did not fail; `remaining` is what a device has
--- left to read
+-- the bytes have these records (`has`) and keep the limits of lines and records (`within`), nothing is left to read
+-- (`end`), and the device did not fail (`works`)
 pub record IsReadWhole {R : Type 0} (remaining : R → Option (List ℕ))
     (before after : Device R) (bytes : List ℕ) (records : List (List Field)) : Type 0 where
   pub has : HasRecords bytes records
@@ -30,7 +31,10 @@ pub record IsReadWhole {R : Type 0} (remaining : R → Option (List ℕ))
   pub end : IsAtEnd (remaining (inner_of after))
   pub works : failures_of after ≡ failures_of before
 
--- why the bytes that these reads gave have no records, or were not read to the end
+-- Why the bytes that these reads gave have no records, or were not read to the end. A fault of the format is the first
+-- of the text: of every text that begins with these bytes, or of the bytes if they are the whole text. OutOfMemory
+-- names a line that was reached. Read follows a failure of the device. TooManyTurns follows the most reads, the last of
+-- which gave bytes. Failed, which comes only after another fault, is never the answer.
 pub record IsJarRefusal {R : Type 0} (remaining : R → Option (List ℕ))
     (before after : Device R) (bytes : List ℕ) (reads : ℕ) (fault : JarFault) : Type 0 where
   pub format : (kind : Fault) → fault_in fault.kind ≡ Some kind
@@ -58,8 +62,9 @@ IsReadFailure (Ok registry) = ⊥
 IsReadFailure (Err (faults.Record fault)) = ⊥
 IsReadFailure (Err (faults.Jar fault)) = fault.kind ≡ jars.Read
 
--- Some reads gave some bytes, on average at most 65,536 for each read, and `Answers` is true of them. If the device
--- failed, `IsFailure` is true. `remaining` is what a device has left to read.
+-- Some reads gave some bytes (`consumes`), and were counted (`calls`). They were at most as many as a reader makes
+-- (`bounded`), and gave on average at most 65,536 bytes, which is more than a reader's buffer holds (`each`). `Answers`
+-- is true of them, and if the device failed, `IsFailure` is true (`rises`).
 pub record Reads {R : Type 0} (remaining : R → Option (List ℕ)) (before after : Device R)
     (Answers : (before after : Device R) → (bytes : List ℕ) → (reads : ℕ) → Type 0) (IsFailure : Type 0) : Type 0 where
   pub bytes : List ℕ
@@ -71,7 +76,7 @@ pub record Reads {R : Type 0} (remaining : R → Option (List ℕ)) (before afte
   pub answers : Answers before after bytes reads
   pub rises : failures_of before < failures_of after → IsFailure
 
--- a registry was read from a device, with this answer; `before` and `after` are the device before and after
+-- a registry was read from a device, with this answer
 unfoldable pub ReadsRegistry : {R : Type 0} → (R → Option (List ℕ)) → (before after : Device R) → Reading → Type 0
 ReadsRegistry remaining before after result =
     Reads remaining before after (AnswersAs remaining result) (IsReadFailure result)

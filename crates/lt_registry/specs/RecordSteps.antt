@@ -28,11 +28,12 @@ field_told s =
     else (if str_eq_ignore_ascii_case s value_name then told.PreferredValue
     else (if str_eq_ignore_ascii_case s date_name then told.FileDate else told.Other))))
 
--- the place of the first field with this name, None if there is none
+-- the place, counted from 0, of the first field with this name, None if there is none
 abbrev pub IsPlace : List ℕ → List Field → Option ℕ → Type 0
 IsPlace name r place = place ≡ position_from (is_called name) 0 r
 
--- what was found of the fields of a record is true
+-- what was found of the fields of a record is true: the place of the first field of each name, whether there is a date,
+-- and whether one of the four names occurs twice
 pub record HasFound (r : List Field) (found : Found) : Type 0 where
   pub kind : IsPlace type_name r found.kind
   pub subtag : IsPlace subtag_name r found.subtag

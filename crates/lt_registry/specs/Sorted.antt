@@ -1,4 +1,5 @@
--- The indexes beside the entries of a registry, by which a subtag or a whole tag is found fast.
+-- The indexes beside the entries of a registry, by which a subtag or a whole tag is found fast. `number s` is a subtag
+-- as one number of 64 bits, its first byte the highest, and a place is the index of an entry among the entries `R`.
 use Rattle.std.specs.Prelude.{ℕ, ◌≡◌, ◌≤◌, ◌<◌, ◌-◌, ◌+◌, ◌*◌, ◌/◌, ◌%◌, ◌^◌, min, ◌==◌, nat_le, nat_lt, Bool, true}
 use Rattle.std.specs.Prelude.{false, if◌then◌else◌, ◌&&◌, List, [], ◌∷◌, length, Option, Some, None, All, find}
 use Rattle.std.specs.Prelude.{slice_index}
@@ -53,7 +54,7 @@ abbrev pub range_rows : Kind → ℕ → List EntryParts → List RangeRow
 range_rows kind place [] = []
 range_rows kind place (e ∷ es) = cons_option (range_row kind place e) (range_rows kind (place + 1) es)
 
--- whether a rank is in a range
+-- whether a rank is in a range, whose `end` is one more than the rank of its last subtag
 abbrev pub is_within : ℕ → RangeRow → Bool
 is_within rank row = nat_le row.start rank && nat_lt rank row.end
 
@@ -61,7 +62,8 @@ is_within rank row = nat_le row.start rank && nat_lt rank row.end
 abbrev pub first_within : List RangeRow → ℕ → Option ℕ
 first_within rows rank = option_map (λ (row : RangeRow). row.place) (find (is_within rank) rows)
 
--- what the stretch that a rank is in says, and `before` if the rank is before the first stretch
+-- What the stretch that a rank is in says, and `before` if the rank is before the first stretch. A stretch says the
+-- place of an entry, or None for none.
 abbrev pub place_in : Option ℕ → List Stretch → ℕ → Option ℕ
 place_in before [] rank = before
 place_in before (s ∷ ss) rank = if nat_le s.start rank then place_in s.place ss rank else before
@@ -160,8 +162,8 @@ abbrev pub place_of : ℕ → List Row → Option ℕ
 place_of n rows = option_map (λ (w : Row). w.place) (find (λ (w : Row). w.number == n) rows)
 
 -- The beginning of a number: the first byte of its subtag, times 32, and the number of the second letter from 1, or 0
--- for a digit. A greater number has no lesser beginning. The two bytes are the highest of the number's eight; 97 is
--- `a`, and 31 keeps what is added below 32.
+-- for a digit. A greater number has no lesser beginning. The two bytes are the highest of the number's eight; 96 is the
+-- byte before `a`, and 31 keeps what is added below 32.
 abbrev pub beginning : ℕ → ℕ
 beginning n = n / 2 ^ 56 * 32 + min (n / 2 ^ 48 % 256 - 96) 31
 
@@ -176,7 +178,8 @@ pub record AreStarts (rows : List Row) (starts : List ℕ) : Type 0 where
   pub spans : (i : ℕ) (w : Row) → slice_get rows i ≡ Some w → IsInSpan starts (beginning w.number) i
   pub bounded : All (λ start. start ≤ length rows) starts
 
--- an index of the records of one kind
+-- an index of the records of one kind, the one that it keeps: the rows of single subtags, where those of each beginning
+-- start, and the stretches of the ranges
 pub record IsKindIndex (R : List EntryParts) (index : KindIndex) : Type 0 where
   pub singles : IsSingles R index.kind index.singles.items
   pub starts : AreStarts index.singles.items index.starts.items

@@ -1,5 +1,5 @@
-//! What the comparisons of entries and their parts compute: `==` is equality of what a contract sees. Nothing
-//! else is computed here.
+//! The laws of `==` on entries and their parts: true exactly if what contracts see of both is equal. No program calls
+//! these; their clauses are what they are for.
 ghost use Rattle.std.specs.Prelude.{◌≡◌, ◌↔◌, IsTrue};
 
 use crate::entries::{Entry, EntryName, EntryValue, Prefix};

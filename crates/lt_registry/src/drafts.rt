@@ -1,4 +1,4 @@
-//! The registry that is being read.
+//! A draft: the registry that is being read, record by record. `Registry::read` makes one.
 ghost use Rattle.std.specs.Prelude.{◌≡◌, ◌<◌, [], IfErr, OnOk, None};
 ghost use Rattle.lt_jar.specs.Sources.{lent_by};
 ghost use Rattle.lt_registry.specs.AddedRecords.{IsAdded, IsPut, IsRefusedAt, Takes, TakesNext, finished};
@@ -12,8 +12,8 @@ use lt_jar::{JarFault, JarField, JarReader};
 use std::alloc::Global;
 use std::io::Read;
 
-/// Puts the entry of a record after the others; a header has none. `number` is that of the record in the file, counted from
-/// 1. Refused with the record's number and its first fault, or where memory runs out.
+/// Puts the entry of a record after the others; a header has none. `number` is that of the record in the file, counted
+/// from 1. Refused with the record's number and its first fault, or where memory runs out.
 pub(crate) fn add_record(
     alloc: Global,
     entries: &mut Vec<Entry>,
@@ -70,8 +70,8 @@ impl Draft {
         }
     }
 
-    /// Takes the fields of the next record. After a record at fault no more entries are made. The draft must have taken fewer
-    /// than 100,000 records.
+    /// Takes the fields of the next record. After a record at fault no more entries are made. The draft must have taken
+    /// fewer than 100,000 records, as many as a reader lends, so that their count is a `u32`.
     fn take(&mut self, alloc: Global, fields: &[JarField])
         requires { self.old.number < 100000 }
         ensures { Takes fields.now self.old self.new }
@@ -82,8 +82,8 @@ impl Draft {
         }
     }
 
-    /// Takes the next record of a reader: true, or false if there is none. Refused with the reader's fault. The draft must
-    /// have taken each record that the reader lent before.
+    /// Takes the next record of a reader: true, or false if there is none. Refused with the reader's fault. The draft
+    /// must have taken each record that the reader lent before, so that it gives the next one its number in the file.
     pub(crate) fn take_next<R: Read>(
         &mut self,
         alloc: Global,

@@ -1,4 +1,6 @@
-//! Entries of a registry.
+//! Entries of a registry: what a record says of a subtag, a range of subtags or a whole tag. Each call that reads a
+//! part of an entry hands on, in its clause `entry`, that the entry has the forms of its kind (`IsEntry`), which is how
+//! a caller's proof learns it. `prefix` of a Prefix does the same.
 ghost use Rattle.std.specs.Prelude.{◌≡◌};
 ghost use Rattle.std.specs.Cmp.{partial_equiv_from_equiv};
 ghost use Rattle.std.specs.Cmp.Lexicographic.{lists_equiv, nat_list_eq_equiv};
@@ -187,7 +189,8 @@ impl Entry {
         self.prefixes.all()
     }
 
-    /// Whether a subtag alone is one of the record's Prefixes. It is looked for among them by binary search.
+    /// Whether a subtag alone is one of the record's Prefixes, as a language is one of the extlang's in `zh-yue`. It is
+    /// looked for among them by binary search.
     pub fn has_prefix(&self, subtag: &Subtag) -> bool
         ensures { result ≡ has_prefix self.now.prefixes subtag.now }
     {

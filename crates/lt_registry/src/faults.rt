@@ -1,4 +1,5 @@
-//! Why a tag is not valid, and why a record gives no entry.
+//! Why a tag is not valid, and why a record gives no entry. A `From` below is what `?` calls to hand on a fault, and
+//! its `from_gives` says which fault it makes.
 ghost use Rattle.std.specs.Prelude.{◌≡◌};
 ghost use Rattle.lt_registry.specs.Names.{name_of, refusal_name_of, record_name_of, registry_name_of};
 

@@ -1,4 +1,5 @@
-//! The fields of a record that count.
+//! The fields of a record that count: Type, Subtag, Tag, Preferred-Value, File-Date and Prefix. What was found of a
+//! record is where the first field of each name is, but for Prefix, which may occur often.
 ghost use Rattle.std.specs.Prelude.{◌≡◌, ◌++◌, ◌∷◌, [], ℕ, List, length, Some, None, MatchOption, IfOk, option_map};
 ghost use Rattle.std.specs.List.{slice_get};
 ghost use Rattle.std.specs.Option.{option_copied};
@@ -40,8 +41,8 @@ pub(crate) enum FieldName {
     Other,
 }
 
-/// Which field has this name, letter case aside. Most fields of a record are called Type or Subtag in just these letters.
-/// They are tried first, since comparing bytes is quicker than comparing letters of either case.
+/// Which field has this name, letter case aside. Most fields of a record are called Type or Subtag in just these
+/// letters. They are tried first, since comparing bytes is quicker than comparing letters of either case.
 fn field_name(text: &str) -> FieldName
     ensures { result ≡ steps.field_told text.now }
 {
@@ -78,6 +79,7 @@ pub(crate) struct Found {
     subtag: Option<usize>,
     tag: Option<usize>,
     value: Option<usize>,
+    /// Whether there is a File-Date.
     is_dated: bool,
     /// Whether Type, Subtag, Tag or Preferred-Value occurs twice.
     repeats: bool,
@@ -99,7 +101,8 @@ impl Found {
     }
 
     /// Notes a further field, which has this place and name, if it is one of those that are looked for. The first of a
-    /// name gives its place, and another one is a repeat.
+    /// name gives its place, and another one is a repeat. The fields before it are no argument, so the clause speaks of
+    /// any `r` of which `self` was true, and of any field `f` of this name after them.
     fn put(&mut self, place: usize, name: &str)
         ensures { (r : List Field) (f : Field) → length r ≡ place → f.0 ≡ name.now
             → steps.HasFound r self.old → steps.HasFound (r ++ f ∷ []) self.new }
@@ -153,6 +156,7 @@ fn body_at(fields: &[JarField], place: usize) -> Option<&str>
 pub(crate) struct RecordFields<'a> {
     all: &'a [JarField],
     found: Found,
+    /// That `found` is true of `all`, for proofs alone.
     ghost found_there: { steps.HasFound all.now found },
 }
 
@@ -189,7 +193,8 @@ impl<'a> RecordFields<'a> {
         self.found.is_dated & self.found.kind.is_none()
     }
 
-    /// The body of the field at `place`, which is where a field was found; None if none was found.
+    /// The body of the field at `place`, which is where a field was found; None if none was found. The name of the
+    /// field is no argument, so the clause speaks of each name whose first field is at `place`.
     fn body(&self, place: Option<usize>) -> Option<&'a str>
         ensures { (name : List ℕ) → steps.IsPlace name self.now.all.now place
             → option_copied result ≡ record_words.body name self.now.all.now }
@@ -207,8 +212,8 @@ impl<'a> RecordFields<'a> {
         self.body(self.found.kind)
     }
 
-    /// The body of the field that says what a record of the kind names: Tag for a kind of whole tags, and Subtag for any
-    /// other. None if the record has no such field.
+    /// The body of the field that says what a record of the kind names: Tag for a kind of whole tags, and Subtag for
+    /// any other. None if the record has no such field.
     pub(crate) fn name(&self, kind: Kind) -> Option<&'a str>
         ensures { option_copied result ≡ record_words.body (record_words.name_field kind) self.now.all.now }
     {
@@ -295,7 +300,8 @@ fn begins_dots(text: &[u8]) -> bool
     }
 }
 
-/// The subtags of a Prefix, or None if a piece of it is no subtag.
+/// The subtags of a Prefix, whose text is cut into pieces at its hyphens; None if a piece is no subtag. The only
+/// refusal is running out of memory.
 #[tactic(auto, using(crate::proofs::RecordTexts::piece_stays, crate::proofs::RecordTexts::piece_fails, crate::proofs::RecordTexts::piece_last, crate::proofs::RecordTexts::prefix_is))]
 pub(crate) fn read_prefix(alloc: Global, text: &[u8]) -> Result<Option<Prefix>, OutOfMemory>
     ensures { IfOk result (λ prefix. prefix ≡ record_words.prefix_of text.now) }

@@ -1,4 +1,5 @@
-//! The indexes beside a list of entries.
+//! The indexes beside a list of entries, by which a `SortedTable` finds one. A whole record is one of a whole tag,
+//! grandfathered or redundant.
 ghost use Rattle.std.specs.Prelude.{◌≡◌, IfOk};
 ghost use Rattle.std.specs.List.{slice_get};
 ghost use Rattle.std.specs.Option.{option_copied};

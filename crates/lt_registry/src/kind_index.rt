@@ -1,4 +1,6 @@
-//! The records of one kind, sorted for a search.
+//! The records of one kind, sorted for a search. A row has a subtag's number, which is its bytes as one number of 64
+//! bits, and the place of its record among the entries. A stretch says of some subtags which range is the first that
+//! holds them.
 ghost use Rattle.std.specs.Prelude.{◌≡◌, ◌&&◌, List, length, find, All, IfOk};
 ghost use Rattle.std.specs.Option.{option_copied};
 ghost use Rattle.lt_registry.specs.Parts.{EntryParts};
@@ -28,7 +30,8 @@ pub(crate) struct KindIndex {
 }
 
 impl KindIndex {
-    /// The index of the records of a kind. It is refused only where memory runs out.
+    /// The index of the records of a kind. It is refused only where memory runs out. The clause `index` speaks of the
+    /// kind that the index keeps, and `kind` says that it is this one.
     pub(crate) fn of_entries(
         alloc: Global,
         entries: &[Entry],
@@ -49,8 +52,9 @@ impl KindIndex {
         })
     }
 
-    /// The entry of a subtag under the kind: the record of the subtag alone, or else that of a range. None if it has none.
-    /// The index must be that of these entries.
+    /// The entry of a subtag under the kind: the record of the subtag alone, or else that of a range. None if it has
+    /// none. The index must be that of these entries. These must have their forms, so that a name has at most the 8
+    /// bytes that a number holds.
     pub(crate) fn find<'a>(&self, entries: &'a [Entry], subtag: &Subtag) -> Option<&'a Entry>
         requires index { sorted.IsKindIndex entries.now self.now }
         requires forms { All IsEntry entries.now }
@@ -62,8 +66,8 @@ impl KindIndex {
         }
     }
 
-    /// The first record of the kind that names a subtag alone, or None if there is none. The index must be that of these
-    /// entries.
+    /// The first record of the kind that names a subtag alone, or None if there is none. The index must be that of
+    /// these entries, which must have their forms.
     fn single<'a>(&self, entries: &'a [Entry], subtag: &Subtag) -> Option<&'a Entry>
         requires index { sorted.IsKindIndex entries.now self.now }
         requires forms { All IsEntry entries.now }
@@ -74,8 +78,8 @@ impl KindIndex {
     }
 
     /// The place of the record of a subtag alone, by the number of the subtag; None if there is none. It is looked for
-    /// only among the subtags with the same beginning, which are few. The numbers of the single records must rise, and the
-    /// starts must be theirs.
+    /// only among the subtags with the same beginning, which are few. The numbers of the single records must rise, and
+    /// the starts must be theirs.
     #[tactic(auto, using(crate::proofs::SpanLemmas::none_listed, crate::proofs::SpanLemmas::none_alike, crate::proofs::SpanLemmas::part_rises, crate::proofs::SpanLemmas::place_alike))]
     fn place(&self, number: u64) -> Option<usize>
         requires rising { sorted.RowsRise self.now.singles.items }
@@ -89,8 +93,8 @@ impl KindIndex {
         place_of(alike, number)
     }
 
-    /// The first range of the kind that holds a subtag, or None if there is none. Ranges hold subtags of letters alone. The
-    /// index must be that of these entries.
+    /// The first range of the kind that holds a subtag, or None if there is none. Ranges hold subtags of letters alone.
+    /// The index must be that of these entries, which must have their forms.
     #[tactic(auto, using(crate::proofs::RangeLemmas::range_found, crate::proofs::RangeLemmas::none_holds, lt_subtag::proofs::NumberLemmas::subtag_few))]
     fn range<'a>(&self, entries: &'a [Entry], subtag: &Subtag) -> Option<&'a Entry>
         requires index { sorted.IsKindIndex entries.now self.now }
@@ -106,7 +110,8 @@ impl KindIndex {
 }
 
 /// The rows of the records of single subtags in the order of the subtags. Of several records of a subtag the first
-/// stays. They are refused only where memory runs out.
+/// stays. They are refused only where memory runs out. The entries are no argument, so the clause speaks of any list
+/// `R` and any kind of which `rows` are the rows.
 fn sorted_rows(mut rows: Vec<Row>) -> Result<Vec<Row>, AllocError>
     ensures { IfOk result (λ singles. (R : List EntryParts) (kind : Kind) → sorted.AreRows (sorted.single_row kind) (λ (row : Row). row.place) R (length R) rows.items
         → sorted.IsSingles R kind singles.items) }
@@ -118,8 +123,8 @@ fn sorted_rows(mut rows: Vec<Row>) -> Result<Vec<Row>, AllocError>
 }
 
 /// The beginning of a subtag, by its number: the first byte, times 32, and the place of the second among the letters,
-/// which is 0 for a digit. The two are the highest bytes of the number's eight. 96 is the byte before `a`, and 32 is more
-/// than there are letters.
+/// which is 0 for a digit. The two are the highest bytes of the number's eight, above 56 and 48 bits. 96 is the byte
+/// before `a`. 32 is more than there are letters, and 31 keeps what is added below 32, whatever the byte.
 fn beginning(number: u64) -> usize
     ensures { result ≡ sorted.beginning number }
 {
@@ -128,7 +133,8 @@ fn beginning(number: u64) -> usize
     first * 32 + second.saturating_sub(96).min(31)
 }
 
-/// The place of the record with this number, by binary search; None if no row has it. The numbers of the rows must rise.
+/// The place of the record with this number, by binary search; None if no row has it. The numbers of the rows must
+/// rise.
 fn place_of(rows: &[Row], number: u64) -> Option<usize>
     requires { sorted.RowsRise rows.now }
     ensures { result ≡ sorted.place_of number rows.now }
@@ -139,8 +145,9 @@ fn place_of(rows: &[Row], number: u64) -> Option<usize>
     }
 }
 
-/// Where the rows of each beginning start, and after these starts the count of the rows. They are refused only where
-/// memory runs out. The numbers of the rows must rise.
+/// A list that has, at the index of each beginning, the index of the first row of this beginning or a greater one; it
+/// goes up to the last row's beginning, and then has the count of the rows. So the rows of a beginning go from its
+/// start to the next start. They are refused only where memory runs out. The numbers of the rows must rise.
 fn starts(alloc: Global, rows: &[Row]) -> Result<Vec<usize>, AllocError>
     requires { sorted.RowsRise rows.now }
     ensures { IfOk result (λ starts. sorted.AreStarts rows.now starts.items) }

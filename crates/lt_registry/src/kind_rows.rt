@@ -1,4 +1,5 @@
-//! The rows of the records of one kind, gathered in one pass over the entries.
+//! The rows of the records of one kind, gathered in one pass over the entries. A row is what an index has of a record:
+//! numbers to search by, and the record's place among the entries.
 ghost use Rattle.std.specs.Prelude.{◌≡◌, ◌++◌, [], length, IfOk, OnOk};
 ghost use Rattle.std.specs.List.{cons_option};
 ghost use Rattle.lt_registry.specs.Sorted as sorted;
@@ -18,7 +19,9 @@ pub(crate) struct KindRows {
 }
 
 impl KindRows {
-    /// The rows of the records of a kind. They are refused only where memory runs out.
+    /// The rows of the records of a kind. The single ones, which are sorted next, may be in any order by the clause.
+    /// The ranges are in the order of the file, where the first that holds a subtag counts; 0 is the place of the first
+    /// entry. They are refused only where memory runs out.
     pub(crate) fn of_entries(
         alloc: Global,
         entries: &[Entry],

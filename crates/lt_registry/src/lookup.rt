@@ -1,4 +1,5 @@
-//! What every table of entries answers.
+//! What every table of entries answers. Contracts of the crates above speak of a table by `listed` alone, so they hold
+//! of any table.
 ghost use Rattle.std.specs.Prelude.{◌≡◌, List, All};
 ghost use Rattle.std.specs.Option.{option_copied};
 ghost use Rattle.lt_registry.specs.Parts.{EntryParts};
@@ -13,15 +14,15 @@ pub trait Lookup {
     /// The entries in the order of the file.
     ghost listed: { Self → List EntryParts };
 
-    /// The entries in the order of the file.
+    /// The entries in the order of the file. Their numbers rise, and each has the forms of its kind.
     fn entries(&self) -> &[Entry]
         ensures value { result.now ≡ listed self.now }
         ensures rising { NumbersRise (listed self.now) }
         ensures forms { All IsEntry (listed self.now) };
 
-    /// The entry of a subtag under a kind: the first record of the kind that names this subtag and no other; or, without
-    /// such a record, the first whose range holds it. None if there is neither. No subtag has an entry as a grandfathered or
-    /// redundant tag.
+    /// The entry of a subtag under a kind: the first record of the kind that names this subtag and no other; or,
+    /// without such a record, the first whose range holds it. None if there is neither. No subtag has an entry as a
+    /// grandfathered or redundant tag.
     fn entry(&self, kind: Kind, subtag: &Subtag) -> Option<&Entry>
         ensures { option_copied result ≡ entry (listed self.now) kind subtag.now };
 

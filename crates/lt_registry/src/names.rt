@@ -25,7 +25,8 @@ pub(crate) fn is_up_to(first: &Subtag, other: &Subtag) -> bool
     }
 }
 
-/// Whether a name is a range that holds a subtag.
+/// Whether a name is a range that holds a subtag: one of the same length, of letters alone, from its first to its last
+/// in letter order (RFC 5646, 3.1.4).
 pub(crate) fn holds(name: &EntryName, subtag: &Subtag) -> bool
     ensures { result ≡ forms.holds subtag.now name.now }
 {

@@ -23,7 +23,7 @@ use lt_tag::{OutOfMemory, TagFaultKind, read_tag};
 use std::alloc::Global;
 
 /// The entry of a record, which has the number `number` in the file. Refused with the first fault of the record, in the
-/// order of `RecordFaultKind`.
+/// order of `RecordFaultKind`, or where memory runs out.
 #[tactic(auto, using(crate::proofs::RecordLaws::kind_there, crate::proofs::RecordLaws::name_refused, crate::proofs::RecordLaws::prefixes_fit, crate::proofs::RecordLaws::prefixes_where))]
 pub(crate) fn read_entry(
     alloc: Global,
@@ -85,7 +85,7 @@ fn read_whole(alloc: Global, text: &[u8]) -> Result<Option<WholeTag>, OutOfMemor
 {
     match read_tag(alloc, text) {
         Ok(tag) => {
-            // So that its shape is known.
+            // Called only for its clause, which says that the tag has the form of one.
             let _ = tag.core();
             Ok(Some(WholeTag::of_tag(alloc, tag)?))
         }

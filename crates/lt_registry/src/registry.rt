@@ -33,9 +33,9 @@ impl Model for Registry {
 }
 
 impl Registry {
-    /// The entries of a file's records, as the record-jar reader gives them. Each record but the header gives one
-    /// (RFC 5646, 3.1). There must be at most 100,000 records. A refusal names the lowest record at fault and its first
-    /// fault; where memory runs out, it names the record that was being read.
+    /// The entries of a file's records, as the record-jar reader gives them. Each record but the header gives one (RFC
+    /// 5646, 3.1). There must be at most 100,000 records, as many as that reader gives. A refusal names the lowest
+    /// record at fault and its first fault; where memory runs out, it names the record that was being read.
     #[tactic(auto, using(crate::proofs::EntryLaws::made_stops))]
     pub fn from_records(alloc: Global, records: &[Record]) -> Result<Registry, RecordFault>
         requires { length records.now ≤ 100000 }
@@ -66,7 +66,7 @@ impl Registry {
         })
     }
 
-    /// The entries in the order of the file.
+    /// The entries in the order of the file. Their numbers rise, and each has the forms of its kind.
     pub fn entries(&self) -> &[Entry]
         ensures value { result.now ≡ self.now }
         ensures registry { IsRegistry self.now }

@@ -1,7 +1,8 @@
-//! The rows of an index.
+//! The rows of an index. The number of a subtag is its bytes as one number of 64 bits, and its rank is its length with
+//! that number below it (`subtag_numbers`). A place is the index of an entry.
 
 /// A row of the index of single subtags or of whole tags: the number that is looked for, and the place of its record
-/// among the entries.
+/// among the entries. Rows are ordered by the number, and rows of one number by the place.
 #[derive(Clone, Copy, Debug, PartialEq, Eq, PartialOrd, Ord)]
 pub(crate) struct Row {
     /// The number of the record's subtag, or of the language of the tag that it names.
@@ -18,8 +19,8 @@ pub(crate) struct RangeRow {
     pub(crate) place: usize,
 }
 
-/// The ranks from a start up to that of the next stretch, and the place of the first range that they are within; None
-/// if they are within none.
+/// The ranks from a start up to that of the next stretch, which is not among them, and the place of the first range
+/// that they are within; None if they are within none.
 #[derive(Clone, Copy, Debug)]
 pub(crate) struct Stretch {
     pub(crate) start: u128,

@@ -14,7 +14,8 @@ use lt_subtag::Subtag;
 const NUMBERS: u128 = 1 << 64;
 
 /// The rank of a subtag: its length, of at most 8, and below it the 64 bits of its number. So subtags of one length are
-/// together, in their order.
+/// together, in their order. By `small` one may be added to a rank, for the end of a range; 9 times 2^64 is below 2^68.
+/// `subtag` tells the caller's proof that the argument is a subtag.
 #[tactic(auto, using(lt_subtag::proofs::BytesLemmas::subtag_length))]
 pub(crate) fn rank_of(subtag: &Subtag) -> u128
     ensures value { result ≡ sorted.rank subtag.now }
@@ -25,7 +26,7 @@ pub(crate) fn rank_of(subtag: &Subtag) -> u128
     length * NUMBERS + subtag.number() as u128
 }
 
-/// The numbers of subtags, in an array, so that nothing is allocated. There must be at most 256 subtags.
+/// The numbers of subtags, in an array of 256, so that nothing is allocated. There must be no more subtags.
 fn numbers_of(subtags: &[Subtag]) -> ArrayVec<u64, 256>
     requires { length subtags.now ≤ 256 }
     ensures { result.items ≡ map lanes.number subtags.now }
@@ -37,7 +38,8 @@ fn numbers_of(subtags: &[Subtag]) -> ArrayVec<u64, 256>
     numbers
 }
 
-/// Whether all numbers are different. They are left sorted.
+/// Whether all numbers are different. They are left sorted. The clause says only what true means, which is all that
+/// `many_differ` needs.
 fn differ(numbers: &mut [u64]) -> bool
     ensures { result ≡ true → IsDistinct (eq_by_cmp nat_cmp) numbers.old }
 {

@@ -1,4 +1,12 @@
-//! Which tags are valid (RFC 5646, 2.2.9).
+//! Which tags are valid (RFC 5646, 2.2.9). A place is the number of a subtag in the tag, counted from 1, and `start` is
+//! how many subtags are before a core.
+//!
+//! The bounds are there so that a place is a `u32`. A core has at most 1,030 subtags: a language, 3 extlangs, a script,
+//! a region and 1,024 variants. So the first singleton is at most at 1,031. With 1,024 extensions of up to 1,025
+//! subtags a tag has at most 1,050,630 before its private use, and 1,100,000 is a round number above that.
+//!
+//! `TellsOrLacks F M` says that a check answers Ok if there is no fault of `F`, else the first of them, or OutOfMemory,
+//! but only if `M` is true. `Counted may_repeat F` leaves out DuplicateVariant if variants may repeat.
 ghost use Rattle.std.specs.Prelude.{◌≡◌, ◌≤◌, ◌+◌, ◌↔◌, [], ◌∷◌, length, IsTrue, OnOk, OnErr, IfOk, IfErr};
 ghost use Rattle.std.specs.Option.{option_copied};
 ghost use Rattle.lt_tag.specs.Spelling.{spell_core};
@@ -16,9 +24,9 @@ use lt_subtag::Subtag;
 use lt_tag::{Core, Extension, OutOfMemory, Tag, TransformFault, split_t};
 use std::alloc::Global;
 
-/// Checks that a tag is valid (RFC 5646, 2.2.9). Refused with its first fault: the one with the least place and, of those at
-/// one place, the first kind in the order of `ValidFaultKind`. Memory is taken only for the parts of a `t` extension, so no
-/// other tag is refused with `OutOfMemory`.
+/// Checks that a tag is valid (RFC 5646, 2.2.9). Refused with its first fault: the one with the least place and, of
+/// those at one place, the first kind in the order of `ValidFaultKind`. Memory is taken only for the parts of a `t`
+/// extension, so no other tag is refused with `OutOfMemory`.
 pub fn validate<L: Lookup>(alloc: Global, table: &L, tag: &Tag) -> Result<(), ValidRefusal>
     ensures ok { OnOk result (HasNoFault (L.listed table.now) tag.now) }
     ensures err { IfErr result (IsRefusal (L.listed table.now) tag.now) }
@@ -73,9 +81,8 @@ fn core_length(core: &Core) -> u32
     length as u32
 }
 
-/// Checks a core that begins after `start` subtags, and refuses it with its first fault. If `may_repeat`, variants that
-/// repeat are no fault. `start` must be at most 1,100,000. No tag has as many subtags: it has up to 1,024 extensions, each
-/// of up to 1,025 subtags.
+/// Checks a core that begins after `start` subtags, at most 1,100,000, and refuses it with its first fault. If
+/// `may_repeat`, variants that repeat are no fault.
 #[tactic(auto, unfolding(crate::specs::Checking::core_check))]
 fn check_core<L: Lookup>(
     table: &L,
@@ -126,8 +133,8 @@ fn check(holds: bool, kind: ValidFaultKind, place: u32) -> Result<(), ValidFault
 }
 
 /// Checks the extlangs of a core that begins after `start` subtags and has this language: the first is registered, the
-/// language is one of its Prefixes, and there is no second one. Refused with the first fault of an extlang. `start` must
-/// be at most 1,100,000.
+/// language is one of its Prefixes, and there is no second one. Refused with the first fault of an extlang. `start`
+/// must be at most 1,100,000.
 fn check_extlangs<L: Lookup>(
     table: &L,
     start: u32,
@@ -149,8 +156,8 @@ fn check_extlangs<L: Lookup>(
 }
 
 /// Checks the first extlang of a core by its entry, None if it isn't registered. Refused with `UnknownExtlang`, or with
-/// `ExtlangPrefix` if the language is none of its Prefixes. The core begins after `start` subtags, which must be at most
-/// 1,100,000.
+/// `ExtlangPrefix` if the language is none of its Prefixes. The core begins after `start` subtags, which must be at
+/// most 1,100,000.
 fn check_prefix(extlang: Option<&Entry>, start: u32, language: &Subtag) -> Result<(), ValidFault>
     requires { start ≤ 1100000 }
     ensures { result ≡ checking.prefix_check start language.now (option_copied extlang.entry) }
@@ -167,8 +174,8 @@ fn check_prefix(extlang: Option<&Entry>, start: u32, language: &Subtag) -> Resul
     }
 }
 
-/// Checks that a subtag of this kind, a script or a region, is registered, if there is one. One that isn't is refused with
-/// the fault `fault` at the subtag's place, `place`.
+/// Checks that a subtag of this kind, a script or a region, is registered, if there is one. One that isn't is refused
+/// with the fault `fault` at the subtag's place, `place`.
 fn check_part<L: Lookup>(
     table: &L,
     kind: Kind,
@@ -185,8 +192,9 @@ fn check_part<L: Lookup>(
 }
 
 /// Checks the variants of a core, of which the first has the place `start`: each is registered and, unless
-/// `may_repeat`, none occurs twice. Refused with the first fault. If a sort shows first that many variants all differ, none
-/// is looked for among those before it. `start` must be at most 1,100,006, and there must be at most 1,024 variants.
+/// `may_repeat`, none occurs twice. Refused with the first fault. If a sort shows first that many variants all differ,
+/// none is looked for among those before it. `start` must be at most 1,100,006, as they begin at most 6 places after
+/// the core's start, and there must be at most 1,024 variants.
 fn check_variants<L: Lookup>(
     table: &L,
     start: u32,
@@ -201,8 +209,9 @@ fn check_variants<L: Lookup>(
     check_each_variant(table, start, variants, differ_or_may_repeat)
 }
 
-/// Checks one variant after another, of which the first has the place `start`. Unless `may_repeat`, each is looked for among
-/// those before it. Refused with the first fault. `start` must be at most 1,100,006, and there must be at most 1,024 variants.
+/// Checks one variant after another, of which the first has the place `start`. Unless `may_repeat`, each is looked for
+/// among those before it. Refused with the first fault. `start` must be at most 1,100,006, and there must be at most
+/// 1,024 variants.
 #[tactic(auto, using(crate::proofs::VariantFaultLemmas::variants_on, crate::proofs::VariantFaultLemmas::variants_stop, crate::proofs::VariantFaultLemmas::variants_end))]
 fn check_each_variant<L: Lookup>(
     table: &L,
@@ -240,8 +249,8 @@ fn check_variant<L: Lookup>(
 }
 
 /// Checks the extensions of a langtag: no singleton occurs twice, and each extension passes. The singleton of the first
-/// has the place `first`. If `may_repeat`, variants that repeat in a source are no fault. Refused with the first fault, or
-/// where memory runs out. `first` must be at most 1,031, and there must be at most 1,024 extensions.
+/// has the place `first`. If `may_repeat`, variants that repeat in a source are no fault. Refused with the first fault,
+/// or where memory runs out. `first` must be at most 1,031, and there must be at most 1,024 extensions.
 #[tactic(auto, using(crate::proofs::TagFaultLemmas::told_extension, crate::proofs::TagFaultLemmas::stepped, crate::proofs::TagFaultLemmas::all_told))]
 fn check_extensions<L: Lookup>(
     alloc: Global,
@@ -278,8 +287,8 @@ fn has_singleton(extensions: &[Extension], singleton: u8) -> bool
 }
 
 /// Checks an extension whose singleton has this place: a `t` extension has its form, and its source passes. Any other
-/// extension passes. If `may_repeat`, variants that repeat in the source are no fault. Refused with the first fault, or where
-/// memory runs out. The place must be at most 1,100,000.
+/// extension passes. If `may_repeat`, variants that repeat in the source are no fault. Refused with the first fault, or
+/// where memory runs out. The place must be at most 1,100,000.
 fn check_extension<L: Lookup>(
     alloc: Global,
     table: &L,
@@ -303,8 +312,8 @@ fn check_extension<L: Lookup>(
     }
 }
 
-/// Checks the source of a `t` extension, if it has one, and refuses it with its first fault. The extension's singleton has
-/// this place, which must be at most 1,100,000. If `may_repeat`, variants that repeat are no fault.
+/// Checks the source of a `t` extension, if it has one, and refuses it with its first fault. The extension's singleton
+/// has this place, which must be at most 1,100,000. If `may_repeat`, variants that repeat are no fault.
 fn check_source<L: Lookup>(
     table: &L,
     source: &Option<Core>,

@@ -1,4 +1,5 @@
-//! The whole records, sorted for a search.
+//! The whole records, which are those of whole tags, grandfathered or redundant, sorted for a search. A row has the
+//! number of the tag's language, which is its bytes as one number of 64 bits, and the record's place among the entries.
 ghost use Rattle.std.specs.Prelude.{◌≡◌, length, IfOk, Some};
 ghost use Rattle.std.specs.Ordering.{is_eq};
 ghost use Rattle.std.specs.Option.{option_copied, option_cmp};
@@ -110,7 +111,7 @@ fn compare_rows(entries: &[Entry], one: Row, other: Row) -> Ordering
     compare_keys(entries, one, other).then(one.place.cmp(&other.place))
 }
 
-/// Whether two records are of the same tag.
+/// Whether two records are of the same tag. Of such, only the first stays in the index.
 fn name_same_tag(entries: &[Entry], one: Row, other: Row) -> bool
     ensures { result ≡ is_eq (sorted.whole_key_cmp (sorted.whole_key entries.now one)
         (sorted.whole_key entries.now other)) }

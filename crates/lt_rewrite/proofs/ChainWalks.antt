@@ -1,6 +1,6 @@
--- A walk along a chain of values, value by value. After as many values as there are records it has ended or never will.
--- It may also stop at a record that is before its own in an order, since the chain of that one is judged too
--- (`first_cycle`).
+-- A walk along a chain of values, value by value. After as many values as there are records it has ended or never will,
+-- since a chain that ends uses no record twice. It may also stop at a record that is before its own in an order, since
+-- the chain of that one is judged too (`first_cycle`).
 use Rattle.std.proofs.Common.{◌≡◌, ◌≢◌, ℕ, zero, suc, ◌≤◌, ◌<◌, inl, inr, Bool, true, false, cond, eqb, List, [], ◌∷◌}
 use Rattle.std.proofs.Common.{Option, Some, None, refl, sym, ap, ◌∙◌, subst, length, slice_get, arith, ◌+◌, Result}
 use Rattle.std.proofs.Common.{IfOk, OnErr, not, get_or, All, MatchBool, Bor, is_some, Contains}

@@ -1,4 +1,5 @@
--- Where a chain of values ends.
+-- Where a chain of values ends: a walk along it (`chase`) stays at its end, which is the only one. `f` gives the value
+-- of each subtag.
 use Rattle.std.proofs.Common.{◌≡◌, ℕ, zero, suc, ◌≤◌, ◌+◌, ◌-◌, inl, inr, List, Option, Some, None, refl, sym, ap, ◌∙◌, subst, arith}
 use Rattle.std.proofs.lemmas.Bool.{cases_lt}
 use Rattle.lt_rewrite.specs.CoreSteps.{chase, Ends, EndsIn}

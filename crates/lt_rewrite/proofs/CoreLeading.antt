@@ -1,4 +1,5 @@
--- What a step of a kind is on a core.
+-- When a step, given by its kind, its place and the number of its record, leads on from a core, and which step of a
+-- core is the first.
 use Rattle.std.proofs.Common.{◌≡◌, ℕ, ◌+◌, ◌<◌, ◌≤◌, List, ◌++◌, Some, refl, sym, ap, ◌∙◌, length, length-append}
 use Rattle.std.proofs.Common.{slice_get, arith, zero, suc, false, [], ◌∷◌, Option, None, All, subst, take, drop}
 use Rattle.std.proofs.Common.{is_none, inl, inr, MatchOption, Bool, true}

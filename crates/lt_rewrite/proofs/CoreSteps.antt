@@ -1,4 +1,5 @@
--- A core step by the part that it replaces, and what single steps reach.
+-- A core step by the part that it replaces, and what single steps reach. So a proof on core steps has a case for each
+-- kind of step.
 use Rattle.std.proofs.Common.{rules, ◌≡◌, ℕ, suc, Bool, true, false, eqb, List, [], ◌∷◌, ◌++◌, Option, Some, None, refl}
 use Rattle.std.proofs.Common.{sym, ap, ◌∙◌, subst, length, take, drop, is_none, arith, ◌≤◌, map, append_assoc, cond}
 use Rattle.std.proofs.Common.{◌≢◌, not, filter, get_or, set, Bor, ◌⊎◌, inl, inr}

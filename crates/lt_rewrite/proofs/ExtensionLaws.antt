@@ -1,4 +1,5 @@
--- The laws of the steps on extensions.
+-- The laws of the steps on extensions: each list of extensions has one normal form, and what the settling calls answer
+-- is that.
 use Rattle.std.proofs.Common.{◌≡◌, ℕ, ◌≤◌, ◌<◌, Bool, true, false, cond, List, [], ◌∷◌, ◌++◌, refl, sym, ap, ◌∙◌, subst}
 use Rattle.std.proofs.Common.{subst₂, ap₂, length, arith, Option, Some, None, IfSome, ◌==◌, ◌≢◌, ltb, zero, suc, get_or}
 use Rattle.std.proofs.Common.{set, take, drop}

@@ -1,4 +1,5 @@
--- What a step is on the parts of an extension, and on extensions.
+-- When a step, given by its kind, its place and the number of its record, leads on from the parts of an extension, and
+-- from extensions.
 use Rattle.std.proofs.Common.{◌≡◌, ℕ, ◌+◌, ◌<◌, ◌≤◌, List, Some, refl, sym, ap, ◌∙◌, length, arith, suc, false, [], ◌∷◌}
 use Rattle.std.proofs.Common.{None, subst, take, drop, ◌⊎◌, inl, inr, Bool, true, ◌≢◌, Ordering, get_or, set}
 use Rattle.std.specs.Prelude.{flat_map, codes}

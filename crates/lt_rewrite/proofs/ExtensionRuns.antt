@@ -1,4 +1,5 @@
--- Runs of first steps in an extension, among others.
+-- Runs of first steps in an extension, among others. What is shown: the exchanges of extensions, the run in the `u`
+-- extension and the one in the `t` extension are together one run of first steps on the list, after which none is left.
 use Rattle.std.proofs.Common.{◌≡◌, ◌≢◌, ℕ, suc, ◌+◌, ◌<◌, ◌≤◌, inr, List, [], ◌∷◌, ◌++◌, refl, sym, ap, ◌∙◌, subst}
 use Rattle.std.proofs.Common.{length, get_or, set, take, drop, arith, inl, false, Option, Some, map, None}
 use Rattle.std.proofs.lemmas.List.{map-append, set_split}
@@ -47,9 +48,9 @@ later : (step other : Step) → (kind_rank step < kind_rank other → extension_
 later step other f (inl h) = inl (f.0 h)
 later step other f (inr h) = inr (f.1 h.0, h.1)
 
--- Runs on parts of the type `F` as runs in the extension that `of` makes of them: `Is` holds of the parts, steps keep
--- it (`keeps`), each step on the parts is one in the extension and the other way round (`into`, `out`), and the order
--- of steps is the same (`ordered`).
+-- Runs on parts of the type `F` as runs in the extension that `of` makes of them. `Is` holds of the parts, and steps
+-- keep it (`keeps`). Each step on the parts is one in the extension and the other way round (`into`, `out`), and the
+-- order of steps is the same (`ordered`).
 module _ {F : Type 0} (R : List EntryParts) (k : ℕ) (Leads : F → Step → F → Type 0) (of : F → ExtensionParts) (Is : F → Type 0)
     (keeps : (p q : F) (step : Step) → Is p → Leads p step q → Is q)
     (into : (p q : F) (step : Step) → Is p → Leads p step q → ExtensionLeads R k (of p) step (of q))

@@ -1,4 +1,4 @@
--- What the forms of entries say of names and values.
+-- What the forms of entries say of names and values: what is registered, and each value, has the form of its kind.
 use Rattle.std.proofs.Common.{◌≡◌, ℕ, ◌⊎◌, inl, inr, true, false, ◌&&◌, List, Option, Some, None, refl, sym, ap, ◌∙◌}
 use Rattle.std.proofs.Common.{subst, length, arith, IfSome, Bor}
 use Rattle.std.specs.Prelude.{nat_le, is_some, unwrap_or}

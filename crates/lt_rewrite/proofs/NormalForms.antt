@@ -1,4 +1,4 @@
--- A function that names the one normal form.
+-- A function `form` that gives each value its one normal form, and what steps keep.
 use Rattle.std.proofs.Common.{◌≡◌, ℕ, ◌≤◌, ◌⊎◌, inl, inr, refl, sym, ◌∙◌, arith}
 use Rattle.lt_rewrite.specs.Rewriting.{Star, done, then, Rests, IsNormalForm}
 use Rattle.lt_rewrite.proofs.Stars.{star_trans}

@@ -1,4 +1,5 @@
--- Rows of the normal forms of parts, by computation.
+-- Examples of the normal forms of parts, each shown by computing it. The subtags of an extension are before the colon,
+-- and 97 and 98 are the singletons `a` and `b`.
 use Rattle.std.proofs.Common.{◌≡◌, ℕ, false, List, [], ◌∷◌, refl}
 use Rattle.std.specs.Prelude.{codes}
 use Rattle.lt_tag.specs.Parts.{FieldParts}

@@ -1,4 +1,4 @@
--- What the steps on lists of parts keep.
+-- What the steps on lists of parts keep, and lists that are cut at one element.
 use Rattle.std.proofs.Common.{◌≡◌, ◌≢◌, ℕ, ◌≤◌, ◌<◌, ◌+◌, Bool, true, List, [], ◌∷◌, ◌++◌, Option, Some, refl, sym, ap}
 use Rattle.std.proofs.Common.{ap₂, ◌∙◌, subst, Ordering, length, arith, IfSome, suc, get_or, set, take, drop}
 use Rattle.std.specs.Prelude.{flat_map, map}

@@ -1,4 +1,5 @@
--- Walks along a chain of values that pass over a part of it.
+-- Walks along a chain of values that pass over a part of it: shortcuts that lead on by `n` values, one after another,
+-- lead on by twice as many, and so to the end.
 use Rattle.std.proofs.Common.{rules, ◌≡◌, ℕ, zero, suc, ◌≤◌, ◌<◌, inl, inr, true, false, List, [], ◌∷◌, Option, Some}
 use Rattle.std.proofs.Common.{None, refl, sym, ap, ◌∙◌, subst, length, slice_get, arith, ◌+◌, get_or, take, All, Bor}
 use Rattle.std.proofs.Common.{is_some, set, Contains, ltb, ltb-true, ltb-false, length-take, Bool, ◌==◌}

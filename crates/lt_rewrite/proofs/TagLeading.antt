@@ -1,4 +1,5 @@
--- The kind and the place of a step determine its record and its result.
+-- The kind and the place of a step determine its record and its result. And to what a step leads from a tag, by what it
+-- leads to from the core, the extensions or the whole tag.
 use Rattle.std.proofs.Common.{◌≡◌, ℕ, ◌+◌, ◌≤◌, List, ◌++◌, Some, refl, sym, ap, ◌∙◌, length, length-append, arith, []}
 use Rattle.std.proofs.Common.{◌∷◌, Option, None, subst, MatchOption, ◌≢◌, Ordering, map, append_assoc, ◌*◌}
 use Rattle.std.specs.Prelude.{Result, Ok, IfOk}

@@ -1,4 +1,4 @@
--- Variants, and the places of their entries.
+-- The places of the entries of variants (`ArePlaces`) where a variant is looked up, taken out or added.
 use Rattle.std.proofs.Common.{◌≡◌, ◌<◌, ◌+◌, ◌++◌, ℕ, suc, List, [], ◌∷◌, Option, None, length, map, get_or, slice_get}
 use Rattle.std.proofs.Common.{sym, ap, ◌∙◌, arith, take, drop, set}
 use Rattle.std.specs.List.{remove}

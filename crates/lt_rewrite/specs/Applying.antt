@@ -42,7 +42,8 @@ CoreLeads R start c step d = (s : CoreStep R c d) × (core_label R start s ≡ s
 abbrev pub IsPlaceOf : {A : Type 0} → (A → List (List ℕ)) → ℕ → List A → ℕ → ℕ → Type 0
 IsPlaceOf spell start xs index place = place ≡ start + length (flat_map spell (take index xs)) + 1
 
--- an earlier part is equal in the order `cmp` to the part at an index
+-- an earlier part is equal in the order `cmp` to the part at an index; `default` stands for a part beyond the end, and
+-- makes no difference here
 pub record HasLike {A : Type 0} (cmp : A → A → Ordering) (xs : List A) (index : ℕ) : Type 0 where
   pub earlier : ℕ
   pub before : earlier < index
@@ -71,7 +72,8 @@ pub record DropLeads {A : Type 0} (cmp : A → A → Ordering)
   pub drops : DropsAt cmp before first between second after xs ys
   pub at : place ≡ start + length (flat_map spell before) + length (spell first) + length (flat_map spell between) + 1
 
--- a keyword loses its only type, `true`, which is at `place`; the keywords begin after `start` subtags
+-- a keyword of `ks` loses its only type, `true`, which is at `place`, two after what is before the key; the keywords
+-- begin after `start` subtags, and become `ls`
 pub record TrueLeads (start place : ℕ) (ks ls : List KeywordParts) : Type 0 where
   pub before : List KeywordParts
   pub keyword : KeywordParts

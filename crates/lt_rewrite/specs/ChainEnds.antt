@@ -8,7 +8,7 @@ use Rattle.lt_registry.specs.declared.entries.Kind.TheVariants as kinds
 use Rattle.lt_rewrite.specs.CoreSteps.{Ends, EndsIn}
 use Rattle.lt_rewrite.specs.Conditions.{next_value}
 
--- the chain of values from a subtag of a kind ends in `d`; that of an extlang begins at its replacement, a language
+-- the chain of values from a subtag `s` of a kind ends in `d`; that of an extlang begins at its replacement, a language
 abbrev pub ChainEndsIn : List EntryParts → Kind → List ℕ → List ℕ → Type 0
 ChainEndsIn R kinds.Extlang s d = EndsIn (next_value R kinds.Language) (replacement R s) d
 ChainEndsIn R kinds.Language s d = EndsIn (next_value R kinds.Language) s d

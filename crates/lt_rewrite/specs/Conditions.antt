@@ -1,5 +1,5 @@
--- The conditions C1 to C8 and C12, each on a record among all. A registry meets a condition if each of its records
--- does.
+-- The conditions C1 to C8 and C12, each on a record `e` among all, `R`. A registry meets a condition if each of its
+-- records does.
 use Rattle.std.specs.Prelude.{ℕ, ◌≡◌, ◌≢◌, ◌<◌, ◌⊎◌, Bool, true, false, if◌then◌else◌, List, [], ◌∷◌, Option, Some}
 use Rattle.std.specs.Prelude.{None, All, Contains, unwrap_or}
 use Rattle.std.specs.List.{AllByRecursion}

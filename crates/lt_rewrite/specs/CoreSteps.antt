@@ -55,7 +55,7 @@ replaced c at_region v = record c { region = Some v }
 replaced c (at_variant i) v = record c { variants = slice_set c.variants i v }
 replaced c (at_variant_language i) v = record c { language = v; variants = remove c.variants i }
 
--- a step on a core: the subtag at one spot is replaced by its value (RFC 5646, 4.5, rule 3)
+-- a step on a core, from `c` to `d`: the subtag at one spot is replaced by its value (RFC 5646, 4.5, rule 3)
 pub record CoreStep (R : List EntryParts) (c d : CoreParts) : Type 0 where
   pub spot : Spot
   pub subtag : List ℕ
@@ -68,15 +68,16 @@ pub record CoreStep (R : List EntryParts) (c d : CoreParts) : Type 0 where
 abbrev pub IsCoreNormalForm : List EntryParts → CoreParts → CoreParts → Type 0
 IsCoreNormalForm R c d = IsNormalForm (CoreStep R) c d
 
--- the subtag `n` values on from `s`, or the last of the chain if that is shorter (RFC 5646, 3.1.7)
+-- the subtag `n` values on from `s`, or the last of the chain if that is shorter; `f` gives the value of each subtag
+-- (RFC 5646, 3.1.7)
 abbrev pub chase : (List ℕ → Option (List ℕ)) → ℕ → List ℕ → List ℕ
 chase f zero s = s
 chase f (suc n) s = option_map_or (λ t. chase f n t) (f s) s
 
--- the chain of values from s comes to an end (RFC 5646, 3.1.7)
+-- the chain of values from `s` comes to an end, where `f` gives the value of each subtag (RFC 5646, 3.1.7)
 abbrev pub Ends : (List ℕ → Option (List ℕ)) → List ℕ → Type 0
 Ends f s = (n : ℕ) × (f (chase f n s) ≡ None)
 
--- the chain of values from `s` ends in `d` (RFC 5646, 3.1.7)
+-- the chain of values from `s` ends in `d`, where `f` gives the value of each subtag (RFC 5646, 3.1.7)
 abbrev pub EndsIn : (List ℕ → Option (List ℕ)) → List ℕ → List ℕ → Type 0
 EndsIn f s d = (n : ℕ) × (chase f n s ≡ d) × (f d ≡ None)

@@ -24,6 +24,7 @@ place orders.Mixed number = number * 2654435769 % 2 ^ 32
 abbrev pub EarlierEnd : List EntryParts → Order → ℕ → Type 0
 EarlierEnd R order before = All (λ f. place order f.number < before → HasEndingChain R f) R
 
--- if the chains of all records before the record `e` in an order end, the chain of `e` does
+-- if the chains of all records before the record `e` in an order end, the chain of `e` does; if this is true of every
+-- record, all chains end
 abbrev pub EndsAfterEarlier : List EntryParts → Order → EntryParts → Type 0
 EndsAfterEarlier R order e = EarlierEnd R order (place order e.number) → HasEndingChain R e

@@ -2,7 +2,7 @@
 use Rattle.std.specs.Prelude.{ℕ, cond, List, [], ◌∷◌, bytes_eq, codes}
 use Rattle.lt_tag.specs.Parts.{KeywordParts}
 
--- the types of a keyword, without an only type `true`
+-- the types of a keyword, without an only type `true`; `true` among several types stays
 abbrev pub without_true : List (List ℕ) → List (List ℕ)
 without_true [] = []
 without_true (t ∷ []) = cond (bytes_eq t (codes "true")) [] (t ∷ [])

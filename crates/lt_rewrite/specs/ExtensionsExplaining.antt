@@ -9,8 +9,8 @@ use Rattle.lt_rewrite.specs.Runs.{extension_rank, Adds}
 use Rattle.lt_rewrite.specs.ExtensionsSettling.{SettlesAt}
 use Rattle.lt_rewrite.specs.declared.steps.Step.{Step}
 
--- the extension at an index has this singleton, `f` is its normal form, and `new` is `old` with the steps to `f` added;
--- the extensions begin after `start` subtags
+-- the extension at an index of `es` has this singleton, `f` is its normal form, and `new` is `old` with the steps to
+-- `f` added; the extensions begin after `start` subtags
 pub record ExplainsAt (R : List EntryParts) (singleton start : ℕ) (es : List ExtensionParts)
     (index : ℕ) (f : ExtensionParts) (old new : List Step) : Type 0 where
   pub settles : SettlesAt R singleton es index f

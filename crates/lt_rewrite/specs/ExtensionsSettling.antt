@@ -6,7 +6,7 @@ use Rattle.lt_registry.specs.Parts.{EntryParts}
 use Rattle.lt_rewrite.specs.Rewriting.{IsNormalForm, Rests}
 use Rattle.lt_rewrite.specs.Extensions.{ExtensionStep}
 
--- the extension at the index `place` has this singleton, and `f` is its normal form
+-- the extension `from` at the index `place` of `es` has this singleton, and `f` is its normal form
 pub record SettlesAt (R : List EntryParts) (singleton : ℕ)
     (es : List ExtensionParts) (place : ℕ) (f : ExtensionParts) : Type 0 where
   pub within : place < length es

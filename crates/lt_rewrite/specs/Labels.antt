@@ -1,5 +1,5 @@
 -- What each step is called: its kind, its place among the tag's subtags, counted from 1, and the number of its record,
--- 0 where it uses none.
+-- 0 where it uses none. By this name a program tells of a step and asks for one.
 use Rattle.std.specs.Prelude.{ℕ, ◌≡◌, ◌+◌, Bool, List, [], ◌∷◌, length, flat_map}
 use Rattle.std.proofs.Common.{Ordering}
 use Rattle.lt_tag.specs.Parts.{CoreParts, ExtensionParts, UForm, TForm, TagForm}
@@ -44,7 +44,8 @@ subtag_kind_at at_region = kinds.Region
 subtag_kind_at (at_variant i) = kinds.Variant
 subtag_kind_at (at_variant_language i) = kinds.Variant
 
--- the place of a spot among the subtags of a core, counted from 1
+-- the place of a spot among the subtags of a core, counted from 1: the language is the first, and a sole extlang the
+-- second
 abbrev pub place_at : CoreParts → Spot → ℕ
 place_at c at_extlang = 2
 place_at c at_language = 1
@@ -59,7 +60,8 @@ core_label R start {c} s =
     step_at (kind_at s.spot) (start + place_at c s.spot) (number_of (entry R (subtag_kind_at s.spot) s.subtag))
 
 -- the name of a step on a list of parts: `swap` and `drop` are the kinds of its steps, `spell` gives the subtags of a
--- part, and the list begins after `start` subtags
+-- part, and the list begins after `start` subtags. A swap is named after its first part's place, and a drop after that
+-- of the dropped part.
 abbrev pub list_label : {A : Type 0} {once : Bool} {cmp : A → A → Ordering} {xs ys : List A}
     → StepKind → StepKind → (A → List (List ℕ)) → ℕ → ListStep once cmp xs ys → Step
 list_label swap drop spell start (by_swap before a b after s) =
@@ -67,7 +69,8 @@ list_label swap drop spell start (by_swap before a b after s) =
 list_label swap drop spell start (by_drop before a between b after o s) =
     step_at drop (start + length (flat_map spell before) + length (spell a) + length (flat_map spell between) + 1) 0
 
--- the name of a step on the parts of a `u` extension, whose singleton is at the given place
+-- the name of a step on the parts of a `u` extension, whose singleton is at the given place; 2 is for the key and the
+-- type `true` after it, which is dropped
 abbrev pub unicode_label : ℕ → {p q : UForm} → UnicodeStep p q → Step
 unicode_label start (on_attributes s k) = list_label steps.SwapAttributes steps.DropAttribute (λ a. a ∷ []) start s
 unicode_label start {p} (on_keywords a s) =
@@ -75,7 +78,8 @@ unicode_label start {p} (on_keywords a s) =
 unicode_label start {p} (on_types a before k after s) =
     step_at steps.DropTrue (start + length p.attributes + length (flat_map spell_keyword before) + 2) 0
 
--- the name of a step on the parts of a `t` extension, whose singleton is at the given place
+-- the name of a step on the parts of a `t` extension, whose singleton is at the given place; fields are not dropped, so
+-- no step has the second kind
 abbrev pub transform_label : (R : List EntryParts) → ℕ → {p q : TForm} → TransformStep R p q → Step
 transform_label R start (on_source c d _ _ s _) = core_label R start s
 transform_label R start {p} (on_fields a s) =
@@ -86,7 +90,8 @@ abbrev pub extension_label : (R : List EntryParts) → ℕ → {e f : ExtensionP
 extension_label R start (in_unicode p q _ _ _ _ s) = unicode_label start s
 extension_label R start (in_transform p q _ _ _ _ s) = transform_label R start s
 
--- the name of a step on extensions, which begin after the given number of subtags
+-- the name of a step on extensions, which begin after the given number of subtags; none is dropped, so no step has the
+-- second kind
 abbrev pub extensions_label : (R : List EntryParts) → ℕ → {es fs : List ExtensionParts} → ExtensionsStep R es fs → Step
 extensions_label R start (inside before e f after there result s) =
     extension_label R (start + length (spell_extensions before) + 1) s

@@ -22,7 +22,7 @@ pub record IsOneNormalForm (R : List EntryParts) (c d : CoreParts) : Type 0 wher
 abbrev pub HasOneNormalForm : List EntryParts → Type 0
 HasOneNormalForm R = (c : CoreParts) → (d : CoreParts) × IsOneNormalForm R c d
 
--- a core step keeps the core normal form
+-- a core step from `c` to `d` keeps the core normal form: if `c` has the form `e`, so has `d`
 abbrev pub StepsKeepNormalForm : List EntryParts → Type 0
 StepsKeepNormalForm R = (c d e : CoreParts) → CoreStep R c d
     → IsCoreNormalForm R c e → IsCoreNormalForm R d e
@@ -48,7 +48,7 @@ pub record StepsKeepTagsProper (R : List EntryParts) : Type 0 where
 abbrev pub ProperCoresSpellNone : List EntryParts → Type 0
 ProperCoresSpellNone R = (c : CoreParts) → IsProperValue R c → IsNotGrandfathered (spell_core c)
 
--- a chain of values that comes to an end has done so after as many values as there are records
+-- a chain of values that comes to an end has done so after as many values as there are records: none follows then
 abbrev pub EndingChainsAreShort : List EntryParts → Type 0
 EndingChainsAreShort R =
     (k : Kind) (s : List ℕ) → Ends (next_value R k) s → next_value R k (chase (next_value R k) (length R) s) ≡ None
@@ -57,7 +57,7 @@ EndingChainsAreShort R =
 abbrev pub ChainsEnd : List EntryParts → Type 0
 ChainsEnd R = (k : Kind) (s : List ℕ) → Ends (next_value R k) s
 
--- both steps have one name and one result
+-- both steps have one name, and their results `u` and `v` are one
 pub record AreOneStep (step other : Step) (u v : TagForm) : Type 0 where
   pub same : step ≡ other
   pub result : u ≡ v

@@ -8,7 +8,7 @@ use Rattle.lt_registry.specs.Parts.{EntryParts}
 use Rattle.lt_rewrite.specs.Rewriting.{IsNormalForm}
 use Rattle.lt_rewrite.specs.Extensions.{UnicodeStep, TransformStep, ExtensionsStep}
 
--- steps from `a` lead to one normal form and to no other
+-- steps from `a` lead to one normal form (`form`, `normal`) and to no other (`only`)
 pub record HasOneForm {A : Type 0} (Step : A → A → Type 0) (a : A) : Type 0 where
   pub form : A
   pub normal : IsNormalForm Step a form

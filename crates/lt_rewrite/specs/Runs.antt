@@ -10,8 +10,8 @@ use Rattle.lt_rewrite.specs.declared.steps.Step.{Step}
 use Rattle.lt_rewrite.specs.declared.steps.StepKind.{StepKind}
 use Rattle.lt_rewrite.specs.declared.steps.StepKind.TheVariants as steps
 
--- the rank of each kind of step; from 14 to 19 there is room for the steps on a core, where it is the source of a `t`
--- extension
+-- the rank of each kind of step, by which `explain` orders steps; from 14 to 19 there is room for the steps on a core,
+-- where it is the source of a `t` extension
 abbrev pub rank_of : StepKind → ℕ
 rank_of steps.Extlang = 1
 rank_of steps.Language = 2
@@ -32,8 +32,8 @@ rank_of steps.SwapFields = 20
 abbrev pub kind_rank : Step → ℕ
 kind_rank step = rank_of step.kind
 
--- the rank of a step on extensions: a step on a core is there one on a source, and its rank is between those of
--- DropTrue (13) and SwapFields (20)
+-- the rank of a step on extensions: a step on a core, of a rank up to 6, is there one on a source, and its rank is
+-- between those of DropTrue (13) and SwapFields (20)
 abbrev pub extension_rank : Step → ℕ
 extension_rank step = if nat_le (kind_rank step) 6 then kind_rank step + 13 else kind_rank step
 
@@ -68,7 +68,8 @@ pub record IsLeftmost {A : Type 0} (Leads : Step → A → Type 0) (rank : Step 
   pub leads : Leads step to
   pub leftmost : (other : Step) (b : A) → Leads other b → rank other ≡ n → step.place ≤ other.place
 
--- `new` is `old`, and then a run of steps from `a` to `b`, as `IsRun` says
+-- `new` is `old`, and then a run of steps from `a` to `b`, as `IsRun` says: `old` and `new` are the steps before and
+-- after a call
 pub record Adds {A : Type 0} (Leads : A → Step → A → Type 0)
     (rank : A → Step → ℕ) (a b : A) (old new : List Step) : Type 0 where
   pub run : List Step
@@ -92,23 +93,24 @@ pub record IsFirstOnCore (R : List EntryParts) (start : ℕ) (c : CoreParts) (st
 abbrev pub AddsOnCore : List EntryParts → ℕ → CoreParts → CoreParts → List Step → List Step → Type 0
 AddsOnCore R start c d old new = Adds (CoreLeads R start) (λ _ step. kind_rank step) c d old new
 
--- by a step of this kind, which uses no record, two neighbours in falling order change places, so that the list `xs`
--- becomes `ys`; the list begins after `start` subtags, and `spell` gives the subtags of a part
+-- By a step of this kind, which uses no record, two neighbours in falling order change places, so that the list `xs`
+-- becomes `ys`. The list begins after `start` subtags, and `spell` gives the subtags of a part.
 pub record SwapsBy {A : Type 0} (cmp : A → A → Ordering) (spell : A → List (List ℕ))
     (kind : StepKind) (start : ℕ) (xs : List A) (step : Step) (ys : List A) : Type 0 where
   pub of_kind : step.kind ≡ kind
   pub unnumbered : step.number ≡ 0
   pub leads : SwapLeads cmp spell start step.place xs ys
 
--- by a step of this kind, which uses no record, a part that is equal in the order to an earlier one is dropped, so that
--- the list `xs` becomes `ys`; the list begins after `start` subtags, and `spell` gives the subtags of a part
+-- By a step of this kind, which uses no record, a part that is equal in the order to an earlier one is dropped, so that
+-- the list `xs` becomes `ys`. The list begins after `start` subtags, and `spell` gives the subtags of a part.
 pub record DropsBy {A : Type 0} (cmp : A → A → Ordering) (spell : A → List (List ℕ))
     (kind : StepKind) (start : ℕ) (xs : List A) (step : Step) (ys : List A) : Type 0 where
   pub of_kind : step.kind ≡ kind
   pub unnumbered : step.number ≡ 0
   pub leads : DropLeads cmp spell start step.place xs ys
 
--- the part at an index and the next one are in falling order; `default` stands for a part beyond the end
+-- the part at an index and the next one are in falling order; `default` stands for a part beyond the end, and makes no
+-- difference within the list
 abbrev pub FallsAt : {A : Type 0} → (A → A → Ordering) → List A → ℕ → Type 0
 FallsAt {A} cmp xs index =
     (default : A) → cmp (slice_index_or xs (index + 1) default) (slice_index_or xs index default) ≡ Less

@@ -22,7 +22,8 @@ pub record LeadsTo (R : List EntryParts) (kind : Kind) (n : ℕ) (v : List ℕ) 
   pub follows : following entry.kind entry ≡ Some value
   pub onward : IsOnward (next_value R kind) n v value
 
--- from the record at `i` a shortcut of `n` values leads to the record at `j`
+-- from the record at `i`, if it has a value that follows in a chain, a shortcut of `n` values leads to the record at
+-- `j`
 abbrev pub IsShortcut : List EntryParts → ℕ → ℕ → ℕ → Type 0
 IsShortcut R n i j =
     (e : EntryParts) (v : List ℕ) → slice_get R i ≡ Some e → following e.kind e ≡ Some v → LeadsTo R e.kind n v j
@@ -34,8 +35,8 @@ pub record LeadOn (R : List EntryParts) (n : ℕ) (places : List ℕ) : Type 0 w
   pub within : (i j : ℕ) → slice_get places i ≡ Some j → j < length R
   pub shortcut : (i j : ℕ) → slice_get places i ≡ Some j → IsShortcut R n i j
 
--- these shortcuts are as long as they can be: by however many values they lead onward, they lead onward by twice as
--- many too
+-- these shortcuts are as long as they can be: by however many values they lead onward, in whatever registry, they lead
+-- onward by twice as many too
 abbrev pub GrowNoMore : List ℕ → Type 0
 GrowNoMore places = (R : List EntryParts) (n : ℕ) → LeadOn R n places → LeadOn R (n + n) places
 

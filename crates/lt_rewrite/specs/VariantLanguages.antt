@@ -5,7 +5,7 @@ use Rattle.lt_registry.specs.Parts.{EntryParts}
 use Rattle.lt_registry.specs.Entries.{entry}
 use Rattle.lt_registry.specs.declared.entries.Kind.TheVariants as kinds
 
--- for each of the variants `places` has the place of its entry in the registry, or a place beyond the last entry if it
--- has none
+-- For each of the variants `places` has the place of its entry in the registry, or a place beyond the last entry if it
+-- has none. So what is at the places are the variants' entries.
 abbrev pub ArePlaces : List EntryParts → List (List ℕ) → List ℕ → Type 0
 ArePlaces R variants places = map (slice_get R) places ≡ map (entry R kinds.Variant) variants

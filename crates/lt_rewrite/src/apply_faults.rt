@@ -1,4 +1,5 @@
-//! Why a step is not applied.
+//! Why a step is not applied. `output` is what is printed of a fault, and `from_gives` which fault `?` makes of
+//! another.
 ghost use Rattle.std.specs.Prelude.{◌≡◌, Some};
 ghost use Rattle.lt_rewrite.specs.ApplyFaults.{fault_name_of, no_memory};
 

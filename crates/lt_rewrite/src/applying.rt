@@ -1,4 +1,9 @@
-//! One step on a tag (RFC 5646, 4.5; RFC 6067; RFC 6497).
+//! One step on a tag (RFC 5646, 4.5; RFC 6067; RFC 6497), given by its kind, its place and the number of its record. It
+//! leads from a tag, or from a part of one, to what it makes of that.
+//!
+//! A clause `Changes`, or the `MatchOption` that says the same, has two halves: what is answered is where the step
+//! leads, and None says that it leads nowhere. 1,100,000 is a round number above the 1,050,630 subtags that a tag may
+//! have before its private use, so that places are `u32`.
 ghost use Rattle.std.specs.Prelude.{◌≡◌, ◌≢◌, ◌≤◌, ◌+◌, List, Some, IfOk, IfErr, MatchOption, length};
 ghost use Rattle.lt_tag.specs.Parts.{CoreParts, ExtensionParts, TagForm, LangTag};
 ghost use Rattle.lt_tag.specs.Spelling.{spell_extensions};
@@ -75,8 +80,8 @@ fn change_core<L: Lookup>(
     }
 }
 
-/// The extensions that a step makes of those of a tag, which begin after `start` subtags. `start` and their subtags must
-/// be at most 1,100,000 together. None if the step leads nowhere. Refused only where memory runs out.
+/// The extensions that a step makes of those of a tag, which begin after `start` subtags. `start` and their subtags
+/// must be at most 1,100,000 together. None if the step leads nowhere. Refused only where memory runs out.
 fn change_extensions<L: Lookup>(
     alloc: Global,
     table: &L,
@@ -97,8 +102,9 @@ fn change_extensions<L: Lookup>(
     }
 }
 
-/// The core and the extensions that a step makes of those of the langtag `tag`. `core` must be the core of the tag, and
-/// the step no Whole step. None if it leads nowhere. Refused only where memory runs out.
+/// The core and the extensions that a step makes of those of the langtag `tag`; these are at most 1,024
+/// (`longest_text`), as `langtag` asks. `core` must be the core of the tag, and the step no Whole step. None if it
+/// leads nowhere. Refused only where memory runs out.
 fn change_parts<L: Lookup>(
     alloc: Global,
     table: &L,
@@ -138,7 +144,8 @@ fn langtag(core: Core, extensions: Vec<Extension>, private: Vec<Subtag>) -> Opti
 }
 
 /// The tag to which a step leads from a tag, which must be proper; the one to which it leads need not be. None if the
-/// step leads nowhere, or to what spells a grandfathered tag. Refused only where memory runs out.
+/// step leads nowhere, or to what spells a grandfathered tag, so that no `Tag` is it (`IsTagValue`). Refused only where
+/// memory runs out.
 fn change<L: Lookup>(
     alloc: Global,
     table: &L,

@@ -1,4 +1,5 @@
-//! Chains of values: each subtag's value, that one's value, and so on (RFC 5646, 3.1.7).
+//! Chains of values: each subtag's value, that one's value, and so on (RFC 5646, 3.1.7). A clause `form` says that the
+//! answer has the form of its kind where the subtag has, since a core takes no other subtag.
 ghost use Rattle.std.specs.Prelude.{◌≡◌, true, Some, IfSome, IfOk, OnErr, codes};
 ghost use Rattle.std.specs.Option.{option_copied};
 ghost use Rattle.lt_subtag.specs.Shapes.{is_language, is_extlang};
@@ -36,8 +37,8 @@ impl fmt::Display for Cycle {
 
 impl std::error::Error for Cycle {}
 
-/// The value of an entry that follows in a chain of values of this kind; in a chain of variants only variants follow. None
-/// if the entry has no such value, or if the kind is that of extlangs or of whole tags, which have no chains.
+/// The value of an entry that follows in a chain of values of this kind; in a chain of variants only variants follow.
+/// None if the entry has no such value, or if the kind is that of extlangs or of whole tags, which have no chains.
 pub(crate) fn following(kind: Kind, entry: &Entry) -> Option<&Subtag>
     ensures { option_copied result ≡ following kind entry.now }
 {
@@ -90,7 +91,8 @@ pub(crate) fn end_of_chain<L: Lookup>(
     }
 }
 
-/// The language that replaces an extlang: its preferred value, or itself if it has none.
+/// The language that replaces an extlang: its preferred value, or itself if it has none. An extlang, of 3 letters, has
+/// the form of a language too (`form`).
 #[tactic(auto, using(crate::proofs::Forms::extlang_is_language))]
 pub(crate) fn replacement<L: Lookup>(table: &L, extlang: &Subtag) -> Subtag
     ensures value { result ≡ entries.replacement (L.listed table.now) extlang.now }

@@ -1,5 +1,6 @@
-//! The steps to the core normal form, one after another (RFC 5646, 4.5): Extlang before Language, Script, Region,
-//! the leftmost Variant and VariantLanguage.
+//! The steps to the core normal form, one after another (RFC 5646, 4.5): Extlang before Language, Script, Region, the
+//! leftmost Variant and VariantLanguage. The rank of a kind of step is its number in this order (`rank_of`). A function
+//! `.._step` answers the leftmost step of its rank that leads on from the core, and None if none does.
 ghost use Rattle.std.specs.Prelude.{◌≡◌, ◌≤◌, All, IfOk, MatchOption};
 ghost use Rattle.lt_rewrite.specs.Conditions.{HasEndingChain};
 ghost use Rattle.lt_rewrite.specs.Applying.{CoreLeads};
@@ -16,8 +17,8 @@ use crate::values::value;
 use lt_registry::{Kind, Lookup};
 use lt_tag::{Core, OutOfMemory};
 
-/// The step by which the replacement of the only extlang becomes the language, in a core that begins after `start` subtags,
-/// at most 1,200,000. None if there is not exactly one extlang.
+/// The step by which the replacement of the only extlang becomes the language, in a core that begins after `start`
+/// subtags, at most 1,200,000. None if there is not exactly one extlang.
 fn extlang_step<L: Lookup>(table: &L, core: &Core, start: usize) -> Option<Step>
     requires { start ≤ 1200000 }
     ensures { MatchOption result
@@ -34,8 +35,8 @@ fn extlang_step<L: Lookup>(table: &L, core: &Core, start: usize) -> Option<Step>
     })
 }
 
-/// The step by which the language is replaced, in a core that begins after `start` subtags, at most 1,200,000. None if the
-/// language has no value, or if there are extlangs.
+/// The step by which the language is replaced, in a core that begins after `start` subtags, at most 1,200,000. None if
+/// the language has no value, or if there are extlangs.
 fn language_step<L: Lookup>(table: &L, core: &Core, start: usize) -> Option<Step>
     requires { start ≤ 1200000 }
     ensures { MatchOption result
@@ -54,8 +55,8 @@ fn language_step<L: Lookup>(table: &L, core: &Core, start: usize) -> Option<Step
     })
 }
 
-/// The step by which the script is replaced, in a core that begins after `start` subtags, at most 1,200,000. None if there
-/// is no script, or if it has no value.
+/// The step by which the script is replaced, in a core that begins after `start` subtags, at most 1,200,000. None if
+/// there is no script, or if it has no value.
 fn script_step<L: Lookup>(table: &L, core: &Core, start: usize) -> Option<Step>
     requires { start ≤ 1200000 }
     ensures { MatchOption result
@@ -71,8 +72,8 @@ fn script_step<L: Lookup>(table: &L, core: &Core, start: usize) -> Option<Step>
     })
 }
 
-/// The step by which the region is replaced, in a core that begins after `start` subtags, at most 1,200,000. None if there
-/// is no region, or if it has no value.
+/// The step by which the region is replaced, in a core that begins after `start` subtags, at most 1,200,000. None if
+/// there is no region, or if it has no value.
 fn region_step<L: Lookup>(table: &L, core: &Core, start: usize) -> Option<Step>
     requires { start ≤ 1200000 }
     ensures { MatchOption result
@@ -88,8 +89,8 @@ fn region_step<L: Lookup>(table: &L, core: &Core, start: usize) -> Option<Step>
     })
 }
 
-/// The step that replaces the leftmost variant whose value is a variant, in a core that begins after `start` subtags, at
-/// most 1,200,000. None if there is no such variant.
+/// The step that replaces the leftmost variant whose value is a variant, in a core that begins after `start` subtags,
+/// at most 1,200,000. None if there is no such variant.
 fn variant_step<L: Lookup>(table: &L, core: &Core, start: usize) -> Option<Step>
     requires { start ≤ 1200000 }
     ensures { MatchOption result
@@ -108,8 +109,8 @@ fn variant_step<L: Lookup>(table: &L, core: &Core, start: usize) -> Option<Step>
     None
 }
 
-/// The step of the leftmost variant that has a language as its value and the core's language as a Prefix. The core begins
-/// after `start` subtags, at most 1,200,000. None if there is no such variant, or if there are extlangs.
+/// The step of the leftmost variant that has a language as its value and the core's language as a Prefix. The core
+/// begins after `start` subtags, at most 1,200,000. None if there is no such variant, or if there are extlangs.
 fn variant_language_step<L: Lookup>(table: &L, core: &Core, start: usize) -> Option<Step>
     requires { start ≤ 1200000 }
     ensures { MatchOption result
@@ -154,9 +155,9 @@ fn first_core_step<L: Lookup>(table: &L, core: &Core, start: usize) -> Option<St
     variant_language_step(table, core, start)
 }
 
-/// Takes the first step on a core, and goes on so until there is none. It adds the steps to `steps`. The core begins
-/// after `start` subtags, at most 1,200,000, and the chains of the registry must end. Refused only where memory runs out;
-/// some of the steps may have been taken then.
+/// Takes the first step on a core, and goes on so until there is none (`at_rest`). It adds these steps to `steps`
+/// (`adds`). The core begins after `start` subtags, at most 1,200,000, and the chains of the registry must end. Refused
+/// only where memory runs out; some of the steps may have been taken then.
 pub(crate) fn take_core_steps<L: Lookup>(
     table: &L,
     core: &mut Core,

@@ -18,7 +18,7 @@ enum Order {
 }
 
 impl Order {
-    /// The place of the record of a number in the order.
+    /// The place of the record of a number in the order. 2,654,435,769 is 2^32 over the golden ratio.
     #[tactic(auto, unfolding(crate::specs::Cycles::place))]
     fn place(self, number: u32) -> u32
         ensures { result ≡ place self number }
@@ -31,8 +31,8 @@ impl Order {
 }
 
 /// Whether the chain of values from a record's value ends, or comes to a record that is before this one in an order. If
-/// that is true of every record, all chains end, since the chain of the earlier record is followed too. False only if the
-/// chain has no end.
+/// that is true of every record, all chains end, since the chain of the earlier record is followed too. False only if
+/// the chain has no end.
 fn ends_or_falls<L: Lookup>(table: &L, order: Order, entry: &Entry) -> bool
     ensures { MatchBool result (EndsAfterEarlier (L.listed table.now) order entry.now) (HasEndingChain (L.listed table.now) entry.now → ⊥) }
 {

@@ -1,4 +1,10 @@
-//! One step on extensions (RFC 5646, 4.5; RFC 6067; RFC 6497).
+//! One step on extensions (RFC 5646, 4.5; RFC 6067; RFC 6497). `Changes` and `Answers` say to what the step leads, or
+//! that it leads nowhere. A step that uses no record is the same in each registry, so its clause speaks of every list
+//! `R` of entries.
+//!
+//! The bounds keep places within a `u32`: a tag has at most 1,050,630 subtags before its private use. 1,100,000 is
+//! above that, and 1,150,000, for a singleton, and 1,200,000, for the parts of an extension, leave room for its
+//! subtags, at most 1,025.
 ghost use Rattle.std.specs.Prelude.{◌≡◌, ◌≤◌, ◌<◌, ◌+◌, ℕ, List, IfOk, MatchOption, length};
 ghost use Rattle.lt_tag.specs.Parts.{ExtensionParts};
 ghost use Rattle.lt_tag.specs.Spelling.{spell_extensions};
@@ -15,8 +21,8 @@ use lt_registry::Lookup;
 use lt_tag::{Extension, OutOfMemory, TransformFault, join_t, join_u, split_t, split_u};
 use std::alloc::Global;
 
-/// The extension that a step makes of one that must be a `u` extension, and whose singleton has the place `start`, at most
-/// 1,150,000. None if the step leads nowhere. Refused only where memory runs out.
+/// The extension that a step makes of one that must be a `u` extension, and whose singleton has the place `start`, at
+/// most 1,150,000. None if the step leads nowhere. Refused only where memory runs out.
 fn apply_in_unicode(
     alloc: Global,
     extension: &Extension,
@@ -34,9 +40,9 @@ fn apply_in_unicode(
     Ok(Some(join_u(alloc, &parts)?))
 }
 
-/// The extension that a step makes of one that must have the singleton `t`, at the place `start`, at most 1,150,000. None
-/// if the step leads nowhere, for example since the subtags are not those of a `t` extension. Refused only where memory
-/// runs out.
+/// The extension that a step makes of one that must have the singleton `t`, at the place `start`, at most 1,150,000.
+/// None if the step leads nowhere, for example since the subtags are not those of a `t` extension. Refused only where
+/// memory runs out.
 fn apply_in_transform<L: Lookup>(
     alloc: Global,
     table: &L,
@@ -61,8 +67,9 @@ fn apply_in_transform<L: Lookup>(
     Ok(Some(join_t(alloc, &parts)?))
 }
 
-/// The extension that a step makes of one whose singleton has the place `start`, at most 1,150,000. None if the step leads
-/// nowhere, which is true of every step on another extension than `u` and `t`. Refused only where memory runs out.
+/// The extension that a step makes of one whose singleton has the place `start`, at most 1,150,000. None if the step
+/// leads nowhere, which is true of every step on another extension than `u` and `t`. Refused only where memory runs
+/// out.
 fn apply_to_extension<L: Lookup>(
     alloc: Global,
     table: &L,
@@ -83,9 +90,9 @@ fn apply_to_extension<L: Lookup>(
     Ok(None)
 }
 
-/// The index of the extension inside which a step acts, and what the step makes of that extension. None if it acts inside
-/// none. The extensions begin after `start` subtags, and `start` and their subtags must be at most 1,100,000 together.
-/// Refused only where memory runs out.
+/// The index of the extension inside which a step acts, and what the step makes of that extension. None if it acts
+/// inside none. The extensions begin after `start` subtags, and `start` and their subtags must be at most 1,100,000
+/// together. Refused only where memory runs out.
 fn find_change<L: Lookup>(
     alloc: Global,
     table: &L,
@@ -109,9 +116,9 @@ fn find_change<L: Lookup>(
     Ok(None)
 }
 
-/// Takes a SwapExtensions step, which `step` must be: two neighbouring extensions change places. False, and nothing changes,
-/// if there is no such step. The extensions begin after `start` subtags, and `start` and their subtags must be at most
-/// 1,100,000 together.
+/// Takes a SwapExtensions step, which `step` must be: two neighbouring extensions change places. False, and nothing
+/// changes, if there is no such step. The extensions begin after `start` subtags, and `start` and their subtags must be
+/// at most 1,100,000 together.
 #[tactic(auto, using(crate::proofs::ExtensionLeading::swaps_answers))]
 fn swap_extensions(extensions: &mut Vec<Extension>, start: usize, step: Step) -> bool
     requires kind { step.kind ≡ kinds.SwapExtensions }

@@ -1,4 +1,4 @@
-//! Extensions as parts of a tag (RFC 5646, 2.2.6).
+//! Extensions as parts of a tag (RFC 5646, 2.2.6), so that the steps on lists of parts are those on extensions too.
 ghost use Rattle.std.specs.Prelude.{length};
 ghost use Rattle.std.proofs.Math.Nat.{zero-lt-suc};
 ghost use Rattle.lt_tag.specs.Spelling.{spell_extension};

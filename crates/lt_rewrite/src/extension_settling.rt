@@ -1,4 +1,6 @@
-//! The normal forms of `u` and `t` extensions (RFC 5646, 4.5; RFC 6067; RFC 6497).
+//! The normal forms of `u` and `t` extensions (RFC 5646, 4.5; RFC 6067; RFC 6497). The clauses `shaped` and `few` say
+//! that parts which may be joined to an extension still may be: they keep their shapes, and have no more subtags than
+//! before.
 ghost use Rattle.std.specs.Prelude.{◌≡◌, ◌≤◌, List, All, IfSome, IsOk, map, length};
 ghost use Rattle.lt_tag.specs.Extensions.{spell_u, IsU, spell_t, IsT};
 ghost use Rattle.lt_rewrite.specs.Rewriting.{IsNormalForm};
@@ -15,7 +17,7 @@ use lt_registry::Lookup;
 use lt_tag::{Keyword, OutOfMemory, TParts, UParts};
 use std::alloc::Global;
 
-/// Takes the types from a keyword if they are exactly `true`.
+/// Takes the types from a keyword if they are exactly `true`, as of `kn-true`. Other types stay.
 fn drop_true(keyword: &mut Keyword)
     ensures { keyword.new ≡ untrue keyword.old }
 {
@@ -35,9 +37,9 @@ pub(crate) fn recall_forms<L: Lookup>(table: &L)
 }
 
 /// Puts the parts of a `u` extension into their normal form (RFC 6067, 2.1.1). Sole types `true` are dropped. Of equal
-/// attributes, and of keywords of one key, the first stays. Attributes and keywords come in their order, while the types
-/// of a keyword keep theirs. Parts that may be given to `join_u` still may be. It takes no memory, and so is never
-/// refused; `_alloc` is not used.
+/// attributes, and of keywords of one key, the first stays. Attributes and keywords come in their order, while the
+/// types of a keyword keep theirs. Parts that may be given to `join_u` still may be. It takes no memory, and so is
+/// never refused; `_alloc` is not used.
 pub fn settle_u(_alloc: Global, parts: &mut UParts) -> Result<(), OutOfMemory>
     ensures settled { IsNormalForm UnicodeStep parts.old parts.new }
     ensures shaped { IsU parts.old → IsU parts.new }

@@ -1,5 +1,7 @@
 //! The steps on the extensions of a tag, one after another (RFC 5646, 4.5; RFC 6067; RFC 6497): the leftmost
-//! SwapExtensions before the steps in a `u` extension, on the source of a `t` extension, and on its fields.
+//! SwapExtensions before the steps in a `u` extension, on the source of a `t` extension, and on its fields. An
+//! extension is explained if it is in its normal form and the steps to that are added (`Explains`). Those in a `u`
+//! extension use no record, so that clause speaks of every list `R` of entries.
 ghost use Rattle.std.specs.Prelude.{◌≡◌, ◌≤◌, ◌+◌, List, All, IfOk, length, map, take};
 ghost use Rattle.std.specs.List.{AllByRecursion};
 ghost use Rattle.lt_tag.specs.Parts.{ExtensionParts, TForm};
@@ -23,8 +25,8 @@ use lt_registry::Lookup;
 use lt_tag::{Extension, OutOfMemory, TransformFault, join_t, join_u, split_t, split_u};
 use std::alloc::Global;
 
-/// How many subtags the extensions before an index have, their singletons among them. The index must be at most the number
-/// of extensions, which must have at most 1,100,000 subtags.
+/// How many subtags the extensions before an index have, their singletons among them. The index must be at most the
+/// number of extensions, which must have at most 1,100,000 subtags, as those of a tag have.
 fn subtags_before(extensions: &[Extension], index: usize) -> usize
     requires within { index ≤ length extensions.now }
     requires few { length (spell_extensions extensions.now) ≤ 1100000 }
@@ -38,8 +40,8 @@ fn subtags_before(extensions: &[Extension], index: usize) -> usize
 }
 
 /// The index of the `u` extension and its normal form, to which its steps lead; they are added to `steps`. None if
-/// there is no such extension. The extensions begin after `start` subtags, and `start` and their subtags must be at most
-/// 1,100,000 together. Refused only where memory runs out.
+/// there is no such extension. The extensions begin after `start` subtags, and `start` and their subtags must be at
+/// most 1,100,000 together. Refused only where memory runs out.
 #[tactic(auto, using(crate::proofs::ExtensionRuns::few_before))]
 fn explained_unicode(
     alloc: Global,
@@ -60,9 +62,9 @@ fn explained_unicode(
 }
 
 /// The index of the `t` extension and its normal form, to which its steps lead; they are added to `steps`. None if
-/// there is no such extension. The extensions begin after `start` subtags, and `start` and their subtags must be at most
-/// 1,100,000 together. A `t` extension must have the form of one, and the chains of the registry must end. Refused only
-/// where memory runs out.
+/// there is no such extension. The extensions begin after `start` subtags, and `start` and their subtags must be at
+/// most 1,100,000 together. A `t` extension must have the form of one, and the chains of the registry must end. Refused
+/// only where memory runs out.
 #[tactic(auto, using(crate::proofs::ExtensionRuns::few_before))]
 fn explained_transform<L: Lookup>(
     alloc: Global,

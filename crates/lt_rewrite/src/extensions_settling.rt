@@ -1,4 +1,5 @@
-//! The normal form of a list of extensions (RFC 5646, 4.5; RFC 6067; RFC 6497).
+//! The normal form of a list of extensions (RFC 5646, 4.5; RFC 6067; RFC 6497). `Settles` says of an answer: an index
+//! with the normal form of the extension there, or None where there is nothing to change.
 ghost use Rattle.std.specs.Prelude.{◌≡◌, ◌<◌, ◌==◌, List, All, IfOk, OnErr, IfSome, length, map, position};
 ghost use Rattle.std.specs.List.{AllByRecursion};
 ghost use Rattle.lt_tag.specs.Parts.{ExtensionParts, TForm};
@@ -29,8 +30,8 @@ pub(crate) fn place_of(extensions: &[Extension], singleton: u8) -> Option<usize>
 }
 
 /// The index of the `u` extension, and its normal form. None if there is no such extension, or if its keys rise, which
-/// shows that it is in its normal form; neither takes memory. Each singleton must occur once. Refused only where memory
-/// runs out.
+/// shows that it is in its normal form; neither takes memory. Its steps use no record, so the clause speaks of every
+/// list `R` of entries. Each singleton must occur once. Refused only where memory runs out.
 #[tactic(auto, using(crate::proofs::ExtensionLaws::none_settles))]
 fn settled_unicode(
     alloc: Global,
@@ -52,8 +53,8 @@ fn settled_unicode(
 }
 
 /// The index of the `t` extension, and its normal form, by shortcuts along the chains if there are some. None if there
-/// is no such extension. A `t` extension must have the form of one. The chains of the registry must end, and the shortcuts
-/// be those of the table. Refused only where memory runs out.
+/// is no such extension. A `t` extension must have the form of one. The chains of the registry must end, and the
+/// shortcuts be those of the table. Refused only where memory runs out.
 #[tactic(auto, using(crate::proofs::ExtensionLaws::none_settles))]
 fn settled_transform<L: Lookup>(
     alloc: Global,
@@ -91,9 +92,9 @@ pub(crate) fn put_back(extensions: &mut Vec<Extension>, settled: Option<(usize, 
     }
 }
 
-/// Puts a list of extensions into its normal form, by shortcuts along the chains if there are some, which must be those of
-/// the table. Each singleton must occur once, a `t` extension must have the form of one, and the chains of the registry
-/// must end. Refused only where memory runs out; the list is then what it was.
+/// Puts a list of extensions into its normal form, by shortcuts along the chains if there are some, which must be those
+/// of the table. Each singleton must occur once, a `t` extension must have the form of one, and the chains of the
+/// registry must end. Refused only where memory runs out; the list is then what it was.
 pub(crate) fn settle_all<L: Lookup>(
     alloc: Global,
     table: &L,

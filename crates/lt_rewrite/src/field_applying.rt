@@ -1,4 +1,6 @@
-//! One step on the parts of a `t` extension (RFC 5646, 4.5; RFC 6497).
+//! One step on the parts of a `t` extension (RFC 5646, 4.5; RFC 6497). `Answers` says of a call that takes a step: true
+//! if it leads to the parts after it, and false if it leads nowhere. 1,200,000 is a round number above the places of a
+//! tag's subtags, so that they are `u32`.
 ghost use Rattle.std.specs.Prelude.{◌≡◌, ◌≤◌, ◌+◌, List, length};
 ghost use Rattle.lt_tag.specs.Spelling.{spell_core};
 ghost use Rattle.lt_tag.specs.Extensions.{spell_t};
@@ -21,7 +23,7 @@ pub fn core_length(core: &Core) -> usize
     before_variants(core) + core.variants().len()
 }
 
-/// How many subtags a source has: none if there is no source.
+/// How many subtags a source has: at most the 1,030 of a core, and none if there is no source.
 pub(crate) fn source_length(source: &Option<Core>) -> usize
     ensures value { result ≡ length (spell_source source.now) }
     ensures few { result ≤ 1030 }
@@ -33,8 +35,8 @@ pub(crate) fn source_length(source: &Option<Core>) -> usize
 }
 
 /// Takes a SwapFields step, which `step` must be: two neighbouring fields change places. False, and nothing changes, if
-/// there is no such step. The extension's singleton has the place `start`, and the last subtag must have one of at most
-/// 1,200,000.
+/// there is no such step. It uses no record, so the clause speaks of every list `R` of entries. The extension's
+/// singleton has the place `start`, and the last subtag must have one of at most 1,200,000.
 fn swap_fields(parts: &mut TParts, start: usize, step: Step) -> bool
     requires kind { step.kind ≡ kinds.SwapFields }
     requires few { start + length (spell_t parts.old) ≤ 1200000 }
@@ -48,8 +50,8 @@ fn swap_fields(parts: &mut TParts, start: usize, step: Step) -> bool
     swap_at(&mut parts.fields, first_field, step.place)
 }
 
-/// Takes a step on the parts of a `t` extension whose singleton has the place `start`, and whose last subtag must have one of
-/// at most 1,200,000. False, and nothing changes, if there is no such step.
+/// Takes a step on the parts of a `t` extension whose singleton has the place `start`, and whose last subtag must have
+/// one of at most 1,200,000. False, and nothing changes, if there is no such step.
 pub(crate) fn apply_to_transform<L: Lookup>(
     table: &L,
     parts: &mut TParts,

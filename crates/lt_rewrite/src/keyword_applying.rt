@@ -1,4 +1,5 @@
-//! One step on the parts of a `u` extension (RFC 5646, 4.5; RFC 6067).
+//! One step on the parts of a `u` extension (RFC 5646, 4.5; RFC 6067). `Answers` says of a call that takes a step: true
+//! if it leads to the parts after it, and false if it leads nowhere. Places are below 2^32, since they are `u32`.
 ghost use Rattle.std.specs.Prelude.{◌≡◌, ◌<◌, ◌+◌, ◌^◌, [], ◌∷◌, MatchBool, length, flat_map, codes};
 ghost use Rattle.lt_tag.specs.Extensions.{spell_keyword, spell_u};
 ghost use Rattle.lt_rewrite.specs.Applying.{Answers, TrueLeads, UnicodeLeads};
@@ -7,7 +8,7 @@ use crate::part_applying::{drop_at, index_at, swap_at};
 use crate::steps::{Step, StepKind};
 use lt_tag::{Keyword, UParts};
 
-/// Whether the types of a keyword are exactly `true`.
+/// Whether the types of a keyword are exactly `true`, so that a DropTrue step may take them.
 pub(crate) fn has_sole_true(keyword: &Keyword) -> bool
     ensures { MatchBool result (keyword.now.types ≡ codes "true" ∷ []) (keyword.now.types ≡ codes "true" ∷ [] → ⊥) }
 {
@@ -25,8 +26,8 @@ pub(crate) fn drop_types(keyword: &mut Keyword)
 }
 
 /// Takes the types from the keyword whose first type has this place, if they are exactly `true`. False, and nothing
-/// changes, if there is no such keyword. The keywords begin after `start` subtags, and the place after their last subtag must
-/// be below 2^32.
+/// changes, if there is no such keyword. The keywords begin after `start` subtags, and the place after their last
+/// subtag must be below 2^32.
 fn drop_true_at(keywords: &mut Vec<Keyword>, start: usize, place: u32) -> bool
     requires { start + 1 + length (flat_map spell_keyword keywords.old.items) < 2 ^ 32 }
     ensures { Answers (TrueLeads start place keywords.old.items) keywords.new.items result }
@@ -42,8 +43,8 @@ fn drop_true_at(keywords: &mut Vec<Keyword>, start: usize, place: u32) -> bool
     true
 }
 
-/// Takes a step on the parts of a `u` extension whose singleton has the place `start`. The place after its last subtag must
-/// be below 2^32. False, and nothing changes, if there is no such step.
+/// Takes a step on the parts of a `u` extension whose singleton has the place `start`. The place after its last subtag
+/// must be below 2^32. False, and nothing changes, if there is no such step.
 pub(crate) fn apply_to_unicode(parts: &mut UParts, start: usize, step: Step) -> bool
     requires { start + 1 + length (spell_u parts.old) < 2 ^ 32 }
     ensures { Answers (UnicodeLeads start parts.old step) parts.new result }

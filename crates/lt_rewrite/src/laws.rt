@@ -1,4 +1,5 @@
-//! What follows from the definitions alone, for every list of entries.
+//! Laws: what follows from the definitions alone, for every list of entries `R`. A law computes nothing and has no
+//! arguments; its clauses are what it is for, and `docs/steps.md` tells readers of them.
 ghost use Rattle.std.specs.Prelude.{List, All};
 ghost use Rattle.lt_registry.specs.Parts.{EntryParts};
 ghost use Rattle.lt_registry.specs.Entries.{IsRegistry};
@@ -12,8 +13,8 @@ pub fn chains_end()
     ensures end { (R : List EntryParts) → All (HasEndingChain R) R → ChainsEnd R }
 {}
 
-/// Under the conditions on core steps each core has a core normal form and no second one, and each
-/// core step keeps it.
+/// Under the conditions on core steps (`MeetsCoreConditions`) each core has a core normal form and no second one, and
+/// each core step keeps it.
 pub fn one_core_normal_form()
     ensures one { (R : List EntryParts) → MeetsCoreConditions R → HasOneNormalForm R }
     ensures kept { (R : List EntryParts) → MeetsCoreConditions R → StepsKeepNormalForm R }
@@ -21,8 +22,8 @@ pub fn one_core_normal_form()
 
 /// By a registry that meets the conditions on core steps, a core step leads from a proper core to a proper core
 /// (`proper`). If it also makes no grandfathered tag valid as a langtag, each step on the core or the extensions of a
-/// proper tag leads to a proper tag (`tags`). For no proper core to spell a grandfathered tag, that last condition alone
-/// is enough (`spelled`).
+/// proper tag leads to a proper tag (`tags`). For no proper core to spell a grandfathered tag, that last condition
+/// alone is enough (`spelled`).
 pub fn steps_keep_proper()
     ensures proper { (R : List EntryParts) → IsRegistry R → MeetsCoreConditions R → StepsKeepProper R }
     ensures tags { (R : List EntryParts) → IsRegistry R → MeetsCoreConditions R → All (HasFittingGrandfathered R) R → StepsKeepTagsProper R }

@@ -1,4 +1,6 @@
-//! What follows from the definitions of the steps on extensions alone.
+//! Laws: what follows from the definitions of the steps on extensions alone, for every list of entries `R`. None
+//! computes anything. The conditions on core steps (`MeetsCoreConditions`) are asked for since a `t` extension has a
+//! core, its source.
 #![tactic(auto, using(crate::proofs::ExtensionLaws::unicode_has_one_form, crate::proofs::ExtensionLaws::transform_has_one_form, crate::proofs::ExtensionLaws::extensions_have_one_form))]
 
 ghost use Rattle.std.specs.Prelude.{List};

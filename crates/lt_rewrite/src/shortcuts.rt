@@ -1,6 +1,6 @@
-//! Shortcuts along the chains of values of a table's records (RFC 5646, 3.1.7): for each record the place of one further on,
-//! whose value is the end of the chain. They are doubled in as many rounds as the number of records has binary digits, so
-//! that a cycle is found as fast as an end, however long the chains are.
+//! Shortcuts along the chains of values of a table's records (RFC 5646, 3.1.7): for each record the place of one
+//! further on, whose value is the end of the chain. They are doubled in as many rounds as the number of records has
+//! binary digits, so that a cycle is found as fast as an end, however long the chains are.
 ghost use Rattle.std.specs.Prelude.{◌≡◌, ◌+◌, ◌≤◌, ◌<◌, ◌||◌, true, false, Some, ℕ, List, All, IfOk, OnErr, Contains, length, map, IsTrue, ◌↔◌};
 ghost use Rattle.std.specs.List.{slice_get, AllByRecursion, AllWithin};
 ghost use Rattle.std.specs.List.Sorted.{IsNonDecreasingBy};
@@ -77,8 +77,8 @@ impl Shortcuts {
         }
     }
 
-    /// The end of the chain of values of a kind that begins with a subtag. Refused with `Cycle` if the chain has no end.
-    /// The shortcuts must be those of the table.
+    /// The end of the chain of values of a kind that begins with a subtag. Refused with `Cycle` if the chain has no
+    /// end. The shortcuts must be those of the table.
     pub(crate) fn end_of_chain<L: Lookup>(
         &self,
         table: &L,
@@ -167,8 +167,8 @@ impl Shortcuts {
     }
 }
 
-/// The index of an entry among the entries of a table. The entry must be one of them, and their numbers must rise. Where
-/// the numbers follow on one another, it is found without a search.
+/// The index of an entry among the entries of a table. The entry must be one of them, and their numbers must rise.
+/// Where the numbers follow on one another, it is found without a search: by how far its number is above the first.
 pub(crate) fn place_of(entries: &[Entry], entry: &Entry) -> usize
     requires rising { NumbersRise entries.now }
     requires there { Contains entries.now entry.now }
@@ -203,6 +203,7 @@ fn next_place<L: Lookup>(table: &L, entry: &Entry, place: usize) -> usize
 }
 
 /// For each entry, the index of the entry to which its shortcut of one value leads. Refused only where memory runs out.
+/// `last_places` makes longer ones of these.
 fn first_places<L: Lookup>(alloc: Global, table: &L) -> Result<Vec<usize>, AllocError>
     ensures { IfOk result (λ places. LeadOn (L.listed table.now) 1 places.items) }
 {
@@ -213,8 +214,8 @@ fn first_places<L: Lookup>(alloc: Global, table: &L) -> Result<Vec<usize>, Alloc
     Ok(places)
 }
 
-/// For each entry, the index of the entry to which its shortcut leads over as many values as there are entries. Refused
-/// only where memory runs out.
+/// For each entry, the index of the entry to which its shortcut leads over as many values as there are entries, and so
+/// to the end of a chain that ends. Refused only where memory runs out.
 fn last_places<L: Lookup>(alloc: Global, table: &L) -> Result<Vec<usize>, AllocError>
     ensures { IfOk result (λ places. LeadOn (L.listed table.now) (length (L.listed table.now)) places.items) }
 {
@@ -229,8 +230,9 @@ fn last_places<L: Lookup>(alloc: Global, table: &L) -> Result<Vec<usize>, AllocE
     Ok(places)
 }
 
-/// Makes each shortcut twice as long, unless `grows` is false, which must only be so if none would change. Each place must
-/// be one in the list. Tells whether a shortcut leads elsewhere than before.
+/// Makes each shortcut twice as long, unless `grows` is false, which must only be so if none would change
+/// (`GrowNoMore`). Each place must be one in the list. Tells whether a shortcut leads elsewhere than before. Neither
+/// the entries nor the length `n` is an argument, so `doubled` speaks of all.
 fn lengthen_while(grows: bool, places: &mut [usize]) -> bool
     requires within { (i j : ℕ) → slice_get places.old i ≡ Some j → j < length places.old }
     requires rest { grows ≡ false → GrowNoMore places.old }
@@ -249,6 +251,7 @@ fn either(one: bool, other: bool) -> bool
 
 /// Makes each shortcut at least twice as long: it leads on by the shortcut of the entry to which it led, which may have
 /// been made longer already. Each place must be one in the list. Tells whether a shortcut leads elsewhere than before.
+/// Neither the entries nor the length `n` is an argument, so `doubled` speaks of all.
 fn lengthen(places: &mut [usize]) -> bool
     requires { (i j : ℕ) → slice_get places.old i ≡ Some j → j < length places.old }
     ensures doubled { (R : List EntryParts) (n : ℕ) → LeadOn R n places.old → LeadOn R (n + n) places.new }

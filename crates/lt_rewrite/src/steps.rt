@@ -37,7 +37,7 @@ pub enum StepKind {
 }
 
 impl StepKind {
-    /// The kind's name, as it is written here, for example `Extlang`.
+    /// The kind's name, as it is written here and printed, for example `Extlang`.
     pub fn name(self) -> &'static str
         ensures { result.now ≡ name_of self }
     {
@@ -65,9 +65,8 @@ impl StepKind {
 pub struct Step {
     /// What it does.
     pub kind: StepKind,
-    /// The number in the tag, counted from 1, of the subtag that is replaced or dropped, of the key that is
-    /// dropped with its types, or of the first subtag of the first of two parts that change places; 1 for a
-    /// whole tag.
+    /// The number in the tag, counted from 1, of the subtag that is replaced or dropped, or of the key that is dropped
+    /// with its types. Of two parts that change places, that of the first subtag of the first; 1 for a whole tag.
     pub place: u32,
     /// The number in the file of the record that it uses, counted from 1, and 0 where it uses none.
     pub number: u32,

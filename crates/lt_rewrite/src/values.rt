@@ -1,4 +1,5 @@
-//! What the entries of a table give as preferred values (RFC 5646, 3.1.7).
+//! What the entries of a table give as preferred values (RFC 5646, 3.1.7): one subtag, or a whole tag. A clause `form`
+//! hands on that a value has the form of the values of its kind.
 ghost use Rattle.std.specs.Prelude.{◌≡◌, Some, true, is_some, IfSome, MatchBool, MatchOption};
 ghost use Rattle.std.specs.Option.{option_copied};
 ghost use Rattle.lt_tag.specs.Parts.{TagForm};
@@ -32,7 +33,8 @@ pub fn tag_value(entry: &Entry) -> Option<&Tag>
     }
 }
 
-/// The tag and the preferred value of a record of a whole tag. None if the record has no value, or is none of a whole tag.
+/// The tag and the preferred value of a record of a whole tag. None if the record has no value, or is none of a whole
+/// tag.
 pub fn tag_and_value(entry: &Entry) -> Option<(&Tag, &Tag)>
     ensures { MatchOption result
         ((t u : TagForm) → entry.now.name ≡ names.Whole t → tag_of entry.now.value ≡ Some u → ⊥)

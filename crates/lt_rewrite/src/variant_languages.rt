@@ -1,4 +1,5 @@
-//! VariantLanguage steps one after another, where each variant is looked up once.
+//! VariantLanguage steps one after another, where each variant is looked up once. Such a step drops a variant whose
+//! value is a language, and makes that the language, if the language before it is one of the variant's Prefixes.
 ghost use Rattle.std.specs.Prelude.{◌≡◌, true, All, IfSome, MatchOption};
 ghost use Rattle.std.specs.List.{slice_get};
 ghost use Rattle.std.specs.Option.{option_copied};
@@ -19,7 +20,8 @@ use lt_registry::{Entry, Kind, Lookup};
 use lt_subtag::Subtag;
 use lt_tag::Core;
 
-/// The index of a variant's entry in the table, or the index after the last entry if it has none.
+/// The index of a variant's entry in the table, or the index after the last entry if it has none, so that nothing is
+/// there.
 #[tactic(auto, using(crate::proofs::ChainWalks::entry_there))]
 fn variant_place<L: Lookup>(table: &L, variant: &Subtag) -> usize
     ensures { slice_get (L.listed table.now) result ≡ entry (L.listed table.now) kinds.Variant variant.now }
@@ -88,8 +90,8 @@ fn variant_language_at<'a, L: Lookup>(
 }
 
 /// The leftmost variant with a VariantLanguage step: its index, counted from 0, and the language to which it leads.
-/// None if no variant has one. `places` must be the indices of the entries of the core's variants, so that none is looked
-/// up; for a variant without an entry it has an index after the last entry.
+/// None if no variant has one. `places` must be the indices of the entries of the core's variants, so that none is
+/// looked up; for a variant without an entry it has an index after the last entry.
 pub(crate) fn first_variant_language_at<L: Lookup>(
     table: &L,
     places: &[usize],

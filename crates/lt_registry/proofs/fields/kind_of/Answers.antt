@@ -4,7 +4,8 @@ use Rattle.lt_registry.specs.declared.entries.Kind.TheVariants as kinds
 use Rattle.lt_registry.proofs.FoundLemmas.{language_spelled}
 use Rattle.lt_registry.proofs.fields.kind_of.Goals as goal
 
--- a text that is `language` byte for byte is it letter case aside too
+-- Language is the kind that `kind_of` of the definitions gives: a text that has the eight bytes of `language` is it
+-- letter case aside too
 pub returns-in-language : goal.returns-in-language
 returns-in-language c =
     sym (subst (λ (l : List ℕ). kind_of l ≡ Some kinds.Language) c.as_bytes.ensures.value

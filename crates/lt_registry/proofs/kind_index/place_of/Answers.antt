@@ -4,7 +4,7 @@ use Rattle.lt_registry.specs.declared.rows.Row.{Row}
 use Rattle.lt_registry.proofs.SpanLemmas.{place_found, place_missing, searchable}
 use Rattle.lt_registry.proofs.kind_index.place_of.Goals as goal
 
--- the numbers rise, so the row that was found is the only one with this number
+-- the place in the row that was found is that of the number: the numbers rise, so it is the only row with this one
 pub returns-in-Ok : goal.returns-in-Ok
 returns-in-Ok c =
     let at = c.in-Ok.ensures.position (λ (row : Row). row.number) (answers_always _ _ _ (λ f a r g called. search rules)) in

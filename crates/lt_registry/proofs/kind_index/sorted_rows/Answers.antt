@@ -8,7 +8,8 @@ use Rattle.lt_registry.proofs.SortedLemmas.{indexed, nats_equal}
 use Rattle.lt_registry.proofs.IndexLemmas.{single_placed}
 use Rattle.lt_registry.proofs.kind_index.sorted_rows.Goals as goal
 
--- the sort puts rows of one number in the order of their places, so the first of the file is the one that stays
+-- The sorted rows, of each number the first alone, are the index of the single subtags (`IsSingles`). The sort puts
+-- rows of one number in the order of their places, so the first of the file is the one that stays.
 pub returns : goal.returns
 returns c = λ R kind are.
     let kept = dedup_same _ (λ (p q : Row). p.number == q.number) _ (λ x y b f' x' y' k. search rules) _ _

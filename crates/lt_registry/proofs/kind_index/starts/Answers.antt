@@ -4,7 +4,8 @@ use Rattle.lt_registry.specs.declared.rows.Row.{Row}
 use Rattle.lt_registry.proofs.SpanLemmas.{StartsSoFar, starts_more, starts_all}
 use Rattle.lt_registry.proofs.kind_index.starts.Goals as goal
 
--- a turn adds starts up to that of the row's beginning: those that are new have no row before this one
+-- the invariant stays true: a turn adds starts up to that of the row's beginning, and the new ones have no row before
+-- this one
 pub loop-place-preserved : goal.loop-place-preserved
 loop-place-preserved c =
     let rows = c.args.rows.now in

@@ -6,7 +6,7 @@ use Rattle.lt_registry.specs.RecordSteps.{IsTagOf}
 use Rattle.lt_registry.proofs.RecordLaws.{name_told, field_of_tag}
 use Rattle.lt_registry.proofs.records.read_name.Goals as goal
 
--- a kind of subtags has its name in Subtag, and what that is refused with is the fault of the name
+-- what `read_subtags` is refused with is a fault of the record's name, since a kind of subtags has its name in Subtag
 pub returns-then-not-is_whole_kind-clause-err : goal.returns-then-not-is_whole_kind-clause-err
 returns-then-not-is_whole_kind-clause-err c =
     let there : body (name_field c.args.kind) c.args.fields.now.all.now ≡ Some c.in-Some.text.now = sym c.name.ensures
@@ -15,7 +15,7 @@ returns-then-not-is_whole_kind-clause-err c =
     (sym c.if-not-is_whole_kind.ensures) there (c.read_subtags.ensures.named
     ∙ ap (subtags_named c.args.kind) c.as_bytes.ensures.value)).1
 
--- a kind of whole tags has its name in Tag, and the text there is no tag
+-- BadTag is a fault of the record's name: a kind of whole tags has its name in Tag, and the text there is no tag
 pub returns-in-None-clause-err : goal.returns-in-None-clause-err
 returns-in-None-clause-err c =
     let whole : is_whole_kind c.args.kind ≡ true = sym c.if-not-is_whole_kind.ensures in

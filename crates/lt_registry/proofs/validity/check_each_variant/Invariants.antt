@@ -2,7 +2,7 @@ use Rattle.std.proofs.Common.{◌≡◌, ◌+◌, [], take, drop}
 use Rattle.lt_registry.specs.Checking.{variants_check}
 use Rattle.lt_registry.proofs.validity.check_each_variant.Given as goal
 
--- the variants that are left decide
+-- the check of all variants is that of those that are left, the first of which has `place`: those before have no fault
 abbrev pub invariant-loop-index : goal.invariant-loop-index
 invariant-loop-index g l =
     (l.place ≡ l.start + l.index)

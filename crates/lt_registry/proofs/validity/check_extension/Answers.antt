@@ -4,7 +4,8 @@ use Rattle.lt_registry.specs.Checking.{Tells}
 use Rattle.lt_registry.proofs.CoreFaultLemmas.{ExtensionFault, source_tells}
 use Rattle.lt_registry.proofs.validity.check_extension.Goals as goal
 
--- a `t` extension that has parts has no other faults than its source, so the first of the source is its first
+-- the first fault of the source is the first of the `t` extension, which has parts and so no other faults than its
+-- source
 pub returns-in_err-check_source-in-Ok : goal.returns-in_err-check_source-in-Ok
 returns-in_err-check_source-in-Ok g c =
     let p = err_from_is_err_and c.from_residual.result c.from_residual.ensures.1 in
@@ -15,7 +16,7 @@ returns-in_err-check_source-in-Ok g c =
     (subst (Tells (ExtensionFault (g.L.Lookup.listed c.args.table.now) c.args.may_repeat c.args.place
     c.args.extension.now)) (sym c.check_source.ensures ∙ c.in_err-check_source-in-Ok.was) told)
 
--- a `t` extension that has parts has no other faults than its source, which has none
+-- the `t` extension has no fault: it has parts and so no other faults than its source, which has none
 pub returns-in_ok-check_source-in-Ok : goal.returns-in_ok-check_source-in-Ok
 returns-in_ok-check_source-in-Ok g c =
     let told = source_tells (g.L.Lookup.listed c.args.table.now) c.args.may_repeat c.args.place c.args.extension.now

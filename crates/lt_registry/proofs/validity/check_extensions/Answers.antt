@@ -2,7 +2,7 @@ use Rattle.std.proofs.Common.{sym, ◌∙◌}
 use Rattle.lt_registry.proofs.TagFaultLemmas.{told_duplicate}
 use Rattle.lt_registry.proofs.validity.check_extensions.Goals as goal
 
--- what is before the extension has no fault, so the first is that its singleton is there again
+-- DuplicateSingleton is the first fault: what is before the extension has none, and its singleton is there again
 pub returns-then-has_singleton : goal.returns-then-has_singleton
 returns-then-has_singleton g c =
     let again = sym c.has_singleton.ensures ∙ c.if-has_singleton.true in

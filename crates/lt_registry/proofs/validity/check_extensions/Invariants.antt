@@ -3,7 +3,8 @@ use Rattle.lt_registry.proofs.VariantFaultLemmas.{SameFaults}
 use Rattle.lt_registry.proofs.TagFaultLemmas.{Whole, From}
 use Rattle.lt_registry.proofs.validity.check_extensions.Given as goal
 
--- what faults there are, are in the extensions that are left
+-- The faults of all extensions are those of the ones that are left. The first singleton is at most at 1,031, after a
+-- core of 1,030 subtags, and each extension has at most 1,025 subtags, so the place stays in range.
 abbrev pub invariant-loop-index : goal.invariant-loop-index
 invariant-loop-index g l =
     (l.place ≤ 1031 + 1025 * l.index)

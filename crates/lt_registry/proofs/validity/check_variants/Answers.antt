@@ -4,7 +4,8 @@ use Rattle.lt_registry.proofs.VariantFaultLemmas.{differing_pass}
 use Rattle.lt_registry.proofs.validity.check_variants.Goals as goal
 use Rattle.lt_registry.proofs.validity.check_variants.Goals.{then-may_repeat, else-may_repeat}
 
--- if the variants are known to differ, the search for a repeat would find none, so it may be left out
+-- the check without a search for repeats answers the same: if the variants are known to differ, that search would find
+-- none
 pub returns : goal.returns
 returns g c =
     let R = g.L.Lookup.listed c.args.table.now in

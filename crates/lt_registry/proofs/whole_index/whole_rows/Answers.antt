@@ -5,7 +5,7 @@ use Rattle.lt_registry.proofs.IndexLemmas.{rows_more, rows_skipped, whole_placed
 use Rattle.lt_registry.proofs.whole_index.whole_rows.Goals as goal
 use Rattle.lt_registry.proofs.whole_index.whole_rows.Goals.{in-Some+in_ok-push, in_default}
 
--- a turn adds the row of one entry more, if it names a whole tag
+-- the invariant stays true: a turn adds the row of one entry more, if it names a whole tag
 pub loop-place-preserved : goal.loop-place-preserved
 loop-place-preserved c =
     elim c.match-whole_row.branch [

@@ -6,7 +6,7 @@ use Rattle.lt_rewrite.proofs.TagLeading.{fits, few_subtags, core_changed, extens
 use Rattle.lt_rewrite.proofs.ExtensionForms.{extensions_step_count}
 use Rattle.lt_rewrite.proofs.applying.change_parts.Goals as goal
 
--- the step changes the core, beside which the tag's extensions, few as they are, stay
+-- the step leads to the langtag of the core that it changes and the tag's extensions, few as they are
 pub returns-in-Some : goal.returns-in-Some
 returns-in-Some g c =
     let t = c.args.tag.now in
@@ -18,7 +18,8 @@ returns-in-Some g c =
       omega (arith, few, ap length same),
     )
 
--- a tag has at most 1024 extensions of at most 1025 subtags each, so with its core it is within the bound
+-- the places are within the bound 1,100,000: a tag has at most 1,024 extensions of at most 1,025 subtags each, after a
+-- core of at most 1,030
 pub change_extensions-requires : goal.change_extensions-requires
 change_extensions-requires g c =
     let t = c.args.tag.now in
@@ -32,7 +33,7 @@ change_extensions-requires g c =
       c.core_length.ensures.few,
     )
 
--- the step changes the extensions, beside which the core stays; they become no more by it
+-- the step leads to the langtag of the core and the extensions that it changes; these become no more by it
 pub returns-in_ok-copy-in-Some-2 : goal.returns-in_ok-copy-in-Some-2
 returns-in_ok-copy-in-Some-2 g c =
     let R = g.L.Lookup.listed c.args.table.now in
@@ -44,7 +45,7 @@ returns-in_ok-copy-in-Some-2 g c =
       omega (arith, extensions_step_count R (extensions_of t) fs leads.0, (fits t c.extensions-2.ensures.tag.counts).0),
     )
 
--- the step is no Whole step, and leads on neither from the core nor from the extensions
+-- None is right: the step is no Whole step, and leads on neither from the core nor from the extensions
 pub returns-in-None : goal.returns-in-None
 returns-in-None g c =
     kept (g.L.Lookup.listed c.args.table.now) c.args.tag.now c.args.step c.args.core.now c.requires.core c.requires.kind

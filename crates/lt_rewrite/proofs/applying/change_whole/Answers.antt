@@ -1,7 +1,7 @@
 use Rattle.lt_rewrite.proofs.TagLeading.{from_whole}
 use Rattle.lt_rewrite.proofs.applying.change_whole.Goals as goal
 
--- the place is 1, the tag can be replaced whole, and the value is that of the record with the step's number
+-- the step leads to the value: the place is 1, the tag can be replaced whole, and the record has the step's number
 pub returns-in_ok-copy-in-Some : goal.returns-in_ok-copy-in-Some
 returns-in_ok-copy-in-Some g c =
     rw c.in_ok-copy-in-Some.ensures

@@ -5,7 +5,7 @@ use Rattle.lt_rewrite.specs.Conditions.{next_value}
 use Rattle.lt_rewrite.proofs.ChainWalks.{chase_more, walk_cycles}
 use Rattle.lt_rewrite.proofs.chain_ends.end_of_chain.Goals as goal
 
--- a value follows even after as many values as there are records, so the chain has no end
+-- Cycle is right: a value follows even after as many values as there are records, so the chain has no end
 pub returns-in-Some-next_value-clause-cycle : goal.returns-in-Some-next_value-clause-cycle
 returns-in-Some-next_value-clause-cycle g c =
     let R = g.L.Lookup.listed c.args.table.now in
@@ -19,7 +19,7 @@ returns-in-Some-next_value-clause-cycle g c =
     (c.loop-step.invariant ∙ ap (λ n. chase (next_value R c.args.kind) n c.args.subtag.now) steps)
     (sym c.next_value-2.ensures ∙ ap option_copied c.in-Some-next_value.is)
 
--- a turn follows one value more
+-- the invariant stays true: a turn follows one value more
 pub loop-step-preserved : goal.loop-step-preserved
 loop-step-preserved g c =
     c.copy-end-in-Some.ensures

@@ -7,14 +7,15 @@ use Rattle.lt_rewrite.proofs.CoreSteps.{none_of, there_alone, has_leftmost}
 use Rattle.lt_rewrite.proofs.CoreLeading.{leads_at, variant_language_there, variant_language_elsewhere}
 use Rattle.lt_rewrite.proofs.core_applying.apply_variant_language.Goals as goal
 
--- the first variant with such a step is at another place, so this step leads nowhere
+-- false is right: the first variant with such a step is at another place, so this step leads nowhere
 pub returns-then-step-start : goal.returns-then-step-start
 returns-then-step-start g c =
     variant_language_elsewhere (g.L.Lookup.listed c.args.table.now) c.args.start c.args.core.now c.args.step
     c.requires.kind c.in-Some.index c.in-Some.language c.in-Some.ensures.variant_language
     (λ p. c.if-step-start.true (omega (arith, p, c.before_variants.ensures.value)))
 
--- the first variant with such a step is at this place and has this record: it is dropped, its value is the language
+-- the step leads to this core: the first variant with such a step is at this place and has this record; it is dropped,
+-- and its value is the language
 pub returns : goal.returns
 returns g c =
     let R = g.L.Lookup.listed c.args.table.now in

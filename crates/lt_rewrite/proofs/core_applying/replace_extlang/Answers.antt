@@ -6,7 +6,8 @@ use Rattle.lt_rewrite.proofs.CoreSteps.{extlang_there, sole}
 use Rattle.lt_rewrite.proofs.CoreLeading.{leads_at}
 use Rattle.lt_rewrite.proofs.core_applying.replace_extlang.Goals as goal
 
--- the only extlang is at this place and has this record: it is dropped, and its replacement is the language
+-- the step leads to this core: the only extlang is at this place and has this record; it is dropped, and its
+-- replacement is the language
 pub returns : goal.returns
 returns g c =
     let R = g.L.Lookup.listed c.args.table.now in

@@ -6,7 +6,8 @@ use Rattle.lt_rewrite.proofs.CoreSteps.{none_of, there_alone}
 use Rattle.lt_rewrite.proofs.CoreLeading.{leads_at}
 use Rattle.lt_rewrite.proofs.core_applying.replace_language.Goals as goal
 
--- there are no extlangs, and the value is that of the language, by the record with the step's number
+-- the step leads to this core: there are no extlangs, and the value is that of the language, by the record with the
+-- step's number
 pub returns-in-Some : goal.returns-in-Some
 returns-in-Some g c =
     let R = g.L.Lookup.listed c.args.table.now in

@@ -5,7 +5,7 @@ use Rattle.lt_rewrite.specs.CoreSteps.{at_script}
 use Rattle.lt_rewrite.proofs.CoreLeading.{leads_at}
 use Rattle.lt_rewrite.proofs.core_applying.replace_script.Goals as goal
 
--- the script is at this place, and the value is that of the record with the step's number
+-- the step leads to this core: the script is at this place, and the value is that of the record with the step's number
 pub returns-in-Some-value_by : goal.returns-in-Some-value_by
 returns-in-Some-value_by g c =
     let R = g.L.Lookup.listed c.args.table.now in

@@ -7,13 +7,13 @@ use Rattle.lt_rewrite.specs.Runs.{rank_of}
 use Rattle.lt_rewrite.proofs.CoreLeading.{variant_value_from, leads_at, needs_variant, variant_without}
 use Rattle.lt_rewrite.proofs.core_applying.replace_variant.Goals as goal
 
--- a Variant step needs a variant at its place, and none is there
+-- false is right: a Variant step needs a variant at its place, and none is there
 pub returns-in_default : goal.returns-in_default
 returns-in_default g c d l =
     let n = needs_variant (g.L.Lookup.listed c.args.table.now) c.args.start c.args.core.now c.args.step (ap rank_of c.requires.kind) d l in
     c.in_default.ensures n.index (slice_get_within c.args.core.now.variants n.index n.needs.subtag n.needs.there) n.place
 
--- the variant at this place has no value by a record with the step's number
+-- false is right: the variant at this place has no value by a record with the step's number
 pub returns-in_default-value_by : goal.returns-in_default-value_by
 returns-in_default-value_by g c =
     variant_without (g.L.Lookup.listed c.args.table.now) c.args.start c.args.core.now c.args.step c.requires.kind
@@ -23,7 +23,7 @@ returns-in_default-value_by g c =
     c.variants.ensures.value c.index-variants-index.is)) c.in-Some.ensures.1
     (λ w by long. c.in_default-value_by.ensures.value w by)
 
--- the value of the variant at this place is a language, and a Variant step needs a variant
+-- false is right: the value of the variant at this place is a language, and a Variant step needs a variant
 pub returns-then-is_short : goal.returns-then-is_short
 returns-then-is_short g c =
     let v : List ℕ = c.index-variants-index.result in
@@ -35,7 +35,8 @@ returns-then-is_short g c =
     ∙ ap is_short (same_Some c.in-Some-value_by.value.now w (sym c.in-Some-value_by.ensures.value.has ∙ by.has))
     ∙ long))
 
--- the variant at this place has this value by the record with the step's number, and it is long enough for a variant
+-- the step leads to this core: the variant at this place has this value by the record with the step's number, and it is
+-- long enough for a variant
 pub returns : goal.returns
 returns g c =
     let R = g.L.Lookup.listed c.args.table.now in

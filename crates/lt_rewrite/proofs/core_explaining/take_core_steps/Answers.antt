@@ -13,7 +13,7 @@ loop-step-smaller g c =
     c.in-Some.ensures c.apply_to_core.ensures in
     weight_falls R c.requires.chains c.loop-step.core c.apply_to_core.new.core step.leads.0
 
--- a turn takes one step more, the first that leads on from where the others led
+-- the invariant stays true: a turn takes one step more, the first that leads on from where the others led
 pub loop-step-preserved : goal.loop-step-preserved
 loop-step-preserved g c =
     let R = g.L.Lookup.listed c.args.table.now in

@@ -7,7 +7,7 @@ use Rattle.lt_registry.specs.Entries.{variant_value}
 use Rattle.lt_rewrite.proofs.CoreLeading.{first_variant, none_varies}
 use Rattle.lt_rewrite.proofs.core_explaining.variant_step.Goals as goal
 
--- this variant has a variant as its value, and none before it has one
+-- this is the leftmost Variant step: this variant has a variant as its value, and none before it has one
 pub returns-in-Some : goal.returns-in-Some
 returns-in-Some g c =
     let core = c.args.core.now in
@@ -21,7 +21,7 @@ returns-in-Some g c =
     (sym c.next_value.ensures ∙ ap option_copied c.in-Some.is)
     c.loop-index.invariant
 
--- a turn passes over a variant that has no variant as its value
+-- the invariant stays true: a turn passes over a variant that has no variant as its value
 pub loop-index-preserved : goal.loop-index-preserved
 loop-index-preserved g c =
     let P : List ℕ → Type 0 = λ v. variant_value (g.L.Lookup.listed c.args.table.now) v ≡ None in
@@ -32,7 +32,7 @@ loop-index-preserved g c =
     (subst P c.variant-item.is (sym c.next_value.ensures ∙ ap option_copied c.in_default.is)) in
     subst (λ us. All P (take (i + 1) us)) c.variants-variant-items.ensures.value more
 
--- no variant is left, so none has a variant as its value
+-- there is no Variant step: no variant is left, so none has a variant as its value
 pub returns : goal.returns
 returns g c =
     let all = take_all c.loop-index.index c.args.core.now.variants

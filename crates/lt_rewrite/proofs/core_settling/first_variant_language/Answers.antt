@@ -4,11 +4,11 @@ use Rattle.lt_rewrite.specs.CoreSteps.{language_beside}
 use Rattle.lt_rewrite.proofs.CoreSettling.{first_variant_language_at, none_more}
 use Rattle.lt_rewrite.proofs.core_settling.first_variant_language.Goals as goal
 
--- this variant leads to the language, and none before it leads to one
+-- the answer is the leftmost: this variant leads to the language, and none before it leads to one
 pub returns-in-Some-clause-variant_language : goal.returns-in-Some-clause-variant_language
 returns-in-Some-clause-variant_language g c = search (rules, first_variant_language_at)
 
--- a turn passes over a variant without a VariantLanguage step
+-- the invariant stays true: a turn passes over a variant without a VariantLanguage step
 pub loop-index-preserved : goal.loop-index-preserved
 loop-index-preserved g c = search (rules, none_more (g.L.Lookup.listed c.args.table.now) c.args.core.now)
 

@@ -4,7 +4,8 @@ use Rattle.lt_tag.specs.Parts.{CoreParts}
 use Rattle.lt_rewrite.proofs.CoreSettling.{rests_settled}
 use Rattle.lt_rewrite.proofs.core_settling.settle_along.Goals as goal
 
--- there are no extlangs, and script, region, language and variants are settled, so no step is left
+-- the core is in its normal form: there are no extlangs, and script, region, language and variants are settled, so no
+-- step is left
 pub returns-then-is_empty : goal.returns-then-is_empty
 returns-then-is_empty g c =
     let settled = c.settle_all_variant_languages.ensures in
@@ -12,7 +13,8 @@ returns-then-is_empty g c =
     c.settle_extlang.new.core _ (search rules) settled.reached settled.variants
     (λ e. (settled.language, settled.variant_languages)) settled.others
 
--- script, region and variants are settled; with the extlangs that stay, the language has no step
+-- the core is in its normal form: script, region and variants are settled, and with the extlangs that stay the language
+-- has no step
 pub returns-else-is_empty : goal.returns-else-is_empty
 returns-else-is_empty g c =
     let settled = c.settle_variants.ensures in

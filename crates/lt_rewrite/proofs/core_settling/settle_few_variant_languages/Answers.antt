@@ -8,7 +8,8 @@ use Rattle.lt_rewrite.proofs.CoreSettling.{language_settled, others_left}
 use Rattle.lt_rewrite.proofs.core_settling.settle_few_variant_languages.Goals as goal
 use Rattle.lt_registry.specs.Entries.{variant_value}
 
--- before the loop the variants and the language are settled, and `places` are those of the variants
+-- the invariant is true at first: before the loop the variants and the language are settled, and `places` are those of
+-- the variants
 pub loop-index-init : goal.loop-index-init
 loop-index-init g c =
     let R = g.L.Lookup.listed c.args.table.now in
@@ -23,7 +24,8 @@ loop-index-init g c =
       places = subst (λ us. ArePlaces R us c.settle_few_variants.new.places.items) (sym vs) c.settle_few_variants.ensures.places;
     }
 
--- a turn takes a VariantLanguage step and settles the new language; the variant and its place both go
+-- the invariant stays true: a turn takes a VariantLanguage step and settles the new language; the variant and its place
+-- both go
 pub loop-index-preserved : goal.loop-index-preserved
 loop-index-preserved g c =
     let R = g.L.Lookup.listed c.args.table.now in

@@ -3,13 +3,14 @@ use Rattle.lt_rewrite.specs.VariantLanguages.{ArePlaces}
 use Rattle.lt_rewrite.proofs.CoreSettling.{LanguageSettled}
 use Rattle.lt_rewrite.proofs.core_settling.settle_few_variant_languages.Given as goal
 
--- language and variants are at the ends of their chains, and `places` has the place of each variant's entry
+-- core steps lead to this core, whose language and variants are at the ends of their chains, and `places` has the place
+-- of each variant's entry
 abbrev pub invariant-loop-index : goal.invariant-loop-index
 invariant-loop-index g l = record {
   settled : LanguageSettled (g.L.Lookup.listed l.table) l.fn.core l.core;
   places : ArePlaces (g.L.Lookup.listed l.table) l.core.variants l.places.items;
 }
 
--- each step drops a variant
+-- the loop ends, since each step drops a variant
 abbrev pub decreases-loop-index : goal.decreases-loop-index
 decreases-loop-index g l = length l.core.variants

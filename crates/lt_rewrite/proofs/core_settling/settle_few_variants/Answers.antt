@@ -5,7 +5,7 @@ use Rattle.lt_rewrite.proofs.CoreSettling.{one_settled, all_settled}
 use Rattle.lt_rewrite.proofs.VariantPlaces.{placed_more}
 use Rattle.lt_rewrite.proofs.core_settling.settle_few_variants.Goals as goal
 
--- a turn puts one variant more at the end of its chain, and adds the place of the end's entry
+-- the invariant stays true: a turn puts one variant more at the end of its chain, and adds the place of the end's entry
 pub loop-index-preserved : goal.loop-index-preserved
 loop-index-preserved g c =
     let R = g.L.Lookup.listed c.args.table.now in

@@ -1,7 +1,7 @@
 use Rattle.lt_rewrite.proofs.CoreSettling.{language_settled}
 use Rattle.lt_rewrite.proofs.core_settling.settle_variant_languages.Goals as goal
 
--- a turn takes a VariantLanguage step, and settles the new language
+-- the invariant stays true: a turn takes a VariantLanguage step, and settles the new language
 pub loop-index-preserved : goal.loop-index-preserved
 loop-index-preserved g c =
     let settled = c.settle_language-in-Some.ensures in

@@ -6,6 +6,6 @@ use Rattle.lt_rewrite.proofs.core_settling.settle_variant_languages.Given as goa
 abbrev pub invariant-loop-index : goal.invariant-loop-index
 invariant-loop-index g l = LanguageSettled (g.L.Lookup.listed l.table) l.fn.core l.core
 
--- each step drops a variant
+-- the loop ends, since each step drops a variant
 abbrev pub decreases-loop-index : goal.decreases-loop-index
 decreases-loop-index g l = length l.core.variants

@@ -2,7 +2,7 @@ use Rattle.std.proofs.Common.{rules}
 use Rattle.lt_rewrite.proofs.CoreSettling.{one_settled, all_final}
 use Rattle.lt_rewrite.proofs.core_settling.settle_variants.Goals as goal
 
--- a turn puts one variant more at the end of its chain
+-- the invariant stays true: a turn puts one variant more at the end of its chain
 pub loop-index-preserved : goal.loop-index-preserved
 loop-index-preserved g c = search (rules, one_settled)
 

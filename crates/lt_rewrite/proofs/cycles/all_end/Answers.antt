@@ -8,7 +8,7 @@ use Rattle.lt_rewrite.specs.declared.cycles.Order.TheVariants as orders
 use Rattle.lt_rewrite.proofs.ChainWalks.{all_end_in_order}
 use Rattle.lt_rewrite.proofs.cycles.all_end.Goals as goal
 
--- the chain of this record has no end, so not each has one
+-- false is right: the chain of this record has no end, so not each has one
 pub returns-then-not-ends_or_falls : goal.returns-then-not-ends_or_falls
 returns-then-not-ends_or_falls g c = λ all.
     let R = g.L.Lookup.listed c.args.table.now in
@@ -19,7 +19,8 @@ returns-then-not-ends_or_falls g c = λ all.
     (subst (HasEndingChain R) (sym there)
     (all i e (omega (arith, c.loop-entry-test.true, ap length c.entries-entry-items.ensures.value))))
 
--- a turn judges one record more: its chain ends if those of the records before it in the order do
+-- the invariant stays true: a turn judges one record more: its chain ends if those of the records before it in the
+-- order do
 pub loop-entry-preserved : goal.loop-entry-preserved
 loop-entry-preserved g c =
     let P : EntryParts → Type 0 = EndsAfterEarlier (g.L.Lookup.listed c.args.table.now) orders.Mixed in

@@ -7,7 +7,7 @@ use Rattle.lt_rewrite.specs.Cycles.{place}
 use Rattle.lt_rewrite.proofs.ChainWalks.{chase_more, IsWalk, ends_there, ends_after, at_limit, next_by}
 use Rattle.lt_rewrite.proofs.cycles.ends_or_falls.Goals as goal
 
--- the chain has come to a record before this one in the order, and ends if the chain of that one does
+-- true is right: the chain has come to a record before this one in the order, and ends if the chain of that one does
 pub returns-then-place : goal.returns-then-place
 returns-then-place g c =
     let R = g.L.Lookup.listed c.args.table.now in
@@ -24,7 +24,7 @@ returns-then-place g c =
     ends_after R c.args.order e met k c.in-Some.value.now s c.loop-step._step walk (sym c.entry.ensures
     ∙ ap option_copied c.in-Some-entry.is) below
 
--- no value follows, so the chain ends
+-- true is right: no value follows, so the chain ends
 pub returns-in-None : goal.returns-in-None
 returns-in-None g c =
     let R = g.L.Lookup.listed c.args.table.now in
@@ -39,7 +39,7 @@ returns-in-None g c =
     ∙ sym c.following.ensures ∙ ap option_copied c.in-None.is in
     λ earlier. ends_there R e k c.in-Some.value.now s c.loop-step._step walk none
 
--- a turn follows one value more
+-- the invariant stays true: a turn follows one value more
 pub loop-step-preserved : goal.loop-step-preserved
 loop-step-preserved g c = λ v from.
     let R = g.L.Lookup.listed c.args.table.now in
@@ -52,7 +52,7 @@ loop-step-preserved g c = λ v from.
     ∙ chase_more (next_value R k) c.loop-step._step v s c.in-Some-following.next.now (c.loop-step.invariant
     v from) next
 
--- after as many values as there are records the chain has ended, or has no end
+-- after as many values as there are records the chain has ended if no value follows, and else it has no end
 pub returns : goal.returns
 returns g c =
     let R = g.L.Lookup.listed c.args.table.now in

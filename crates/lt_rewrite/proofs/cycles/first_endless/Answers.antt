@@ -9,7 +9,7 @@ use Rattle.lt_rewrite.proofs.ChainWalks.{file_order}
 use Rattle.lt_rewrite.proofs.ShortcutWalks.{lower_are_before, first_there}
 use Rattle.lt_rewrite.proofs.cycles.first_endless.Goals as goal
 
--- the chain of this record has no end, and those of all before it, which have the lower numbers, end
+-- this record is the first cycle: its chain has no end, and those of all before it, which have the lower numbers, end
 pub returns-then-not-ends_or_falls : goal.returns-then-not-ends_or_falls
 returns-then-not-ends_or_falls g c =
     let R = g.L.Lookup.listed c.args.table.now in
@@ -22,7 +22,7 @@ returns-then-not-ends_or_falls g c =
     subst (IsFirstCycle R) (sym c.number.ensures.value) (first_there R i e c.entries-entry-items.ensures.rising within
     there so_far c.if-not-ends_or_falls.ensures)
 
--- the chains of the records of lower numbers end, so the chain of this one does
+-- the invariant stays true: the chains of the records of lower numbers end, so the chain of this one does
 pub loop-entry-preserved : goal.loop-entry-preserved
 loop-entry-preserved g c =
     let R = g.L.Lookup.listed c.args.table.now in

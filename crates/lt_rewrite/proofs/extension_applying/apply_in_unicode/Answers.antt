@@ -2,14 +2,14 @@ use Rattle.lt_rewrite.proofs.PartForms.{u_shaped}
 use Rattle.lt_rewrite.proofs.ExtensionLeading.{unicode_changed, inside_u}
 use Rattle.lt_rewrite.proofs.extension_applying.apply_in_unicode.Goals as goal
 
--- a step inside a `u` extension is one on its parts, from which this one leads nowhere
+-- None is right: a step inside a `u` extension is one on its parts, from which this one leads nowhere
 pub returns-then-not-apply_to_unicode : goal.returns-then-not-apply_to_unicode
 returns-then-not-apply_to_unicode c = λ R f l.
     let m = inside_u R c.args.start c.args.extension.now c.args.step f c.in_ok-parts.parts c.requires.unicode
     c.in_ok-parts.ensures.parts l in
     c.if-not-apply_to_unicode.ensures m.0 m.1
 
--- a step keeps the shape of the parts
+-- the parts may be joined: a step keeps their shape
 pub join_u-requires-clause-shaped : goal.join_u-requires-clause-shaped
 join_u-requires-clause-shaped c =
     u_shaped c.in_ok-parts.parts c.apply_to_unicode.new.parts c.if-not-apply_to_unicode.ensures.0 c.in_ok-parts.ensures.parts.shaped

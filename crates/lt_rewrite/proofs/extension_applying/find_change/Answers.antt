@@ -7,7 +7,7 @@ use Rattle.lt_rewrite.specs.Applying.{LeadsAt}
 use Rattle.lt_rewrite.proofs.FirstSteps.{flat_more}
 use Rattle.lt_rewrite.proofs.extension_applying.find_change.Goals as goal
 
--- the subtags before this extension are among all, so its place is within the bound
+-- the place of this extension is within the bound 1,150,000: the subtags before it are among all
 pub apply_to_extension-requires : goal.apply_to_extension-requires
 apply_to_extension-requires g c =
     let few = length-flat_map-take spell_extension c.args.extensions.now c.loop-index.index
@@ -32,7 +32,8 @@ overflow_add-place-in-loop-index g c =
     let same = ap (λ (x : ExtensionParts). length (spell_extension x)) c.index-extensions-index.is in
     omega (arith, few, same, c.subtag_count-place.ensures, c.loop-index.invariant.here, c.requires)
 
--- a turn passes over an extension inside which the step leads nowhere, and adds its subtags to the place
+-- the invariant stays true: a turn passes over an extension inside which the step leads nowhere, and adds its subtags
+-- to the place
 pub loop-index-preserved : goal.loop-index-preserved
 loop-index-preserved g c =
     let R = g.L.Lookup.listed c.args.table.now in

@@ -12,7 +12,7 @@ use Rattle.lt_rewrite.proofs.PartForms.{u_shaped, u_step_length}
 use Rattle.lt_rewrite.proofs.ExtensionLaws.{unicode_settles}
 use Rattle.lt_rewrite.proofs.extension_settling.settle_u.Goals as goal
 
--- a turn takes a sole type `true` from one keyword more
+-- the invariant stays true: a turn takes a sole type `true` from one keyword more
 pub loop-keyword-preserved : goal.loop-keyword-preserved
 loop-keyword-preserved c =
     let ys : List KeywordParts = c.loop-keyword.keyword-items in
@@ -21,7 +21,7 @@ loop-keyword-preserved c =
     ∙ map_over_more untrue c.deref_mut-keyword-items.result.now ys c.loop-keyword.keyword-index k (omega
     (arith, c.loop-keyword-test.true, c.loop-keyword.auto.keyword-items)) c.loop-keyword.invariant c.keyword-item.is
 
--- where the index is at the end, all keywords have lost their sole types true
+-- where the index is at the end, all keywords have lost a sole type `true`
 all_of : (xs ys : List KeywordParts) (i : ℕ) → length xs ≤ i → ys ≡ map untrue (take i xs) ++ drop i xs → ys ≡ map untrue xs
 all_of xs ys i h e = e ∙ ap (λ zs. map untrue (take i xs) ++ zs) (drop_all i xs h) ∙ append-nil (map untrue (take i xs))
     ∙ ap (map untrue) (take_all i xs h)

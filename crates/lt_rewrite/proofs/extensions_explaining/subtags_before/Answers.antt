@@ -20,7 +20,7 @@ overflow_add-count c =
       c.requires.few,
     )
 
--- a turn counts the subtags of one extension more
+-- the invariant stays true: a turn counts the subtags of one extension more
 pub loop-extension-preserved : goal.loop-extension-preserved
 loop-extension-preserved c =
     let more = flat_more spell_extension (take c.args.index c.args.extensions.now) c.loop-extension.extension-index

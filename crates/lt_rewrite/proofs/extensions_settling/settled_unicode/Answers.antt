@@ -14,7 +14,7 @@ pub split_u-requires : goal.split_u-requires
 split_u-requires c = (found_there c.args.extensions.now unicode c.in-Some.place c.index-extensions-place.result
     (sym c.place_of.ensures ∙ c.in-Some.is) c.index-extensions-place.is).of_singleton
 
--- the normal form of the parts spells that of the extension
+-- the extension that is answered is the normal form: the normal form of the parts spells it
 pub returns : goal.returns
 returns c = λ R.
     let e : ExtensionParts = c.index-extensions-place.result in
@@ -23,7 +23,7 @@ returns c = λ R.
     (unicode_settled R e c.in_ok-parts.parts c.settle_u.new.parts u c.in_ok-parts.ensures.parts
     c.settle_u.ensures.settled))
 
--- no step leads from an extension whose keys rise, and no other has the singleton `u`
+-- None is right: no step leads from an extension whose keys rise, and no other has the singleton `u`
 pub returns-then-keys_rise : goal.returns-then-keys_rise
 returns-then-keys_rise c = λ R.
     let e : ExtensionParts = c.index-extensions-place.result in

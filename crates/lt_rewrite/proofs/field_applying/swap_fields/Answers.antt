@@ -1,7 +1,7 @@
 use Rattle.lt_rewrite.proofs.ExtensionLeading.{to_fields, fields_answers}
 use Rattle.lt_rewrite.proofs.field_applying.swap_fields.Goals as goal
 
--- a SwapFields step uses no record, so its number is 0
+-- false is right: a SwapFields step uses no record, so its number is 0
 pub returns-then-step-ne0 : goal.returns-then-step-ne0
 returns-then-step-ne0 c = λ R q l. c.if-step-ne0.true
     (to_fields R c.args.start c.args.parts.now c.args.step q c.requires.kind l).0.unnumbered

@@ -6,13 +6,13 @@ use Rattle.lt_rewrite.proofs.ExtensionLeading.{true_step, true_led}
 use Rattle.lt_rewrite.proofs.FirstSteps.{holds_at}
 use Rattle.lt_rewrite.proofs.keyword_applying.drop_true_at.Goals as goal
 
--- the step needs a keyword whose key is one place to the left, and none is there
+-- false is right: the step needs a keyword whose key is one place to the left, and none is there
 pub returns-in_default : goal.returns-in_default
 returns-in_default c = λ ls s.
     let at = true_step c.args.start c.args.place c.args.keywords.now.items ls s in
     (rw c.deref.ensures.value at c.in_default.ensures) at.index at.within at.is_place
 
--- the keyword whose key is one place to the left has not exactly the type `true`
+-- false is right: the keyword whose key is one place to the left has not exactly the type `true`
 pub returns-then-not-has_sole_true : goal.returns-then-not-has_sole_true
 returns-then-not-has_sole_true c = λ ls s.
     let at = rw c.deref.ensures.value at c.in-Some.ensures in

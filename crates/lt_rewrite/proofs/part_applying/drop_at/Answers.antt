@@ -1,14 +1,14 @@
 use Rattle.lt_rewrite.proofs.FirstSteps.{drop_step, drop_led, holds_at}
 use Rattle.lt_rewrite.proofs.part_applying.drop_at.Goals as goal
 
--- a drop needs a part that begins at this place, and none does
+-- false is right: a drop needs a part that begins at this place, and none does
 pub returns-in_default : goal.returns-in_default
 returns-in_default g c = λ ys s.
     let P = g.P.Spelled.spell in
     let at = drop_step s in
     (rw c.deref.ensures.value at c.in_default.ensures) at.index at.within at.is_place
 
--- the part that begins at this place has none before it that is equal in the order
+-- false is right: the part that begins at this place has none before it that is equal in the order
 pub returns-then-not-has_like : goal.returns-then-not-has_like
 returns-then-not-has_like g c = λ ys s.
     let P = g.P.Spelled.spell in

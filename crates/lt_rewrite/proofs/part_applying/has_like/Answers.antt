@@ -2,7 +2,7 @@ use Rattle.std.proofs.Common.{◌≡◌, get_or, ap, ◌∙◌, below_more, arit
 use Rattle.std.proofs.lemmas.List.{get_or_read}
 use Rattle.lt_rewrite.proofs.part_applying.has_like.Goals as goal
 
--- a turn passes over a part that is not equal in the order to the one at the index
+-- the invariant stays true: a turn passes over a part that is not equal in the order to the one at the index
 pub loop-earlier-preserved : goal.loop-earlier-preserved
 loop-earlier-preserved g c =
     let xs = c.args.parts.now in

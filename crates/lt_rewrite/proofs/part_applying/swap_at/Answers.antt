@@ -3,14 +3,14 @@ use Rattle.std.proofs.lemmas.List.{get_or_read}
 use Rattle.lt_rewrite.proofs.FirstSteps.{swap_step, swap_led, holds_at}
 use Rattle.lt_rewrite.proofs.part_applying.swap_at.Goals as goal
 
--- an exchange needs a part that begins at this place, and none does
+-- false is right: an exchange needs a part that begins at this place, and none does
 pub returns-in_default : goal.returns-in_default
 returns-in_default g c = λ ys s.
     let P = g.P.Spelled.spell in
     let at = swap_step s in
     (rw c.deref.ensures.value at c.in_default.ensures) at.index at.within at.is_place
 
--- the part that begins at this place is the last, and has none to change places with
+-- false is right: the part that begins at this place is the last, and has none to change places with
 pub returns-then-len-index : goal.returns-then-len-index
 returns-then-len-index g c = λ ys s.
     let P = g.P.Spelled.spell in
@@ -34,7 +34,7 @@ returns-in-Less g c =
     d)) ∙ sym c.compare.ensures ∙ c.in-Less.is)
     at.1 c.swap.ensures.items
 
--- the part that begins at this place and the next one are not in falling order
+-- false is right: the part that begins at this place and the next one are not in falling order
 pub returns-in_default-compare : goal.returns-in_default-compare
 returns-in_default-compare g c = λ ys s.
     let P = g.P.Spelled.spell in

@@ -4,7 +4,8 @@ use Rattle.std.proofs.lemmas.Option.{slice_get-get_or}
 use Rattle.lt_rewrite.proofs.ShortcutWalks.{each_set, one_doubled, all_doubled, unmoved}
 use Rattle.lt_rewrite.proofs.shortcuts.lengthen.Goals as goal
 
--- a turn makes one shortcut more twice as long; while none has changed, the places are what they were
+-- the invariant stays true: a turn makes one shortcut more twice as long; while none has changed, the places are what
+-- they were
 pub loop-index-preserved : goal.loop-index-preserved
 loop-index-preserved c =
     let places : List ℕ = c.loop-index.places in

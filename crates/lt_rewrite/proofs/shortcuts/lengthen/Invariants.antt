@@ -4,7 +4,8 @@ use Rattle.lt_rewrite.specs.Shortcuts.{LeadOn}
 use Rattle.lt_rewrite.proofs.ShortcutWalks.{PartDoubled}
 use Rattle.lt_rewrite.proofs.shortcuts.lengthen.Given as goal
 
--- the shortcuts so far are twice as long, and all are places in the list
+-- the shortcuts before the index are twice as long, whatever the registry and the length; all are places in the list,
+-- and while none has changed the list is what it was
 abbrev pub invariant-loop-index : goal.invariant-loop-index
 invariant-loop-index l = record {
   within : (i j : ℕ) → slice_get l.places i ≡ Some j → j < length l.places;

@@ -9,7 +9,8 @@ use Rattle.lt_rewrite.proofs.CoreLaws.{step_shaped}
 use Rattle.lt_rewrite.proofs.PartForms.{t_shaped}
 use Rattle.lt_rewrite.proofs.transform_explaining.explain_t.Goals as goal
 
--- the run on the source and then the one on the fields are one run on the parts, after which no step is left
+-- the run on the source and then the one on the fields are one run on the parts, after which no step is left; each step
+-- keeps the shape of the parts
 pub returns : goal.returns
 returns g c =
     let R = g.L.Lookup.listed c.args.table.now in

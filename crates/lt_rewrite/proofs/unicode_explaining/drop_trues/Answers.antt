@@ -18,19 +18,20 @@ pub overflow_cast-here : goal.overflow_cast-here
 overflow_cast-here c =
     omega (arith, c.requires, bare_few c.args.start c.loop-index.invariant)
 
--- the part at an index that was set
+-- if the keyword at the index `i` was set to `k`, the count `n` of the subtags of the one there, `l`, is that of `k`
 set_count : (ks ls : List KeywordParts) (i : ℕ) (k l : KeywordParts) (n : ℕ) → i < length ks → ls ≡ set ks i k
     → l ≡ get_or ls i l → n ≡ length (spell_keyword l) → n ≡ length (spell_keyword k)
 set_count ks ls i k l n h e is count = count ∙ ap (λ x. length (spell_keyword x)) (is ∙ ap (λ xs. get_or xs i l) e
     ∙ get_or-set_same ks i k l h)
 
--- the part at an index where nothing was set
+-- if the keyword at the index `i`, `k`, stayed, the count `n` of the subtags of the one there, `l`, is that of `k`
 same_count : (ks ls : List KeywordParts) (i : ℕ) (k l : KeywordParts) (n : ℕ) → i < length ks → ls ≡ ks
     → k ≡ get_or ks i k → l ≡ get_or ls i l → n ≡ length (spell_keyword l) → n ≡ length (spell_keyword k)
 same_count ks ls i k l n h e was is count = count ∙ ap (λ x. length (spell_keyword x)) (is ∙ ap (λ xs. get_or xs i l) e
     ∙ sym (get_or_read ks i k h was l))
 
--- a turn takes the sole type `true` from this keyword by a DropTrue step, or it has none and stays as it is
+-- the invariant stays true: a turn takes the sole type `true` from this keyword by a DropTrue step, or it has none and
+-- stays as it is
 pub loop-index-preserved : goal.loop-index-preserved
 loop-index-preserved c =
     let ks = c.loop-index.keywords.items in

@@ -11,7 +11,7 @@ use Rattle.lt_rewrite.proofs.ExtensionLeading.{one_subtag, u_parts}
 use Rattle.lt_rewrite.proofs.PartRuns.{unicode_explained}
 use Rattle.lt_rewrite.proofs.unicode_explaining.explain_u.Goals as goal
 
--- the subtags of the attributes and of the keywords are no more than all
+-- the places of the attributes and of the keywords keep the bound 1,200,000 that those of the whole extension keep
 all_few : (start : ℕ) (p : UForm) (xs : List (List ℕ)) (ks : List KeywordParts) → u_parts xs ks ≡ p
     → start + length (spell_u p) ≤ 1200000
     → start + length (flat_map one_subtag xs) + length (flat_map spell_keyword ks) ≤ 1200000
@@ -19,7 +19,7 @@ all_few start p xs ks e h =
     let f = ap (λ u. length (spell_u u)) e in
     omega (arith, h, attributes_count xs, length-append xs (flat_map spell_keyword ks), f)
 
--- the attributes are among the subtags of the extension
+-- the places are below 2^32, here and in the calls after this: the attributes are among the subtags of the extension
 pub explain_drops-requires : goal.explain_drops-requires
 explain_drops-requires c =
     omega (

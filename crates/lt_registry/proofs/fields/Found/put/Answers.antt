@@ -3,7 +3,8 @@ use Rattle.lt_registry.specs.RecordSteps.{field_told}
 use Rattle.lt_registry.proofs.FoundLemmas.{found_date, found_other, found_subtag, found_tag, found_type, found_value}
 use Rattle.lt_registry.proofs.fields.Found.put.Goals as goal
 
--- the first field Type gives its place, and a further one is a repeat
+-- To show of each name: what is noted is true of the fields with one more. The first field Type gives its place, and a
+-- further one is a repeat.
 pub returns-in-Type : goal.returns-in-Type
 returns-in-Type c = λ r f l n h.
     rw (c.or-self.ensures, c.is_some.ensures)

@@ -6,6 +6,6 @@ use Rattle.lt_registry.proofs.fields.RecordFields.body.Goals as goal
 pub returns-in-Some : goal.returns-in-Some
 returns-in-Some c = λ name h. c.body_at.ensures ∙ body_there name c.args.self.now.all.now (Some c.in-Some.place) (rw c.in-Some.is at h)
 
--- no field has the name, so the record has no body of it
+-- no field has the name, so None is right: the record has no body of it
 pub returns-in-None : goal.returns-in-None
 returns-in-None c = λ name h. body_there name c.args.self.now.all.now None (rw c.in-None.is at h)

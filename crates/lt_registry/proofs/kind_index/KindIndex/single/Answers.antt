@@ -5,7 +5,7 @@ use Rattle.lt_subtag.proofs.NumberLemmas.{subtag_few}
 use Rattle.lt_registry.proofs.IndexLemmas.{single_at}
 use Rattle.lt_registry.proofs.kind_index.KindIndex.single.Goals as goal
 
--- no row has the subtag's number, so no record of the kind names the subtag alone
+-- None is right: no row has the subtag's number, so no record of the kind names the subtag alone
 pub returns-in_err-place : goal.returns-in_err-place
 returns-in_err-place c =
     ap option_copied c.from_residual.ensures ∙ ap (option_and_then (slice_get c.args.entries.now)) (sym c.in_err-place.was)

@@ -6,7 +6,7 @@ use Rattle.lt_registry.proofs.IndexLemmas.{rows_turned, single_placed}
 use Rattle.lt_registry.proofs.RangeLemmas.{rows_turn}
 use Rattle.lt_registry.proofs.kind_rows.KindRows.of_entries.Goals as goal
 
--- a turn adds the row of one entry more, if it names a subtag or a range of the kind
+-- the invariant stays true: a turn adds the row of one entry more, if it names a subtag or a range of the kind
 pub loop-place-preserved : goal.loop-place-preserved
 loop-place-preserved c =
     let kind = c.args.kind in

@@ -2,7 +2,8 @@ use Rattle.std.proofs.Common.{◌∙◌}
 use Rattle.lt_registry.proofs.NumberLemmas.{lists_found}
 use Rattle.lt_registry.proofs.prefixes.Prefixes.has.Goals as goal
 
--- two subtags have the same number only if they are the same, so the search among numbers tells
+-- the search among the numbers tells whether the subtag alone is a Prefix: two subtags have the same number only if
+-- they are the same
 pub returns : goal.returns
 returns c =
     let at = rw (c.deref.ensures.value, c.number.ensures.number) at c.binary_search.ensures.position in

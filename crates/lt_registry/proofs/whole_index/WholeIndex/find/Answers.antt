@@ -5,7 +5,7 @@ use Rattle.lt_registry.specs.declared.rows.Row.{Row}
 use Rattle.lt_registry.proofs.IndexLemmas.{whole_found, whole_absent}
 use Rattle.lt_registry.proofs.whole_index.WholeIndex.find.Goals as goal
 
--- of the records of the tag only the first has a row, and the search found it
+-- the entry in the row that was found is the first of the tag, since of the tag's records only the first has a row
 pub returns-in-Ok : goal.returns-in-Ok
 returns-in-Ok c =
     let R = c.args.entries.now in
@@ -18,7 +18,8 @@ returns-in-Ok c =
     ∙ sym (whole_found R c.args.self.now.rows.items c.args.tag.now c.requires c.in-Ok.found c.index.result.now
     within c.index.ensures tied)
 
--- before the place where the search ended the rows are less than the tag, from it on greater: none is of it
+-- None is right: before the place where the search ended the rows are less than the tag, from it on greater, so none is
+-- of it
 pub returns-in-Err : goal.returns-in-Err
 returns-in-Err c =
     let R = c.args.entries.now in

@@ -8,7 +8,8 @@ use Rattle.lt_registry.proofs.SortedLemmas.{same_key, row_total, indexed}
 use Rattle.lt_registry.proofs.IndexLemmas.{whole_placed, key_total}
 use Rattle.lt_registry.proofs.whole_index.WholeIndex.of_entries.Goals as goal
 
--- the sort puts rows of one tag in the order of their places, so the first of the file is the one that stays
+-- The sorted rows, of each tag the first alone, are the index of the whole tags (`IsWholes`). The sort puts rows of one
+-- tag in the order of their places, so the first of the file is the one that stays.
 pub returns : goal.returns
 returns c =
     let R = c.args.entries.now in
