@@ -4,6 +4,11 @@
 //!
 //! A [`Registry`] is read from bytes or from a device, and passes the check of its twelve conditions; its
 //! methods answer the rest. What it promises for every such registry is on one page, `specs/Promise.antt`.
+//!
+//! In contracts a registry is the list of its entries. A *step* (4.5) replaces a subtag or a whole tag by its
+//! Preferred-Value, or orders parts of extensions. A tag is *canonical* if it is valid and no step leads on, and its
+//! canonical form is the canonical tag that steps reach from it. Steps can *repeat* a variant if they reach a tag in
+//! which one occurs twice: such a tag has no canonical form.
 #![tactic(auto)]
 
 mod errors;

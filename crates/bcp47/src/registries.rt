@@ -81,8 +81,8 @@ impl fmt::Debug for Registry {
     }
 }
 
-/// The table of these entries, or None where memory runs out. It is not inlined, for the reason that `check_entries`
-/// has.
+/// The table of these entries, or None where memory runs out. It is not inlined, so that what reads a registry needs no
+/// stack for it.
 #[inline(never)]
 fn sorted(alloc: Global, entries: Entries) -> Option<SortedTable>
     ensures { IfSome result (λ table. table ≡ entries) }
@@ -112,7 +112,7 @@ fn check_entries(alloc: Global, entries: Entries) -> Result<Registry, RegistryEr
 fn know_promise(checked: &Checked<SortedTable>)
     ensures { Promise checked.now }
 {
-    // So that the forms of the entries are known.
+    // By its clause the table passes the check, and by those of `confluence` the rest holds of it.
     let _ = checked.table();
     confluence(checked);
 }
@@ -134,9 +134,9 @@ impl Registry {
         }
     }
 
-    /// The registry that a device gives, which is read to its end, record by record. It is refused as by
-    /// `from_bytes`; and as `Jar` with `Read` where the device fails, or with `TooManyTurns` where 10,000,000
-    /// reads were made and the last of them gave bytes.
+    /// The registry that a device gives, which is read to its end, record by record. It is refused as by `from_bytes`;
+    /// and as `Jar` with `Read` where the device fails, or with `TooManyTurns` where the last of 10,000,000 reads, the
+    /// most that are made, gave bytes.
     pub fn read<R: Read>(alloc: Global, device: &mut Device<R>) -> Result<Registry, RegistryError>
         ensures { ReadsDevice R.remaining device.old device.new result }
     {
@@ -198,6 +198,7 @@ impl Registry {
     /// - `OutOfMemory` where memory runs out.
     pub fn canonical(&self, alloc: Global, tag: &Tag) -> Result<Tag, Refusal>
         ensures ok { IfOk result (λ form. IsCanonicalFormOf self.now tag.now form) }
+        // Of a refusal: why there may be one, the fault that it names, and the variant that it names.
         ensures repeats { IfErr result (λ refusal. RefusesOnlyRepeats self.now tag.now refusal) }
         ensures invalid { IfErr result (λ refusal. NamesFault self.now tag.now refusal) }
         ensures named { IfErr result (λ refusal. NamesRepeat self.now tag.now refusal) }
@@ -290,6 +291,7 @@ impl Registry {
         ensures ok { OnOk result (IsValidTrace self.now tag.now trace.now.steps.items trace.now.last) }
         ensures equivalent { OnOk result (AreEquivalent self.now tag.now trace.now.last) }
         ensures err { IfErr result (λ fault. IsTraceFault self.now tag.now trace.now.steps.items trace.now.last fault) }
+        // No right trace is refused but for memory.
         ensures exact { IfErr result (λ fault. fault ≢ no_trace_memory
             → IsValidTrace self.now tag.now trace.now.steps.items trace.now.last → ⊥) }
     {

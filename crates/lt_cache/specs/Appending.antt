@@ -37,7 +37,8 @@ abbrev pub AppendsEnd : List EntryParts → List (Option Kept) → (end old new 
 AppendsEnd R table end old new true = (rest : List ℕ) × (AreEnds R table → IsEndText R end rest) × (new ≡ old ++ rest)
 AppendsEnd R table end old new false = new ≡ old
 
--- from the place `from` on, the texts are what follows a canonical core with this end in its canonical text
+-- from the place `from` on, the texts are what follows a canonical core (`front`) with this end in its canonical text,
+-- before which they may have others
 pub record EndStands (R : List EntryParts) (end : List ℕ) (from : ℕ) (texts : List ℕ) : Type 0 where
   pub front : List ℕ
   pub core : IsCanonicalCore R front

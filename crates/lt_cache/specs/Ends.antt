@@ -89,8 +89,8 @@ FieldsAreShared R =
     IsTransformed source fields end → IsCanonicalTextOf R (front ++ end) canonical →
     TellsFields R front source fields canonical
 
--- an entry of the cache is empty or right: it has an end and what follows a core with it, or fields and what follows a
--- source with them
+-- an entry of the cache is empty or right by `R`: its line is an end, and its answer what follows a core with it, or
+-- fields, and what follows a source with them
 abbrev pub IsKeptEnd : List EntryParts → Option Kept → Type 0
 IsKeptEnd R None = Unit {0}
 IsKeptEnd R (Some kept) =

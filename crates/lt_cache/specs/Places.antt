@@ -2,7 +2,7 @@
 use Rattle.std.specs.Prelude.{List, [], ◌∷◌, Option, None, replicate}
 use Rattle.lt_cache.specs.declared.recent.Kept.{Kept}
 
--- the 8,192 places of a cache, all empty
+-- the 8,192 places of a cache, which are 4,096 pairs, all empty
 unfoldable pub blank_places : List (Option Kept)
 blank_places = replicate 8192 None
 

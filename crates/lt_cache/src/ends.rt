@@ -27,8 +27,8 @@ fn key_after(last: Option<Subtag>, piece: &[u8]) -> Option<Subtag>
     next_key(last, read_piece(piece)?)
 }
 
-/// Whether a text consists of keywords whose keys rise, none of which has the type `true`: so they are in canonical
-/// form but for their case (RFC 5646, 4.5; RFC 6067, 2.1.1).
+/// Whether a text consists of keywords whose keys rise (`None`: no key is before the first), none of which has the type
+/// `true`: so they are in canonical form but for their case (RFC 5646, 4.5; RFC 6067, 2.1.1).
 fn keys_rise(text: &[u8]) -> bool
     ensures { result ≡ rising.keys_rise None (list_of text.now) }
 {

@@ -1,4 +1,5 @@
-//! Ends of texts that are a `u` extension of keywords in any order.
+//! Ends of texts that are a `u` extension of keywords in any order. A keyword is a key and its types, such as
+//! `co-phonebk`. Clauses say only what Some and true mean: another end is read as part of a tag.
 ghost use Rattle.std.specs.Prelude.{◌≡◌, ◌++◌, ◌∷◌, IfOk, IfSome, IsTrue, OnOk, flat_map};
 ghost use Rattle.lt_tag.specs.Lists.{list_of};
 ghost use Rattle.lt_tag.specs.Extensions as extensions;
@@ -11,7 +12,7 @@ use lt_subtag::Subtag;
 use lt_tag::{Keyword, OutOfMemory, UParts, cut_piece};
 use std::alloc::Global;
 
-/// Whether a subtag has the form of a type.
+/// Whether a subtag has the form of a type, that is 3 to 8 letters or digits; no subtag has more.
 #[tactic(auto, unfolding(lt_tag::specs::Extensions::is_long))]
 fn is_long(subtag: &Subtag) -> bool
     ensures { result ≡ extensions.is_long subtag.now }

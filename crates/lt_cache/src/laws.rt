@@ -1,4 +1,5 @@
-//! The law of ends of tags. Nothing is computed here: the contract is the law.
+//! The laws of ends of tags, on every list `R` of entries that passes the check. Nothing is computed here: each
+//! contract is a law.
 ghost use Rattle.std.specs.Prelude.{List};
 ghost use Rattle.lt_registry.specs.Parts.{EntryParts};
 ghost use Rattle.lt_check.specs.Conditions.{IsChecked};

@@ -8,7 +8,8 @@ use crate::short_texts::ShortText;
 use std::alloc::{AllocError, Global};
 use std::marker::Model;
 
-/// How many pairs of places the table has. A place takes 67 bytes.
+/// How many pairs of places the table has. A place takes 67 bytes: two short texts of 33 each, and whether it is a
+/// refusal.
 const PAIRS: usize = 4096;
 
 /// Once this many answers in a row were to be put and none was found again, only one of eight is put: where lines don't
@@ -44,6 +45,7 @@ pub struct Recent {
     unfound: u32,
 }
 
+// A contract sees the places, and 8,192 empty ones where none are made yet.
 impl Model for Recent {
     ghost use Rattle.std.specs.Prelude.{List, Option};
     ghost use Rattle.lt_cache.specs.declared.recent.Kept.{Kept};
@@ -116,7 +118,7 @@ impl Recent {
         }
     }
 
-    /// Notes that an answer of the table was given again.
+    /// Notes that an answer of the table was given again, so that the next ones are all put.
     #[inline(always)]
     pub fn note_again(&mut self)
         ensures { self.new ≡ self.old }
@@ -124,9 +126,10 @@ impl Recent {
         self.unfound = 0;
     }
 
-    /// Puts an answer for a line, if both have at most 32 bytes and there is memory for the table. While answers are
-    /// not found again, only one of eight is put. A line shares its two places with other lines, and these hold only
-    /// the last two answers that were put there. `refused` is whether the answer is a refusal.
+    /// Puts an answer for a line, if both have at most 32 bytes and there is memory for the table. The clause leaves
+    /// open whether it does. While answers are not found again, only one of eight is put. A line shares its two places
+    /// with other lines, and these hold only the last two answers that were put there. `refused` is whether the answer
+    /// is a refusal.
     #[inline(always)]
     pub fn put(&mut self, line: &[u8], answer: &[u8], refused: bool)
         ensures { PutsIn self.old self.new line.now answer.now refused }

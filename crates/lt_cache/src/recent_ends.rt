@@ -1,4 +1,5 @@
-//! Canonical texts of ends that were given lately.
+//! Canonical texts of ends that were given lately. The table keeps no registry. So `AreEnds R table` says that what it
+//! keeps is right by the entries `R`, and clauses promise that of it after a call if it was so before.
 ghost use Rattle.std.specs.Prelude.{◌≡◌, ◌≤◌, ◌⊎◌, ◌++◌, ◌∷◌, List, IfOk, IfErr, IfSome, IsTrue, OnOk, OnErr, vec_len};
 ghost use Rattle.lt_subtag.specs.Bytes.{folded};
 ghost use Rattle.lt_registry.specs.Parts.{EntryParts};
@@ -74,7 +75,7 @@ fn staying_source<'e, L: Lookup>(
     }
 }
 
-/// Appends a `t` extension up to its fields: `-t-` and the source in lower case.
+/// Appends a `t` extension up to its fields: `-t-` (the bytes 45, 116, 45) and the source in lower case.
 #[inline(always)]
 fn append_source(source: &[u8], texts: &mut Vec<u8>) -> Result<(), OutOfMemory>
     ensures { OnOk result (texts.new.items ≡ texts.old.items ++ (45 ∷ 116 ∷ 45 ∷ folded source.now)) }
@@ -89,6 +90,7 @@ fn append_source(source: &[u8], texts: &mut Vec<u8>) -> Result<(), OutOfMemory>
 impl RecentEnds {
     /// No ends kept so far. If there is no memory for them later, none are kept.
     pub fn new(alloc: Global) -> RecentEnds
+        // An empty table is right by any entries.
         ensures { (entries : List EntryParts) → AreEnds entries result }
     {
         RecentEnds {
@@ -170,9 +172,9 @@ impl RecentEnds {
         Ok(self.append_kept(end, texts)?)
     }
 
-    /// Keeps what `texts` have from the place `from` on, for `end`. Of a `t` extension it keeps what follows the source, for
-    /// the fields. What `texts` have there must be what follows a canonical core with this end in its canonical text.
-    /// `texts` is left as it was.
+    /// Keeps what `texts` have from the place `from` on, for `end`. Of a `t` extension whose source stays it keeps what
+    /// follows `-t-`, which has 3 bytes, and the source, for the fields. What `texts` have there must be what follows a
+    /// canonical core with this end in its canonical text. `texts` is left as it was.
     fn keep<L: Lookup>(
         &mut self,
         checked: &Checked<L>,
@@ -184,7 +186,7 @@ impl RecentEnds {
         ensures ends { AreEnds (L.listed checked.now) self.old → AreEnds (L.listed checked.now) self.new }
         ensures kept { texts.new.items ≡ texts.old.items }
     {
-        // So that the table is known to pass the check.
+        // Does nothing but tell the proof that the table passes the check.
         checked.table();
         match staying_source(checked, end, texts) {
             Some((source, fields)) => {
@@ -215,7 +217,7 @@ impl RecentEnds {
         ensures ends { AreEnds (L.listed checked.now) self.old → AreEnds (L.listed checked.now) self.new }
     {
         let start = texts.len();
-        // So that the table is known to pass the check.
+        // Does nothing but tell the proof that the table passes the check.
         checked.table();
         append_other_text(alloc, checked, text, texts)?;
         self.keep(checked, end, start + count, texts);
@@ -233,6 +235,8 @@ impl RecentEnds {
         texts: &mut Vec<u8>,
     ) -> Result<(), TextRefusal>
         ensures appended { OnOk result (AreEnds (L.listed checked.now) self.old → AppendsCanonicalText (L.listed checked.now) text.now texts.old.items texts.new.items) }
+        // `texts` are never shortened (`grown`), nor changed by a refusal (`kept`) but that of memory, after which a
+        // part of the answer may be there.
         ensures grown { OnOk result (vec_len texts.old ≤ vec_len texts.new) }
         ensures refusal { IfErr result (λ refusal. IsTextRefusal (L.listed checked.now) text.now refusal) }
         ensures kept { IfErr result (λ refusal. (refusal ≡ TextRefusal.OutOfMemory) ⊎ (texts.new.items ≡ texts.old.items)) }

@@ -22,6 +22,7 @@ pub struct ShortText {
     count: u8,
 }
 
+// A contract sees the bytes that count; `padded` says that zeros follow them.
 impl Model for ShortText {
     ghost use Rattle.std.specs.Prelude.{◌≡◌, ◌≤◌, ℕ, List, take, length};
     ghost use Rattle.lt_cache.specs.Padded.{padded};
@@ -93,12 +94,13 @@ impl ShortText {
     #[inline(always)]
     pub(crate) fn hash(&self) -> usize {
         let words = u64x4::from_le_bytes(u8x32::from_array(self.bytes)).to_array();
-        // Each word has a factor of its own, odd and of well mixed bits, so that the order of the words counts.
+        // Each word has a factor of its own, odd and of well mixed bits, so that the order of the words counts: 2⁶⁴
+        // over the golden ratio, and three primes of the hash XXH64.
         let mixed = words[0].wrapping_mul(0x9e37_79b9_7f4a_7c15)
             ^ words[1].wrapping_mul(0xc2b2_ae3d_27d4_eb4f)
             ^ words[2].wrapping_mul(0x1656_67b1_9e37_79f9)
             ^ words[3].wrapping_mul(0x27d4_eb2f_1656_67c5);
-        // A bit of a product depends on no higher bit of its word, so the upper bits depend on the most.
+        // A bit of a product depends on no higher bit of its word, so the upper 24 bits depend on the most.
         (mixed >> 40) as usize
     }
 

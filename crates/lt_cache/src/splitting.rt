@@ -1,4 +1,5 @@
-//! Splitting a text before its first one-character subtag.
+//! Splitting a text before its first one-character subtag. Clauses say only what Some means: None is always safe, as
+//! then the text is worked out like any other.
 ghost use Rattle.std.specs.Prelude.{◌≡◌, ◌≤◌, ◌==◌, ◌++◌, ◌∷◌, [], ℕ, List, IfSome, IsTrue, true, not, length};
 ghost use Rattle.std.specs.List.{list_all};
 ghost use Rattle.lt_subtag.specs.Bytes.{folded};
@@ -24,7 +25,7 @@ pub(crate) fn split_end(text: &[u8], longest: usize) -> Option<(&[u8], &[u8])>
     if text.len() > longest {
         return None;
     }
-    // A front has two bytes at least, as a language has.
+    // A front has two bytes at least, as a language has, and at most `LONGEST_FRONT`; two more follow the hyphen.
     for place in 2..text.len().saturating_sub(2).min(LONGEST_FRONT + 1) {
         if text[place] == b'-' && text[place + 2] == b'-' && text[place + 1] != b'-' {
             return Some(text.split_at(place));
@@ -33,8 +34,7 @@ pub(crate) fn split_end(text: &[u8], longest: usize) -> Option<(&[u8], &[u8])>
     None
 }
 
-/// Whether two bytes are a separator of a field: a letter and a digit. The clause says only what true means. False is always
-/// safe, since the end is then worked out as any other is.
+/// Whether two bytes are a separator of a field: a letter and a digit. False is always safe too.
 #[inline(always)]
 #[tactic(auto, using(crate::proofs::SourceLemmas::pair_separator))]
 fn is_separator(letter: u8, digit: u8) -> bool
@@ -51,7 +51,7 @@ fn split_fields(text: &[u8]) -> Option<(&[u8], &[u8])>
     ensures whole { IfSome result (λ parts. parts.0.now ++ parts.1.now ≡ text.now) }
     ensures fields { IfSome result (λ parts. BeginsWithSeparator parts.1.now) }
 {
-    // A source has two bytes at least, as a language has.
+    // A source has two bytes at least, as a language has, and three more follow the hyphen.
     for at in 2..text.len().saturating_sub(3).min(LONGEST_FRONT + 1) {
         if text[at] == b'-' && text[at + 3] == b'-' && is_separator(text[at + 1], text[at + 2]) {
             return Some(text.split_at(at));

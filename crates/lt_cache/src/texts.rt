@@ -17,7 +17,7 @@ use lt_registry::Lookup;
 use lt_tag::OutOfMemory;
 use std::alloc::Global;
 
-/// The most bytes of a text that is read.
+/// The most bytes of a text that is read as a tag.
 const LONGEST_TEXT: usize = 1024;
 
 /// Appends to `texts` a front in conventional case if each of its subtags stays as it is, and gives true; else it
@@ -28,6 +28,7 @@ pub(crate) fn append_front<L: Lookup>(
     front: &[u8],
     texts: &mut Vec<u8>,
 ) -> Result<bool, OutOfMemory>
+    // `exact` and `appended` speak of the front as a text, and `told` as a canonical core.
     ensures checked { IsChecked (L.listed checked.now) }
     ensures exact { IfOk result (λ told. IsTrue told ↔ IsStaying (L.listed checked.now) front.now) }
     ensures appended { IfOk result (λ told. IsTrue told → texts.new.items ≡ texts.old.items ++ conventional (list_of front.now)) }
@@ -53,6 +54,7 @@ pub(crate) fn append_lower(text: &[u8], texts: &mut Vec<u8>) -> Result<(), OutOf
 
 /// Appends the canonical form of an end that is keywords or private use. Tells whether it did; of any other end, or
 /// where memory runs out, it appends nothing. Memory of its own is taken only for keywords that don't stay as they are.
+/// An end asks nothing of a registry, so what is appended is right by any that passes the check.
 #[tactic(auto, using(crate::proofs::SettledEnds::settled_appends))]
 fn append_end(alloc: Global, end: &[u8], texts: &mut Vec<u8>) -> bool
     ensures appended { IsTrue result → AppendsEndText end.now texts.old.items texts.new.items }

@@ -1,4 +1,5 @@
--- The answers that are owed, from parts in their normal forms, and the extlang form of a canonical tag.
+-- Why the answers of `canonical` and the calls over it are right, by parts in their normal forms; and the extlang form
+-- of a canonical tag.
 use Rattle.std.proofs.Common.{◌≡◌, ℕ, ◌+◌, ◌<◌, inl, inr, List, [], ◌∷◌, Option, Some, None, refl, sym, ap, ◌∙◌, subst}
 use Rattle.std.proofs.Common.{length, arith, Bool, ◌↔◌, IsTrue, ◌≤◌, Err, IfErr, true}
 use Rattle.std.specs.Prelude.{Result, unwrap_or}

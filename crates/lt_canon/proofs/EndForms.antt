@@ -1,4 +1,5 @@
--- Where a function names an end that each step keeps and that is reached, the steps are confluent.
+-- Where a function `end_form` names an end that each step keeps and that steps reach, the steps are confluent. It is
+-- used of steps on tags, where `P` is that a tag is proper.
 use Rattle.std.proofs.Common.{◌≡◌, refl, sym, ◌∙◌, subst}
 use Rattle.lt_rewrite.specs.Rewriting.{Star, done, then, Equivalent, same, forth, back, IsConfluent, Rests}
 use Rattle.lt_rewrite.proofs.NormalForms.{star_keeps, star_rests}

@@ -18,7 +18,8 @@ RepeatsHaveNoForm R = (t c : TagForm) → IsValid R t → CanRepeat R t → IsCa
 abbrev pub RepeatTogether : List EntryParts → Type 0
 RepeatTogether R = (t u : TagForm) → IsValid R t → IsValid R u → AreEquivalent R t u → CanRepeat R t → CanRepeat R u
 
--- two valid tags of which steps can repeat no variant are equivalent exactly if their canonical forms are equal
+-- two valid tags of which steps can repeat no variant are equivalent exactly if their canonical forms are equal: `c`
+-- and `d` are those of `t` and `u`
 pub record EquivalenceIsEquality (R : List EntryParts) : Type 0 where
   pub equal : (t u c d : TagForm) → IsCanonicalFormOf R t c → IsCanonicalFormOf R u d → AreEquivalent R t u → c ≡ d
   pub equivalent : (t u c : TagForm) → IsCanonicalFormOf R t c → IsCanonicalFormOf R u c → AreEquivalent R t u

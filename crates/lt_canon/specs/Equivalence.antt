@@ -20,7 +20,7 @@ pub record IsEquivalenceAnswer (R : List EntryParts) (t u : TagForm) (answer : B
   pub equal : IsTrue answer ↔ (first ≡ second)
   pub equal_texts : IsTrue answer ↔ (conventional (spell first) ≡ conventional (spell second))
 
--- the refusal of the second tag, where the first has a canonical form
+-- the refusal of the second tag `u`, where the first, `t`, has a canonical form
 pub record IsSecondRefusal (R : List EntryParts) (t u : TagForm) (refusal : Refusal) : Type 0 where
   pub first : TagForm
   pub first_form : IsCanonicalFormOf R t first

@@ -15,8 +15,8 @@ use Rattle.lt_rewrite.specs.Runs.{kind_rank, extension_rank, IsRun, NoneLeads, A
 use Rattle.lt_rewrite.specs.declared.steps.Step.{Step}
 use Rattle.lt_canon.specs.Answers.{IsCanonicalFormOf}
 
--- whether a step is one on the source of a `t` extension: it is of a kind on cores, and its place is after the tag's
--- own core
+-- whether a step is one on the source of a `t` extension: it is of a kind on cores, which have the ranks 1 to 6, and
+-- its place is after the tag's own core, counted in subtags
 abbrev pub is_of_source : TagForm → Step → Bool
 is_of_source (LangTag c es ps) step = nat_le (kind_rank step) 6 && nat_le (length (spell_core c) + 1) step.place
 is_of_source (PrivateUse ps) step = false
@@ -42,8 +42,8 @@ HasOneExplanation R =
 abbrev pub RestsOnCore : List EntryParts → TagForm → Type 0
 RestsOnCore R t = (c : CoreParts) → core_of t ≡ Some c → NoneLeads (CoreLeads R 0 c)
 
--- a run of steps, each the first that leads on, from the tag to one from which no step leads, was added to the steps
--- `old`, which made `new`
+-- a run of steps, each the first that leads on, from the tag `t` to one from which no step leads, was added to the
+-- steps `old`, which made `new`
 pub record LeadsToRest (R : List EntryParts) (t : TagForm) (old new : List Step) : Type 0 where
   pub end : TagForm
   pub adds : Adds (LeadsBy R) rank_in t end old new

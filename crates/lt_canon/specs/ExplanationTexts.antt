@@ -29,7 +29,8 @@ pub record StepPrinted (R : List EntryParts) (t : TagForm) (step : Step)
   pub printed : Rest after rest
   pub line_is : lines ≡ step_line step (tag_line after) ++ rest
 
--- these are the lines of steps that lead one after another from the tag to the end
+-- `lines` are those of the steps, which lead one after another from `t` to `end`; the arguments are the registry, the
+-- steps, `end`, `t` and `lines`
 abbrev pub AreStepLines : List EntryParts → List Step → TagForm → TagForm → List ℕ → Type 0
 AreStepLines R [] end t lines = (t ≡ end) × (lines ≡ [])
 AreStepLines R (step ∷ steps) end t lines = StepPrinted R t step (AreStepLines R steps end) lines
@@ -95,7 +96,8 @@ pub record AppendsEnd (before after : StepsLeft) (old new : List ℕ) : Type 0 w
   pub left : after ≡ before
   pub grown : new ≡ old ++ codes "= " ++ tag_line before.end
 
--- the next line of an explanation was appended: that of a step, after which there are `more`, or that of the end
+-- the next line of an explanation was appended to `old`: that of a step, after which there are `more`, or that of the
+-- end; `before` and `after` are what was left before and after that
 abbrev pub AppendsLine : (before after : StepsLeft) → (old new : List ℕ) → (more : Bool) → Type 0
 AppendsLine before after old new true = AppendsStep before after old new
 AppendsLine before after old new false = AppendsEnd before after old new

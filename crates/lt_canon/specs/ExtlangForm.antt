@@ -7,7 +7,8 @@ use Rattle.lt_registry.specs.Validity.{IsValid}
 use Rattle.lt_registry.specs.declared.entries.Kind.TheVariants as kinds
 use Rattle.lt_canon.specs.Answers.{IsCanonicalFormOf}
 
--- the first of these Prefixes, if it is one subtag, which is short enough for an extlang to follow it
+-- the first of these Prefixes, if it is one subtag, which is short enough for an extlang to follow it: 2 or 3 letters
+-- (RFC 5646, 2.1)
 abbrev pub prefix_of : List (List (List ℕ)) → Option (List ℕ)
 prefix_of ((p ∷ []) ∷ rest) = if is_short p then Some p else None
 prefix_of _ = None

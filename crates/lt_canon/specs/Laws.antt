@@ -37,7 +37,8 @@ abbrev pub CanonicalTwiceIsOnce : List EntryParts → Type 0
 CanonicalTwiceIsOnce R = (t c : TagForm) → IsCanonicalFormOf R t c →
     IsCanonicalFormOf R c c × ((d : TagForm) → IsCanonicalFormOf R c d → d ≡ c)
 
--- a canonical text that is not too long to be read is its own canonical text, and has no other (RFC 5646, 4.5)
+-- a canonical text that is not too long to be read (`longest_text`: 1,024 bytes) is its own canonical text, and has no
+-- other (RFC 5646, 4.5)
 abbrev pub CanonicalTextTwiceIsOnce : List EntryParts → Type 0
 CanonicalTextTwiceIsOnce R =
     (text canonical : List ℕ) → IsCanonicalTextOf R text canonical → length canonical ≤ longest_text →

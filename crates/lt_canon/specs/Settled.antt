@@ -50,7 +50,8 @@ pub record IsSettledValue (R : List EntryParts) (t u : TagForm) : Type 0 where
   pub to : u ≡ core_alone form
   pub normal : IsCoreNormalForm R core form
 
--- `s` is the langtag of the normal forms of the core and of the extensions, in which no variant occurs twice
+-- `s` is the langtag of the normal forms of the core `c` and of the extensions `es`, in which no variant occurs twice,
+-- and of the private use `ps`
 pub record IsSettledLangTag (R : List EntryParts) (c : CoreParts) (es : List ExtensionParts)
     (ps : List (List ℕ)) (s : TagForm) : Type 0 where
   pub core : CoreParts
@@ -60,7 +61,7 @@ pub record IsSettledLangTag (R : List EntryParts) (c : CoreParts) (es : List Ext
   pub normal : IsNormalForm (ExtensionsStep R) es extensions
   pub distinct : AllByRecursion HasDistinctSource extensions
 
--- `s` is the tag with its parts in their normal forms
+-- `s` is the tag with its core and its extensions in their normal forms
 abbrev pub IsSettledTag : List EntryParts → TagForm → TagForm → Type 0
 IsSettledTag R (LangTag c es ps) s = IsSettledLangTag R c es ps s
 IsSettledTag R t s = s ≡ t

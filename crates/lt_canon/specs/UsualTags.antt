@@ -17,7 +17,7 @@ pub record IsUsual (c : CoreParts) : Type 0 where
   pub extlangs : c.extlangs ≡ []
   pub variants : c.variants ≡ []
 
--- the answer of a test, or a fault
+-- the answer of a test, which is whether something has a value, or the fault that ends the tests
 abbrev pub Test : Type 0
 Test = Result Bool ValidFault
 
@@ -31,13 +31,14 @@ abbrev pub one_valued : ValidFaultKind → ℕ → Option EntryParts → Test
 one_valued kind place (Some e) = Ok (is_some (one_of e.value))
 one_valued kind place None = Err (record { kind = kind; place = place })
 
--- whether a script or a region has a value: its kind, the kind of its fault, its place, and the subtag, if there is
--- one; without an entry, the fault
+-- whether a script or a region has a value; without an entry, the fault. The arguments are the registry, the kind, the
+-- kind of the fault, the place in the tag, counted from 1, and the subtag, if there is one.
 abbrev pub part_valued : List EntryParts → Kind → ValidFaultKind → ℕ → Option (List ℕ) → Test
 part_valued R kind fault place (Some s) = one_valued fault place (entry R kind s)
 part_valued R kind fault place None = Ok false
 
--- whether the language, the script or the region of a core has a value; without an entry, the fault
+-- whether the language, the script or the region of a core has a value; without an entry, the fault, at the place of
+-- the subtag: 1, 2, and for a region 3 after a script
 unfoldable pub core_valued : List EntryParts → CoreParts → Test
 core_valued R c =
     on_test (one_valued faults.UnknownLanguage 1 (entry R kinds.Language c.language)) (λ language.

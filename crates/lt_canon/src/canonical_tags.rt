@@ -1,4 +1,7 @@
 //! Canonical tags (RFC 5646, 4.5).
+//!
+//! A tag is settled, and then *replaced whole*: by the value of its record as a whole tag, if it may be and has one,
+//! with the core of that settled.
 ghost use Rattle.std.specs.Prelude.{◌≡◌, false, All, IfOk, IfErr};
 ghost use Rattle.lt_tag.specs.Parts.{LangTag};
 ghost use Rattle.lt_registry.specs.Validity.{IsValid};
@@ -36,6 +39,8 @@ use std::alloc::Global;
 /// nor its value has variants.
 #[tactic(auto, using(crate::proofs::CanonicalForms::repeats_answered))]
 pub fn canonical<L: Lookup>(alloc: Global, checked: &Checked<L>, tag: &Tag) -> Result<Tag, Refusal>
+    // Three clauses say of a refusal that it is only for an invalid tag or a repeat (`repeats`), and names the tag's
+    // first fault (`invalid`) or the first variant that is repeated (`named`).
     ensures ok { IfOk result (λ form. IsCanonicalFormOf (L.listed checked.now) tag.now form) }
     ensures repeats { IfErr result (λ refusal. RefusesOnlyRepeats (L.listed checked.now) tag.now refusal) }
     ensures invalid { IfErr result (λ refusal. NamesFault (L.listed checked.now) tag.now refusal) }
@@ -67,8 +72,9 @@ pub(crate) fn canonical_of<L: Lookup>(
     Ok(replaced_whole(alloc, table, shortcuts, settled)?)
 }
 
-/// Whether a core or an extension of a tag may not be in its normal form. Refused with `Invalid` exactly if the tag is not
-/// valid, or where memory runs out.
+/// Whether a core or an extension of a tag may not be in its normal form. True promises only that the tag is valid, and
+/// false that it is settled as it stands. Refused with `Invalid` exactly if the tag is not valid, or where memory runs
+/// out.
 #[tactic(auto, using(crate::proofs::UsualForms::usual_refused, crate::proofs::UsualForms::usual_valid, crate::proofs::UsualForms::usual_settled))]
 fn needs_settling<L: Lookup>(alloc: Global, table: &L, tag: &Tag) -> Result<bool, Refusal>
     ensures valid { IfOk result (λ needs. IsValid (L.listed table.now) tag.now) }
@@ -84,9 +90,9 @@ fn needs_settling<L: Lookup>(alloc: Global, table: &L, tag: &Tag) -> Result<bool
     }
 }
 
-/// The langtag of these parts, with its core and its extensions in their normal forms. Refused with `ReplacementRepeats` if a
-/// variant occurs twice in one of these forms, or where memory runs out. The parts must be those of a valid langtag, the table
-/// must pass the check, and the shortcuts must be those of the table.
+/// The langtag of these parts, with its core and its extensions in their normal forms. Refused with
+/// `ReplacementRepeats` if a variant occurs twice in one of these forms, or where memory runs out. The parts must be
+/// those of a valid langtag, the table must pass the check, and the shortcuts must be the table's.
 #[tactic(auto, using(crate::proofs::CanonicalForms::transforms_have_parts, crate::proofs::CanonicalForms::core_refused, crate::proofs::CanonicalForms::form_count, crate::proofs::CanonicalForms::form_spells_none))]
 fn settled_langtag<L: Lookup>(
     alloc: Global,
@@ -110,8 +116,8 @@ fn settled_langtag<L: Lookup>(
     Ok(Tag::from_parts(core, extensions, private))
 }
 
-/// Puts a core into its core normal form. Refused with `ReplacementRepeats` if a variant occurs twice in that form. Each chain
-/// of values of the table must end, and the shortcuts must be those of the table.
+/// Puts a core into its core normal form. Refused with `ReplacementRepeats` if a variant occurs twice in that form.
+/// Each chain of values of the table must end, and the shortcuts must be the table's.
 fn settle_core<L: Lookup>(table: &L, shortcuts: &Shortcuts, core: &mut Core) -> Result<(), Refusal>
     requires shortcuts { AreShortcuts (L.listed table.now) shortcuts.now }
     requires chains { All (HasEndingChain (L.listed table.now)) (L.listed table.now) }
@@ -125,8 +131,9 @@ fn settle_core<L: Lookup>(table: &L, shortcuts: &Shortcuts, core: &mut Core) -> 
     }
 }
 
-/// The preferred value of a tag that can be replaced whole, with its core in core normal form. A tag without a value, or that
-/// can't be replaced whole, is given back. The table must pass the check, and the shortcuts must be those of the table.
+/// The preferred value of a tag that can be replaced whole (grandfathered, or without extensions and private use), with
+/// its core in core normal form. A tag without a value, or that can't be replaced whole, is given back. The table must
+/// pass the check, and the shortcuts must be the table's.
 #[tactic(auto, using(lt_check::proofs::CheckedRegistry::value_plain))]
 fn replaced_whole<L: Lookup>(
     alloc: Global,
@@ -147,8 +154,9 @@ fn replaced_whole<L: Lookup>(
     }
 }
 
-/// The preferred value of a record of a whole tag, with its core in core normal form. The value must be a valid langtag that
-/// is a core alone, the table must pass the check, and the shortcuts must be those of the table.
+/// The preferred value of a record of a whole tag, with its core in core normal form. The value must be a valid langtag
+/// that is a core alone (`plain`), as C9 of the check asks, the table must pass the check, and the shortcuts must be
+/// the table's.
 #[tactic(auto, using(crate::proofs::TagForm::ending_chains, crate::proofs::CanonicalForms::value_spells_none))]
 fn settled_value<L: Lookup>(
     alloc: Global,

@@ -1,4 +1,5 @@
-//! Explanations: the steps to a canonical tag, one after another (RFC 5646, 4.5).
+//! Explanations: the steps to a canonical tag, one after another (RFC 5646, 4.5). A step *leads on* from a tag if it
+//! can be made there, and a tag is *at rest* where none does.
 ghost use Rattle.std.specs.Prelude.{IfOk, IfErr};
 ghost use Rattle.lt_registry.specs.Validity.{IsProper};
 ghost use Rattle.lt_rewrite.specs.TagSteps.{CanBeReplacedWhole};
@@ -38,8 +39,9 @@ pub fn explain<L: Lookup>(alloc: Global, checked: &Checked<L>, tag: &Tag) -> Res
     Ok(Trace { steps, last })
 }
 
-/// Takes the first step on a tag, and goes on so until there is none. It gives back `steps` with these at the end. The tag
-/// must be proper, and the table must pass the check.
+/// Takes the first step on a tag, and goes on so until there is none. It gives back `steps` with these at the end, so
+/// that the last leads to a tag at rest. The tag must be proper, and the table must pass the check. The 0 is the number
+/// of subtags before the core.
 #[tactic(auto, using(crate::proofs::TagForm::ending_chains, crate::proofs::TraceLemmas::coreless_explained, crate::proofs::TraceLemmas::transforms_of))]
 fn explain_tag<L: Lookup>(
     alloc: Global,
@@ -67,9 +69,9 @@ fn explain_tag<L: Lookup>(
     Ok(steps)
 }
 
-/// Takes the Whole step of a tag, if its record has a value, and then the steps on the core of the value. It gives back
-/// `steps` with these at the end. The tag must be proper, grandfathered or a core alone, and no step may lead on from its
-/// core; and the table must pass the check.
+/// Takes the Whole step of a tag (`plain`: which may be replaced whole), if its record has a value, and then the steps
+/// on the core of the value. It gives back `steps` with these at the end. The tag must be proper, grandfathered or a
+/// core alone, and no step may lead on from its core (`at_rest`); and the table must pass the check.
 #[tactic(auto, using(crate::proofs::TagForm::ending_chains, crate::proofs::TraceLemmas::valueless_explained))]
 fn explain_whole<L: Lookup>(
     alloc: Global,

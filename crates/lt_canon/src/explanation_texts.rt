@@ -13,7 +13,7 @@ use lt_tag::{OutOfMemory, Tag, append_tag, read_tag};
 use std::alloc::Global;
 use std::marker::Model;
 
-/// Appends the text of a tag, ended by a line feed.
+/// Appends the text of a tag in conventional case, ended by a line feed.
 fn append_tag_line(lines: &mut Vec<u8>, tag: &Tag) -> Result<(), OutOfMemory>
     ensures { OnOk result (lines.new.items ≡ lines.old.items ++ tag_line tag.now) }
 {
@@ -38,7 +38,8 @@ fn append_step(
 }
 
 /// The lines of an explanation, each of which is made when it is asked for (RFC 5646, 4.5), so that they are not all in
-/// memory at once. A contract sees what is left of the explanation.
+/// memory at once. A contract sees what is *left* of the explanation: the tag `here`, the steps from there, and the
+/// last tag. Each value keeps that these steps lead from `here`, which is proper, to that tag.
 pub struct ExplanationLines<'t, L: Lookup> {
     table: &'t L,
     /// The tag to which the steps led that were taken.
@@ -100,6 +101,8 @@ impl<'t, L: Lookup> ExplanationLines<'t, L> {
     /// may have been appended.
     #[tactic(auto, using(crate::proofs::LinesLeft::step_leads))]
     pub fn append_line(&mut self, alloc: Global, lines: &mut Vec<u8>) -> Result<bool, OutOfMemory>
+        // `line`: that of the first step that was left, or the last line. `kept` is only on `self`, since a part of the
+        // line may be in `lines`.
         ensures line { IfOk result (λ more. AppendsLine self.old self.new lines.old.items lines.new.items more) }
         ensures kept { OnErr result (self.new ≡ self.old) }
     {

@@ -1,4 +1,4 @@
-//! Extlang forms (RFC 5646, 4.5).
+//! Extlang forms (RFC 5646, 4.5). An extlang has one Prefix, by the check: `zh` is that of `cmn`.
 ghost use Rattle.std.specs.Prelude.{◌≡◌, IfOk, IfErr};
 ghost use Rattle.std.specs.Option.{option_copied};
 ghost use Rattle.lt_registry.specs.Entries.{prefixes};
@@ -43,8 +43,8 @@ pub fn extlang_form<L: Lookup>(
     Ok(Tag::from_parts(core, extensions, private))
 }
 
-/// The Prefix of a language as an extlang. None if the language is not registered as an extlang too, or if its Prefix can't
-/// be before an extlang.
+/// The Prefix of a language as an extlang. None if the language is not registered as an extlang too, or if its Prefix
+/// can't be before an extlang, for which it must have 2 or 3 letters.
 fn extlang_prefix<'a, L: Lookup>(table: &'a L, language: &Subtag) -> Option<&'a Subtag>
     ensures { option_copied result ≡ prefix_of (prefixes (L.listed table.now) kinds.Extlang language.now) }
 {

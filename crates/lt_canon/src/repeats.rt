@@ -1,4 +1,4 @@
-//! Variants that occur twice.
+//! Variants that occur twice: `ReplacementRepeats` names the leftmost that has occurred before.
 ghost use Rattle.std.specs.Prelude.{MatchOption, IfOk};
 ghost use Rattle.std.specs.List.{AllByRecursion};
 ghost use Rattle.lt_registry.specs.Validity.{Distinct, HasDistinctSource};

@@ -73,8 +73,8 @@ impl From<OutOfMemory> for TraceFault {
     }
 }
 
-/// The tag to which steps lead one after another. Refused with `NoSuchStep` and the number of the first step that leads
-/// nowhere, or where memory runs out. The tag must be proper.
+/// The tag to which steps lead one after another. Refused with `NoSuchStep` and the number, counted from 1, of the
+/// first step that leads nowhere, or where memory runs out. The tag must be proper.
 #[tactic(auto, using(crate::proofs::TraceLemmas::misstep_here))]
 fn follow<L: Lookup>(alloc: Global, table: &L, tag: &Tag, steps: &[Step]) -> Result<Tag, TraceFault>
     requires { IsProper (L.listed table.now) tag.now }
@@ -105,18 +105,19 @@ pub fn verify<L: Lookup>(
     tag: &Tag,
     trace: &Trace,
 ) -> Result<(), TraceFault>
+    // `exact`: but for lack of memory, no right trace is refused.
     ensures ok { OnOk result (IsValidTrace (L.listed checked.now) tag.now trace.now.steps.items trace.now.last) }
     ensures equivalent { OnOk result (AreEquivalent (L.listed checked.now) tag.now trace.now.last) }
     ensures err { IfErr result (λ fault. IsTraceFault (L.listed checked.now) tag.now trace.now.steps.items trace.now.last fault) }
     ensures exact { IfErr result (λ fault. fault ≢ no_trace_memory
         → IsValidTrace (L.listed checked.now) tag.now trace.now.steps.items trace.now.last → ⊥) }
 {
-    // So that the steps are known to have one end, which is equivalent to the tag.
+    // These two do nothing but tell the proof that the steps have one end, which is equivalent to the tag.
     traces_reach_their_end();
     traces_have_one_end();
     let table = checked.table();
     validate(alloc, table, tag)?;
-    // So that the tag's shape is known, by which a tag without a fault is valid.
+    // Does nothing but tell the proof the tag's shape, by which a tag without a fault is valid.
     let _ = tag.extensions();
     let end = follow(alloc, table, tag, &trace.steps)?;
     if end == trace.last {

@@ -1,4 +1,6 @@
-//! Langtags of the usual kind: a language, alone or with a script, a region or both.
+//! Langtags of the usual kind: a language, alone or with a script, a region or both. Their subtags are looked up once
+//! each: that tells whether the tag is valid, and where none has a value, that its core is in normal form. A *place* is
+//! that of a subtag in the tag, counted from 1.
 ghost use Rattle.std.specs.Prelude.{◌≡◌, IfSome};
 ghost use Rattle.std.specs.Option.{option_copied};
 ghost use Rattle.lt_tag.specs.Values.{IsTagValue, core_alone};
@@ -10,7 +12,8 @@ use lt_rewrite::values::one_value;
 use lt_subtag::Subtag;
 use lt_tag::{Core, Tag};
 
-/// The core of a langtag without extlangs, variants, extensions and private use. None of any other tag.
+/// The core of a langtag of the usual kind: without extlangs, variants, extensions and private use. None of any other
+/// tag. The clause `tag` says what each tag keeps, for the proofs of callers.
 pub(crate) fn usual_core(tag: &Tag) -> Option<&Core>
     ensures usual { IfSome result (λ core. IsUsual core.now) }
     ensures alone { IfSome result (λ core. tag.now ≡ core_alone core.now) }
@@ -24,7 +27,8 @@ pub(crate) fn usual_core(tag: &Tag) -> Option<&Core>
     }
 }
 
-/// Whether the entry of a subtag has a preferred value. Refused with a fault of this kind and place if there is no entry.
+/// Whether the entry of a subtag has a preferred value. Refused with a fault of this kind, at this place, if there is
+/// no entry.
 fn is_valued(entry: Option<&Entry>, kind: ValidFaultKind, place: u32) -> Result<bool, ValidFault>
     ensures { result ≡ one_valued kind place (option_copied entry.entry) }
 {
@@ -51,8 +55,9 @@ fn is_part_valued<L: Lookup>(
     }
 }
 
-/// Whether the language, the script or the region of a core has a preferred value. Refused if one of them is not registered,
-/// with the fault of the first such subtag and its place, counted from 1. Each is looked up once.
+/// Whether the language, the script or the region of a core has a preferred value. Refused if one of them is not
+/// registered, with the fault of the first such subtag and its place, counted from 1. The language is at the place 1,
+/// the script at 2, and the region at 2, or 3 after a script.
 #[tactic(auto, unfolding(crate::specs::UsualTags::core_valued))]
 pub(crate) fn is_core_valued<L: Lookup>(table: &L, core: &Core) -> Result<bool, ValidFault>
     ensures { result ≡ core_valued (L.listed table.now) core.now }

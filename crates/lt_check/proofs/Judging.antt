@@ -1,4 +1,5 @@
--- The conditions in their order, and which of them a look at one record after another decides.
+-- The conditions in their order, and which of them are decided by record, that is by a look at one record after
+-- another.
 use Rattle.std.proofs.Common.{◌≡◌, ℕ, zero, suc, ◌≤◌, ◌<◌, ◌+◌, eqb, true, List, Option, Some, None, Result, Ok, Err}
 use Rattle.std.proofs.Common.{IfOk, All, ap, inl, inr, refl, sym, subst, ◌∙◌, false, arith, rules}
 use Rattle.std.specs.Prelude.{slice_index_or}
@@ -15,7 +16,7 @@ use Rattle.lt_check.specs.declared.conditions.Condition.TheVariants as condition
 use Rattle.lt_check.specs.declared.rejections.Finding.{Finding}
 use Rattle.lt_check.specs.declared.checking.TheConstants.{IN_ORDER}
 
--- each condition but C1, C8, C10 and C11 is decided by a look at one record after another
+-- each condition but C1, C8, C10 and C11 is decided by record
 pub by_record : (k : Condition) → (k ≡ conditions.OwnName → ⊥) → (k ≡ conditions.FittingGrandfathered → ⊥)
     → (k ≡ conditions.RestingWhole → ⊥) → (k ≡ conditions.AgreeingWhole → ⊥) → is_by_record k ≡ true
 by_record _ a b c d = grind arith
@@ -88,7 +89,7 @@ meets R P _ = search rules
 pub none_that_passes : (R : List EntryParts) (k : Condition) (n : ℕ) → IsAtFault R k n → Passes R → ⊥
 none_that_passes R k n f P = f.fails (All-contains (Meets k R) R f.entry (meets R P k) f.there)
 
--- a condition that is decided by a look at one record after another is one of C2 to C7, C9 and C12
+-- a condition that is decided by record is one of C2 to C7, C9 and C12
 pub not_by_record : (k : Condition) → is_by_record k ≡ true → (k ≡ conditions.RegisteredValue → ⊥)
     → (k ≡ conditions.EndingChain → ⊥) → (k ≡ conditions.FittingExtlang → ⊥) → (k ≡ conditions.FittingVariantValue → ⊥)
     → (k ≡ conditions.FinalPrefixes → ⊥) → (k ≡ conditions.LangtagPrefixes → ⊥) → (k ≡ conditions.ValidWhole → ⊥)
@@ -100,7 +101,7 @@ pub lower_at : (R : List EntryParts) (i : ℕ) → i < 11 → MeetsBelow (rank_a
     → MeetsBelow (rank_of (slice_index_or IN_ORDER i conditions.OwnName)) R
 lower_at R i n h other l = h other (omega (arith, ranked i n, l))
 
--- a bare record meets each condition that a look at one record after another decides
+-- a bare record, of a language, script or region without a value, meets each condition that is decided by record
 pub bare_meets : (R : List EntryParts) (e : EntryParts) → IsBare e → MeetsByRecord R e
 bare_meets R e b =
     let none : one_of e.value ≡ None = ap one_of b.none in
@@ -125,7 +126,7 @@ bare_meets R e b =
     no_variant : e.kind ≡ kinds.Variant → ⊥
     no_variant kind = elim b.kind [ inl l ↦ cc (l, kind) | inr o ↦ elim o [ inl l ↦ cc (l, kind) | inr l ↦ cc (l, kind) ] ]
 
--- a record that meets each condition which a look at one record after another decides meets the one that is asked for
+-- a record that meets each condition which is decided by record meets the one that is asked for
 pub meets_by_record : (R : List EntryParts) (e : EntryParts) → MeetsByRecord R e → (condition : Condition)
     → is_by_record condition ≡ true → Meets condition R e
 meets_by_record R e m conditions.RegisteredValue is = m.fitting_value.registered_value

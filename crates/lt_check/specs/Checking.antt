@@ -25,7 +25,8 @@ abbrev pub IsLowestFault : List EntryParts → Condition → Option Finding → 
 IsLowestFault R condition None = All (Meets condition R) R
 IsLowestFault R condition (Some finding) = (finding.condition ≡ condition) × IsFirstAtFault R condition finding.number
 
--- whether a look at one record after another decides the condition
+-- whether a look at one record after another decides the condition: C1 and C8 need what was found of other records, and
+-- C10 and C11 are judged together
 abbrev pub is_by_record : Condition → Bool
 is_by_record conditions.OwnName = false
 is_by_record conditions.FittingGrandfathered = false
@@ -73,7 +74,7 @@ abbrev pub IsVerdictBelow : ℕ → List EntryParts → Option Finding → Type 
 IsVerdictBelow rank R None = MeetsBelow rank R
 IsVerdictBelow rank R (Some finding) = IsFinding R finding.condition finding.number
 
--- the rank of the condition that is judged after this one: C11 is judged along with C10
+-- the rank of the condition that is judged after this one: C11 is judged along with C10, so after it comes C12
 abbrev pub next_of : Condition → ℕ
 next_of conditions.RestingWhole = 12
 next_of condition = rank_of condition + 1

@@ -20,11 +20,11 @@ flag words n = bit_at (slice_index words (n / 64)) (n % 64) == 1
 abbrev pub Tell : (Kind → List ℕ → Bool) → List ℕ → Type 0
 Tell test words = (k : Kind) (s : List ℕ) (n : ℕ) → place k s ≡ Some n → flag words n ≡ test k (folded s)
 
--- the answers of the test, except that the answer to the subtag `t` of kind `j` is `set`
+-- the answer of `test` to the subtag `s` of kind `k`, except that the answer to the subtag `t` of kind `j` is `set`
 abbrev pub with_subtag : Kind → List ℕ → Bool → (Kind → List ℕ → Bool) → Kind → List ℕ → Bool
 with_subtag j t set test k s = if same_kind j k && bytes_eq t s then set else test k s
 
--- the flags tell which subtags have a record of their own, without a value
+-- the flags tell which subtags have a record of their own in `R`, without a value
 abbrev pub TellSingles : List EntryParts → List ℕ → Type 0
 TellSingles R words = Tell (has_no_value R) words
 
@@ -33,7 +33,8 @@ TellSingles R words = Tell (has_no_value R) words
 abbrev pub stays_beside : List EntryParts → List EntryParts → Kind → List ℕ → Bool
 stays_beside R es k s = has_no_value R k s && not (same_kind k kinds.Language && list_any (replaces_plain_of s) es)
 
--- the flags tell which subtags of a registry stay as they are
+-- the flags tell which subtags of a registry stay as they are, and its entries have their forms, so that each subtag is
+-- in lower case
 pub record AreFlags (R : List EntryParts) (words : List ℕ) : Type 0 where
   pub forms : All IsEntry R
   pub tell : Tell (stays R) words

@@ -14,7 +14,7 @@ abbrev pub is_final_prefix : List EntryParts → List (List ℕ) → Bool
 is_final_prefix R (l ∷ []) = is_final R l
 is_final_prefix R _ = false
 
--- the chains of values from two languages end in one language
+-- the chains of values from the languages `s` and `t` end in one language
 abbrev pub EndAlike : List EntryParts → List ℕ → List ℕ → Type 0
 EndAlike R s t =
     (end : List ℕ) × EndsIn (preferred_value R kinds.Language) s end × EndsIn (preferred_value R kinds.Language) t end

@@ -5,11 +5,11 @@ use Rattle.lt_registry.specs.Parts.{EntryParts}
 use Rattle.lt_registry.specs.Validity.{IsProperCore, Distinct}
 use Rattle.lt_rewrite.specs.Conditions.{second_entry}
 
--- the core of a language and an extlang
+-- the core of the language `l` and the extlang `x`
 abbrev pub with_extlang : List ℕ → List ℕ → CoreParts
 with_extlang l x = record { language = l; extlangs = x ∷ []; script = None; region = None; variants = [] }
 
--- the core of a language and a variant
+-- the core of the language `l` and the variant `v`
 abbrev pub with_variant : List ℕ → List ℕ → CoreParts
 with_variant l v = record { language = l; extlangs = []; script = None; region = None; variants = v ∷ [] }
 

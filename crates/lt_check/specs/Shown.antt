@@ -1,5 +1,6 @@
 -- How a text is written in conventional case if all its subtags have flags. No public contract cites this; it is shown
--- to agree with what is read, and with conventional case.
+-- to agree with what is read, and with conventional case. A byte 45 is a hyphen, and `F` are the words that have the
+-- flags.
 use Rattle.std.specs.Prelude.{ℕ, ◌+◌, ◌==◌, ◌&&◌, if◌then◌else◌, Bool, true, List, [], ◌∷◌, Option, Some, None}
 use Rattle.std.specs.Prelude.{option_map, slice_index, bit_and, bit_or}
 use Rattle.lt_check.specs.Places.{language_2, language_3, script_4, region_2, region_3}
@@ -11,7 +12,7 @@ use Rattle.lt_check.specs.declared.texts.Shown.{Shown}
 abbrev pub lower : ℕ → ℕ
 lower b = bit_or b 32
 
--- a letter in upper case: bit 32 is clear in it
+-- a letter in upper case: bit 32 is clear in it, by 223 = 255 - 32
 abbrev pub upper_byte : ℕ → ℕ
 upper_byte b = bit_and b 223
 
@@ -47,7 +48,7 @@ after_language F (h ∷ a ∷ b ∷ c ∷ []) = after_if ((h == 45) && flag F (r
     (45 ∷ a ∷ b ∷ c ∷ 0 ∷ 0 ∷ 0 ∷ 0 ∷ 0 ∷ [])
 after_language F rest = from_script F rest
 
--- the first nine of `bytes`, and then `rest`
+-- the first nine of `bytes`, as many as are shown after a language, and then `rest`
 abbrev pub nine_before : List ℕ → List ℕ → List ℕ
 nine_before bytes rest =
     slice_index bytes 0 ∷ slice_index bytes 1 ∷ slice_index bytes 2 ∷ slice_index bytes 3 ∷ slice_index bytes 4

@@ -40,7 +40,8 @@ impl<L: Lookup + Drop> Drop for Checked<L> {
     }
 }
 
-// A contract sees it as its table (this project's own).
+// A contract sees it as its table, which passes the check, and whose the shortcuts and the flags are (this project's
+// own).
 impl<L: Lookup> Model for Checked<L> {
     ghost use Rattle.lt_check.specs.Checking.{IsCheckedAlong};
 
@@ -60,12 +61,14 @@ impl<L: Lookup> Checked<L> {
     pub fn new(alloc: Global, table: L) -> Result<Checked<L>, Rejected<L>>
         ensures value { IfOk result (λ checked. checked ≡ table) }
         ensures passes { IfOk result (λ checked. Passes (L.listed table)) }
+        // A table that passes is rejected only for memory. Else the cause is a fault (`cause`), the first in order
+        // (`first`).
         ensures returned { IfErr result (λ rejected. rejected.table ≡ table) }
         ensures rejects { IfErr result (λ rejected. (rejected.cause ≡ causes.OutOfMemory) ⊎ (Passes (L.listed table) → ⊥)) }
         ensures cause { IfErr result (λ rejected. IsCause (L.listed table) rejected.cause) }
         ensures first { IfErr result (λ rejected. IsFirstCause (L.listed table) rejected.cause) }
     {
-        // So that the forms of the entries are known.
+        // Does nothing but tell the proof that the entries have their forms.
         know_entries(&table);
         let Ok(shortcuts) = Shortcuts::of_table(alloc, &table) else {
             return Err(Rejected {
@@ -111,7 +114,7 @@ impl<L: Lookup> Checked<L> {
         &self.shortcuts
     }
 
-    /// Flags of the table's languages, scripts and regions that stay as they are.
+    /// The usual subtags: flags of the table's languages, scripts and regions that stay as they are.
     pub fn usual(&self) -> &UsualSubtags
         ensures flags { AreFlags (L.listed self.now) result.now }
         ensures checked { IsChecked (L.listed self.now) }

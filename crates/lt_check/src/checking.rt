@@ -1,5 +1,10 @@
 //! The check of a registry, condition by condition. Its parts are not inlined, so that their locals don't add up on the
 //! stack.
+//!
+//! The *rank* of a condition is the number in its code: `MeetsBelow 10` says that all records meet C1 to C9, and a
+//! verdict below 12 speaks of C1 to C11. A condition is decided *by record* if a look at one record after another does
+//! it: all are but C1, C8, C10 and C11. A first pass, `all_meet`, asks for all of these at once, and its tests promise
+//! something only where they give true: else each condition has a pass of its own.
 ghost use Rattle.std.specs.Prelude.{◌≡◌, ◌↔◌, true, IsTrue, IfOk};
 ghost use Rattle.lt_rewrite.specs.Shortcuts.{AreShortcuts};
 ghost use Rattle.lt_check.specs.Conditions.{Meets, rank_of};
@@ -36,8 +41,8 @@ const IN_ORDER: [Condition; 11] = [
     Condition::NoRangeValue,
 ];
 
-/// Whether a record meets a condition, which must be one that is decided by a look at one record after another. The shortcuts
-/// must be those of the table.
+/// Whether a record meets a condition, which must be decided by record: any other has a search of its own. The
+/// shortcuts must be the table's.
 fn meets<L: Lookup>(
     alloc: Global,
     table: &L,
@@ -62,8 +67,8 @@ fn meets<L: Lookup>(
     }
 }
 
-/// Whether a record is of a language, a script or a region that is one subtag, and has no value. Most records are so. They
-/// meet each condition that is decided by a look at one record after another, so the look is spared.
+/// Whether a record is of a language, a script or a region that is one subtag, and has no value. Most records are so.
+/// They meet each condition that is decided by record, so the first pass spares the look.
 #[inline(always)]
 fn is_bare(entry: &Entry) -> bool
     ensures { IsTrue result → IsBare entry.now }
@@ -73,7 +78,7 @@ fn is_bare(entry: &Entry) -> bool
         && matches!(entry.name(), EntryName::Single(_))
 }
 
-/// Whether a record meets the conditions on the values of records that name subtags. The shortcuts must be those of the table.
+/// Whether a record meets C2 to C5, on the values of records that name subtags. The shortcuts must be the table's.
 fn has_fitting_value<L: Lookup>(table: &L, shortcuts: &Shortcuts, entry: &Entry) -> bool
     requires { AreShortcuts (L.listed table.now) shortcuts.now }
     ensures { IsTrue result → HasFittingValue (L.listed table.now) entry.now }
@@ -84,15 +89,14 @@ fn has_fitting_value<L: Lookup>(table: &L, shortcuts: &Shortcuts, entry: &Entry)
         && has_fitting_variant_value(table, entry)
 }
 
-/// Whether a record meets the conditions on the Prefixes of variants.
+/// Whether a record meets C6 and C7, on the Prefixes of variants.
 fn has_fitting_prefixes<L: Lookup>(table: &L, entry: &Entry) -> bool
     ensures { IsTrue result → HasFittingPrefixes (L.listed table.now) entry.now }
 {
     stands_beside_final_languages(table, entry) && has_langtag_prefixes(entry)
 }
 
-/// Whether a record meets each condition that is decided by a look at one record after another. The shortcuts must be those of
-/// the table.
+/// Whether a record meets each condition that is decided by record. The shortcuts must be the table's.
 #[inline(never)]
 fn meets_each<L: Lookup>(alloc: Global, table: &L, shortcuts: &Shortcuts, entry: &Entry) -> bool
     requires { AreShortcuts (L.listed table.now) shortcuts.now }
@@ -104,8 +108,8 @@ fn meets_each<L: Lookup>(alloc: Global, table: &L, shortcuts: &Shortcuts, entry:
         && has_no_range_value(entry)
 }
 
-/// Whether all records meet each condition that is decided by a look at one record after another. The shortcuts must be those
-/// of the table.
+/// The first pass: whether all records meet each condition that is decided by record. The shortcuts must be the
+/// table's.
 fn all_meet<L: Lookup>(alloc: Global, table: &L, shortcuts: &Shortcuts) -> bool
     requires { AreShortcuts (L.listed table.now) shortcuts.now }
     ensures { IsTrue result → MeetByRecord (L.listed table.now) }
@@ -118,8 +122,8 @@ fn all_meet<L: Lookup>(alloc: Global, table: &L, shortcuts: &Shortcuts) -> bool
     true
 }
 
-/// The first record that does not meet the condition, or None if each does. The condition must be one that is decided by a
-/// look at one record after another, and the shortcuts those of the table.
+/// The first record that does not meet the condition, or None if each does. The condition must be decided by record,
+/// and the shortcuts must be the table's.
 #[inline(never)]
 fn first_failing<L: Lookup>(
     alloc: Global,
@@ -156,9 +160,9 @@ fn first_misfit<L: Lookup>(table: &L) -> Option<Finding>
     None
 }
 
-/// What the check finds by the tenth and the eleventh condition, or None if all records meet both. The two are judged in one
-/// pass, as both need the same core normal forms. All records must meet the conditions before these, and the shortcuts must be
-/// those of the table.
+/// What the check finds by the tenth and the eleventh condition, or None if all records meet both. The two are judged
+/// in one pass, as both need the same core normal forms. All records must meet C1 to C9, and the shortcuts must be the
+/// table's. So the answer is the verdict on C1 to C11.
 #[inline(never)]
 fn first_whole_fault<L: Lookup>(
     alloc: Global,
@@ -185,9 +189,10 @@ fn first_whole_fault<L: Lookup>(
     Ok(found)
 }
 
-/// What the check finds by a condition, or None if all records meet it. If all are known to meet each condition that is decided
-/// by a look at one record after another (`all_meet`), such a condition needs no further pass over the records. All records
-/// must meet the conditions before this one, and the shortcuts must be those of the table.
+/// What the check finds by a condition, or None if all records meet it. If the first pass found that all meet each
+/// condition that is decided by record (`all_meet`), such a condition needs no pass of its own. All records must meet
+/// the conditions of lower rank, so the answer is the verdict on this condition and those, and after C10 on C11 too
+/// (`next_of`). The shortcuts must be the table's.
 fn lowest_fault<L: Lookup>(
     alloc: Global,
     table: &L,
@@ -211,8 +216,8 @@ fn lowest_fault<L: Lookup>(
     }
 }
 
-/// What the check finds: the first condition that some record fails, and the lowest of the records that fail it. None if each
-/// record meets each condition. The shortcuts must be those of the table.
+/// What the check finds: the first condition that some record fails, and the lowest of the records that fail it. None
+/// if each record meets each condition. The shortcuts must be the table's.
 #[inline(never)]
 pub(crate) fn find_fault<L: Lookup>(
     alloc: Global,

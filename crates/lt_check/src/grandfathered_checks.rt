@@ -32,8 +32,8 @@ fn subtag(text: &[u8]) -> Subtag
     }
 }
 
-/// The number of the record that registers the extlang, if the language with this extlang is a valid tag; else None. Both
-/// texts must be subtags in lower case.
+/// The number of the record that registers the extlang, if the language with this extlang is a valid tag; else None. C8
+/// holds this record to be at fault. Both texts must be subtags in lower case.
 fn by_extlang<L: Lookup>(table: &L, language: &[u8], extlang: &[u8]) -> Option<u32>
     requires language { subtag_of language.now ≡ Ok language.now }
     requires extlang { subtag_of extlang.now ≡ Ok extlang.now }
@@ -48,8 +48,8 @@ fn by_extlang<L: Lookup>(table: &L, language: &[u8], extlang: &[u8]) -> Option<u
     }
 }
 
-/// The number of the record that registers the variant, if the language with this variant is a valid tag; else None. Both
-/// texts must be subtags in lower case.
+/// The number of the record that registers the variant, if the language with this variant is a valid tag; else None. C8
+/// holds this record to be at fault. Both texts must be subtags in lower case.
 fn by_variant<L: Lookup>(table: &L, language: &[u8], variant: &[u8]) -> Option<u32>
     requires language { subtag_of language.now ≡ Ok language.now }
     requires variant { subtag_of variant.now ≡ Ok variant.now }
@@ -80,7 +80,7 @@ pub(crate) fn validating_records<L: Lookup>(table: &L) -> [Option<u32>; REGULAR]
     ]
 }
 
-/// Whether one of the numbers is `number`.
+/// Whether one of the numbers is `number`: whether the record with it makes a regular grandfathered tag valid.
 fn has_number(numbers: &[Option<u32>], number: u32) -> bool
     ensures { result ≡ list_any (is_number number) numbers.now }
 {
@@ -98,10 +98,10 @@ fn has_fitting_tag(entry: &Entry) -> bool
     }
 }
 
-/// Whether a record meets the condition on grandfathered tags. A record of that type meets it only if its tag is one of the
-/// 26. No record of any type meets it if its subtag makes a regular one of the 26, such as zh-min, valid as a langtag.
-/// `validating` must have the numbers of these, as [`validating_records`] gives them, and the record must be one of the
-/// table's.
+/// Whether a record meets the condition on grandfathered tags. A record of that type meets it only if its tag is one of
+/// the 26. No record of any type meets it if its subtag makes a regular one of the 26, such as zh-min, valid as a
+/// langtag. `validating` must have the numbers of these, as [`validating_records`] gives them, and the record must be
+/// one of the table's, in which a number tells the record.
 pub(crate) fn fits_grandfathered<L: Lookup>(
     table: &L,
     validating: &[Option<u32>],

@@ -1,4 +1,6 @@
-//! Whether records have names of their own.
+//! Whether records have names of their own (C1). A look-up finds the first record of a name, so no earlier record has
+//! the same subtag or tag exactly if the look-up finds this very record. Ranges have no look-up: those of the records
+//! so far are kept in a set, `seen`.
 ghost use Rattle.std.specs.Prelude.{◌≡◌, ◌↔◌, length, Contains, IsTrue, IfOk, Some};
 ghost use Rattle.std.specs.Option.{option_copied};
 ghost use Rattle.lt_registry.specs.Parts.{EntryParts};
@@ -24,10 +26,11 @@ fn is_entry(found: Option<&Entry>, entry: &Entry) -> bool
     }
 }
 
-/// Whether a record's name is new. A subtag is new if its flag was clear, which spares most records a look-up, or if a
-/// look-up finds the record itself. A tag is new if a look-up finds the record itself, and a range if it is not in `seen`. The
-/// flag of the record's subtag is then set, or its range added to `seen`. The record must be one of the table's, `flags` must
-/// have 8,655 words, and in these the flags of the subtags of the records before it must be set.
+/// Whether a record's name is new: a range if it is not in `seen`, a subtag if its flag was clear, and else a name by
+/// which a look-up finds the record itself. The flag of the record's subtag is then set (`flags`), or its range added
+/// to `seen` (`seen`). Numbers must rise, so that earlier records are those of lower numbers. The record must be one of
+/// the table's (`there`), and `flags` must have its 8,655 words ([`WORDS`]), in which the flags of the subtags of the
+/// records before are set.
 fn is_new<L: Lookup>(
     table: &L,
     flags: &mut [u64],

@@ -43,7 +43,7 @@ fn digit(byte: u8) -> usize
     usize::from(byte.wrapping_sub(b'0').min(10))
 }
 
-/// The place of a language of 2 letters in the table of flags.
+/// The place of a language of 2 letters in the table of flags, one of the first 27² = 729.
 #[inline(always)]
 #[tactic(auto, using(crate::proofs::FlagLemmas::letter_few))]
 pub(crate) fn language_2(a: u8, b: u8) -> usize
@@ -53,7 +53,7 @@ pub(crate) fn language_2(a: u8, b: u8) -> usize
     letter(a) * 27 + letter(b)
 }
 
-/// The place of a language of 3 letters in the table of flags.
+/// The place of a language of 3 letters in the table of flags, one of the 27³ from 729 on.
 #[inline(always)]
 #[tactic(auto, using(crate::proofs::FlagLemmas::letter_few))]
 pub(crate) fn language_3(a: u8, b: u8, c: u8) -> usize
@@ -63,7 +63,7 @@ pub(crate) fn language_3(a: u8, b: u8, c: u8) -> usize
     729 + (letter(a) * 27 + letter(b)) * 27 + letter(c)
 }
 
-/// The place of a script in the table of flags.
+/// The place of a script in the table of flags, one of the 27⁴ from 20,412 on.
 #[inline(always)]
 #[tactic(auto, using(crate::proofs::FlagLemmas::letter_few))]
 pub(crate) fn script_4(a: u8, b: u8, c: u8, d: u8) -> usize
@@ -73,7 +73,7 @@ pub(crate) fn script_4(a: u8, b: u8, c: u8, d: u8) -> usize
     20_412 + ((letter(a) * 27 + letter(b)) * 27 + letter(c)) * 27 + letter(d)
 }
 
-/// The place of a region of 2 letters in the table of flags.
+/// The place of a region of 2 letters in the table of flags, one of the 27² from 551,853 on.
 #[inline(always)]
 #[tactic(auto, using(crate::proofs::FlagLemmas::letter_few))]
 pub(crate) fn region_2(a: u8, b: u8) -> usize
@@ -83,7 +83,7 @@ pub(crate) fn region_2(a: u8, b: u8) -> usize
     551_853 + letter(a) * 27 + letter(b)
 }
 
-/// The place of a region of 3 digits in the table of flags.
+/// The place of a region of 3 digits in the table of flags, one of the last 11³, from 552,582 on.
 #[inline(always)]
 pub(crate) fn region_3(a: u8, b: u8, c: u8) -> usize
     ensures value { result ≡ places.region_3 a b c }
@@ -92,8 +92,8 @@ pub(crate) fn region_3(a: u8, b: u8, c: u8) -> usize
     552_582 + (digit(a) * 11 + digit(b)) * 11 + digit(c)
 }
 
-/// The place of a subtag of a kind in the table of flags. None if it isn't a language of 2 or 3 letters, a script or a
-/// region.
+/// The place of a subtag of a kind in the table of flags, one of 553,913. None if it isn't a language of 2 or 3
+/// letters, a script or a region.
 pub(crate) fn place(kind: Kind, bytes: &[u8]) -> Option<usize>
     ensures value { result ≡ places.place kind bytes.now }
     ensures within { IfSome result (λ place. place < 553_913) }

@@ -1,4 +1,4 @@
-//! The ranges that records name.
+//! The ranges that records name, such as `qaa..qtz`: C1 asks whether an earlier record of the same kind names the same.
 ghost use Rattle.std.specs.Prelude.{◌≡◌, ◌↔◌, ◌⊎◌, [], Contains, IsTrue, IfOk, OnOk};
 ghost use Rattle.lt_check.specs.NameChecks.{range_name};
 
@@ -12,7 +12,7 @@ use std::marker::Model;
 /// A range under a kind.
 #[derive(Drop, PartialEq, Eq, PartialOrd, Ord)]
 pub(crate) struct RangeName {
-    /// The kind's number.
+    /// The kind's number, which has an order, as a set asks.
     kind: u8,
     first: Subtag,
     last: Subtag,
@@ -31,7 +31,7 @@ impl RangeName {
     }
 }
 
-/// A set of ranges.
+/// A set of ranges: those that the records so far name.
 #[derive(Drop)]
 pub(crate) struct RangeNames {
     names: BTreeSet<RangeName, Global>,
@@ -56,8 +56,8 @@ impl RangeNames {
         }
     }
 
-    /// Adds the range of a kind from `first` to `last`, and tells whether it is new. Refused only where memory runs
-    /// out.
+    /// Adds the range of a kind from `first` to `last`, and tells whether it is new (`added`). The set then has it and
+    /// those that it had (`names`). Refused only where memory runs out.
     pub(crate) fn add(
         &mut self,
         kind: Kind,

@@ -1,4 +1,5 @@
-//! Whether a record meets a condition that speaks of one subtag after another.
+//! Whether a record meets a condition that speaks of one subtag after another: C2 and C4 to C7, and C12. A language is
+//! *final* if it is registered and has no value.
 ghost use Rattle.std.specs.Prelude.{◌≡◌, ◌↔◌, All, IsTrue, List, is_some};
 ghost use Rattle.std.specs.List.{list_all};
 ghost use Rattle.std.specs.Option.{option_copied};
@@ -37,8 +38,8 @@ fn is_final_prefix<L: Lookup>(table: &L, prefix: &Prefix) -> bool
     }
 }
 
-/// Whether the preferred value of a language, then that of this value, and so on, ends at the same language for left and for
-/// right. False where one of the chains goes in a circle. The shortcuts must be those of the table.
+/// For C4: whether the preferred value of a language, then that of this value, and so on, ends at the same language for
+/// left and for right. False where one of the chains goes in a circle. The shortcuts must be the table's.
 fn end_alike<L: Lookup>(table: &L, shortcuts: &Shortcuts, left: &Subtag, right: &Subtag) -> bool
     requires { AreShortcuts (L.listed table.now) shortcuts.now }
     ensures { IsTrue result ↔ EndAlike (L.listed table.now) left.now right.now }
@@ -52,8 +53,8 @@ fn end_alike<L: Lookup>(table: &L, shortcuts: &Shortcuts, left: &Subtag, right: 
     }
 }
 
-/// Whether the preferred value of a language, script or region is registered too, as the same kind. True of a record without a
-/// value, and of any other kind.
+/// C2: whether the preferred value of a language, script or region is registered too, as the same kind. True of a
+/// record without a value, and of any other kind.
 pub(crate) fn has_registered_value<L: Lookup>(table: &L, entry: &Entry) -> bool
     ensures { IsTrue result ↔ HasRegisteredValue (L.listed table.now) entry.now }
 {
@@ -66,9 +67,9 @@ pub(crate) fn has_registered_value<L: Lookup>(table: &L, entry: &Entry) -> bool
     }
 }
 
-/// Whether an extlang is one subtag with one Prefix, and this Prefix is one subtag, a registered language without a value; and
-/// whether the extlang and its replacement are registered as languages too, and their chains of values end alike. True of any
-/// other kind. The shortcuts must be those of the table.
+/// C4: whether an extlang is one subtag with one Prefix, and this Prefix is one subtag, a registered language without a
+/// value. The extlang and its replacement must be registered as languages too, and their chains of values end alike.
+/// True of any other kind. The shortcuts must be the table's.
 pub(crate) fn fits_as_extlang<L: Lookup>(table: &L, shortcuts: &Shortcuts, entry: &Entry) -> bool
     requires { AreShortcuts (L.listed table.now) shortcuts.now }
     ensures { IsTrue result ↔ HasFittingExtlang (L.listed table.now) entry.now }
@@ -89,8 +90,8 @@ pub(crate) fn fits_as_extlang<L: Lookup>(table: &L, shortcuts: &Shortcuts, entry
         && end_alike(table, shortcuts, subtag, replacement)
 }
 
-/// Whether the preferred value of a variant is registered: one of 2 or 3 letters as a language, a longer one as a variant,
-/// whose own value, if any, is no language. True of a record without a value, and of any other kind.
+/// C5: whether the preferred value of a variant is registered: one of 2 or 3 letters as a language, a longer one as a
+/// variant, whose own value, if any, is no language. True of a record without a value, and of any other kind.
 pub(crate) fn has_fitting_variant_value<L: Lookup>(table: &L, entry: &Entry) -> bool
     ensures { IsTrue result ↔ HasFittingVariantValue (L.listed table.now) entry.now }
 {
@@ -106,8 +107,8 @@ pub(crate) fn has_fitting_variant_value<L: Lookup>(table: &L, entry: &Entry) -> 
     }
 }
 
-/// Whether a variant whose value is a language has Prefixes, and each of them is one subtag, a registered language without a
-/// value. True of any other record.
+/// C6: whether a variant whose value is a language has Prefixes, and each of them is one subtag, a registered language
+/// without a value. True of any other record.
 pub(crate) fn stands_beside_final_languages<L: Lookup>(table: &L, entry: &Entry) -> bool
     ensures { IsTrue result ↔ HasFinalPrefixes (L.listed table.now) entry.now }
 {
@@ -126,7 +127,8 @@ fn have_final_languages<L: Lookup>(table: &L, prefixes: &[Prefix]) -> bool
     prefixes.iter().all(|prefix| is_final_prefix(table, prefix))
 }
 
-/// Whether each Prefix of a variant is a langtag without extensions and private use. True of any other kind.
+/// C7: whether each Prefix of a variant is a langtag without extensions and private use. True of any other kind. Each
+/// condition is on a registry `R`, but this one asks nothing of it: so the clause holds for any.
 pub(crate) fn has_langtag_prefixes(entry: &Entry) -> bool
     ensures { (R : List EntryParts) → IsTrue result ↔ HasLangtagPrefixes R entry.now }
 {
@@ -148,7 +150,7 @@ fn are_langtags(prefixes: &[Prefix]) -> bool
     true
 }
 
-/// Whether a record of a range has no preferred value. True of any other record.
+/// C12: whether a record of a range has no preferred value. True of any other record.
 pub(crate) fn has_no_range_value(entry: &Entry) -> bool
     ensures { IsTrue result ↔ HasNoRangeValue entry.now }
 {

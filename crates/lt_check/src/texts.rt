@@ -1,5 +1,8 @@
-//! Texts of subtags that stay, in conventional case. For speed all is inlined into the one call that a text takes, and
-//! tests are joined by `&`, so that one branch can do for all subtags of a text.
+//! Texts of subtags that stay, in conventional case. A text is *shown* if it is a language of 2 or 3 letters, alone or
+//! with a script, a region or both, and each of these has its flag: so it is canonical but for letter case. For speed
+//! all is inlined into the one call that a text takes, and tests are joined by `&`, so that one branch can do for all
+//! subtags of a text. The bytes that are shown are filled up with zeros to a fixed length, within which their count is
+//! (`few`).
 ghost use Rattle.std.specs.Prelude.{◌≡◌, ◌≤◌, IfSome};
 ghost use Rattle.lt_check.specs.Shown as shown;
 
@@ -7,13 +10,15 @@ use crate::places::{language_2, language_3, region_2, region_3, script_4};
 use crate::usual_subtags::UsualSubtags;
 
 /// What follows the language of a text, in conventional case: how many bytes it has, and they, with zeros after them.
+/// The longest are nine bytes, such as `-Latn-419`.
 #[derive(Clone, Copy)]
 pub(crate) struct AfterLanguage {
     count: usize,
     bytes: [u8; 9],
 }
 
-/// A text in conventional case: how many bytes it has, and they, with zeros after them.
+/// A text in conventional case: how many bytes it has, and they, with zeros after them. The longest are twelve bytes,
+/// such as `gsw-Latn-419`.
 #[derive(Clone, Copy)]
 pub(crate) struct Shown {
     pub(crate) count: usize,
@@ -32,8 +37,8 @@ fn after_if(holds: bool, count: usize, bytes: [u8; 9]) -> Option<AfterLanguage>
     }
 }
 
-/// A letter in lower case, by the bit in which the cases differ; what another byte becomes doesn't matter, since no
-/// subtag with one has a flag.
+/// A letter in lower case, by 0x20, the bit in which the cases differ; what another byte becomes doesn't matter, since
+/// no subtag with one has a flag.
 #[inline(always)]
 fn lower(byte: u8) -> u8
     ensures { result ≡ shown.lower byte }
@@ -41,7 +46,7 @@ fn lower(byte: u8) -> u8
     byte | 0x20
 }
 
-/// A letter in upper case; what another byte becomes doesn't matter either.
+/// A letter in upper case, by 0xdf, all bits but 0x20; what another byte becomes doesn't matter either.
 #[inline(always)]
 fn upper(byte: u8) -> u8
     ensures { result ≡ shown.upper_byte byte }

@@ -1,4 +1,5 @@
-//! A table of flags, one for each place that a subtag can have, set where the subtag stays as it is.
+//! A table of flags, one bit for each place that a subtag can have, set where the subtag stays as it is. Flags *tell* a
+//! test if the flag of each subtag with a place is the test's answer (`Tell`).
 ghost use Rattle.std.specs.Prelude.{◌≡◌, ◌<◌, ◌++◌, ◌∷◌, [], ◌==◌, ◌↔◌, Bool, true, false, if◌then◌else◌, ℕ, List, All, IfOk, OnErr, IsTrue, IfSome, MatchOption, Some, length, bytes_eq};
 ghost use Rattle.lt_subtag.specs.Shapes.{is_language};
 ghost use Rattle.lt_tag.specs.Lists.{list_of};
@@ -17,7 +18,7 @@ use lt_subtag::Subtag;
 use std::alloc::{AllocError, Global};
 use std::marker::Model;
 
-/// How many words the flags take: one for each 64 places.
+/// How many words the flags take: one for each 64 of the 553,913 places (`PLACES`), rounded up.
 pub(crate) const WORDS: usize = 8655;
 
 /// The languages of 2 or 3 letters, the scripts and the regions of a registry that stay as they are.
@@ -27,7 +28,7 @@ pub struct UsualSubtags {
     words: Vec<u64>,
 }
 
-// A contract sees the words of flags.
+// A contract sees the words of flags. There are always all 8,655 (`WORDS`), so that each place is within them.
 impl Model for UsualSubtags {
     ghost use Rattle.std.specs.Prelude.{◌≡◌, ℕ, List, length};
 
@@ -39,7 +40,8 @@ impl Model for UsualSubtags {
 }
 
 impl UsualSubtags {
-    /// The flags of a table's subtags: a subtag has one exactly if it stays as it is. Refused only where memory runs out.
+    /// The flags of a table's subtags: that of a subtag is set exactly if it stays as it is. Refused only where memory
+    /// runs out.
     pub fn of_table<L: Lookup>(alloc: Global, table: &L) -> Result<UsualSubtags, AllocError>
         ensures { IfOk result (AreFlags (L.listed table.now)) }
     {
@@ -65,6 +67,8 @@ impl UsualSubtags {
     /// script, a region or both. Gives true exactly then; else it appends nothing. Refused only where memory runs out.
     #[inline(always)]
     pub fn append_text(&self, text: &[u8], texts: &mut Vec<u8>) -> Result<bool, AllocError>
+        // The flags don't keep the registry of which they are made: so `exact` and `appended` hold for any `R` of which
+        // they are the flags.
         ensures exact { IfOk result (λ told. (R : List EntryParts) → AreFlags R self.now → IsTrue told ↔ IsStaying R text.now) }
         ensures appended { IfOk result (λ told. (R : List EntryParts) → AreFlags R self.now → IsTrue told → texts.new.items ≡ texts.old.items ++ conventional (list_of text.now)) }
         ensures unchanged { IfOk result (λ told. told ≡ false → texts.new.items ≡ texts.old.items) }
@@ -91,8 +95,9 @@ fn has(words: &[u64], place: usize) -> bool
     words[place / 64] >> (place % 64) & 1 == 1
 }
 
-/// Sets the flag of a subtag, and tells whether it was clear before. False of a subtag without a place. There must be 8,655
-/// words.
+/// Sets the flag of a subtag, for C1, and tells whether it was clear before. False of a subtag without a place. There
+/// must be 8,655 words. The flags that were set stay so (`kept`), and that of the subtag is set (`marked`): so at each
+/// record the flags of those before are.
 #[tactic(auto, using(crate::proofs::OwnNames::flag_kept, crate::proofs::OwnNames::flag_set))]
 pub(crate) fn mark(words: &mut [u64], kind: Kind, subtag: &Subtag) -> bool
     requires { length words.old ≡ 8655 }
@@ -123,8 +128,9 @@ fn put(words: &mut [u64], place: usize, set: bool)
     }
 }
 
-/// Sets the flag of a subtag if `set`, and else clears it. A subtag without a place is passed over. There must be 8,655 words,
-/// and the subtag must have the form of the kind.
+/// Sets the flag of a subtag if `set`, and else clears it. A subtag without a place is passed over. There must be 8,655
+/// words, and the subtag must have the form of the kind, so that no other shares its place. Whatever test the flags
+/// told before, they then tell the same one but for this subtag, whose answer is `set`.
 fn put_subtag(words: &mut [u64], kind: Kind, subtag: &Subtag, set: bool)
     requires room { length words.old ≡ 8655 }
     requires form { has_form kind subtag.now ≡ true }
@@ -136,7 +142,8 @@ fn put_subtag(words: &mut [u64], kind: Kind, subtag: &Subtag, set: bool)
 }
 
 /// Sets the flag of the subtag of a record that is no range and no tag, if the record has no preferred value, and else
-/// clears it. There must be 8,655 words.
+/// clears it. There must be 8,655 words. If the flags told which subtags have a record without a value in `es`, they
+/// then tell so of `es` with this record in front.
 fn put_single(words: &mut [u64], entry: &Entry)
     requires { length words.old ≡ 8655 }
     ensures { (es : List EntryParts) → TellSingles es words.old → TellSingles (entry.now ∷ es) words.new }
@@ -160,8 +167,9 @@ fn put_singles(words: &mut [u64], entries: &[Entry])
     }
 }
 
-/// The language of the tag that a record replaces as a whole. None if the record has no tag or no preferred value, or if the
-/// tag has no core, or has extlangs or variants.
+/// The language of the tag that a record replaces as a whole. None if the record has no tag or no preferred value, or
+/// if the tag has no core, or has extlangs or variants. The clause says so of each language `s`: the record replaces
+/// such a tag of no `s`, or of that `s` alone which is given.
 fn replaced_language(entry: &Entry) -> Option<&Subtag>
     ensures language { MatchOption result ((s : List ℕ) → replaces_plain_of s entry.now ≡ false) (λ language. (s : List ℕ) → replaces_plain_of s entry.now ≡ bytes_eq language.now s) }
     ensures form { IfSome result (λ language. is_language language.now ≡ true) }
@@ -175,8 +183,9 @@ fn replaced_language(entry: &Entry) -> Option<&Subtag>
     }
 }
 
-/// Clears the flag of a language if the record replaces a tag of the language as a whole, with no more than a script and a
-/// region beside it. There must be 8,655 words.
+/// Clears the flag of a language if the record replaces a tag of the language as a whole, with no more than a script
+/// and a region beside it. There must be 8,655 words. If the flags told which subtags of `R` stay beside the records
+/// `es`, they then tell so beside `es` and this record.
 fn drop_language(words: &mut [u64], entry: &Entry)
     requires { length words.old ≡ 8655 }
     ensures { (R es : List EntryParts) → Tell (stays_beside R es) words.old → Tell (stays_beside R (es ++ entry.now ∷ [])) words.new }

@@ -1,5 +1,7 @@
-//! The conditions on whole records (RFC 5646, 2.2.8 and 3.1.7). The parts of their check are not inlined, so that their
-//! locals don't add up on the stack.
+//! The conditions on whole records, C9 to C11 (RFC 5646, 2.2.8 and 3.1.7). `MeetsBelow 10` says that all records meet
+//! C1 to C9: then chains of values end, and a proper core has one core normal form. A core such as that of `zh-guoyu`
+//! spells a grandfathered tag, and its text is read as that: so where a core is made a tag, its text must be none. The
+//! parts of their check are not inlined, so that their locals don't add up on the stack.
 ghost use Rattle.std.specs.Prelude.{◌≡◌, ◌↔◌, Some, IsTrue, IfOk, MatchOption, Contains};
 ghost use Rattle.std.specs.Option.{option_copied};
 ghost use Rattle.lt_tag.specs.Parts.{CoreParts};
@@ -46,15 +48,16 @@ pub(crate) fn has_valid_whole<L: Lookup>(alloc: Global, table: &L, entry: &Entry
     }
 }
 
-/// Does nothing when it runs: by its clause the forms of the entries and the order of their numbers are known.
+/// Does nothing when it runs: by its clause the forms of the entries and the order of their numbers are known to the
+/// proof.
 pub(crate) fn know_entries<L: Lookup>(table: &L)
     ensures { IsRegistry (L.listed table.now) }
 {
     let _ = table.entries();
 }
 
-/// The core normal form of a core, which must be proper. Its text is no grandfathered tag. Refused only where memory runs out.
-/// All records must meet the conditions before the tenth, and the shortcuts must be those of the table.
+/// The core normal form of a core, which must be proper. Its text is no grandfathered tag (`spelled`), as `value_of`
+/// asks. Refused only where memory runs out. All records must meet C1 to C9, and the shortcuts must be the table's.
 #[inline(never)]
 fn settled<L: Lookup>(
     alloc: Global,
@@ -70,7 +73,7 @@ fn settled<L: Lookup>(
 {
     let mut form = core.copy(alloc)?;
     shortcuts.settle_core(table, &mut form);
-    // So that the shape of the form is known.
+    // Does nothing but tell the proof the shape of the form.
     let _ = form.language();
     Ok(form)
 }
@@ -99,8 +102,8 @@ fn plain_value_of<L: Lookup>(alloc: Global, table: &L, core: Core) -> Option<&Co
     }
 }
 
-/// Whether a core repeats no variant, and no whole record replaces it as a tag. The text of the core must be no grandfathered
-/// tag, and all records must meet the conditions before the tenth.
+/// C10, asked of the core normal form of a value: whether a core repeats no variant, and no whole record replaces it as
+/// a tag. The text of the core must be no grandfathered tag, and all records must meet C1 to C9.
 #[inline(never)]
 fn rests<L: Lookup>(alloc: Global, table: &L, core: Core) -> bool
     requires lower { MeetsBelow 10 (L.listed table.now) }
@@ -112,9 +115,10 @@ fn rests<L: Lookup>(alloc: Global, table: &L, core: Core) -> bool
     are_distinct(core.variants()) && value_of(alloc, table, core).is_none()
 }
 
-/// Whether a tag comes to the core `end`: its core normal form is its own core or `end`, or has a value as a whole whose
-/// core normal form is `end`. True of a tag that is not a core alone. If the tag is a core alone, the core must be proper. All
-/// records must meet the conditions before the tenth, and the shortcuts must be those of the table.
+/// C11, asked of a record's tag, where `end` is the core normal form of its value: whether the tag comes to the core
+/// `end`. It does if its core normal form is its own core or `end`, or has a value as a whole whose core normal form is
+/// `end`. True of a tag that is not a core alone. If the tag is a core alone, the core must be proper. All records must
+/// meet C1 to C9, and the shortcuts must be the table's.
 #[inline(never)]
 fn comes_to<L: Lookup>(
     alloc: Global,
@@ -152,9 +156,8 @@ pub(crate) struct Judged {
     pub(crate) agrees: bool,
 }
 
-/// Whether a record meets the tenth and the eleventh condition, by the core normal forms of its tag and its value. The record
-/// must be one of the table's, all records must meet the conditions before the tenth, and the shortcuts must be those of the
-/// table.
+/// Whether a record meets the tenth and the eleventh condition, by the core normal forms of its tag and its value. The
+/// record must be one of the table's, all records must meet C1 to C9, and the shortcuts must be the table's.
 pub(crate) fn judge_whole<L: Lookup>(
     alloc: Global,
     table: &L,

@@ -1,4 +1,5 @@
--- The tags of which a service serves one.
+-- The tags of which a service serves one: what the loop over their texts adds and refuses, and that the spelling does
+-- not matter.
 use Rattle.std.proofs.Common.{◌≡◌, ◌<◌, ◌+◌, ◌++◌, ◌∷◌, ◌∙◌, Bor, ℕ, inl, List, [], get_or, length, map, sym, ap, subst, arith}
 use Rattle.std.proofs.lemmas.List.{get_or_append_left, get_or_default, get_or_push, get_or-map, length-append, length-map, same_lists}
 use borrow.Author.Count.{below_more}

@@ -1,4 +1,5 @@
--- What is read is in the grammar, and what is in the grammar is read.
+-- What is read of a header is in the grammar of Accept-Language, and what is in the grammar is read: element by
+-- element.
 use Rattle.std.proofs.Common.{◌≡◌, ℕ, ◌+◌, Bool, true, false, List, [], ◌∷◌, ◌++◌, refl, sym, ap, ◌∙◌, subst}
 use Rattle.std.specs.Prelude.{◌↔◌, Option, Some, None, option_to_list, Result, Ok, Err, IsOk}
 use Rattle.std.specs.List.{list_all}

@@ -1,4 +1,4 @@
--- Lemmas on the pieces of a text.
+-- Lemmas on the pieces of a text between hyphens, which are read as subtags one after another.
 use Rattle.std.proofs.Common.{◌≡◌, ℕ, ◌<◌, suc, List, [], ◌∷◌, ◌++◌, length, map, refl, sym, ap, ◌∙◌, arith}
 use Rattle.std.specs.Prelude.{Option, option_to_list, Result, Ok, Err, IsOk, slice_index_or}
 use Rattle.std.specs.List.{AllByRecursion}

@@ -38,8 +38,8 @@ fault_by (Ok range) true = None
 abbrev pub range_fault : List ℕ → Option AcceptFaultKind
 range_fault text = fault_by (range_of text) (is_basic text)
 
--- the element of a range, by the fault of the range, if it has one, and by the weight, if what follows the range is
--- one; or why there is no element
+-- the element of the text of a range, by the fault of the range, if it has one, and by the weight, if what follows the
+-- range is one; or why there is no element
 abbrev pub element_with : List ℕ → Option AcceptFaultKind → Option ℕ → Result (Option ElementParts) AcceptFaultKind
 element_with range (Some kind) weight = Err kind
 element_with range None None = Err kinds.BadWeight

@@ -22,12 +22,12 @@ ArePlaces P place (t ∷ ts) found =
     (P t × ((rest : List ℕ) × (found ≡ place ∷ rest) × ArePlaces P (place + 1) ts rest))
     ⊎ ((P t → ⊥) × ArePlaces P (place + 1) ts found)
 
--- none of the ranges matches the tag
+-- none of the ranges matches the tag by `M`
 abbrev pub NoneMatches : Matching → List RangeParts → List (List ℕ) → Type 0
 NoneMatches M ranges tag = AllByRecursion (λ range. M range tag → ⊥) ranges
 
--- Each range in turn, by priority, selects the tags that it matches and none before it does; those of `before` have had
--- their turn (RFC 4647, 3.3).
+-- Each of the ranges in turn, by priority, selects the tags that it matches by `M` and none before it does; those of
+-- `before` have had their turn. `found` are the places of all that are selected (RFC 4647, 3.3).
 abbrev pub Selects : Matching → List RangeParts → List RangeParts → List (List (List ℕ)) → List ℕ → Type 0
 Selects M before [] tags found = found ≡ []
 Selects M before (r ∷ rs) tags found = (here rest : List ℕ) × (found ≡ here ++ rest)

@@ -15,7 +15,8 @@ abbrev pub EquivalentTagsMatchAlike : List EntryParts → Type 0
 EquivalentTagsMatchAlike R = (scheme : MatchingScheme) (text : List ℕ) (t u : TagForm) → IsValid R u
     → AreEquivalent R t u → MatchesTag R scheme text t → MatchesTag R scheme text u
 
--- the ranges of equivalent valid tags match the same tags
+-- the ranges of equivalent valid tags match the same tags: the text `a` is read as `t`, and `b` as `u`, and `v` is a
+-- tag that `a` matches as a range
 abbrev pub EquivalentRangesMatchAlike : List EntryParts → Type 0
 EquivalentRangesMatchAlike R = (scheme : MatchingScheme) (a b : List ℕ) (t u v : TagForm) → HasTag a t → HasTag b u
     → IsValid R t → IsValid R u → AreEquivalent R t u → MatchesTag R scheme a v → MatchesTag R scheme b v

@@ -4,7 +4,7 @@ use Rattle.std.specs.List.{AllByRecursion}
 use Rattle.lt_range.specs.Ranges.{RangeParts}
 use Rattle.lt_range.specs.Matching.{FallsBackTo}
 
--- the tag at a place
+-- the tag at a place; after the last one, a tag without subtags
 abbrev pub tag_at : List (List (List ℕ)) → ℕ → List (List ℕ)
 tag_at tags place = slice_index_or tags place []
 

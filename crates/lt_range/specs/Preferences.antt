@@ -22,8 +22,8 @@ length_at all place = length (at all place).range.named
 abbrev pub NoneOf : (ℕ → Type 0) → ℕ → Type 0
 NoneOf P count = (i : ℕ) → i < count → P i → ⊥
 
--- of the first `count` places of which `P` is true, `place` is the one with the greatest length, and the first of that
--- length
+-- of the first `count` places of which `P` is true, `place` is the one with the greatest length, which `long` gives,
+-- and the first of that length
 pub record IsLongestOf (P : ℕ → Type 0) (long : ℕ → ℕ) (count place : ℕ) : Type 0 where
   pub within : place < count
   pub holds : P place
@@ -122,7 +122,7 @@ pub record TakesTurn (wild : Bool) (preference : Preference) : Type 0 where
   pub weighty : 0 < preference.weight
   pub turn : preference.range.wild ≡ wild
 
--- what the range at a place serves, if it takes part in the turn
+-- what the range at the place `index` serves: None if it takes no part in the turn
 abbrev pub ServesBy : Bool → List Preference → ℕ → List (List (List ℕ)) → Option ℕ → Type 0
 ServesBy wild all index tags served =
     (TakesTurn wild (at all index) × Serves all (at all index).range tags served)
@@ -199,7 +199,8 @@ pub record AreDeciding (all : List Preference) (tags : List (List (List ℕ))) (
   pub counted : length found ≡ count
   pub each : (place : ℕ) → place < count → MayDecide all (tag_at tags place) (slice_index_or found place None)
 
--- the places of the tags that are accepted by the ranges from `place` on, which are also given as a list by themselves
+-- `found` are the places of the tags that are accepted by the ranges from `place` on; these are given as a list by
+-- themselves too
 abbrev pub AreAcceptedFrom : List Preference → ℕ → List Preference → List (List (List ℕ)) → List ℕ → Type 0
 AreAcceptedFrom all place [] tags found = found ≡ []
 AreAcceptedFrom all place (p ∷ ps) tags found = (here rest : List ℕ) × (found ≡ here ++ rest)

@@ -56,7 +56,7 @@ pub record AppendsRead (old new : List (List ℕ)) (read : Result (List (List �
   pub grown : new ≡ old ++ added
   pub is_read : read ≡ Ok added
 
--- the range of a first piece and those after it, or the first fault
+-- the range of a first piece, which is None if that is `*`, and those after it, or the first fault
 abbrev pub begun : Result (Option (List ℕ)) RangeFault → Result (List (List ℕ)) RangeFault
     → Result RangeParts RangeFault
 begun (Err fault) read = Err fault
@@ -64,7 +64,7 @@ begun (Ok s) (Err fault) = Err fault
 begun (Ok None) (Ok named) = Ok (record { wild = true; named = named })
 begun (Ok (Some s)) (Ok named) = Ok (record { wild = false; named = s ∷ named })
 
--- the range of these pieces, or the first fault
+-- the range of these pieces, or the first fault; a text has at least one piece, so the first line is never used
 abbrev pub range_of_pieces : List (List ℕ) → Result RangeParts RangeFault
 range_of_pieces [] = Err faults.BadFirst
 range_of_pieces (p ∷ ps) = begun (first_piece p) (later_pieces ps)

@@ -25,17 +25,18 @@ of_digits whole parts = if whole == 48 then Some parts else (if (whole == 49) &&
 abbrev pub number_of : ℕ → List ℕ → Option ℕ
 number_of whole decimals = if are_decimals decimals then of_digits whole (thousandths decimals) else None
 
--- qvalue = ( "0" [ "." 0*3DIGIT ] ) / ( "1" [ "." 0*3("0") ] ) (RFC 9110, 12.4.2)
+-- qvalue = ( "0" [ "." 0*3DIGIT ] ) / ( "1" [ "." 0*3("0") ] ) (RFC 9110, 12.4.2), in thousandths; 46 is the point
 abbrev pub qvalue_of : List ℕ → Option ℕ
 qvalue_of [] = None
 qvalue_of (whole ∷ []) = number_of whole []
 qvalue_of (whole ∷ point ∷ decimals) = if point == 46 then number_of whole decimals else None
 
--- whether a byte is the letter q, in either case (113 or 81) (RFC 5234, 2.3)
+-- whether a byte is the letter `q`, in either case (113 or 81) (RFC 5234, 2.3)
 abbrev pub is_q : ℕ → Bool
 is_q b = (b == 113) || (b == 81)
 
--- the weight of the parameter `q=`, after which there is only white space; None if a text is no such parameter
+-- the weight of the parameter `q=` (61 is the `=`), after whose value there is only white space; None if a text is no
+-- such parameter
 abbrev pub parameter_of : List ℕ → Option ℕ
 parameter_of [] = None
 parameter_of (q ∷ []) = None

@@ -1,4 +1,4 @@
-//! Basic language ranges.
+//! Basic language ranges, which a header has: `*` alone, or a range without it.
 ghost use Rattle.std.specs.Prelude.{◌≡◌, None, OnOk, IfErr};
 ghost use Rattle.lt_range.specs.Elements as spec;
 

@@ -1,4 +1,5 @@
-//! The list elements of a header.
+//! The list elements of a header. An element is a range and what follows it, for example `en;q=0.8`; `parts_of` is what
+//! contracts see of it.
 ghost use Rattle.std.specs.Prelude.{◌≡◌, map, Ok, IfOk, IfErr};
 ghost use Rattle.std.specs.Option.{option_map};
 ghost use Rattle.lt_range.specs.Elements.{parts_of, element_of, IsRefused};

@@ -1,4 +1,5 @@
-//! Filtering a list of tags by a language priority list.
+//! Filtering a list of tags by a language priority list. That is a list of ranges, the first of which counts most.
+//! `ArePlaces P 0 tags found` says that `found` are the places, counted from 0, of the tags of which `P` is true.
 ghost use Rattle.std.specs.Prelude.{◌≡◌, ◌++◌, ◌↔◌, List, ℕ, [], IsTrue, IfOk, OnOk};
 ghost use Rattle.lt_range.specs.Matching.{MatchesBasic, MatchesExtended};
 ghost use Rattle.lt_range.specs.Filtering.{Matches, ArePlaces, NoneMatches, AreFiltered};

@@ -46,7 +46,8 @@ fn weighty<'a>(
         .collect(alloc)
 }
 
-/// The elements whose weight is not 0: those of greater weight first, and those of equal weight in their order.
+/// The elements whose weight is not 0: those of greater weight first, and those of equal weight in their order, as the
+/// sort is stable.
 fn by_priority<'a>(
     alloc: Global,
     elements: &[WeightedRange<'a>],

@@ -1,5 +1,6 @@
-//! The laws of language ranges, of the header, and of matching, for every registry that passes the check. Nothing is computed
-//! here: each contract is a law.
+//! The laws of language ranges, of the header, and of matching, for every registry that passes the check. Nothing is
+//! computed here: each contract is a law. They take nothing, and speak of every text, and every list `R` of entries
+//! that passes the check (`IsChecked R`).
 ghost use Rattle.std.specs.Prelude.{◌≡◌, ◌↔◌, ℕ, List, Ok};
 ghost use Rattle.lt_registry.specs.Parts.{EntryParts};
 ghost use Rattle.lt_check.specs.Conditions.{IsChecked};

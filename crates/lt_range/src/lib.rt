@@ -2,6 +2,13 @@
 //! and which tag they serve. Ranges and tags are matched by their extlang forms (RFC 5646, 4.5), so that equivalent
 //! tags match the same ranges, equivalent ranges the same tags, and `zh` finds `yue`. A program begins with the crate
 //! `bcp47`, whose `Registry` has these calls as methods.
+//!
+//! Words of this crate: a range is *wild* if it begins with `*`, and its other subtags are *named*. It *falls back* to
+//! a tag that lookup by it may find. A *preference* is a range with a weight in thousandths. The longest range that
+//! matches a tag *decides* the weight of the tag, which is *refused* if that is 0. A preference *serves* a tag in a
+//! *turn*: the ranges that are not wild have the first, and the wild ones the second. A *piece* is what is between two
+//! hyphens of a range or two commas of a header; a *place* counts from 0, and the number of a list element from 1.
+//! `from_gives` is what a proof knows of the fault that `?` makes of another.
 #![tactic(auto)]
 
 mod accept_faults;

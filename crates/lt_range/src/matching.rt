@@ -1,4 +1,5 @@
-//! Whether a language range matches a tag.
+//! Whether a language range matches a tag. A *singleton* is a subtag of one letter or digit, which begins an extension
+//! or private use: matching does not pass over it.
 ghost use Rattle.std.specs.Prelude.{◌≡◌, ◌++◌, ◌↔◌, IsTrue, MatchOption};
 ghost use Rattle.lt_range.specs.Matching.{BeginsWith, IsPassedTo, FollowsFirst, MatchesBasic, MatchesExtended, AreInTurn, FallsBackTo};
 ghost use Rattle.lt_range.specs.Matching as spec;
@@ -35,7 +36,8 @@ fn is_no_singleton(subtag: &Subtag) -> bool
     subtag.bytes().len() != 1
 }
 
-/// What follows the first place of a subtag in a list. None if the subtag isn't there, or if a singleton is before it.
+/// What follows the first place of a subtag in a list, where the most is left for those to come. None if the subtag
+/// isn't there, or if a singleton is before it.
 fn after_subtag<'a>(list: &'a [Subtag], subtag: &Subtag) -> Option<&'a [Subtag]>
     ensures { MatchOption result (IsPassedTo list.now subtag.now → ⊥) (λ rest. FollowsFirst list.now subtag.now rest.now) }
 {
@@ -66,7 +68,7 @@ fn are_in_turn(named: &[Subtag], list: &[Subtag]) -> bool
     true
 }
 
-/// Whether the last subtag of a list has more than one letter or digit. False of an empty list.
+/// Whether the last subtag of a list is no singleton, so that lookup may stop at it. False of an empty list.
 fn ends_long(list: &[Subtag]) -> bool
     ensures { result ≡ spec.ends_long list.now }
 {

@@ -1,4 +1,5 @@
-//! What a reader prefers: language ranges with weights.
+//! What a reader prefers: language ranges with weights. Calls take `all` of them, since one range may refuse a tag that
+//! another would serve.
 ghost use Rattle.std.specs.Prelude.{◌≡◌, ◌++◌, ◌↔◌, ◌<◌, ◌≤◌, ℕ, List, IsTrue, IfOk, IfSome, MatchOption, OnOk, length};
 ghost use Rattle.lt_range.specs.Filtering.{ArePlaces};
 ghost use Rattle.lt_range.specs.Preferences as spec;
@@ -17,8 +18,8 @@ pub struct Preference {
     pub weight: u16,
 }
 
-/// Whether the range at a place matches a tag, and is longer than the one at `best`, if there is one. Both places must be
-/// within the list.
+/// Whether the range at a place matches a tag by basic filtering, and is longer than the one at `best`, if there is
+/// one. Both places must be within the list.
 fn takes_over(all: &[Preference], tag: &TagSubtags, best: Option<usize>, place: usize) -> bool
     requires place { place < length all.now }
     requires best { IfSome best (λ found. found < length all.now) }
@@ -58,7 +59,7 @@ pub fn weight_of(all: &[Preference], tag: &TagSubtags) -> Option<u16>
     Some(all[place].weight)
 }
 
-/// Whether a tag is not acceptable.
+/// Whether a tag is not acceptable: a range decides its weight, and this is 0.
 #[tactic(auto, using(crate::proofs::PreferenceLemmas::refused_is_zero, crate::proofs::PreferenceLemmas::none_refused))]
 fn is_refused(all: &[Preference], tag: &TagSubtags) -> bool
     ensures { IsTrue result ↔ spec.IsRefused all.now tag.now }
@@ -150,15 +151,16 @@ fn takes_turn(wild: bool, preference: &Preference) -> bool
     preference.weight != 0 && preference.range.begins_wild() == wild
 }
 
-/// Whether a range falls back to a tag, or matches it by basic filtering.
+/// Whether a range falls back to a tag, or matches it by basic filtering: so it serves it, or a better one, if that tag
+/// is not refused.
 fn reaches(range: &LanguageRange, tag: &TagSubtags) -> bool
     ensures { IsTrue result ↔ spec.Reaches range.now tag.now }
 {
     range.falls_back_to(tag) || range.matches_basic(tag)
 }
 
-/// The place of the first range that takes part in the turn and reaches a tag, of the first `count` ranges, which must not
-/// be more than there are; `count` if none does.
+/// The place of the first range that takes part in the turn (of those that begin with `*` if `wild`) and reaches a tag,
+/// of the first `count` ranges; `count` if none does. There must be as many ranges.
 fn first_reaching(all: &[Preference], wild: bool, count: usize, tag: &TagSubtags) -> usize
     requires { count ≤ length all.now }
     ensures within { result ≤ count }
@@ -232,8 +234,8 @@ fn all_deciding(
     Ok(found)
 }
 
-/// Whether the range at a place, which must be within the list, accepts a tag. `decided` is the place of the range that
-/// decides the tag's weight.
+/// Whether the range at a place, which must be within the list, accepts a tag. The tag is not looked at: `decided` is
+/// the place of the range that decides its weight, and the clause holds for each tag of which that is so.
 fn accepts(all: &[Preference], decided: Option<usize>, place: usize) -> bool
     requires { place < length all.now }
     ensures { (tag : List (List ℕ)) → spec.MayDecide all.now tag decided → IsTrue result ↔ spec.Accepts all.now place tag }
@@ -244,8 +246,9 @@ fn accepts(all: &[Preference], decided: Option<usize>, place: usize) -> bool
     }
 }
 
-/// Adds the places of the tags that the range at `index` accepts. The index must be within the list, and `decided` must have
-/// for each tag the place of the range that decides its weight. The only refusal is running out of memory.
+/// Adds the places, counted from 0, of the tags that the range at `index` accepts: it decides their weight, which is
+/// not 0. The index must be within the list, and `decided` must have for each tag the place of the range that decides
+/// its weight. The only refusal is running out of memory.
 fn append_accepted(
     all: &[Preference],
     decided: &[Option<usize>],

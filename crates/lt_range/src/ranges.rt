@@ -75,8 +75,9 @@ fn first_piece(piece: &[u8]) -> Result<Option<Subtag>, RangeFault>
     }
 }
 
-/// Adds the subtags between the hyphens of `pieces`, the text after the first piece, or None if that was the last; a `*` is
-/// left out. Refused with the fault of the first piece that is neither a subtag nor `*`, or where memory runs out.
+/// Adds the subtags between the hyphens of `pieces`, the text after the first piece, or None if that was the last; a
+/// `*` is left out. Refused with the fault of the first piece that is neither a subtag nor `*`, or where memory runs
+/// out.
 fn append_pieces(named: &mut Vec<Subtag>, pieces: Option<&[u8]>) -> Result<(), RangeFault>
     ensures appended { OnOk result (AppendsRead named.old.items named.new.items (later_pieces (pieces_left pieces.entry))) }
     ensures refused { IfErr result (IsRefused (later_pieces (pieces_left pieces.entry))) }

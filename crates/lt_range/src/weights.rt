@@ -1,4 +1,4 @@
-//! Weights.
+//! Weights, such as `;q=0.5`: 500 thousandths.
 ghost use Rattle.std.specs.Prelude.{◌≡◌, ◌≤◌};
 ghost use Rattle.std.specs.List.{list_all};
 ghost use Rattle.std.specs.Char.{is_ascii_digit};
@@ -20,8 +20,8 @@ fn are_decimals(decimals: &[u8]) -> bool
     decimals.len() <= 3 && are_digits(decimals)
 }
 
-/// The value of the digit at an index, `place`, or 0 after the last. Whatever the byte is, the value is at most 207, that is
-/// 255 - 48.
+/// The value of the digit at an index, `place`, or 0 after the last. Whatever the byte is, the value is at most 207,
+/// that is 255 less 48, the byte `0`: so the sum in `thousandths` fits.
 fn digit(decimals: &[u8], place: usize) -> u16
     ensures value { result ≡ spec.digit decimals.now place }
     ensures small { result ≤ 207 }

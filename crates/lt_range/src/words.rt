@@ -1,4 +1,5 @@
-//! White space and words.
+//! White space and words, by which an element of a header is cut: a word is a range or a qvalue, and ends before white
+//! space or a semicolon.
 ghost use Rattle.std.specs.Prelude.{◌≡◌};
 ghost use Rattle.lt_range.specs.Words.{front, rest};
 ghost use Rattle.lt_range.specs.Words as spec;

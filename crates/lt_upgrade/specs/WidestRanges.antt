@@ -45,7 +45,8 @@ EndsRise [] = Unit {0}
 EndsRise (v ∷ rows) = AllByRecursion
     (λ (w : RangeRow). (is_up_to v.first w.first ≡ true) × (is_up_to v.last w.last ≡ true)) rows × EndsRise rows
 
--- one of these ranges holds a range exactly if a record of the registry names one that does
+-- one of the ranges `rows` holds a range of equally long ends exactly if a record of the registry `R` names one that
+-- does
 abbrev pub HoldRanges : List EntryParts → List RangeRow → Type 0
 HoldRanges R rows =
     (kind : Kind) (first last : List ℕ) → length first ≡ length last →

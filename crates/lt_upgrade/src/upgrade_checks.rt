@@ -1,4 +1,5 @@
-//! Whether a record meets a condition on a newer registry beside an older one.
+//! Whether a record meets a condition, U1 to U6, on a newer registry beside an older one. A value is *short* if it has
+//! 2 or 3 letters: of a variant it is then a language.
 ghost use Rattle.std.specs.Prelude.{◌≡◌, ◌≢◌, ◌↔◌, List, ℕ, Some, length, IsTrue, IfOk, Contains, unwrap_or};
 ghost use Rattle.std.specs.List.{list_all};
 ghost use Rattle.lt_registry.specs.Entries as entries;
@@ -23,8 +24,8 @@ use lt_subtag::Subtag;
 use lt_tag::{OutOfMemory, Tag};
 use std::alloc::Global;
 
-/// Whether the subtag or the range of a record is registered in the newer registry. True of a record of a whole tag. The
-/// ranges must be those of the newer registry.
+/// U1: whether the subtag or the range of a record is registered in the newer registry. True of a record of a whole
+/// tag. The ranges must be those of the newer registry.
 pub(crate) fn stays_registered<L: Lookup>(newer: &L, ranges: &WidestRanges, entry: &Entry) -> bool
     requires { HoldRanges (L.listed newer.now) ranges.now }
     ensures { IsTrue result ↔ StaysRegistered (L.listed newer.now) entry.now }
@@ -36,9 +37,9 @@ pub(crate) fn stays_registered<L: Lookup>(newer: &L, ranges: &WidestRanges, entr
     }
 }
 
-/// Whether the preferred value of a subtag of the kind, then that of this value, and so on, ends at the same subtag for left
-/// and for right. False where one of the chains goes in a circle. The kind must not be that of extlangs, and the shortcuts
-/// must be those of the table.
+/// Whether the preferred value of a subtag of the kind, then that of this value, and so on, ends at the same subtag for
+/// left and for right. False where one of the chains goes in a circle. The kind must not be that of extlangs, whose
+/// values are languages, and the shortcuts must be the table's.
 #[tactic(auto, using(crate::proofs::UpgradeChecks::endless_apart))]
 fn have_same_end<L: Lookup>(
     table: &L,
@@ -71,8 +72,8 @@ fn keeps_kind(kind: Kind, value: &Subtag) -> bool
     }
 }
 
-/// Whether the chains of a subtag and its older preferred value have the same end in the newer registry. True of a record
-/// without a value of its own kind. The shortcuts must be those of the newer registry.
+/// U2: whether the chains of a subtag and its older preferred value have the same end in the newer registry. True of a
+/// record without a value of its own kind. The shortcuts must be the newer registry's.
 pub(crate) fn keeps_ends<L: Lookup>(newer: &L, shortcuts: &Shortcuts, entry: &Entry) -> bool
     requires { AreShortcuts (L.listed newer.now) shortcuts.now }
     ensures { IsTrue result ↔ KeepsEnds (L.listed newer.now) entry.now }
@@ -92,7 +93,7 @@ fn same_prefixes(left: &[Prefix], right: &[Prefix]) -> bool
     left == right
 }
 
-/// The preferred value of the record of an extlang, or the extlang itself, `subtag`, if it has none.
+/// For U3: the preferred value of the record of an extlang, or the extlang itself, `subtag`, if it has none.
 fn replacement<'a>(entry: &'a Entry, subtag: &'a Subtag) -> &'a Subtag
     ensures { result.now ≡ unwrap_or (entries.one_of entry.now.value) subtag.now }
 {
@@ -102,8 +103,8 @@ fn replacement<'a>(entry: &'a Entry, subtag: &'a Subtag) -> &'a Subtag
     }
 }
 
-/// Whether an extlang has, in the newer registry, the same Prefixes, and a replacement whose chain of values has the same
-/// end. `entry` is its older record. The shortcuts must be those of the newer registry.
+/// Whether an extlang has, in the newer registry, the same Prefixes, and a replacement whose chain of values has the
+/// same end. `entry` is its older record. The shortcuts must be the newer registry's.
 fn is_same_extlang<L: Lookup>(
     newer: &L,
     shortcuts: &Shortcuts,
@@ -121,8 +122,8 @@ fn is_same_extlang<L: Lookup>(
         && have_same_end(newer, shortcuts, Kind::Language, old, new)
 }
 
-/// Whether an extlang keeps its Prefixes and the end of its replacement in the newer registry. True of any other record. The
-/// shortcuts must be those of the newer registry.
+/// U3: whether an extlang keeps its Prefixes and the end of its replacement in the newer registry. True of any other
+/// record. The shortcuts must be the newer registry's.
 pub(crate) fn keeps_extlang<L: Lookup>(newer: &L, shortcuts: &Shortcuts, entry: &Entry) -> bool
     requires { AreShortcuts (L.listed newer.now) shortcuts.now }
     ensures { IsTrue result ↔ KeepsExtlang (L.listed newer.now) entry.now }
@@ -135,7 +136,8 @@ pub(crate) fn keeps_extlang<L: Lookup>(newer: &L, shortcuts: &Shortcuts, entry: 
     }
 }
 
-/// Whether a Prefix is among those of a record, if it is one subtag. True of a longer one.
+/// Whether a Prefix is among those of a record, if it is one subtag. True of a longer one, beside which no
+/// VariantLanguage step is made.
 fn is_among(prefix: &Prefix, entry: &Entry) -> bool
     ensures { result ≡ checks.is_among entry.now.prefixes prefix.now }
 {
@@ -159,8 +161,9 @@ fn same_languages(left: &Entry, right: &Entry) -> bool
     are_among(left.prefixes(), right) && are_among(right.prefixes(), left)
 }
 
-/// Whether a variant whose value is a language keeps, in the newer registry, a language of the same end as its value, and
-/// the set of its Prefixes of one subtag. True of any other record. The shortcuts must be those of the newer registry.
+/// U4: whether a variant whose value is a language keeps, in the newer registry, a language of the same end as its
+/// value, and the set of its Prefixes of one subtag. True of any other record. The shortcuts must be the newer
+/// registry's.
 pub(crate) fn keeps_variant_language<L: Lookup>(
     newer: &L,
     shortcuts: &Shortcuts,
@@ -179,7 +182,7 @@ pub(crate) fn keeps_variant_language<L: Lookup>(
 
 /// Whether a variant has, in the newer registry, a language of the same end as its value, and the same Prefixes of one
 /// subtag. VariantLanguage steps then lead to the same end beside the same languages. `entry` is its older record, and
-/// `value` its older value. The shortcuts must be those of the newer registry.
+/// `value` its older value. The shortcuts must be the newer registry's.
 fn have_same_variant_language<L: Lookup>(
     newer: &L,
     shortcuts: &Shortcuts,
@@ -202,8 +205,8 @@ fn have_same_variant_language<L: Lookup>(
     }
 }
 
-/// Whether a variant whose value is a language has such a value in the older registry too, if it is registered there. True
-/// of any other record.
+/// U5: whether a variant whose value is a language has such a value in the older registry too, if it is registered
+/// there. True of any other record.
 #[tactic(auto, using(crate::proofs::UpgradeChecks::had_compared))]
 pub(crate) fn had_variant_language<L: Lookup>(older: &L, entry: &Entry) -> bool
     ensures { IsTrue result ↔ HadVariantLanguage (L.listed older.now) entry.now }
@@ -229,7 +232,7 @@ fn meet_in_canonical<L: Lookup>(
     requires second { RepeatsNoVariant second.now }
     ensures { IfOk result (λ meet. IsTrue meet ↔ MeetInCanonical (L.listed newer.now) first.now second.now) }
 {
-    // So that the table is known to pass the check.
+    // Does nothing but tell the proof that the table passes the check.
     let _ = newer.table();
     let refusal = match equivalent(alloc, newer, first, second) {
         Ok(answer) => return Ok(answer),
@@ -241,7 +244,7 @@ fn meet_in_canonical<L: Lookup>(
     }
 }
 
-/// Whether the newer registry has this preferred value for the whole tag.
+/// Whether the newer registry has this preferred value for the whole tag: then U6 is met, and `false` leaves it open.
 fn replaces<L: Lookup>(newer: &L, tag: &Tag, value: &Tag) -> bool
     ensures { IsTrue result → whole_value (L.listed newer.now) tag.now ≡ Some value.now }
 {
@@ -251,9 +254,9 @@ fn replaces<L: Lookup>(newer: &L, tag: &Tag, value: &Tag) -> bool
     }
 }
 
-/// Whether the tag and the preferred value of a record of the older registry have the same canonical form by the newer one.
-/// They do if the newer one has the same value for the tag. True of a record that replaces no whole tag. The record must be
-/// one of the older registry's.
+/// U6: whether the tag and the preferred value of a record of the older registry have the same canonical form by the
+/// newer one. They do if the newer one has the same value for the tag. True of a record that replaces no whole tag. The
+/// record must be one of the older registry's: by its check neither tag repeats a variant.
 pub(crate) fn keeps_whole<A: Lookup, B: Lookup>(
     alloc: Global,
     older: &Checked<A>,
@@ -263,7 +266,7 @@ pub(crate) fn keeps_whole<A: Lookup, B: Lookup>(
     requires { Contains (A.listed older.now) entry.now }
     ensures { IfOk result (λ meets. IsTrue meets ↔ KeepsWhole (B.listed newer.now) entry.now) }
 {
-    // So that the table is known to pass the check.
+    // Does nothing but tell the proof that the table passes the check.
     let _ = older.table();
     let table = newer.table();
     match tag_and_value(entry) {

@@ -1,4 +1,5 @@
-//! What follows for tags from an upgrade of the registry. Nothing is computed here: the contract is a law.
+//! What follows for tags from an upgrade of the registry. Nothing is computed here: the contract is a law on all lists
+//! of records `A` and `B`.
 ghost use Rattle.std.specs.Prelude.{List};
 ghost use Rattle.lt_registry.specs.Parts.{EntryParts};
 ghost use Rattle.lt_check.specs.Conditions.{IsChecked};

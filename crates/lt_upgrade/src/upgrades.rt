@@ -72,7 +72,8 @@ const IN_ORDER: [UpgradeCondition; 6] = [
     UpgradeCondition::SameWhole,
 ];
 
-/// The records of which a condition speaks: those of the newer registry for `NoNewVariantLanguage`, else those of the older.
+/// The records of which a condition speaks: those of the newer registry for `NoNewVariantLanguage`, else those of the
+/// older. Their numbers rise (`rising`), so that the first at fault has the lowest.
 fn records_of<'a, A: Lookup, B: Lookup>(
     older: &'a Checked<A>,
     newer: &'a Checked<B>,
@@ -152,9 +153,8 @@ pub fn upgrade_check<A: Lookup, B: Lookup>(
     ensures keeps { OnOk result (UpgradeKeepsTags (A.listed older.now) (B.listed newer.now)) }
     ensures fault { IfErr result (IsUpgradeFault (A.listed older.now) (B.listed newer.now)) }
 {
-    // So that it is known what an upgrade keeps.
+    // These two do nothing but tell the proof what an upgrade keeps, and that the table passes the check.
     upgrades_keep_tags();
-    // So that the table is known to pass the check.
     let _ = older.table();
     let ranges = WidestRanges::of_entries(alloc, newer.table().entries())?;
     for condition in IN_ORDER {

@@ -1,4 +1,5 @@
-//! The ranges among entries, to tell whether one of them covers another.
+//! The ranges among entries, to tell for U1 whether one of them covers an older range. Only the *widest* are kept, in
+//! order, of which both ends rise, so that a binary search finds the one to ask.
 ghost use Rattle.std.specs.Prelude.{◌≡◌, List, All, IfOk, length};
 ghost use Rattle.std.specs.List.{list_any};
 ghost use Rattle.lt_registry.specs.Parts.{EntryParts};
@@ -16,7 +17,7 @@ use std::marker::Model;
 /// length.
 #[derive(Drop, PartialEq, Eq, PartialOrd, Ord)]
 pub(crate) struct RangeEnd {
-    /// The kind's number.
+    /// The kind's number, which has an order.
     kind: u8,
     /// How many letters the subtag has.
     length: usize,
@@ -79,8 +80,9 @@ impl WidestRanges {
         Ok(WidestRanges::of_rows(rows))
     }
 
-    /// The ranges in order, without those that end no later than an earlier one, so that each that is left ends later than
-    /// the one before it.
+    /// The ranges in order, without those that end no later than an earlier one, so that each that is left ends later
+    /// than the one before it. The clause says that nothing is lost: whatever range from `a` to `b` some row contained,
+    /// some row still does.
     fn of_rows(mut rows: Vec<RangeRow>) -> WidestRanges
         ensures { (a b : RangeEnd) → list_any (contains a b) result ≡ list_any (contains a b) rows.items }
     {
@@ -90,7 +92,8 @@ impl WidestRanges {
     }
 
     /// Whether one of the ranges, of the same kind and length, goes from `first` or a subtag before it to `last` or one
-    /// after it. `first` and `last` must be equally long.
+    /// after it. `first` and `last` must be equally long. The ranges don't keep the registry of which they are made, so
+    /// the clause holds of any `R` whose ranges they are.
     pub(crate) fn cover(&self, kind: Kind, first: &Subtag, last: &Subtag) -> bool
         requires { length first.now ≡ length last.now }
         ensures { (R : List EntryParts) → HoldRanges R self.now → result ≡ some_covers R kind first.now last.now }

@@ -1,6 +1,7 @@
 use Rattle.bcp47.proofs.registries.know_promise.Goals as goal
 
--- that the table is checked is a clause of `table`, and all that follows from it are clauses of `confluence`
+-- The promise holds of a table that passes the check: that it does is a clause of `table`, and all that follows from it
+-- are clauses of `confluence`.
 pub returns : goal.returns
 returns c = record {
   checked = c.table.ensures.checked;

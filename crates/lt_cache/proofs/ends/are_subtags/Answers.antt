@@ -5,7 +5,7 @@ use Rattle.std.proofs.lemmas.List.Folds.{list_all-map}
 use Rattle.lt_subtag.specs.Bytes.{folded, is_subtag}
 use Rattle.lt_cache.proofs.ends.are_subtags.Goals as goal
 
--- the pieces between hyphens are the list of the text, and each is tried
+-- True exactly if each subtag of the text's list is one: the pieces between hyphens are the list, and each is tried.
 pub returns : goal.returns
 returns c =
     all_from_yields_List (λ (s : List ℕ). is_subtag (folded s)) _ _ c.all.result c.all.ensures.ran

@@ -3,7 +3,7 @@ use Rattle.lt_tag.specs.Parts.{KeywordParts}
 use Rattle.lt_cache.proofs.KeywordEnds.{added_key, added_type}
 use Rattle.lt_cache.proofs.keyword_ends.add_subtag.Goals as goal
 
--- a key begins a further keyword, which has no types yet
+-- the keywords are then the old ones and the subtag: a key begins a further keyword, which has no types yet
 pub returns-then-is_key : goal.returns-then-is_key
 returns-then-is_key c = λ _.
     let old = c.args.keywords.now.items in
@@ -11,7 +11,7 @@ returns-then-is_key c = λ _.
     (c.in_ok-push.ensures.items
     ∙ ap (λ (types : List (List ℕ)). old ++ record { key = c.args.subtag; types = types } ∷ []) c.new.ensures.items)
 
--- a type goes to the last keyword, and those before it stay
+-- the same of a type, which goes to the last keyword; those before it stay
 pub returns : goal.returns
 returns c = λ _.
     let last = c.last.inside in

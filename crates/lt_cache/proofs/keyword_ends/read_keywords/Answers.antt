@@ -9,7 +9,8 @@ use Rattle.lt_cache.proofs.KeywordEnds.{keywords_read}
 use Rattle.lt_cache.proofs.SettledEnds.{some_list}
 use Rattle.lt_cache.proofs.keyword_ends.read_keywords.Goals as goal
 
--- nothing is left of the text, so the keywords read spell it, and there are no attributes
+-- the text is read as a `u` extension of the keywords that are given, without attributes: nothing is left of it, so
+-- they spell it
 pub returns : goal.returns
 returns c =
     let spelled = flat_map spell_keyword c.loop-rest.keywords.items in

@@ -4,12 +4,12 @@ use Rattle.lt_cache.specs.declared.recent.Kept.{Kept}
 use Rattle.lt_cache.proofs.PlaceLemmas.{places_blank_are}
 use Rattle.lt_cache.proofs.recent.blank.Goals as goal
 
--- a turn adds one empty place more
+-- after a turn the places so far are still empty, and as many as the turns: it adds one
 pub loop-place-preserved : goal.loop-place-preserved
 loop-place-preserved c =
     c.in_ok-push.ensures.items ∙ ap (λ (places : List (Option Kept)). places ++ None ∷ []) c.loop-place.invariant
     ∙ replicate_more c.loop-place._place None
 
--- there were 8,192 turns, so there are 8,192 places, all empty
+-- what is made are the 8,192 empty places of a cache: there were as many turns
 pub returns : goal.returns
 returns c = c.loop-place.invariant ∙ places_blank_are c.loop-place._place (omega (arith, c.loop-place-test.false, c.loop-place.auto))

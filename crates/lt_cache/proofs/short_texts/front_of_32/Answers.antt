@@ -5,7 +5,8 @@ use lib.Lanes.{chunk}
 use Rattle.lt_cache.proofs.LaneLemmas.{front_lanes}
 use Rattle.lt_cache.proofs.short_texts.front_of_32.Goals as goal
 
--- a lane below `count` has the byte of the text, and each lane from there on has zero
+-- What is given are the first `count` bytes and zeros: a lane, one of the 32 bytes, has the byte of the text below
+-- `count`, and zero from there on.
 pub returns : goal.returns
 returns c =
     let t = c.args.text.now in

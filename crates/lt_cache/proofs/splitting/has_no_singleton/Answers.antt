@@ -5,7 +5,8 @@ use Rattle.std.proofs.lemmas.List.{length-map}
 use Rattle.std.proofs.lemmas.List.Folds.{list_all-map}
 use Rattle.lt_cache.proofs.splitting.has_no_singleton.Goals as goal
 
--- the pieces between hyphens are the list of the text, and each is tried; letter case doesn't change a length
+-- True exactly if no subtag of the text has one character: the pieces between hyphens are its list, letter case aside,
+-- and each is tried.
 pub returns : goal.returns
 returns c =
     all_from_yields_List (λ (s : List ℕ). not (length s == 1)) _ _ c.all.result c.all.ensures.ran

@@ -1,15 +1,16 @@
 use Rattle.lt_cache.proofs.KeptEnds.{front_appended}
 use Rattle.lt_cache.proofs.texts.append_front.Goals as goal
 
--- the flags are those of the registry, so they tell exactly which texts are of subtags that stay
+-- true exactly of a front whose subtags stay: the flags are those of the registry, and tell just that
 pub returns-clause-exact : goal.returns-clause-exact
 returns-clause-exact g c = (c.in_ok-told.ensures {u = tt}).exact (g.L.Lookup.listed c.args.checked.now) c.usual.ensures.flags
 
--- the flags are those of the registry, by which a text of subtags that stay is appended in conventional case
+-- where true is answered, the front was appended in conventional case, as the flags do that are of the registry
 pub returns-clause-appended : goal.returns-clause-appended
 returns-clause-appended g c = (c.in_ok-told.ensures {u = tt}).appended (g.L.Lookup.listed c.args.checked.now) c.usual.ensures.flags
 
--- a text of subtags that stay is read as a core alone, which is canonical
+-- what was appended, if anything, is a canonical core: a text of subtags that stay is read as a core alone, which is
+-- canonical
 pub returns-clause-told : goal.returns-clause-told
 returns-clause-told g c =
     let R = g.L.Lookup.listed c.args.checked.now in

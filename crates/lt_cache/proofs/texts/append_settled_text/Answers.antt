@@ -1,7 +1,8 @@
 use Rattle.lt_cache.proofs.SettledEnds.{end_appended}
 use Rattle.lt_cache.proofs.texts.append_settled_text.Goals as goal
 
--- the front is a canonical core, and what was appended for the end follows each such core with it
+-- what was appended is the canonical text: the front is a canonical core, and what was appended for the end follows
+-- each such core with it
 pub returns-clause-appended : goal.returns-clause-appended
 returns-clause-appended g c = λ _.
     let R = g.L.Lookup.listed c.args.checked.now in

@@ -4,7 +4,8 @@ use Rattle.lt_canon.proofs.CanonicalForms.{settled_canonical, coreless_settled}
 use Rattle.lt_canon.proofs.canonical_tags.canonical_of.Goals as goal
 use Rattle.lt_canon.proofs.canonical_tags.canonical_of.Goals.{in-Ok+in_ok-settled-in-Ok, in-Err}
 
--- the parts of the tag are in their normal forms, so with its value taken, if it has one, it is canonical
+-- the answer is the canonical form: the parts of the tag are in their normal forms already, so with its value taken, if
+-- it has one, it is canonical
 pub returns-then-not-branch : goal.returns-then-not-branch
 returns-then-not-branch g c =
     rw (← c.table-table.ensures.value) (settled_canonical (g.L.Lookup.listed c.table-table.result.now)
@@ -12,7 +13,8 @@ returns-then-not-branch g c =
     c.in_ok-replaced_whole.field-0 c.in_ok-needs_settling.ensures.valid
     (c.in_ok-needs_settling.ensures.settled c.if-not-branch.true) (c.in_ok-replaced_whole.ensures {u = tt}))
 
--- the settled tag has its parts in their normal forms, so with its value taken, if it has one, it is canonical
+-- the answer is the canonical form: the settled tag has its parts in their normal forms, so with its value taken, if it
+-- has one, it is canonical
 pub returns : goal.returns
 returns g c =
     let t = c.args.tag in

@@ -1,7 +1,8 @@
 use Rattle.lt_canon.proofs.RepeatedVariants.{source_refused}
 use Rattle.lt_canon.proofs.canonical_tags.settled_langtag.Goals as goal
 
--- the core repeats no variant, and this is the first that a source repeats, so a refusal names it
+-- the refusal is right, as steps can repeat a variant and this is the one to name: the core repeats none, and it is the
+-- first that a source repeats
 pub returns-in-Some-clause-refusal : goal.returns-in-Some-clause-refusal
 returns-in-Some-clause-refusal g c =
     source_refused (g.L.Lookup.listed c.args.table.now) c.requires.checked c.args.core c.settle_core.new.core

@@ -12,7 +12,7 @@ use Rattle.lt_canon.proofs.TraceLemmas.{few_in_tag, first_adds, plain_explained,
 use Rattle.lt_canon.proofs.explaining.explain_tag.Goals as goal
 use Rattle.lt_canon.proofs.explaining.explain_tag.Goals.{Then-is_some}
 
--- of a core alone
+-- where the tag is a core alone: the tag of its settled core is proper, and the steps that were added lead to it
 plain : (g : _) (c : Then-is_some g)
     → IsProper (g.L.Lookup.listed c.args.table.now) (core_alone c.in_ok-settled.settled)
     × Adds (LeadsBy (g.L.Lookup.listed c.args.table.now)) rank_in c.args.tag.now (core_alone
@@ -26,7 +26,8 @@ plain g c =
     (c.in-Some.ensures {u = tt}).value alone
     (rw (← c.in_ok-copy.ensures {u = tt}) (c.in_ok-settled.ensures {u = tt}).adds)
 
--- steps lead from a proper tag to proper ones, and a proper core spells no grandfathered tag
+-- a tag may be made of the settled core, which must spell no grandfathered tag: steps lead from a proper tag to proper
+-- ones, and a proper core spells none
 pub from_parts-settled-requires-clause-not_grandfathered :
     goal.from_parts-settled-requires-clause-not_grandfathered
 from_parts-settled-requires-clause-not_grandfathered g c =
@@ -34,7 +35,8 @@ from_parts-settled-requires-clause-not_grandfathered g c =
     (proper_parts (g.L.Lookup.listed c.args.table.now) c.in_ok-settled.settled [] []
     (plain g (goal.at.from_parts-settled-requires-clause-not_grandfathered g c).Then-is_some).0).core)
 
--- the tag of the settled core is proper and a core alone, and no step on its core leads on
+-- `explain_whole` may be called: the tag of the settled core is proper and a core alone, and no step on its core leads
+-- on
 pub explain_whole-requires-then-is_some : goal.explain_whole-requires-then-is_some
 explain_whole-requires-then-is_some g c = rw (c.from_parts-settled.ensures, c.new.ensures.items, c.new-then-is_some.ensures.items) (record {
   checked = c.requires.checked;
@@ -43,7 +45,8 @@ explain_whole-requires-then-is_some g c = rw (c.from_parts-settled.ensures, c.ne
   at_rest = λ b h. let is : c.in_ok-settled.settled ≡ b = cc in rw is at (c.in_ok-settled.ensures {u = tt}).at_rest;
 })
 
--- the steps on the core come first, and then those that `explain_whole` adds
+-- the steps that were added lead, each the first, to a tag at rest: those on the core come first, and then those that
+-- `explain_whole` adds
 pub returns-then-is_some : goal.returns-then-is_some
 returns-then-is_some g c =
     IfOk-weaker c.explain_whole-then-is_some.result _ _
@@ -53,7 +56,8 @@ returns-then-is_some g c =
     (rw (c.from_parts-settled.ensures, c.new.ensures.items, c.new-then-is_some.ensures.items) at rest))
     c.explain_whole-then-is_some.ensures
 
--- a tag has few enough subtags, so core and extensions together have
+-- `explain_extensions` may be called, which bounds the subtags: a tag has few enough, so core and extensions together
+-- have
 pub explain_extensions-requires-clause-few : goal.explain_extensions-requires-clause-few
 explain_extensions-requires-clause-few g c =
     omega (
@@ -63,7 +67,8 @@ explain_extensions-requires-clause-few g c =
       c.core_length.ensures.few,
     )
 
--- a tag with extensions or private use can't be replaced whole, so after the core there are only its extensions
+-- the steps that were added lead, each the first, to a tag at rest: one with extensions or private use can't be
+-- replaced whole, so after the core there are only its extensions
 pub returns : goal.returns
 returns g c =
     let none : c.core_alone.result ≡ None = let told = c.if-is_some.ensures {u = tt} in grind arith in

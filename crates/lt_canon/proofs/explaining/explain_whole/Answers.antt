@@ -4,7 +4,7 @@ use Rattle.lt_check.proofs.CheckedRegistry.{value_plain}
 use Rattle.lt_canon.proofs.TraceLemmas.{value_rests_by}
 use Rattle.lt_canon.proofs.explaining.explain_whole.Goals as goal
 
--- the value of a whole record is a core alone (C9), so it is not without a core
+-- the arm of a value without a core is never reached: that of a whole record is a core alone (C9)
 pub returns-in_default-core : goal.returns-in_default-core
 returns-in_default-core g c =
     let found = c.in-Some.ensures {u = tt} in
@@ -14,7 +14,8 @@ returns-in_default-core g c =
     let none : None ≡ Some plain.core = (c.in_default-core.ensures {u = tt}).value ∙ ap core_of plain.is in
     cc
 
--- Whole comes first, since the core is at rest; after the steps on the core of the value none leads on (C10)
+-- The steps that were added lead, each the first, to a tag at rest: Whole comes first, since the core is at rest, and
+-- after the steps on the core of the value none leads on (C10).
 pub returns : goal.returns
 returns g c =
     let given = c.in_ok-steps.ensures {u = tt} in

@@ -26,13 +26,14 @@ fronted g c = rw (
   c.language-2.ensures.value,
 )
 
--- the Prefix is a language, short enough for an extlang to follow it
+-- `set_language` may be called, which asks that an extlang can follow: the Prefix is a language of 2 or 3 letters
 pub set_language-requires : goal.set_language-requires
 set_language-requires g c =
     let f = fitting g (goal.at.set_language-requires g c).In-Some-extlang_prefix in
     record { language = rw c.copy-2.ensures f.prefix; short_before_extlangs = λ _. rw c.copy-2.ensures f.short }
 
--- the language has the form of an extlang, and the canonical core has none, but a short language in front
+-- `set_extlang` may be called: the language has the form of an extlang, and the canonical core has none, but now a
+-- short language in front
 pub set_extlang-requires : goal.set_extlang-requires
 set_extlang-requires g c =
     let f = fitting g (goal.at.set_extlang-requires g c).In-Some-extlang_prefix in
@@ -44,7 +45,8 @@ set_extlang-requires g c =
       short_before = rw (c.set_language.ensures, c.copy-2.ensures) f.short;
     }
 
--- a canonical core with the Prefix of its language in front spells no grandfathered tag
+-- a tag may be made of the core with the Prefix in front, which must spell no grandfathered tag: a canonical core so
+-- changed spells none
 pub from_parts-requires-clause-not_grandfathered :
     goal.from_parts-requires-clause-not_grandfathered
 from_parts-requires-clause-not_grandfathered g c =
@@ -54,7 +56,7 @@ from_parts-requires-clause-not_grandfathered g c =
     (c.in_ok-form.ensures {u = tt}).ok.canonical (sym c.in-Some.ensures.value)
     (fitting g at.In-Some-extlang_prefix).found))
 
--- the tag is made of the canonical form with the Prefix in front, which is the extlang form
+-- the answer is the extlang form: the canonical form with the Prefix of its language in front
 pub returns-clause-form : goal.returns-clause-form
 returns-clause-form g c =
     let at = goal.at.returns-clause-form g c in

@@ -3,7 +3,7 @@ use Rattle.lt_rewrite.specs.declared.steps.StepKind.TheVariants as kinds
 use Rattle.lt_canon.proofs.TraceLemmas.{trace_here}
 use Rattle.lt_canon.proofs.traces.follow.Goals as goal
 
--- a turn takes one step more, from the tag reached so far to a proper one
+-- after a turn the steps up to its own are a trace to the tag that it reached, which is proper
 pub loop-index-preserved : goal.loop-index-preserved
 loop-index-preserved g c =
     let on = (c.in-Ok.ensures {u = tt}).ok in

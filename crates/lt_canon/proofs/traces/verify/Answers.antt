@@ -8,17 +8,17 @@ use Rattle.lt_canon.proofs.TraceLemmas.{invalid_trace, follow_fault, fault_exclu
 use Rattle.lt_canon.proofs.traces.verify.Goals as goal
 use Rattle.lt_canon.proofs.traces.verify.Goals.{After-extensions}
 
--- `validate` found no fault, and a tag without a fault is valid
+-- once `validate` found no fault, the tag is valid
 valid : (g : _) (c : After-extensions g) → IsValid (g.L.Lookup.listed c.args.checked.now) c.args.tag.now
 valid g c = rw (← c.table-table.ensures.value)
     ((valid_law (g.L.Lookup.listed c.table-table.result.now) c.args.tag.now c.extensions.ensures.tag).1
     (c.in_ok-validate.ensures {u = tt}).ok)
 
--- the tag is valid, and so proper
+-- `follow` may be called, which asks for a proper tag: this one is valid
 pub follow-requires : goal.follow-requires
 follow-requires g c = rw c.table-table.ensures.value (valid g (goal.at.follow-requires g c).After-extensions).proper
 
--- the tag is not valid, so no steps are a valid trace from it
+-- where `validate` found a fault, the trace is not right: no steps are a trace from a tag that is not valid
 pub returns-in_err-validate-clause-exact : goal.returns-in_err-validate-clause-exact
 returns-in_err-validate-clause-exact g c =
     let p = err_from_is_err_and c.from_residual.result c.from_residual.ensures.1 in
@@ -27,7 +27,8 @@ returns-in_err-validate-clause-exact g c =
     c.args.trace.now.last c.args.trace.now.steps.items c.in_err-validate.field-0.0
     (c.in_err-validate.ensures {u = tt}).err)))
 
--- the steps could not be followed to an end: that is the fault of the trace, which is then not valid
+-- where `follow` refuses, its fault is that of the trace, and the trace is not right: a step leads nowhere, or memory
+-- ran out
 pub returns-in_err-end : goal.returns-in_err-end
 returns-in_err-end g c =
     let p = err_from_is_err_and c.from_residual-in_err-end.result c.from_residual-in_err-end.ensures.1 in
@@ -43,7 +44,7 @@ returns-in_err-end g c =
           c.args.trace.now.steps.items p.0 told);
     }
 
--- the steps lead to the last tag of the trace, so this is equivalent to the tag
+-- where the end is the last tag of the trace, the trace is right, and that tag is equivalent to the first
 pub returns-then-eq : goal.returns-then-eq
 returns-then-eq g c =
     let led = rw (c.table-table.ensures.value, c.deref.ensures.value) at (c.in_ok-end.ensures {u = tt}).ok in
@@ -54,7 +55,7 @@ returns-then-eq g c =
     c.args.trace.now.last c.args.trace.now.steps.items trace).1 in
     search (rules, V, trace, same)
 
--- the steps lead to one end, and the last tag of the trace is another, so the trace is not valid
+-- WrongEnd is right, and the trace is not: the steps lead to one end only, and the last tag of the trace is another
 pub returns : goal.returns
 returns g c =
     let led = rw (c.table-table.ensures.value, c.deref.ensures.value) at (c.in_ok-end.ensures {u = tt}).ok in

@@ -1,7 +1,8 @@
 use Rattle.lt_check.proofs.FirstFaults.{item_at, found_fault}
 use Rattle.lt_check.proofs.checking.first_failing.Goals as goal
 
--- all entries before meet the condition, and their numbers are lower, so this is the lowest at fault
+-- the record that is named is the lowest at fault: all entries before meet the condition, and later ones have higher
+-- numbers
 pub returns-then-not-meets : goal.returns-then-not-meets
 returns-then-not-meets g c =
     let at = item_at _ _ _ _ c.entries-entry-items.ensures.value c.loop-entry-test.true c.entry-item.is in

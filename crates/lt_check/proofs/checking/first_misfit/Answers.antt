@@ -2,7 +2,7 @@ use Rattle.lt_check.specs.declared.conditions.Condition.TheVariants as condition
 use Rattle.lt_check.proofs.FirstFaults.{item_at, found_fault}
 use Rattle.lt_check.proofs.checking.first_misfit.Goals as goal
 
--- all entries before fit, and their numbers are lower, so this is the lowest at fault
+-- the record that is named is the lowest that fails C8: all entries before fit, and later ones have higher numbers
 pub returns-then-not-fits_grandfathered : goal.returns-then-not-fits_grandfathered
 returns-then-not-fits_grandfathered g c =
     let at = item_at _ _ _ _ c.entries-entry-items.ensures.value c.loop-entry-test.true c.entry-item.is in

@@ -5,7 +5,8 @@ use Rattle.lt_check.proofs.Judging.{judged_whole}
 use Rattle.lt_check.proofs.checking.first_whole_fault.Goals as goal
 use Rattle.lt_check.proofs.checking.first_whole_fault.Goals.{then-not-judged-2, else-not-judged-2}
 
--- all entries before meet C10, so this is its lowest fault; it goes before any fault of C11
+-- The record that is named is the verdict on C1 to C11: all entries before meet C10, so this is its lowest fault. It
+-- goes before any fault of C11.
 pub returns-then-not-judged : goal.returns-then-not-judged
 returns-then-not-judged g c =
     let at = item_at _ _ _ _ c.entries-entry-items.ensures.value c.loop-entry-test.true c.entry-item.is in

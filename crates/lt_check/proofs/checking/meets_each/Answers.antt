@@ -3,7 +3,8 @@ use Rattle.lt_check.proofs.checking.meets_each.Goals as goal
 use Rattle.lt_check.proofs.checking.meets_each.Goals.{then-has_fitting_prefixes, else-has_fitting_prefixes}
 use Rattle.lt_check.proofs.checking.meets_each.Goals.{then-has_fitting_value, else-has_fitting_value}
 
--- the tests of value, Prefixes and whole tag held, so if the last holds too, each condition is met
+-- where true is answered, the record meets each condition that is decided record by record: the tests of value,
+-- Prefixes and whole tag held, and the last, that of C12, gives the answer
 pub returns-then-has_valid_whole : goal.returns-then-has_valid_whole
 returns-then-has_valid_whole g c = λ no_range.
     elim c.if-has_fitting_prefixes.branch [

@@ -4,7 +4,8 @@ use Rattle.lt_check.specs.RegularTags.{is_number}
 use Rattle.lt_check.proofs.RegularLists.{fits_verdict}
 use Rattle.lt_check.proofs.grandfathered_checks.fits_grandfathered.Goals as goal
 
--- the record's tag fits, so it meets C8 exactly if its number is none of the validating records
+-- true exactly if the record meets C8: its tag fits, so it does exactly if its number is none of the validating
+-- records'
 pub returns-then-has_fitting_tag : goal.returns-then-has_fitting_tag
 returns-then-has_fitting_tag g c =
     let known = c.has_number.ensures ∙ ap (λ n. list_any (is_number n) c.args.validating.now) c.number.ensures.value in

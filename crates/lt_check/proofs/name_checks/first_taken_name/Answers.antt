@@ -4,14 +4,15 @@ use Rattle.lt_check.proofs.FirstFaults.{item_at, before_more, all_met, found_fau
 use Rattle.lt_check.proofs.OwnNames.{marked_at, marked_next, new_own, seen_more}
 use Rattle.lt_check.proofs.name_checks.first_taken_name.Goals as goal
 
--- the records with lower numbers are the entries before this one, and the flags of their subtags are set
+-- `is_new` asks that the subtags of records with lower numbers have their flags set: these are the entries before this
+-- one, of which the loop keeps that
 pub is_new-requires-clause-flags : goal.is_new-requires-clause-flags
 is_new-requires-clause-flags g c =
     marked_at _ c.entries-entry-items.ensures.rising _ _ _
     (item_at _ _ _ _ c.entries-entry-items.ensures.value c.loop-entry-test.true c.entry-item.is)
     c.loop-entry.invariant.flags
 
--- all entries before have names of their own, and this one hasn't, so it is the lowest at fault
+-- the record that is named is the lowest that fails C1: all entries before have names of their own, and this one hasn't
 pub returns-then-not-branch : goal.returns-then-not-branch
 returns-then-not-branch g c =
     let rising = c.entries-entry-items.ensures.rising in
@@ -36,7 +37,7 @@ loop-entry-preserved g c =
       seen = seen_more _ _ _ at c.loop-entry.seen c.is_new.new.seen c.loop-entry.invariant.seen c.in_ok-is_new.ensures.seen;
     }
 
--- no entry is left, so all entries have names of their own
+-- None is right: no entry is left, so all entries have names of their own
 pub returns : goal.returns
 returns g c =
     all_met c.entries-entry-items.result.now (g.L.Lookup.listed c.args.table.now) conditions.OwnName

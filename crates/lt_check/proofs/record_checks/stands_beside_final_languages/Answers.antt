@@ -4,7 +4,8 @@ use Rattle.lt_check.specs.RecordChecks.{is_final_prefix}
 use Rattle.lt_check.proofs.RecordChecks.{beside_compared}
 use Rattle.lt_check.proofs.record_checks.stands_beside_final_languages.Goals as goal
 
--- the variant has a language as its value and has Prefixes, so C6 asks just that each of these is final
+-- true exactly if the record meets C6: the variant has a language as its value and has Prefixes, so C6 asks just that
+-- each of these is final
 pub returns-then-not-is_empty : goal.returns-then-not-is_empty
 returns-then-not-is_empty g c =
     let R = g.L.Lookup.listed c.args.table.now in

@@ -7,7 +7,7 @@ use Rattle.lt_check.proofs.usual_subtags.drop_replaced.Goals as goal
 pub loop-entry-init : goal.loop-entry-init
 loop-entry-init c = λ k s n h. let told = c.requires.singles k s n h in grind arith
 
--- a turn clears the flag of the language of which one record more replaces such a tag, if it does
+-- after a turn the flags tell so for one record more: that of the language is cleared of which it replaces a tag
 pub loop-entry-preserved : goal.loop-entry-preserved
 loop-entry-preserved c =
     let R = c.args.entries.now in

@@ -4,11 +4,11 @@ use Rattle.lt_check.proofs.WholeRecords.{found_proper, same_verdict, differ, at_
 use Rattle.lt_check.proofs.whole_checks.comes_to.Goals as goal
 use Rattle.lt_check.proofs.whole_checks.comes_to.Goals.{then-eq-via-then-eq, then-eq-via-else-eq+then-eq-2}
 
--- it is asked that the core of the tag is proper
+-- the core that is settled is proper: it is that of the tag, of which this call asks so
 pub settled-requires-clause-proper : goal.settled-requires-clause-proper
 settled-requires-clause-proper g c = c.requires.proper _ c.in-Some.ensures.value
 
--- the form is the tag's own core, of which nothing is asked, or it is the end already
+-- true is right: the form is the tag's own core, of which nothing is asked, or it is the end already
 pub returns-then-eq : goal.returns-then-eq
 returns-then-eq g c =
     let comes = elim c.then-eq.branch as (λ _. c.in_ok-form.form ≢ c.in-Some.core.now
@@ -18,11 +18,12 @@ returns-then-eq g c =
     ] in
     at_form _ c.requires.lower _ _ _ _ c.in-Some.ensures.value c.in_ok-form.ensures.normal _ ((λ h. comes), (λ t. refl))
 
--- a value that is found for a tag is valid by C9, so its core is proper
+-- the second core that is settled is proper: it is that of a value that is found for a tag, which is valid by C9
 pub settled-requires-in-Some-plain_value_of-clause-proper : goal.settled-requires-in-Some-plain_value_of-clause-proper
 settled-requires-in-Some-plain_value_of-clause-proper g c = found_proper _ c.requires.lower _ _ c.in-Some-plain_value_of.ensures
 
--- the form is neither the core nor the end, so it comes to the end exactly if the form of its value is that
+-- true exactly if the tag comes to `end`: the form is neither the core nor the end, so it does exactly if the form of
+-- its value is the end
 pub returns-in_ok-settled-in-Some-plain_value_of : goal.returns-in_ok-settled-in-Some-plain_value_of
 returns-in_ok-settled-in-Some-plain_value_of g c =
     let moved = differ _ _ _ c.eq.ensures c.if-eq.false in
@@ -32,7 +33,7 @@ returns-in_ok-settled-in-Some-plain_value_of g c =
     (by_value _ c.requires.lower _ _ _ _ _ moved apart c.in-Some-plain_value_of.ensures
     c.in_ok-settled-in-Some-plain_value_of.ensures.normal _ reaches)
 
--- the form is neither the core nor the end, and has no value: so it does not come to the end
+-- false is right: the form is neither the core nor the end, and has no value, so it does not come to the end
 pub returns-in-None : goal.returns-in-None
 returns-in-None g c =
     let moved = differ _ _ _ c.eq.ensures c.if-eq.false in

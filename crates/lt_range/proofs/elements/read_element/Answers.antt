@@ -8,7 +8,7 @@ use Rattle.lt_range.specs.declared.accept_faults.AcceptFaultKind.{AcceptFaultKin
 use Rattle.lt_range.proofs.ElementLemmas.{refused_by_range, element_of_some}
 use Rattle.lt_range.proofs.elements.read_element.Goals as goal
 
--- a fault of the range is that of the element, whatever weight follows
+-- where `check_range` refuses, its fault is that of the element, whatever weight follows
 pub returns-in_err-check_range-clause-fault : goal.returns-in_err-check_range-clause-fault
 unfolding element_of
 returns-in_err-check_range-clause-fault c =

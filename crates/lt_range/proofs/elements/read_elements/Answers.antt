@@ -8,7 +8,7 @@ use Rattle.lt_range.proofs.HeaderLemmas.{texts, refused_within, one_more, no_mor
 use Rattle.lt_range.proofs.elements.read_elements.Goals as goal
 use Rattle.lt_range.proofs.elements.read_elements.Goals.{in-Some+in_ok-push, in_default}
 
--- no piece before this one has a fault, so its fault, with its number, is that of the header
+-- a refusal is the fault of the header: no piece before this one has a fault, so its fault, with its number, is that
 pub returns-in_err-element-clause-fault : goal.returns-in_err-element-clause-fault
 returns-in_err-element-clause-fault c =
     let p = err_from_is_err_and c.from_residual.result c.from_residual.ensures.1 in
@@ -17,7 +17,8 @@ returns-in_err-element-clause-fault c =
     rw (p.1, p.2) (refused_within pieces c.loop-index.index front (elements_from 1 (texts pieces))
     c.in_err-element.field-0.0 c.loop-index-test.true c.loop-index.invariant c.in_err-element.ensures.fault)
 
--- a turn adds the element of one piece more, or none if the piece is empty
+-- after a turn the elements so far and those of the other pieces are still those of all: it adds that of one piece, or
+-- none if this is empty
 pub loop-index-preserved : goal.loop-index-preserved
 loop-index-preserved c =
     let pieces = c.args.pieces.now in
@@ -32,7 +33,7 @@ loop-index-preserved c =
       | in_default w ↦ rw (w.elements-is) (rw (w.in_default.is, append-nil (map parts_of items)) at next)
     ]
 
--- no piece is left, so the elements read are all
+-- the answer is the elements of all pieces: no piece is left
 pub returns-clause-elements : goal.returns-clause-elements
 returns-clause-elements c =
     no_more c.args.pieces.now c.loop-index.index (map parts_of c.loop-index.elements.items)

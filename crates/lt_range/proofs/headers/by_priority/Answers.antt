@@ -6,7 +6,8 @@ use Rattle.lt_range.specs.declared.elements.WeightedRange.{WeightedRange}
 use Rattle.lt_range.proofs.PriorityLemmas.{comes_first, sorted_is_priority}
 use Rattle.lt_range.proofs.headers.by_priority.Goals as goal
 
--- the sort is stable and by falling weights, so it leaves the elements of one weight in their order
+-- the answer is the priority list of the elements: the sort is by falling weights, and stable, so it leaves those of
+-- one weight in their order
 pub returns : goal.returns
 returns c =
     let order = IsStrictWeakOrder-flip _ (ranks_by nat_cmp_total (λ (e : WeightedRange). e.weight)) in

@@ -3,7 +3,7 @@ use Rattle.lt_range.specs.Ranges.{RangeParts}
 use Rattle.lt_range.proofs.FrontLemmas.{parted}
 use Rattle.lt_range.proofs.lookups.lookup.Goals as goal
 
--- no range before this one finds a tag, so the tag that this one finds counts
+-- the place is that of the tag that the first range finds which finds any: no range before this one does
 pub returns-in-Some : goal.returns-in-Some
 returns-in-Some c =
     let ranges = c.args.ranges.now in

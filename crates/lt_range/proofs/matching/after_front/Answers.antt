@@ -5,7 +5,7 @@ use Rattle.lt_range.proofs.FrontLemmas.{front_next, front_stops}
 use Rattle.lt_range.proofs.matching.after_front.Goals as goal
 use Rattle.lt_range.proofs.matching.after_front.Goals.{in_default-via-in-Some+else-are_same, in_default-via-in_default}
 
--- the next subtag of the list is another one, or there is none, so the list does not begin with `front`
+-- None is right, as the list does not begin with `front`: the next subtag of the list is another one, or there is none
 pub returns-in_default : goal.returns-in_default
 returns-in_default c =
     let front = c.args.front.now in
@@ -21,7 +21,7 @@ returns-in_default c =
           (λ others e. omega (arith, w.in_default.ensures.cases, ap length e))
     ]
 
--- a turn finds one subtag more of `front` in the list
+-- after a turn the list begins with one subtag more of `front`, and `rest` is what follows these
 pub loop-subtag-preserved : goal.loop-subtag-preserved
 loop-subtag-preserved c =
     let front = c.args.front.now in

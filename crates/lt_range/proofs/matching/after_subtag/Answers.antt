@@ -5,7 +5,7 @@ use Rattle.lt_range.specs.Matching.{is_no_singleton, IsPassedTo}
 use Rattle.lt_range.proofs.TurnLemmas.{passed_next, passed_stops, new_more}
 use Rattle.lt_range.proofs.matching.after_subtag.Goals as goal
 
--- the subtag is not among those so far, and the next is a singleton, which is not passed over
+-- None is right: the subtag is not among those so far, and the next is another, a singleton, which is not passed over
 pub returns-then-not-is_no_singleton : goal.returns-then-not-is_no_singleton
 returns-then-not-is_no_singleton c = λ h.
     let s = c.args.subtag.now in
@@ -14,7 +14,7 @@ returns-then-not-is_no_singleton c = λ h.
     passed_stops s first c.in-Some.others.now other (sym c.if-not-is_no_singleton.ensures)
     (subst (λ (l : List (List ℕ)). IsPassedTo l s) c.in-Some.ensures.cases.0 (c.loop-first.invariant.left h))
 
--- a turn passes over a subtag that is another one, and no singleton
+-- after a turn the subtag can still only be in what is left: what the turn passed over is another one, and no singleton
 pub loop-first-preserved : goal.loop-first-preserved
 loop-first-preserved c =
     let s = c.args.subtag.now in

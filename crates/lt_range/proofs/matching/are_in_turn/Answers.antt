@@ -4,7 +4,8 @@ use Rattle.lt_range.specs.Matching.{AreInTurn}
 use Rattle.lt_range.proofs.TurnLemmas.{turn_next, turn_back}
 use Rattle.lt_range.proofs.matching.are_in_turn.Goals as goal
 
--- a turn finds one subtag more at its first place, after which the most is left for the others
+-- after a turn all subtags are in turn in the list exactly if those left are in what is left: the turn found one at its
+-- first place, after which the most is left
 pub loop-subtag-preserved : goal.loop-subtag-preserved
 loop-subtag-preserved c =
     let list = c.loop-subtag.rest.now in

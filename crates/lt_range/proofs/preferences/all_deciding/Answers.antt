@@ -5,7 +5,7 @@ use Rattle.lt_range.specs.Preferences.{AreDeciding, MayDecide}
 use Rattle.lt_range.proofs.ServingLemmas.{deciding_next}
 use Rattle.lt_range.proofs.preferences.all_deciding.Goals as goal
 
--- a turn adds the range that decides the weight of one tag more
+-- after a turn `found` has for one tag more the place of the range that decides its weight: it is added, or None
 pub loop-place-preserved : goal.loop-place-preserved
 loop-place-preserved c =
     let all = c.args.all.now in

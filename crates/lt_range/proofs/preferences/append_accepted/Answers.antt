@@ -6,7 +6,8 @@ use Rattle.lt_range.proofs.FilterLemmas.{places_yes, places_no, places_end}
 use Rattle.lt_range.proofs.preferences.append_accepted.Goals as goal
 use Rattle.lt_range.proofs.preferences.append_accepted.Goals.{then-accepts+in_ok-push, else-accepts}
 
--- a turn adds the place of the tag if the range accepts it, and else nothing
+-- after a turn the places so far, with those of the tags left, are still those of all: it adds the place of its tag if
+-- the range accepts it
 pub loop-place-preserved : goal.loop-place-preserved
 loop-place-preserved c =
     let P = Accepts c.args.all.now c.args.index in
@@ -30,7 +31,7 @@ loop-place-preserved c =
       )
     ]
 
--- no tag is left, so the places added are those of all
+-- the places that were added are those of all tags that the range accepts: no tag is left
 pub returns : goal.returns
 returns c =
     let inv = c.loop-place.invariant in

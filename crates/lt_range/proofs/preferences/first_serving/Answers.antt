@@ -8,7 +8,8 @@ use Rattle.lt_range.proofs.preferences.first_serving.Goals.{then-index-first+the
 use Rattle.lt_range.proofs.preferences.first_serving.Goals.{else-index-first-via-then-index-first+else-not-is_refused}
 use Rattle.lt_range.proofs.preferences.first_serving.Goals.{else-index-first-via-else-index-first}
 
--- the range that reaches this tag becomes the first if it is before that and the tag is not refused
+-- after a turn `first` is the first range that serves one of the tags so far: the one that reaches this tag, if it is
+-- before the first so far and the tag is not refused; else `first` stays
 pub loop-place-preserved : goal.loop-place-preserved
 loop-place-preserved c =
     let all = c.args.all.now in

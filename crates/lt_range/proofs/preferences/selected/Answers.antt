@@ -5,7 +5,7 @@ use Rattle.lt_range.specs.Preferences.{SelectsAt}
 use borrow.Author.Count.{below_more}
 use Rattle.lt_range.proofs.preferences.selected.Goals as goal
 
--- a turn passes over a tag that the range does not select
+-- after a turn none of the tags so far is selected: the turn passed over one that the range does not select
 pub loop-place-preserved : goal.loop-place-preserved
 loop-place-preserved c =
     let all = c.args.all.now in
@@ -16,6 +16,6 @@ loop-place-preserved c =
     below_more (λ (i : ℕ). SelectsAt all range tags i → ⊥) c.loop-place.place c.loop-place.invariant
     (λ h. let bad : false ≡ true = c.if-selects.ensures.1 (rw is h) in cc)
 
--- no tag is left, so the range selects none
+-- None is right: no tag is left, so the range selects none
 pub returns : goal.returns
 returns c = λ i within. c.loop-place.invariant i (omega arith)

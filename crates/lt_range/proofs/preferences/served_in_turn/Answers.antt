@@ -6,7 +6,7 @@ use Rattle.lt_range.specs.declared.preferences.Preference.{Preference}
 use Rattle.lt_range.proofs.ServingLemmas.{first_serves, none_before}
 use Rattle.lt_range.proofs.preferences.served_in_turn.Goals as goal
 
--- no range before this one serves a tag, so what this one serves is served in the turn
+-- the answer is what the turn serves: no range before this one serves a tag, so what this one serves is that
 pub returns-then-index-all : goal.returns-then-index-all
 returns-then-index-all c =
     let all = c.args.all.now in
@@ -16,7 +16,7 @@ returns-then-index-all c =
     first_serves c.args.wild all c.args.tags.now i c.served.result c.first_serving-index.ensures c.if-index-all.true
     (subst (λ (p : Preference). Serves all p.range c.args.tags.now c.served.result) (sym c.index-all-index.is ∙ is) c.served.ensures)
 
--- the first range that serves a tag would be past the last, so none does
+-- None is right: the first range that serves a tag would be past the last, so none does
 pub returns-else-index-all : goal.returns-else-index-all
 returns-else-index-all c = λ i within. none_before c.args.wild c.args.all.now c.args.tags.now
     c.first_serving-index.result c.first_serving-index.ensures i (omega (arith, within, c.if-index-all.false))

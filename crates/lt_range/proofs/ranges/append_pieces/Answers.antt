@@ -7,7 +7,7 @@ use Rattle.lt_range.specs.Reading.{later_pieces, with_front}
 use Rattle.lt_range.proofs.PieceLemmas.{refused_is, pieces_next, pieces_stop, pieces_end}
 use Rattle.lt_range.proofs.ranges.append_pieces.Goals as goal
 
--- no piece before this one has a fault, so its fault is the first
+-- the fault that is answered is the first: no piece before this one has one
 pub returns-in_err-subtag-clause-refused : goal.returns-in_err-subtag-clause-refused
 returns-in_err-subtag-clause-refused c =
     let p = err_from_is_err_and c.from_residual.result c.from_residual.ensures.1 in
@@ -18,7 +18,8 @@ returns-in_err-subtag-clause-refused c =
     (sym c.later_piece.ensures ∙ c.in_err-subtag.was) in
     rw (p.1, p.2) (refused_is _ _ (sym whole ∙ ap (λ (z : List (List ℕ)). with_front front (later_pieces z)) split ∙ stop))
 
--- a turn reads one piece more as a subtag, which is added
+-- after a turn the subtags so far and those of what is left are still those of all pieces: the subtag that was read is
+-- added
 pub loop-rest-preserved-in_ok-push : goal.loop-rest-preserved-in_ok-push
 loop-rest-preserved-in_ok-push c =
     let front = c.loop-rest.invariant.0 in
@@ -32,7 +33,7 @@ loop-rest-preserved-in_ok-push c =
       sym next ∙ sym (ap (λ (z : List (List ℕ)). with_front front (later_pieces z)) split) ∙ whole,
     )
 
--- a turn reads one piece more as `*`, which is left out
+-- the same after a turn that read a `*`, which is left out
 pub loop-rest-preserved : goal.loop-rest-preserved
 loop-rest-preserved c =
     let front = c.loop-rest.invariant.0 in
@@ -45,7 +46,7 @@ loop-rest-preserved c =
       sym next ∙ sym (ap (λ (z : List (List ℕ)). with_front front (later_pieces z)) split) ∙ whole,
     )
 
--- no piece is left, so the subtags added are all
+-- what was added are the subtags of all pieces: no piece is left
 pub returns-clause-appended : goal.returns-clause-appended
 returns-clause-appended c = record {
   added = c.loop-rest.invariant.0;

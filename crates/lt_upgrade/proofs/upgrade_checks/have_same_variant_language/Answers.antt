@@ -1,7 +1,8 @@
 use Rattle.lt_upgrade.proofs.UpgradeChecks.{variant_language_compared}
 use Rattle.lt_upgrade.proofs.upgrade_checks.have_same_variant_language.Goals as goal
 
--- the value is a language and the Prefixes are the same, so U4 asks just that the chains end alike
+-- true exactly if U4 is met: the value is a language and the Prefixes are the same, so it asks just that the chains end
+-- alike
 pub returns-then-same_languages : goal.returns-then-same_languages
 returns-then-same_languages g c =
     variant_language_compared (g.L.Lookup.listed c.args.newer.now) c.args.entry.now c.in-Some.other.now

@@ -1,7 +1,8 @@
 use Rattle.lt_upgrade.proofs.UpgradeChecks.{extlang_compared}
 use Rattle.lt_upgrade.proofs.upgrade_checks.is_same_extlang.Goals as goal
 
--- the Prefixes are the same, so U3 asks just that the chains of the replacements end alike
+-- true exactly if the extlang is the same: the Prefixes are, so U3 asks just that the chains of the replacements end
+-- alike
 pub returns-then-same_prefixes : goal.returns-then-same_prefixes
 returns-then-same_prefixes g c =
     extlang_compared (g.L.Lookup.listed c.args.newer.now) c.args.entry.now c.in-Some.other.now c.args.subtag.now

@@ -1,7 +1,8 @@
 use Rattle.lt_upgrade.proofs.UpgradeChecks.{ends_kept}
 use Rattle.lt_upgrade.proofs.upgrade_checks.keeps_ends.Goals as goal
 
--- the record has this one subtag and a value of the same kind, so U2 asks just that their chains end alike
+-- true exactly if the record meets U2: it has this one subtag and a value of the same kind, so U2 asks just that their
+-- chains end alike
 pub returns-in-Single-Some : goal.returns-in-Single-Some
 returns-in-Single-Some g c =
     ends_kept (g.L.Lookup.listed c.args.newer.now) c.args.entry.now c.in-Single-Some.subtag c.in-Single-Some.value.now

@@ -2,14 +2,16 @@ use Rattle.std.proofs.Common.{◌≡◌, refl}
 use Rattle.lt_upgrade.proofs.UpgradeChecks.{whole_distinct, value_meets}
 use Rattle.lt_upgrade.proofs.upgrade_checks.keeps_whole.Goals as goal
 
--- in a checked registry neither the tag of a whole record with a value nor the value repeats a variant
+-- `meet_in_canonical` may be called, whose tags may not repeat a variant: in a checked registry neither the tag of a
+-- whole record nor its value does
 pub meet_in_canonical-requires : goal.meet_in_canonical-requires
 meet_in_canonical-requires g c =
     let distinct = whole_distinct (g.A.Lookup.listed c.args.older.now) c.table.ensures.checked c.args.entry.now
     c.requires c.in-Some.tag.now c.in-Some.value.now c.in-Some.ensures.0 c.in-Some.ensures.1 in
     record { first = distinct.0; second = distinct.1 }
 
--- a tag that the newer registry replaces by this value, and the value, reach one canonical tag
+-- true is right, as U6 is met: a tag that the newer registry replaces by this value, and the value, reach one canonical
+-- tag
 pub returns-in-Some : goal.returns-in-Some
 returns-in-Some g c = (
   (λ h t u n o.

@@ -2,7 +2,8 @@ use Rattle.lt_check.proofs.FirstFaults.{item_at}
 use Rattle.lt_upgrade.proofs.UpgradeChecks.{lowest_of}
 use Rattle.lt_upgrade.proofs.upgrades.lowest_fault.Goals as goal
 
--- all records before meet the condition, and their numbers are lower, so this is the lowest at fault
+-- the number is the lowest of a record that fails the condition: all records before meet it, and later ones have higher
+-- numbers
 pub returns-then-not-branch : goal.returns-then-not-branch
 returns-then-not-branch g c =
     let found = c.records_of-entry-items in

@@ -1,7 +1,7 @@
 use Rattle.lt_upgrade.proofs.UpgradeChecks.{one_more}
 use Rattle.lt_upgrade.proofs.upgrades.upgrade_check.Goals as goal
 
--- a turn without a fault has one condition more that all records meet
+-- after a turn without a fault all records meet one condition more, and so all judged so far
 pub loop-condition-preserved : goal.loop-condition-preserved
 loop-condition-preserved g c =
     one_more (g.A.Lookup.listed c.args.older.now) (g.B.Lookup.listed c.args.newer.now) c.loop-condition.condition-index

@@ -1,10 +1,10 @@
 use Rattle.std.proofs.Common.{Err, Ok}
 use Rattle.bcp47.proofs.registries.Registry.read.Goals as goal
 
--- the device gave entries, and these are judged
+-- the answer is that of a reading of the device: it gave entries, and these are judged by the check
 pub returns-in-Ok : goal.returns-in-Ok
 returns-in-Ok g c = (Ok c.in-Ok.entries, c.in-Ok.ensures, c.check_entries.ensures)
 
--- the device gave no entries, and the error is made of its fault
+-- the same where the device gave no entries: the error is made of its fault
 pub returns-in-Err : goal.returns-in-Err
 returns-in-Err g c = (Err c.in-Err.fault, c.in-Err.ensures, c.from.ensures)

@@ -5,7 +5,8 @@ use Rattle.lt_cache.specs.Recent.{kept}
 use Rattle.lt_cache.proofs.PlaceLemmas.{made_some}
 use Rattle.lt_cache.proofs.recent.Recent.put_short.Goals as goal
 
--- what was in the line's first place moves to the second, and the first gets the answer for all of the line
+-- What was put is as the clause says: what was in the line's first place moves to the second, and the first gets the
+-- answer for all of the line.
 pub returns-then-first-len : goal.returns-then-first-len
 returns-then-first-len c =
     let line = c.args.line.now in

@@ -2,7 +2,8 @@ use Rattle.std.proofs.Common.{◌∙◌, IsTrue, rules, sym}
 use Rattle.lt_cache.proofs.SettledEnds.{settled_appended}
 use Rattle.lt_cache.proofs.recent_ends.RecentEnds.append_canonical_text.Goals as goal
 
--- the front stays as it is, and after it a settled end is canonical in lower case
+-- what was appended is the canonical text: the front stays as it is, and after it a settled end is canonical in lower
+-- case
 pub returns-then-is_settled_end-clause-appended : goal.returns-then-is_settled_end-clause-appended
 returns-then-is_settled_end-clause-appended g c = λ _.
     let parts = c.in-Some.ensures {u = tt} in

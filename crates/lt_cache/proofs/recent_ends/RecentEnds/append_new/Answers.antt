@@ -2,7 +2,8 @@ use Rattle.std.proofs.Common.{◌∙◌, refl, sym, arith}
 use Rattle.lt_cache.proofs.KeptEnds.{end_stands, follows_front}
 use Rattle.lt_cache.proofs.recent_ends.RecentEnds.append_new.Goals as goal
 
--- the core of the text, which has `count` bytes, is in the texts after `start`, so the sum is no more than their length
+-- `start + count` does not overflow: the core of the text, which has `count` bytes, is in the texts after `start`, so
+-- the sum is no more than their length
 pub overflow_add-start : goal.overflow_add-start
 overflow_add-start g c =
     let new = c.append_other_text.new.texts in

@@ -4,7 +4,7 @@ use Rattle.lt_cache.proofs.KeptEnds.{CanKeep, follows_front, follows_source, kep
 use Rattle.lt_cache.proofs.recent_ends.RecentEnds.keep.Goals as goal
 use Rattle.lt_cache.proofs.recent_ends.RecentEnds.keep.Goals.{After-deref, After-deref-in-None}
 
--- what the texts have after the source
+-- where the source stays: what the texts have after it, which is put for the fields
 after_source : (g : _) (c : goal.After-deref g)
     → CanKeep (g.L.Lookup.listed c.args.checked.now) c.in-Some.fields.now c.deref.result.now (c.args.from + 3
     + length c.in-Some.source.now)
@@ -30,14 +30,15 @@ slice_bounds-put-start g c = (after_source g c).within
 pub overflow_add-from-in-Some : goal.overflow_add-from-in-Some
 overflow_add-from-in-Some g c = omega (arith, (after_source g c).within, c.deref.type_inv.0)
 
--- what follows a canonical source with these fields was put for the fields, so the table stays right
+-- if the table was right, it is so after the call: what follows a canonical source with these fields was put for the
+-- fields
 pub returns-in-Some-clause-ends : goal.returns-in-Some-clause-ends
 returns-in-Some-clause-ends g c = λ ends.
     kept_put _ c.self.inside.texts c.put.new.self c.in-Some.fields.now c.deref.result.now _ c.put.ensures
     (after_source g (goal.at.returns-in-Some-clause-ends g c).After-deref)
     (subst (AreEnds (g.L.Lookup.listed c.args.checked.now)) (sym c.self.view_is) ends)
 
--- what they have after the front
+-- else: what the texts have after the front, which is put for the end
 after_front : (g : _) (c : goal.After-deref-in-None g)
     → CanKeep (g.L.Lookup.listed c.args.checked.now) c.args.end.now c.deref-in-None.result.now c.args.from
 after_front g c = follows_front _ c.table.ensures.checked c.args.end.now c.deref-in-None.result.now _ c.args.from
@@ -51,7 +52,7 @@ slice_bounds-put-count-in-None g c = (after_front g c).within
 pub slice_bounds-put-start-in-None : goal.slice_bounds-put-start-in-None
 slice_bounds-put-start-in-None g c = (after_front g c).within
 
--- what follows a canonical core with this end was put for the end, so the table stays right
+-- if the table was right, it is so after the call: what follows a canonical core with this end was put for the end
 pub returns-in-None-clause-ends : goal.returns-in-None-clause-ends
 returns-in-None-clause-ends g c = λ ends.
     kept_put _ c.self.inside.texts c.put-in-None.new.self c.args.end.now c.deref-in-None.result.now _

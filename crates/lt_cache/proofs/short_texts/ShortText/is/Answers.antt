@@ -6,7 +6,8 @@ use Rattle.lt_cache.specs.Padded.{padded}
 use Rattle.lt_cache.proofs.LaneLemmas.{same_lanes, no_lane_differs}
 use Rattle.lt_cache.proofs.short_texts.ShortText.is.Goals as goal
 
--- the counts are equal, and zeros follow both texts: so they are the same exactly if no lane differs
+-- True exactly if the texts are the same: their counts are equal and zeros follow both, so they are exactly if no lane,
+-- one byte of the 32, differs.
 pub returns-then-self-other : goal.returns-then-self-other
 returns-then-self-other c =
     let differ : ℕ → ℕ → Bool = λ a b. not (eqb a b) in

@@ -2,7 +2,8 @@ use Rattle.std.proofs.Common.{◌<◌, ◌+◌, arith, drop, length, refl}
 use Rattle.lt_canon.proofs.LinesLeft.{step_at, trace_behind}
 use Rattle.lt_canon.proofs.explanation_texts.ExplanationLines.append_line.Goals as goal
 
--- the steps after this one lead from the tag that it leads to, which is proper, to the same end
+-- what is left after a step leads to the end still: the steps after it lead from the tag that it leads to, which is
+-- proper
 pub invariant_of-self : goal.invariant_of-self
 invariant_of-self g c =
     let inside = c.self.inside in
@@ -16,7 +17,8 @@ invariant_of-self g c =
           c.index.result.now (drop (inside.taken + 1) steps) (rw next at c.self.invariant.trace) on;
     }
 
--- the line is that of the first step that was left, and the steps after it are still left
+-- true is right, and what was appended is the next line: that of the first step that was left, after which the others
+-- are left
 pub returns-clause-line : goal.returns-clause-line
 returns-clause-line g c =
     let inside = c.self.inside in

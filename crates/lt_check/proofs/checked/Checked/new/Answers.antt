@@ -4,7 +4,7 @@ use Rattle.lt_check.specs.Conditions.{IsFinding}
 use Rattle.lt_check.proofs.Judging.{none_that_passes}
 use Rattle.lt_check.proofs.checked.Checked.new.Goals as goal
 
--- the finding names a record that fails a condition, so the table does not pass
+-- a table that is rejected for a finding does not pass: the finding names a record that fails a condition
 pub returns-in-Ok-Some-clause-rejects : goal.returns-in-Ok-Some-clause-rejects
 returns-in-Ok-Some-clause-rejects g c =
     let R = g.L.Lookup.listed c.args.table in

@@ -4,14 +4,15 @@ use Rattle.lt_check.proofs.TextLemmas.{shown_cut}
 use Rattle.lt_check.proofs.CutLemmas.{shown_stays, shown_cased, stays_shown}
 use Rattle.lt_check.proofs.usual_subtags.UsualSubtags.append_text.Goals as goal
 
--- nothing is shown; but of a text whose subtags all stay something is, so this is none
+-- false is right, whatever `R` has these flags: nothing is shown, but of a text whose subtags all stay something is
 pub returns-in_default-clause-exact : goal.returns-in_default-clause-exact
 returns-in_default-clause-exact c = λ R flags. (
   λ h. cc,
   λ stay. absurd (stays_shown R c.args.self.now flags c.args.text.now stay.0 stay.1 (sym c.shown.ensures.value ∙ c.in_default.is)),
 )
 
--- something is shown, so the text is made of subtags with flags, and these stay
+-- true is right, whatever `R` has these flags: something is shown, so the text is made of subtags with flags, and these
+-- stay
 pub returns-clause-exact : goal.returns-clause-exact
 returns-clause-exact c = λ R flags.
     let t = shown_cut c.args.self.now c.args.text.now c.in-Some.shown (sym c.shown.ensures.value ∙ c.in-Some.is) in

@@ -4,13 +4,13 @@ use Rattle.lt_check.specs.Flags.{AreFlags}
 use Rattle.lt_check.proofs.FlagLemmas.{tell_none}
 use Rattle.lt_check.proofs.usual_subtags.UsualSubtags.of_table.Goals as goal
 
--- all words are 0, so all flags are clear
+-- `put_singles` asks that all flags are clear: all words are 0
 pub put_singles-requires-clause-clear : goal.put_singles-requires-clause-clear
 put_singles-requires-clause-clear g c =
     tell_none c.as_mut_slice-flags.result.now 8655 0 refl (c.as_mut_slice-flags.ensures.value
     ∙ (c.in_ok-words.ensures {u = tt}).items_if_clones_equal (λ y h. h))
 
--- the flags in the slice tell which subtags stay, and the slice has all the words
+-- what is made are the flags of the table: those in the slice tell which subtags stay, and the slice has all the words
 pub returns : goal.returns
 returns g c =
     let words = c.drop_replaced.new.words in

@@ -2,7 +2,7 @@ use Rattle.std.proofs.Common.{◌≡◌, ℕ, List, rules, subst}
 use Rattle.lt_range.specs.Preferences.{IsBest}
 use Rattle.lt_range.proofs.available.Available.best.Goals as goal
 
--- the tags that are kept are those that a contract sees, so the answer for them is the one asked for
+-- the place is that of the best of the available tags: those that are kept are the ones that a contract sees
 pub returns : goal.returns
 returns c =
     let same : c.deref.result.now ≡ c.args.self.now = search rules in

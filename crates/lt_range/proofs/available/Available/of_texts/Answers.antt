@@ -5,7 +5,7 @@ use Rattle.lt_range.specs.Matched.{HasSubtags}
 use Rattle.lt_range.proofs.AvailableLemmas.{available_next, refused_at, text_read}
 use Rattle.lt_range.proofs.available.Available.of_texts.Goals as goal
 
--- each text before this one has its list, so this is the first that is refused, and it is named by its number
+-- the refusal names the first text that is refused, by its number: each text before this one has its list
 pub returns-in_err-subtags-clause-refusal : goal.returns-in_err-subtags-clause-refusal
 returns-in_err-subtags-clause-refusal g c =
     let p = err_from_is_err_and c.from_residual.result c.from_residual.ensures.1 in
@@ -13,7 +13,7 @@ returns-in_err-subtags-clause-refusal g c =
     c.loop-place.tags.items c.in_err-subtags.field-0.0 c.loop-place-test.true c.loop-place.invariant
     c.in_err-subtags.ensures.numbered c.in_err-subtags.ensures.refusal)
 
--- a turn adds the list of one text more
+-- after a turn `tags` are the lists of one text more: its own is added
 pub loop-place-preserved : goal.loop-place-preserved
 loop-place-preserved g c =
     let R = g.L.Lookup.listed c.args.checked.now in

@@ -7,7 +7,8 @@ use Rattle.lt_range.proofs.filters.Scheme.append_places.Goals.{then-matches+then
 use Rattle.lt_range.proofs.filters.Scheme.append_places.Goals.{else-matches-via-then-matches+else-none_matches}
 use Rattle.lt_range.proofs.filters.Scheme.append_places.Goals.{else-matches-via-else-matches}
 
--- a turn adds the place of a tag that the range matches and no range of `before` does, and no other place
+-- after a turn the places so far, with those of the tags left, are still those of all: it adds the place of its tag if
+-- the range matches it and no range of `before` does
 pub loop-place-preserved : goal.loop-place-preserved
 loop-place-preserved c =
     let P = λ (tag : List (List ℕ)). Matches c.args.self c.args.range.now tag × NoneMatches (Matches c.args.self) c.args.before.now tag in
@@ -37,7 +38,7 @@ loop-place-preserved c =
       )
     ]
 
--- no tag is left, so the places added are those of all
+-- the places that were added are those of all such tags: no tag is left
 pub returns : goal.returns
 returns c =
     let P = λ (tag : List (List ℕ)). Matches c.args.self c.args.range.now tag × NoneMatches (Matches c.args.self) c.args.before.now tag in

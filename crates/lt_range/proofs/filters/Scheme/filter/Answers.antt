@@ -3,7 +3,8 @@ use Rattle.lt_range.specs.Filtering.{Matches, Selects}
 use Rattle.lt_range.proofs.FilterLemmas.{selects_next, selects_end}
 use Rattle.lt_range.proofs.filters.Scheme.filter.Goals as goal
 
--- a turn adds the places of the tags that one range more matches and none before it does
+-- after a turn the places so far, with what the ranges left select, are still what all select: it adds those of the
+-- tags that its range matches and none before it does
 pub loop-index-preserved : goal.loop-index-preserved
 loop-index-preserved c = λ more h.
     let M = Matches c.args.self in
@@ -16,7 +17,7 @@ loop-index-preserved c = λ more h.
     (selects_next M ranges tags i c.index-ranges-index.result found added.0 c.loop-index-test.true
     c.index-ranges-index.is added.2 c.loop-index.invariant more h)
 
--- no range is left, so the places are what all select
+-- the places are what all ranges select: no range is left
 pub returns : goal.returns
 returns c = selects_end (Matches c.args.self) c.args.ranges.now c.args.tags.now c.loop-index.index
     c.loop-index.places.items c.loop-index-test.false c.loop-index.invariant

@@ -20,14 +20,15 @@ held c d =
     (λ parted. IsPartitionPoint-from_clause (λ (v : RangeRow). is_up_to v.first c.args.first.now) c.deref.result.now
     c.partition_point-count.result c.partition_point-count.ensures.partitioned parted (λ x r f k. search rules))
 
--- of the ranges that begin no later, the last one is tried, which ends last
+-- true exactly if some range contains the one that is asked for: of those that begin no later, the last one is tried,
+-- which ends last
 pub returns-then-count-gt0 : goal.returns-then-count-gt0
 returns-then-count-gt0 c =
     let some : c.partition_point-count.result ≡ suc (c.partition_point-count.result - 1) = omega (arith, c.if-count-gt0.true) in
     c.is_up_to.ensures ∙ ap (λ (v : RangeRow). is_up_to c.args.last.now v.last) c.index.ensures
     ∙ sym (rw some at (held (goal.at.returns-then-count-gt0 c).After-partition_point-count c.index.result.now))
 
--- each range begins later, so none contains the one that is asked for
+-- false is right: each range begins later, so none contains the one that is asked for
 pub returns-else-count-gt0 : goal.returns-else-count-gt0
 returns-else-count-gt0 c =
     let none : c.partition_point-count.result ≡ 0 = omega (arith, c.if-count-gt0.false) in

@@ -5,7 +5,8 @@ use Rattle.lt_upgrade.specs.declared.widest_ranges.RangeRow.{RangeRow}
 use Rattle.lt_upgrade.proofs.RangeCoverage.{end_total, begins_before, ends_by, widest_of}
 use Rattle.lt_upgrade.proofs.widest_ranges.WidestRanges.of_rows.Goals as goal
 
--- the sort orders the ranges by their beginnings, and each that is kept ends later than the one before it
+-- both ends of the ranges that are kept rise, as their type asks: the sort orders them by their beginnings, and each
+-- that is kept ends later than the one before it
 pub invariant_of-result : goal.invariant_of-result
 invariant_of-result c =
     let up = c.sort_unstable_by.ensures.sorted begins_before (ranks_by end_total (λ (r : RangeRow). r.first))
@@ -14,7 +15,8 @@ invariant_of-result c =
     (widest_of c.args.rows.items c.sort_unstable_by.new.self.items c.dedup_by.new.self.items
     c.sort_unstable_by.ensures.permutation up kept).0
 
--- a range that is left out begins no earlier and ends no later than a kept one, which holds all that it holds
+-- the ranges that are kept hold what all did: one that is left out begins no earlier and ends no later than a kept one,
+-- which holds all that it holds
 pub returns : goal.returns
 returns c =
     let up = c.sort_unstable_by.ensures.sorted begins_before (ranks_by end_total (λ (r : RangeRow). r.first))
