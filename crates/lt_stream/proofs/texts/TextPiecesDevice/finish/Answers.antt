@@ -3,6 +3,9 @@ use Rattle.std.proofs.lemmas.Result.{err_from_is_err_and}
 use Rattle.lt_stream.proofs.TextLemmas.{ending_fails, ending_finishes, ending_room, past_finishes, past_room, waiting_room}
 use Rattle.lt_stream.proofs.texts.TextPiecesDevice.finish.Goals as goal
 
+-- `finish` of `Text`: the goals are what its calls require, which is room for 64 bits to count what is read, and at its
+-- ends the promise of `Pieces`, that `FinishesText` is true of whatever run `IsTakenText` was true of.
+
 -- past the mark the lines have the room of the text
 pub finish-requires : goal.finish-requires
 finish-requires g c = past_room g.A.Lines.answered g.A.Lines.longest g.W.Write.contents _ _ _ c.if-self.true c.requires
