@@ -1,4 +1,5 @@
-//! Lines of rows that are looked at before they are answered.
+//! Lines of rows that are looked at before they are answered. A look finds whether the row ends within quotes, and
+//! where the text of its field is, or why there is none.
 ghost use Rattle.std.specs.Prelude.{◌≡◌, ◌≤◌, MatchOption, length, take};
 ghost use Rattle.lt_jar.specs.Lines.{content_of};
 ghost use Rattle.lt_rows.specs.Looks.{IsLookAt, LacksIn};
