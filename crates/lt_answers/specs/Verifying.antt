@@ -89,7 +89,7 @@ SettlesKept R state (Some v) = (more : List ℕ) → IsOneLine state.kept.items
     → Judges R state.number state.here (lines_of (state.kept.items ++ more)) v
 
 -- a piece was taken in: whatever bytes follow, the verdict on what is kept now and them is that on what was kept, the
--- piece and them; each byte of the piece counts one line at most
+-- piece and them
 pub record Takes (R : List EntryParts) (piece : List ℕ) (old new : Following) : Type 0 where
   pub proper : IsProperIf R new.here
   pub counted : new.number ≤ old.number + length piece

@@ -47,7 +47,7 @@ struct Objects<'a, L: Lookup> {
 }
 
 impl<'a, L: Lookup> Lines for Objects<'a, L> {
-    /// Of a longer line only so many bytes are kept and answered.
+    /// So many bytes of a longer line are answered.
     ghost longest = { longest_line };
 
     /// The table is that of the beginning, the bytes are the objects for the lines, and it is known whether one was

@@ -1,4 +1,4 @@
-//! The members of the answer to a text. In clauses 44 is the comma before a member.
+//! The members of the answer to a text.
 ghost use Rattle.std.specs.Prelude.{◌≡◌, ◌++◌, ◌∷◌, Err, IfOk, Ok, OnOk, codes};
 ghost use Rattle.std.specs.Fmt.{decimal};
 ghost use Rattle.lt_show.specs.Strings.{string};

@@ -1,5 +1,4 @@
-//! The members of the core of a tag, which is its language, extlangs, script, region and variants. In clauses 44 is the
-//! comma before a member, and `x.entry` a parameter `x` as it came in.
+//! The members of the core of a tag, which is its language, extlangs, script, region and variants.
 ghost use Rattle.std.specs.Prelude.{◌≡◌, ◌++◌, ◌∷◌, OnOk, codes, option_copied};
 ghost use Rattle.lt_show.specs.Values.{member, member_text, more_members, or_null};
 ghost use Rattle.lt_answers.specs.Parts.{core_members, core_members_of, no_core_members, region_value, script_value};

@@ -29,7 +29,7 @@ struct Selecting<'a, L: Lookup> {
 }
 
 impl<'a, L: Lookup> Lines for Selecting<'a, L> {
-    /// So many bytes of a line tell its tag, or that it has none.
+    /// So many bytes tell a line's tag.
     ghost longest = { longest_kept };
 
     /// The table, the scheme and the ranges are those of the beginning, and the bytes are the selected lines, `count`

@@ -85,8 +85,8 @@ long_fault separators.Tab = faults.BadTsv 1
 long_fault (separators.Delimiter delimiter) = faults.BadCsv 1
 
 -- Why the heading of a reader was not read: `before` and `after` are its device, whose bytes `remaining` gives, and
--- `read` the bytes that so many `reads` gave. BadCsv is answered where the reader ended within quotes, or where the row
--- is too long. OutOfMemory may be answered of any reader.
+-- `read` the bytes that so many `reads` gave. BadCsv: the reader ended within quotes, or the row is too long.
+-- OutOfMemory may be answered of any reader.
 abbrev pub StopsHeading : {I : Type 0} → Separator → (I → Option (List ℕ)) → (before after : Device I)
     → (reads : ℕ) → (read : List ℕ) → ToolFault → Type 0
 StopsHeading S remaining before after reads read faults.Read = HasFailed before after
@@ -188,7 +188,7 @@ TakesPiece S piece old new (Ok (Some end)) =
 TakesPiece S piece old new (Err f) = StopsText S (taken_by old ++ piece) f
 
 -- the byte order mark in the kept bytes was split off, and the text after it taken: it is one row so far, or its first
--- row has this length, or the fault says why it can't be taken
+-- row has this length, or why it can't be taken
 abbrev pub BeginsText : Separator → (old new : FirstRow) → Result (Option ℕ) ToolFault → Type 0
 BeginsText S old new (Ok end) = (new.is_begun ≡ true)
     × SplitsMark old.mark.items new.mark.items new.text.items × IsRowIn S new.text.items new.place end

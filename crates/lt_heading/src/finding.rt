@@ -1,5 +1,5 @@
 //! Finding the column that has a name in the heading, which is the first row of a reader. What was read for it, the
-//! front, is given too, since the rows after the heading may begin in it.
+//! front, is given too, since the rows are answered from its beginning.
 ghost use Rattle.std.specs.Prelude.{◌≡◌, ◌≤◌, ℕ, List, IfOk, length, string_bytes};
 ghost use Rattle.std.specs.Option.{option_map};
 ghost use Rattle.lt_stream.specs.declared.faults.ToolFault.TheVariants.{OutOfMemory};

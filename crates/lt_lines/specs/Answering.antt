@@ -291,8 +291,8 @@ IsPieceStop T piece old new before after written f = StopsTooLong T piece old ne
     ((bytes out : List ℕ) → IsTaken T bytes out old → IsBegun T (bytes ++ piece) (out ++ written)))
 
 -- A piece of the reader's bytes was taken in, and all answers that are due were written; or a fault ended the run.
--- `old` and `before` are the state and the output before that, `new` and `after` those after it. The clauses are on any
--- `bytes` read and `out` written before. The counts lose room for at most a line for each byte of the piece (`room`).
+-- `old` and `before` are the state and the output before that, `new` and `after` those after it. That holds of any
+-- `bytes` read and `out` written before. The counts lose room for one line for each byte at most (`room`).
 pub record TakesPiece {W : Type 0} (T : Terms) (contents : W → Option (List ℕ)) (piece : List ℕ)
     (old new : Answering) (before after : Device W) (result : Result (Unit {0}) ToolFault) : Type 0 where
   pub written : List ℕ

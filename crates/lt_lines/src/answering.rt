@@ -1,6 +1,5 @@
 //! Answering lines that come in pieces. Of an unfinished line the bytes so far are kept, and answers that are not yet
-//! written are owed. Clauses name by what lines are answered: `terms` of the registry's entries, the codes and the form
-//! of lines.
+//! written are owed. The `terms` of clauses are the registry's entries, the codes and the form of lines.
 ghost use Rattle.std.specs.Prelude.{◌≡◌, ◌≤◌, ◌+◌, ◌++◌, ◌∷◌, ◌↔◌, List, ℕ, [], false, IfOk, IsTrue, OnOk, length, take, vec_len};
 ghost use Rattle.lt_jar.specs.Lines.{IsOneLine};
 ghost use Rattle.lt_registry.specs.Parts.{EntryParts};
@@ -81,10 +80,10 @@ fn long_fault(form: LineForm, line: u64) -> ToolFault
     }
 }
 
-/// Appends the answer to a line, and tells whether it was refused. The line is the first `count` bytes of `text`; what
-/// follows them is for speed alone, as up to 64 bytes are taken at once. `is_first` is whether it is the first of all,
-/// so that it may be a heading, and `look` must be the look at it, if there was one. `text` must have at least `count`
-/// bytes. The clauses suppose that all that `recent` has is right, and then it stays so.
+/// Appends the answer to a line, and tells whether it was refused. The line is the first `count` bytes of `text` (which
+/// must have so many); what follows them is for speed alone, as up to 64 bytes are taken at once. `is_first` is whether
+/// it is the first of all, so that it may be a heading, and `look` must be the look at it, if there was one. If
+/// `recent` is right, the answer is, and `recent` stays right.
 #[tactic(auto, using(crate::proofs::TextLemmas::csv_recent))]
 #[inline(always)]
 fn append_reply<L: Lookup>(
@@ -142,8 +141,8 @@ fn append_reply<L: Lookup>(
 
 /// Appends the answer to a line of which a front was kept, and tells whether it was refused. The line is what is in
 /// `kept` and then `part`, which is kept too; `is_first` is whether it is the first of all. By `owed` the answer is
-/// that to each line with this front, since of a long tag the rest isn't kept. `owed` and `recent` suppose that all
-/// that `recent` has is right, and then it stays so.
+/// that to each line with this front, since of a long tag the rest isn't kept. If `recent` is right, the answer is, and
+/// `recent` stays right.
 #[inline(never)]
 fn append_kept_line<L: Lookup>(
     lines: &mut Vec<u8>,
@@ -177,10 +176,10 @@ fn append_kept_line<L: Lookup>(
 }
 
 /// Appends the answer to a line, and tells whether it was refused. The line is what is in `kept` and then the first
-/// `count` bytes of `text`, which are kept too if anything was; what follows them is for speed alone, as up to 64 bytes
-/// are taken at once. `is_first` is whether it is the first of all. `look` must be the look at it, and there must be
-/// none if anything is kept. `text` must have at least `count` bytes. `owed` and `recent` suppose that all that
-/// `recent` has is right, and then it stays so.
+/// `count` bytes of `text` (which must have so many), which are kept too if anything was; what follows them is for
+/// speed alone, as up to 64 bytes are taken at once. `is_first` is whether it is the first of all. `look` must be the
+/// look at it, and there must be none if anything is kept. If `recent` is right, the answer is, and `recent` stays
+/// right.
 #[inline(always)]
 fn append_line<L: Lookup>(
     lines: &mut Vec<u8>,
@@ -248,12 +247,11 @@ impl Answering {
         }
     }
 
-    /// Answers the line that ends after the first `count` bytes of `text`, counts it, and keeps nothing of it. What
-    /// follows these bytes is for speed alone, as up to 64 bytes are taken at once. `look` must be the look at the
-    /// line, and there must be none if a front of the line was kept. The counts must have room for a line more. `text`
-    /// must have at least `count` bytes. By `taken`, if these end a whole line, a state that was right for any bytes
-    /// read and written so far is right with them and a line feed (10) read. By `counted` the room grows less by a line
-    /// at most.
+    /// Answers the line that ends after the first `count` bytes of `text` (which must have so many), counts it, and
+    /// keeps nothing of it. What follows these bytes is for speed alone, as up to 64 bytes are taken at once. `look`
+    /// must be the look at the line, and there must be none if a front of the line was kept. The counts must have room
+    /// for a line more. By `taken`, if these end a whole line, a state that was right for what was read and written so
+    /// far is right with them and a line feed (10) too. By `counted` the counts lose room for one line at most.
     #[inline(always)]
     fn answer_line<L: Lookup>(
         &mut self,
@@ -315,12 +313,11 @@ impl Answering {
         Ok(())
     }
 
-    /// Takes the first `count` bytes of `text` and the line feed after them: answers the row or the record that they
-    /// end, or keeps them if the line feed is within quotes. What follows in `text` is for speed alone, as up to 64
-    /// bytes are taken at once. `lacks` must be true of the `count` bytes: it is what they are known to lack. The
-    /// counts must have room for a line more. `text` must have at least `count` bytes. `taken` supposes that these have
-    /// no line feed (10) and don't make the row too long: then a state that was right for any bytes read and written so
-    /// far is right with them read.
+    /// Takes the first `count` bytes of `text` (which must have so many) and the line feed after them: answers the row
+    /// or the record that they end, or keeps them if the line feed is within quotes. What follows in `text` is for
+    /// speed alone, as up to 64 bytes are taken at once. `lacks` must be true of the `count` bytes: it is what they are
+    /// known to lack. The counts must have room for a line more. By `taken`, if these have no line feed (10) and don't
+    /// make the row too long, a state that was right for what was read and written so far is right with them too.
     #[inline(never)]
     fn end_row<L: Lookup>(
         &mut self,
@@ -346,12 +343,11 @@ impl Answering {
         self.answer_line(alloc, basis, form, &look, text, count)
     }
 
-    /// Takes the first `count` bytes of `text` and the line feed after them: answers the line that they end, or keeps
-    /// them if the line feed is within the quotes of a record. What follows in `text` is for speed alone, as up to 64
-    /// bytes are taken at once. `lacks` must be true of the `count` bytes: it is what they are known to lack. The
-    /// counts must have room for a line more. `text` must have at least `count` bytes. `taken` supposes that these have
-    /// no line feed (10) and don't make the line too long: then a state that was right for any bytes read and written
-    /// so far is right with them read.
+    /// Takes the first `count` bytes of `text` (which must have so many) and the line feed after them: answers the line
+    /// that they end, or keeps them if the line feed is within the quotes of a record. What follows in `text` is for
+    /// speed alone, as up to 64 bytes are taken at once. `lacks` must be true of the `count` bytes: it is what they are
+    /// known to lack. The counts must have room for a line more. By `taken`, if these have no line feed (10) and don't
+    /// make the line too long, a state that was right for what was read and written so far is right with them too.
     #[inline(always)]
     fn end_line<L: Lookup>(
         &mut self,
@@ -377,8 +373,8 @@ impl Answering {
         }
     }
 
-    /// Writes the answers that wait, so that none do then. Refused if the write fails. By `writes` the bytes written
-    /// and those that still wait are what waited, and by `emptied` the latter are none.
+    /// Writes the answers that wait, so that none do then. Refused if the write fails. By `writes` what was written and
+    /// what still waits is what waited; by `emptied` nothing waits.
     fn write<W: Write>(&mut self, output: &mut Device<W>) -> Result<(), ToolFault>
         ensures writes { spec.WritesOwed W.contents self.old self.new output.old output.new result }
         ensures emptied { OnOk result (self.new.owed.items ≡ []) }
@@ -388,8 +384,7 @@ impl Answering {
         Ok(())
     }
 
-    /// Writes the answers that wait if they are `FULL` bytes or more, and else nothing. Refused if the write fails. The
-    /// clauses are those of `write`, the second for so many bytes only.
+    /// Writes the answers that wait if they are `FULL` bytes or more, and else nothing. Refused if the write fails.
     fn write_much<W: Write>(&mut self, output: &mut Device<W>) -> Result<(), ToolFault>
         ensures writes { spec.WritesOwed W.contents self.old self.new output.old output.new result }
         ensures emptied { OnOk result (full ≤ vec_len self.old.owed → self.new.owed.items ≡ []) }
@@ -469,8 +464,8 @@ impl Answering {
     }
 
     /// Answers a last line that has no line feed, if there is one. What is kept is the whole line: no bytes follow, and
-    /// there was no look. The text must not end within quotes, and the counts must have room for a line more. The
-    /// clause is on any bytes read and written so far for which the state was right: then all their lines are answered.
+    /// there was no look. The text must not end within quotes, and the counts must have room for a line more. Then all
+    /// lines are answered of what was read so far, if the state was right for that.
     fn end_last<L: Lookup>(
         &mut self,
         alloc: Global,

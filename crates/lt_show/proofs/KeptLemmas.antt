@@ -1,5 +1,5 @@
--- The loop of `read_draft`, which keeps the records that a reader lends one by one in a draft, and what `read_records`
--- then answers of the draft.
+-- The loop of `read_draft`, which keeps the records that a reader lends one by one, and what `read_records` makes of
+-- them.
 use Rattle.std.proofs.Common.{◌≡◌, ℕ, true, false, List, [], ◌∷◌, ◌++◌, ap, sym, subst, ◌∙◌, Option, Ok, Err}
 use Rattle.std.proofs.lemmas.List.{map-append}
 use Rattle.lt_jar.specs.Records.{Field}

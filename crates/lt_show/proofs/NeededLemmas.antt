@@ -1,5 +1,5 @@
--- `kept_fields` leaves out of a record the fields that are neither shown nor tell what it registers. Records without
--- them give the same entries and faults, so a registry can be made of what is kept.
+-- Records without the fields that `kept_fields` leaves out give the same entries and faults, so a registry can be made
+-- of what is kept.
 use Rattle.std.proofs.Common.{◌≡◌, ◌+◌, ◌++◌, ◌∷◌, ◌∙◌, inl, inr, ℕ, Bool, true, false, List, [], Some, ap, refl, sym}
 use Rattle.std.proofs.Common.{subst, length, map, filter, find, count_by, if◌then◌else◌}
 use Rattle.std.proofs.lemmas.Bool.{cases_Bool, false_from_ne_true, or_left, or_right}

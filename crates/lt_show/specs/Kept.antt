@@ -25,8 +25,7 @@ Keeps r old new = new.lacks ≡ false → KeepsMore r old new
 
 -- A call for the next record, from the reader `old` to `new`, which `advances` describes: the draft `draft` took the
 -- record that the reader lent, and became `drafted` (`takes`), or is as it was where there was none (`keeps`). The
--- reader borrows the same device before and after (`same_reference`). `remaining` is what a reader has left, where that
--- is known.
+-- reader's device is the same (`same_reference`). `remaining` is what a reader has left, where that is known.
 pub record KeepsNext {R : Type 0} (remaining : R → Option (List ℕ)) (old new : JarReader R JarSource)
     (draft drafted : Draft) (result : Result Bool JarFault) : Type 0 where
   pub same_reference : new.device.ghost_name ≡ old.device.ghost_name

@@ -1,4 +1,4 @@
-//! The members of objects of JSON, appended to the bytes `texts`. In clauses 123 is the brace `{`, and 44 a comma.
+//! The members of objects of JSON, appended to the bytes `texts`.
 ghost use Rattle.std.specs.Prelude.{◌≡◌, ◌++◌, ◌∷◌, [], OnOk};
 ghost use Rattle.lt_show.specs.Strings.{string};
 ghost use Rattle.lt_show.specs.Values as spec;

@@ -90,8 +90,8 @@ impl Draft {
         }
     }
 
-    /// Keeps the next record of a reader, and tells whether there is one. It is refused with the reader's fault.
-    /// `R.remaining` in the clause is what the reader's bytes still to come are, where that is known.
+    /// Keeps the next record of a reader, and tells whether there is one. It is refused with the reader's fault. In the
+    /// clause `R.remaining` gives what the reader has left, where that is known.
     fn take_next<R: Read>(
         &mut self,
         alloc: Global,
@@ -110,8 +110,7 @@ impl Draft {
     }
 }
 
-/// A draft of the records that a device gives, read to its end, or the fault of the file. `R.remaining` as in
-/// `take_next`.
+/// A draft of the records that a device gives, read to its end, or the fault of the file.
 #[tactic(auto, using(crate::proofs::KeptLemmas::kept_none))]
 fn read_draft<R: Read>(alloc: Global, device: &mut Device<R>) -> Result<Draft, JarFault>
     ensures { ReadsDraft R.remaining device.old device.new result }

@@ -1,4 +1,4 @@
-//! The rows of a tag as a table for people. `told` is the text that it is appended to. In clauses 32 is a space.
+//! The rows of a tag as a table for people. `told` is the text that it is appended to.
 ghost use Rattle.std.specs.Prelude.{◌≡◌, ◌++◌, OnOk, map, replicate};
 ghost use Rattle.lt_show.specs.Tables as spec;
 ghost use Rattle.lt_show.specs.Tables.{field_line, fields_text, padded, row_line, row_text, rows_text, table_of};

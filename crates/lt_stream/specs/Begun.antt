@@ -9,9 +9,9 @@ use Rattle.lt_stream.specs.declared.faults.ToolFault.{ToolFault}
 use Rattle.lt_stream.specs.declared.faults.ToolFault.TheVariants as faults
 use Rattle.lt_stream.specs.declared.texts.Text.{Text}
 
--- The mark of these bytes is passed over, if they have one, and the text after it is taken as lines. `split` and
--- `narrow` hold of all that may follow the bytes, so no further byte changes what was found. `start` is the output at
--- the beginning of the run, and `now` the output here. Q tells what is answered.
+-- The mark of these bytes is passed over, if they have one, and the text after it is taken as lines. No byte that
+-- follows changes that (`split`, `narrow`). `start` is the output at the beginning of the run, and `now` the output
+-- here. Q tells what is answered.
 pub record IsPast {A W : Type 0} (Q : Answered A) (longest : ℕ) (contents : W → Option (List ℕ))
     (start now : Device W) (bytes : List ℕ) (state : Text A) : Type 0 where
   pub begun : state.is_begun ≡ true
@@ -36,9 +36,8 @@ abbrev pub IsTakenText : {A W : Type 0} → Answered A → ℕ → (W → Option
 IsTakenText Q longest contents start now bytes state =
     IsPast Q longest contents start now bytes state ⊎ IsWaiting Q longest contents start now bytes state
 
--- A write failed or memory ran out, and what was written is a front of the answers to the text after the mark. Bytes
--- with a mark of UTF-16 are never written of, so there only memory can run out (`narrow`). `start`, `now` and Q as in
--- IsPast.
+-- A write failed or memory ran out, and what was written is a front of the answers to the text after the mark. Of bytes
+-- with a mark of UTF-16 nothing is written, so only memory can run out (`narrow`). `start`, `now` and Q as in IsPast.
 pub record IsCutAfter {A W : Type 0} (Q : Answered A) (contents : W → Option (List ℕ)) (start now : Device W)
     (bytes : List ℕ) (fault : ToolFault) : Type 0 where
   pub mark : List ℕ
@@ -47,8 +46,8 @@ pub record IsCutAfter {A W : Type 0} (Q : Answered A) (contents : W → Option (
   pub narrow : IsWide bytes → fault ≡ faults.OutOfMemory
   pub cut : IsCutOff Q contents start now text fault
 
--- The bytes begin with a byte order mark of UTF-16, and nothing was written, which begins the answers to any text
--- (`begun`). `start`, `now` and Q as in IsPast.
+-- The bytes begin with a byte order mark of UTF-16, and nothing was written, which is a front of the answers to any
+-- text (`begun`). `start`, `now` and Q as in IsPast.
 pub record IsStoppedWide {A W : Type 0} (Q : Answered A) (start now : Device W) (bytes : List ℕ)
     (fault : ToolFault) : Type 0 where
   pub named : fault ≡ faults.Utf16
@@ -56,8 +55,8 @@ pub record IsStoppedWide {A W : Type 0} (Q : Answered A) (start now : Device W) 
   pub untouched : now ≡ start
   pub begun : (text : List ℕ) → IsBegun Q text []
 
--- A piece can end a run only by a fault, after these bytes: a failed write, lack of memory or a mark of UTF-16.
--- `start`, `now` and Q as in IsPast.
+-- A piece can end a run only by a fault: a failed write, lack of memory or a mark of UTF-16. `start`, `now` and Q as in
+-- IsPast.
 abbrev pub StopsText : {A W : Type 0} → Answered A → (W → Option (List ℕ)) → (start now : Device W) → List ℕ
     → Result (Unit {0}) ToolFault → Type 0
 StopsText Q contents start now bytes (Ok _) = ⊥
@@ -79,8 +78,8 @@ abbrev pub FinishesText : {A W : Type 0} → Answered A → (W → Option (List 
 FinishesText Q contents start now bytes state (Ok _) = IsAllAfter Q contents start now bytes state.lined.answers
 FinishesText Q contents start now bytes state (Err fault) = IsCutAfter Q contents start now bytes fault
 
--- The first bytes were split into a mark, which is passed over, and a text, which was taken as a piece of lines, with
--- this result. `before` and `after` are the output, `old` and `new` the state.
+-- The first bytes were split into a mark, which is passed over, and a text, which was taken as lines. `before` and
+-- `after` are the output, `old` and `new` the state.
 pub record Begins {A W : Type 0} (Q : A → Answered A) (longest : ℕ) (contents : W → Option (List ℕ))
     (old new : Text A) (before after : Device W) (result : Result (Option (Unit {0})) ToolFault) : Type 0 where
   pub mark : List ℕ

@@ -18,7 +18,7 @@ full = 65536
 
 -- These bytes were read. Their whole lines, `lines`, are answered, which Q tells, each answer is written or waits to
 -- be, and of the rest, `last`, the first `longest` bytes are kept, at least one if it has any. The output was `start`
--- at the beginning of the run, and is `now` here, and no write failed (`same`).
+-- at the beginning of the run, and is `now` here; no write failed (`same`).
 pub record IsDuring {A W : Type 0} (Q : Answered A) (longest : ℕ) (contents : W → Option (List ℕ))
     (start now : Device W) (bytes : List ℕ) (state : Lined A) : Type 0 where
   pub some : 0 < longest

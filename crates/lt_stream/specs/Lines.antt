@@ -65,8 +65,8 @@ pub record IsStoppedByRead {I A : Type 0} (Q : Answered A) (input input' : Devic
   pub failed : HasFailed input input'
   pub owed : IsAnsweredToLastFeed Q text written answers
 
--- the most reads that a run may make were made, each gave a byte at least, the last one too, and the lines of the text
--- up to its last line feed (10) are answered
+-- the most reads that a run may make were made, each gave a byte at least, also the last, and the lines of the text up
+-- to its last line feed (10) are answered
 pub record IsStoppedByTurns {I A : Type 0} (Q : Answered A) (input' : Device I) (reads : ℕ)
     (read text written : List ℕ) (answers : A) : Type 0 where
   pub all_made : reads ≡ most_reads
@@ -89,9 +89,9 @@ EndsAs Q remaining input input' output output' reads read text written answers (
 EndsAs Q remaining input input' output output' reads read text written answers (Err faults.OutOfMemory) = Unit {0}
 EndsAs Q remaining input input' output output' reads read text written answers (Err _) = ⊥
 
--- A run that answers the lines of a reader. Whatever ended it, what was written is a front of the answers. A device
--- that failed in it is named by the result (`read_rises`, `write_rises`). Names with ' are of the devices after it;
--- `remaining` tells what a reader has still to give, `contents` what a writer has taken.
+-- A run that answers the lines of a reader. Whatever ended it, what was written is a front of the answers. The result
+-- names a device that failed (`read_rises`, `write_rises`). Names with ' are of the devices after it; `remaining` tells
+-- what a reader has still to give, `contents` what a writer has taken.
 pub record RunsOverLines {I O A : Type 0} (Q : Answered A) (remaining : I → Option (List ℕ))
     (contents : O → Option (List ℕ)) (input input' : Device I) (output output' : Device O) (answers : A)
     (result : Result (Unit {0}) ToolFault) : Type 0 where

@@ -85,8 +85,8 @@ impl<A: Lines> Lined<A> {
         Ok(())
     }
 
-    /// Writes the answers that wait, so that none waits then. Refused if a write fails. By `writes` the bytes written
-    /// and those that still wait are what waited, and by `emptied` the latter are none.
+    /// Writes the answers that wait, so that none waits then. Refused if a write fails. By `writes` what was written
+    /// and what still waits is what waited; by `emptied` nothing waits.
     fn write<W: Write>(&mut self, output: &mut Device<W>) -> Result<(), ToolFault>
         ensures writes { spec.WritesOwed W.contents self.old self.new output.old output.new result }
         ensures emptied { OnOk result (self.new.owed.items ≡ []) }
@@ -96,8 +96,7 @@ impl<A: Lines> Lined<A> {
         Ok(())
     }
 
-    /// Writes the answers that wait if they are `FULL` bytes or more, and else nothing. Refused if a write fails. The
-    /// clauses are those of `write`, the second for so many bytes only.
+    /// Writes the answers that wait if they are `FULL` bytes or more, and else nothing. Refused if a write fails.
     fn write_much<W: Write>(&mut self, output: &mut Device<W>) -> Result<(), ToolFault>
         ensures writes { spec.WritesOwed W.contents self.old self.new output.old output.new result }
         ensures emptied { OnOk result (spec.full ≤ vec_len self.old.owed → self.new.owed.items ≡ []) }

@@ -30,8 +30,8 @@ pub trait Pieces<O> {
     ghost finished: { Self → O → O → List ℕ → Self → Result Self.Answer ToolFault → Type 0 };
 
     /// Takes the next bytes. An answer, or a fault, ends the run; with None it goes on. The run must have read less
-    /// than 2^63 bytes, these bytes counted too, so that 64 bits count its lines. Each run has: 10,000,000 reads of
-    /// 65,536 bytes are fewer.
+    /// than 2^63 bytes, these bytes counted too, so that 64 bits count its lines. Each has, as it makes at most
+    /// 10,000,000 reads of 65,536 bytes.
     fn take_piece(
         &mut self,
         alloc: Global,

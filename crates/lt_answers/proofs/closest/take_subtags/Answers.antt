@@ -2,7 +2,7 @@ use Rattle.std.proofs.Common.{◌≡◌, ◌∙◌, ap, length, sym, true, false
 use Rattle.lt_answers.proofs.ClosestLemmas.{takes_closer, takes_none, takes_other}
 use Rattle.lt_answers.proofs.closest.take_subtags.Goals as goal
 
--- The goals are the clause of `take_subtags`, TakesSubtags, on any lines before, at its three ends.
+-- The clause of `take_subtags`, TakesSubtags, on any lines before, at its three ends.
 
 -- no range falls back to the tag, so the closest line stays
 pub returns-in_default : goal.returns-in_default

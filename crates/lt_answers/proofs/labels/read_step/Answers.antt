@@ -3,7 +3,7 @@ use Rattle.lt_rewrite.specs.Names.{name_of}
 use Rattle.lt_answers.proofs.LineLemmas.{one_words, step_words}
 use Rattle.lt_answers.proofs.labels.read_step.Goals as goal
 
--- The goals are the clause of `read_step`: IsNoName where the answer is None, and else IsStepLine.
+-- The clause of `read_step`: IsNoName where the answer is None, and else IsStepLine.
 
 -- the line of a step has four words, but this one has fewer
 pub returns-in_err-words : goal.returns-in_err-words

@@ -3,7 +3,7 @@ use Rattle.lt_rows.proofs.SplitLemmas.{no_split}
 use Rattle.lt_answers.proofs.LineLemmas.{one_split}
 use Rattle.lt_answers.proofs.labels.words_of.Goals as goal
 
--- The goals are the clause of `words_of` where the answer is None, HasFewWords: no four words are the line's.
+-- The clause of `words_of` where the answer is None, HasFewWords: no four words are the line's.
 
 -- the line has no space, but a line of four words has three
 pub returns-in_err-name : goal.returns-in_err-name

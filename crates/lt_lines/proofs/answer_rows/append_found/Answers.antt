@@ -10,8 +10,7 @@ use Rattle.lt_lines.proofs.RowLemmas.{found_answered, found_kept, found_refused,
 use Rattle.lt_lines.proofs.answer_rows.append_found.Goals as goal
 use Rattle.lt_lines.proofs.answer_rows.append_found.Goals.{After-append_field, After-without_return-row}
 
--- The last three goals are the clause `owed` of `append_found`: the row is answered, refused, or kept (`--keep`). The
--- lemmas before them find the parts of the row in the bytes that were given.
+-- The clause `owed` of `append_found` comes last: the row is answered, refused, or kept (`--keep`).
 
 -- the text of the field is the same bytes of the piece and of the row
 text_is : (g : _) (c : After-without_return-row g)

@@ -5,7 +5,7 @@ use Rattle.lt_lines.proofs.RowLemmas.{kept_answered, kept_refused}
 use Rattle.lt_lines.proofs.answer_rows.append_kept.Goals as goal
 use Rattle.lt_lines.proofs.answer_rows.append_kept.Goals.{After-append_field}
 
--- The two goals are the clause `owed` of `append_kept`: the field has a canonical text, or is refused.
+-- The clause `owed` of `append_kept`: the field has a canonical text, or is refused.
 
 -- the row and a separator are in front of what is added
 front : (g : _) (c : goal.After-append_field g)

@@ -5,7 +5,7 @@ use Rattle.lt_rows.specs.Splitting.{IsFreeOf}
 use Rattle.lt_rows.proofs.FieldLemmas.{field_ended, field_last, left_is}
 use Rattle.lt_rows.proofs.rows.field_at.Goals as goal
 
--- The goals are what `field_end` requires, and the clause of `field_at`, IsFieldAt, at its two last ends.
+-- What `field_end` requires, and the clause of `field_at`, IsFieldAt, at its two last ends.
 
 -- a row without line feeds (10) has none in its rest either
 pub field_end-requires-clause-line : goal.field_end-requires-clause-line

@@ -5,12 +5,12 @@ use Rattle.lt_registry.proofs.ReadingLaws.{HasReadSoFar}
 use Rattle.lt_show.specs.Kept.{HasKept}
 use Rattle.lt_show.proofs.reading.read_draft.Given as goal
 
--- the reader borrows the same device as before the loop, and the draft has kept the records that were lent so far
+-- the reader's device is the same as before the loop, and the draft has kept the records that were lent so far
 abbrev pub invariant-records : goal.invariant-records
 invariant-records g l =
     (l.reader.device.ghost_name ≡ l.initial.reader.device.ghost_name)
     × HasReadSoFar g.R.Read.remaining l.initial.reader.source l.reader.source l.fn.device l.reader.device.now (HasKept l.draft)
 
--- the loop ends, since each turn but the last lends one more of the most records that a file may have
+-- the loop ends: each turn but the last lends one more of the most records that a file may have
 abbrev pub decreases-records : goal.decreases-records
 decreases-records g l = most_records - lent_by l.reader.source

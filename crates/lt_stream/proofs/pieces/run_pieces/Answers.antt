@@ -5,8 +5,8 @@ use Rattle.lt_stream.proofs.RunLemmas.{run_failed, run_finished, run_first, run_
 use Rattle.lt_stream.proofs.pieces.run_pieces.Goals as goal
 use Rattle.lt_stream.proofs.pieces.run_pieces.Goals.{After-deref}
 
--- The goals are the invariant before the loop and after a turn, what the calls of `take_piece` and `finish` require,
--- and the clause of `run_pieces`, RunsPieces, at each of its ends.
+-- The invariant before the loop and after a turn, what the calls of `take_piece` and `finish` require, and the clause
+-- of `run_pieces`, RunsPieces, at each of its ends.
 
 -- there is no memory for a piece, so the run ends before a read
 pub returns-in_err-buffer : goal.returns-in_err-buffer

@@ -3,8 +3,8 @@ use Rattle.lt_stream.proofs.LinedLemmas.{taken_none}
 use Rattle.lt_stream.proofs.TextRunLemmas.{runs_text}
 use Rattle.lt_stream.proofs.texts.run_text.Goals as goal
 
--- `run_pieces` requires `IsTakenText` of a run that has not begun: no byte waits, and no bytes may become a mark, for
--- example that of UTF-8 (239, 187, 191)
+-- `run_pieces` requires `IsTakenText` of a run that has not begun: no byte waits, and no bytes may become a mark, as
+-- that of UTF-8 (239, 187, 191)
 pub run_pieces-end-requires : goal.run_pieces-end-requires
 run_pieces-end-requires g c = inr (record {
   begun = refl;

@@ -3,7 +3,7 @@ use Rattle.lt_answers.proofs.MatchedLemmas.{selected_tells}
 use Rattle.lt_answers.proofs.SelectingLemmas.{owed_few, owed_no, owed_yes}
 use Rattle.lt_answers.proofs.selecting.SelectingLines.take_line.Goals as goal
 
--- The goals are that the count doesn't overflow, and what `Lines` promises of a line, TakesLine, selected or not.
+-- That the count doesn't overflow, and what `Lines` promises of a line, TakesLine, selected or not.
 
 -- no more lines are counted than were read, so the count has room for one more
 pub overflow_add-self : goal.overflow_add-self

@@ -3,7 +3,7 @@ use Rattle.lt_rows.specs.Quotes.{is_quoted}
 use Rattle.lt_heading.proofs.TakenLemmas.{whole_row}
 use Rattle.lt_heading.proofs.first_rows.FirstRow.end_text.Goals as goal
 
--- The goals are the clause of `end_text`, EndsText, for any separator S, at its two ends.
+-- The clause of `end_text`, EndsText, for any separator S, at its two ends.
 
 -- a quote is open, so the text is no whole row
 pub returns-then-is_quoted : goal.returns-then-is_quoted

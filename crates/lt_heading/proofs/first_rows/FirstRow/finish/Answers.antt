@@ -1,7 +1,7 @@
 use Rattle.lt_heading.proofs.FirstRowLemmas.{begun_of, finish_begun, finish_last, undecided_of}
 use Rattle.lt_heading.proofs.first_rows.FirstRow.finish.Goals as goal
 
--- The goals are the clause of `finish`, FinishesText, where it calls `end_text`.
+-- The clause of `finish`, FinishesText, where it calls `end_text`.
 
 -- the mark is known, so the bytes end as the text does
 pub returns-then-self : goal.returns-then-self

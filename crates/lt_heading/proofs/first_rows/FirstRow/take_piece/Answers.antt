@@ -4,7 +4,7 @@ use Rattle.lt_heading.specs.declared.first_rows.FirstRow.{FirstRow}
 use Rattle.lt_heading.proofs.FirstRowLemmas.{begun_of, piece_begins, piece_begun, undecided_of}
 use Rattle.lt_heading.proofs.first_rows.FirstRow.take_piece.Goals as goal
 
--- The goals are the clause of `take_piece`, TakesPiece, where the text takes the piece and where it begins with it.
+-- The clause of `take_piece`, TakesPiece, where the text takes the piece and where it begins with it.
 
 -- the mark is known, so the piece is appended to the text after it
 pub returns-then-self : goal.returns-then-self

@@ -3,7 +3,7 @@ use Rattle.lt_lines.specs.Answering.{line_of}
 use Rattle.lt_lines.specs.Owed.{long_fault}
 use Rattle.lt_lines.proofs.answering.Answering.stop_long.Goals as goal
 
--- The goals are what `kept_from` requires, and the clause of `stop_long`, StopsLong, at its two ends.
+-- What `kept_from` requires, and the clause of `stop_long`, StopsLong, at its two ends.
 
 -- a write changes neither the counts nor the line feeds, so there is room as before
 pub kept_from-requires : goal.kept_from-requires

@@ -11,8 +11,8 @@ use Rattle.lt_lines.proofs.PieceLemmas.{PieceTurn, turn_fails, turn_kept, turn_l
 use Rattle.lt_lines.proofs.answering.Answering.take_piece.Goals as goal
 use Rattle.lt_lines.proofs.answering.Answering.take_piece.Goals.{In_ok-end_line}
 
--- The goals are what `end_line` requires of its bytes, the invariant after a turn, and the clause of `take_piece`,
--- TakesPiece, at each of its ends.
+-- What `end_line` requires of its bytes, the invariant after a turn, and the clause of `take_piece`, TakesPiece, at
+-- each of its ends.
 
 -- the line is a front of the rest of the piece, so that has so many bytes
 pub end_line-requires-clause-count : goal.end_line-requires-clause-count

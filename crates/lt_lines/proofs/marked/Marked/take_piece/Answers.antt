@@ -4,8 +4,7 @@ use Rattle.lt_rows.specs.Marks.{IsWide, MayBeMark}
 use Rattle.lt_lines.proofs.TextRunLemmas.{text_begins, text_lacks, text_may_be, text_piece, text_wide}
 use Rattle.lt_lines.proofs.marked.Marked.take_piece.Goals as goal
 
--- The goals are the room for lines that its calls require, and the clause of `Marked::take_piece`, TakesText, at each
--- of its ends.
+-- The room for lines that its calls require, and the clause of `Marked::take_piece`, TakesText, at each of its ends.
 
 -- the room for the kept bytes and the piece is room for the piece
 pub take_piece-requires : goal.take_piece-requires

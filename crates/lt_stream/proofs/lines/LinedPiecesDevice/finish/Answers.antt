@@ -4,8 +4,7 @@ use Rattle.lt_stream.proofs.LinedLemmas.{answered_all, answered_fails, answered_
 use Rattle.lt_stream.proofs.LineRunLemmas.{has_line}
 use Rattle.lt_stream.proofs.lines.LinedPiecesDevice.finish.Goals as goal
 
--- `finish` of `Lined`: the goals are what its call of `end_last` requires, and at its ends the promise of `Pieces`,
--- that `Finishes` is true of whatever run so far `IsTaken` was true of.
+-- `finish` of `Lined`: what `end_last` requires, and at its ends what `Pieces` promises: `Finishes`.
 
 -- the lines answered are no more than the bytes read, which are few enough for one line more
 pub end_last-requires : goal.end_last-requires

@@ -3,8 +3,7 @@ use Rattle.std.proofs.lemmas.Result.{err_from_is_err_and}
 use Rattle.lt_stream.proofs.TextLemmas.{ending_fails, ending_finishes, ending_room, past_finishes, past_room, waiting_room}
 use Rattle.lt_stream.proofs.texts.TextPiecesDevice.finish.Goals as goal
 
--- `finish` of `Text`: the goals are what its calls require, which is room for 64 bits to count what is read, and at its
--- ends the promise of `Pieces`, that `FinishesText` is true of whatever run `IsTakenText` was true of.
+-- `finish` of `Text`: the room that its calls require, and at its ends what `Pieces` promises: `FinishesText`.
 
 -- past the mark the lines have the room of the text
 pub finish-requires : goal.finish-requires
