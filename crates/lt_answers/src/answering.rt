@@ -47,7 +47,6 @@ struct Objects<'a, L: Lookup> {
 }
 
 impl<'a, L: Lookup> Lines for Objects<'a, L> {
-    /// So many bytes of a longer line are answered.
     ghost longest = { longest_line };
 
     /// The table is that of the beginning, the bytes are the objects for the lines, and it is known whether one was

@@ -28,7 +28,6 @@ struct LookingUp<'a, L: Lookup> {
 }
 
 impl<'a, L: Lookup> Lines for LookingUp<'a, L> {
-    /// So many bytes tell a line's tag.
     ghost longest = { longest_kept };
 
     /// The table and the ranges are those of the beginning, nothing is written, and `closest` is that of the lines.

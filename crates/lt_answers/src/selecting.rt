@@ -29,7 +29,6 @@ struct Selecting<'a, L: Lookup> {
 }
 
 impl<'a, L: Lookup> Lines for Selecting<'a, L> {
-    /// So many bytes tell a line's tag.
     ghost longest = { longest_kept };
 
     /// The table, the scheme and the ranges are those of the beginning, and the bytes are the selected lines, `count`

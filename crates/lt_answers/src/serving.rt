@@ -28,7 +28,6 @@ struct Keeping<'a, L: Lookup> {
 }
 
 impl<'a, L: Lookup> Lines for Keeping<'a, L> {
-    /// So many bytes tell a line's tag.
     ghost longest = { longest_kept };
 
     /// The table is that of the beginning, nothing is written, and the lines that are tags are kept with their subtags.

@@ -89,7 +89,7 @@ fn take_text(
 }
 
 impl FirstRow {
-    /// No bytes taken so far.
+    /// No bytes taken so far (`nothing`), so that a byte order mark may still come (`undecided`).
     pub(crate) fn new(alloc: Global) -> FirstRow
         ensures undecided { IsUndecided result }
         ensures nothing { spec.taken_by result ≡ [] }

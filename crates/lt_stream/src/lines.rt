@@ -52,7 +52,7 @@ pub(crate) struct Lined<A> {
 }
 
 impl<A: Lines> Lined<A> {
-    /// No line read so far.
+    /// Before any line is read nothing is kept or owed.
     pub(crate) fn new(alloc: Global, answers: A) -> Lined<A>
         ensures answers { result.answers ≡ answers }
         ensures kept { result.kept.items ≡ [] }

@@ -6,6 +6,6 @@ use Rattle.lt_rows.proofs.quotes.after_text.Given as goal
 abbrev pub invariant-loop-front : goal.invariant-loop-front
 invariant-loop-front l = place_at l.delimiter l.fn.place l.text ≡ place_at l.delimiter l.now l.rest
 
--- the loop ends: less of the text is left after each turn
+-- so it ends: each turn leaves less of the text
 abbrev pub decreases-loop-front : goal.decreases-loop-front
 decreases-loop-front l = length l.rest

@@ -11,6 +11,6 @@ invariant-loop-front l = record {
   free : IsFreeOutside l.delimiter l.stop places.Fresh (take l.passed l.text);
 }
 
--- the loop ends: fewer bytes are left after each turn
+-- so it ends: each turn leaves fewer bytes
 abbrev pub decreases-loop-front : goal.decreases-loop-front
 decreases-loop-front l = length l.text - l.passed

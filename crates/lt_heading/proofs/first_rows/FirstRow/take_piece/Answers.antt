@@ -15,7 +15,7 @@ returns-then-self c =
     piece_begun S c.args.piece.now old new c.take_text.result (begun_of S old c.if-self.true c.requires) refl
     c.if-self.true c.take_text.ensures
 
--- a test `r` that is true exactly if P is true of the bytes seen was false, so P is not true of these bytes
+-- what a test `r` of the bytes `seen` did not find is not so
 tells_not : (P : List ℕ → Type 0) (seen text : List ℕ) (r : Bool) → IsTrue r ↔ P seen → r ≡ false → seen ≡ text → P text → ⊥
 tells_not P seen text r tells not same holds = let bad : true ≡ false = sym (tells.1 (subst P (sym same) holds)) ∙ not in cc
 

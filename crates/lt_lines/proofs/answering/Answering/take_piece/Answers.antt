@@ -28,7 +28,7 @@ returns-in_err-end_line g c =
     rw (p.1, p.2) (turn_stops _ _ _ _ _ _ _ _ c.loop-line.invariant.0 _ _ _ [] (Appends-nil _)
     (inr (refl, c.loop-line.invariant.0.failures)) (_, refl))
 
--- a test `r` that is true exactly if P holds was false, so P doesn't hold
+-- what a test `r` did not find is not so
 fits : {P : Type 0} (r : Bool) → IsTrue r ↔ P → r ≡ false → P → ⊥
 fits r tells not long = let bad : true ≡ false = sym (tells.1 long) ∙ not in cc
 

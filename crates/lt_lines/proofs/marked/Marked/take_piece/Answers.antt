@@ -45,7 +45,7 @@ begin-requires g c =
     let long = ap length c.in_ok-extend_from_slice.ensures.items ∙ length-append c.args.self.now.front.items c.args.piece.now in
     record { room = omega (arith, c.requires.room, long); feeds = omega (arith, c.requires.feeds, long); refused = c.requires.refused }
 
--- a test `r` that is true exactly if P is true of the bytes seen was false, so P is not true of these bytes
+-- what a test `r` of the bytes `seen` did not find is not so
 tells_not : (P : List ℕ → Type 0) (seen text : List ℕ) (r : Bool) → IsTrue r ↔ P seen → r ≡ false → seen ≡ text → P text → ⊥
 tells_not P seen text r tells not same holds = let bad : true ≡ false = sym (tells.1 (subst P (sym same) holds)) ∙ not in cc
 

@@ -7,6 +7,6 @@ abbrev pub invariant-loop-line : goal.invariant-loop-line
 invariant-loop-line g l = PieceTurn g.A.Lines.answered g.A.Lines.longest g.W.Write.contents l.piece l.rest l.fn.output
     l.output l.fn.self l.self
 
--- the loop ends: less of the piece is left after each turn
+-- so it ends: each turn leaves less of the piece
 abbrev pub decreases-loop-line : goal.decreases-loop-line
 decreases-loop-line g l = length l.rest
