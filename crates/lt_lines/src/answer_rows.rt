@@ -132,9 +132,9 @@ fn append_kept<L: Lookup>(
 
 /// Appends the answer to a row whose tag stands at `place`, and tells whether the tag is refused. The row's line is the
 /// first `count` bytes of `text` (which must have so many), and must have no carriage return outside of quotes but one
-/// that ends it; what follows these bytes is for speed alone, as 32 bytes are taken at once. If `recent` is right, the
-/// answer is, and `recent` stays right. `LineForm.Row` stands in the clauses for both forms, as the same is kept of the
-/// fields of rows and of records of CSV.
+/// that ends it. What follows them is for speed alone, as 32 bytes are taken at once. If `recent` is right, the answer
+/// is, and `recent` stays right. `LineForm.Row` stands in the clauses for both forms, as the same is kept of the fields
+/// of rows and of records of CSV.
 #[inline(always)]
 fn append_found<L: Lookup>(
     lines: &mut Vec<u8>,

@@ -176,7 +176,7 @@ fn append_kept_line<L: Lookup>(
 }
 
 /// Appends the answer to a line, and tells whether it was refused. The line is what is in `kept` and then the first
-/// `count` bytes of `text` (which must have so many), which are kept too if anything was; what follows them is for
+/// `count` bytes of `text` (which must have so many), which are kept too if anything was. What follows them is for
 /// speed alone, as up to 64 bytes are taken at once. `is_first` is whether it is the first of all. `look` must be the
 /// look at it, and there must be none if anything is kept. If `recent` is right, the answer is, and `recent` stays
 /// right.

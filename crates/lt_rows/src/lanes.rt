@@ -54,8 +54,8 @@ pub(crate) fn bits_in(byte: u8, text: &[u8], count: usize) -> u64
 }
 
 /// Clears the lowest bit that is set and gives its place: the next place of a byte in a row. None if no bit is set. The
-/// bits don't tell of which byte and row they are, so the clauses are on each that they may be of, with its places from
-/// `start` on: the answer is the next of them, it is inside of the row, and the bits left are those behind it.
+/// bits don't tell of which byte and row they are, so the clauses are on each that they may be of, from `start` on. The
+/// answer is the next place, it is inside of the row, and the bits left are those behind it.
 #[inline(always)]
 pub(crate) fn take_lowest(bits: &mut u64) -> Option<usize>
     ensures next { (byte start : ℕ) (row : List ℕ) → AreBitsFrom byte start row bits.old → IsNextPlace byte start row result }

@@ -22,8 +22,8 @@ fn with_more(text: &[u8], count: usize) -> &[u8]
 }
 
 /// The next of the places of a byte. None if it is not below `count`, or no place is left. `places` don't tell what
-/// they are of, so `next` and `rest` are on each byte and each text `near` whose places from `start` on they may be:
-/// the answer is the next of them among the first `count` bytes, and the places left are those behind it.
+/// they are of, so `next` and `rest` are on each byte and each text `near` whose places from `start` on they may be.
+/// The answer is the next among the first `count` bytes, and the places left are those behind it.
 #[inline(always)]
 fn next_within(places: &mut Memchr<'_>, count: usize) -> Option<usize>
     ensures within { IfSome result (λ end. end < count) }

@@ -11,6 +11,6 @@ invariant-records g l =
     (l.reader.device.ghost_name ≡ l.initial.reader.device.ghost_name)
     × HasReadSoFar g.R.Read.remaining l.initial.reader.source l.reader.source l.fn.device l.reader.device.now (HasKept l.draft)
 
--- so it ends: each turn but the last lends one more of the most records of a file
+-- so it ends: each turn but the last lends one record more, of at most `most_records`
 abbrev pub decreases-records : goal.decreases-records
 decreases-records g l = most_records - lent_by l.reader.source
