@@ -33,7 +33,7 @@ fn place_then(separator: Separator, place: Place, part: &[u8]) -> Place
     }
 }
 
-/// The fault of a first row that is too long, with the number of its line.
+/// The fault of a first row that is too long, with the number of its line, 1.
 fn long_fault(separator: Separator) -> ToolFault
     ensures { result ≡ spec.long_fault separator }
 {

@@ -9,7 +9,7 @@ use lt_rows::{Separator, find_field, text_in};
 use lt_stream::Tallies;
 use std::alloc::{AllocError, Global};
 
-/// The most bytes that are shown of a text that is refused; a longer one is cut.
+/// The most bytes that are shown of a text that is refused; a longer one is cut, so that a summary is short.
 const MOST_SHOWN: usize = 64;
 
 /// How many separators are between a row as it was and what a refusal tells: two where rows are kept, as an empty field is

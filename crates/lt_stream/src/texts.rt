@@ -44,9 +44,9 @@ struct Text<A> {
 }
 
 impl<A: Lines> Text<A> {
-    /// Passes over the byte order mark of the first bytes, if there is one, and takes what follows it as lines. The
-    /// run must have read less than 2^63 bytes, the first bytes counted too. Only a fault ends the run here: a failed
-    /// write, or lack of memory.
+    /// Passes over the byte order mark of the first bytes, if there is one, and takes what follows it as lines. The run
+    /// must have read less than 2^63 bytes, the first bytes counted too, as `Lined::take_piece` requires. Only a fault
+    /// ends the run here: a failed write, or lack of memory.
     fn begin<W: Write>(
         &mut self,
         alloc: Global,
