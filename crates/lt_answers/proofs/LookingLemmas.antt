@@ -1,4 +1,4 @@
--- What lookup finds.
+-- What lookup finds: the closest of the lines that were read, at the beginning none.
 use Rattle.std.proofs.Common.{◌≡◌, ℕ, List, [], Option, Some, None, refl, arith, option_map}
 use Rattle.lt_registry.specs.Parts.{EntryParts}
 use Rattle.lt_range.specs.Ranges.{RangeParts}

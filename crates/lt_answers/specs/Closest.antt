@@ -1,4 +1,5 @@
--- The line that lookup finds, of those that were read so far. No public contract cites this.
+-- The line that lookup finds, of those that were read so far. A range falls back to a tag if it becomes the tag when
+-- subtags at its end are cut off (RFC 4647, 3.4), and so finds it. No public contract cites this.
 use Rattle.std.specs.Prelude.{◌≡◌, ◌<◌, ◌⊎◌, ◌++◌, ◌∷◌, ℕ, List, [], true, length, take, Option, Some, None, Result, Err}
 use Rattle.std.specs.Prelude.{slice_index_or}
 use Rattle.lt_registry.specs.Parts.{EntryParts}

@@ -52,8 +52,8 @@ EndFlow t text (flows.Leads u) = ⊥
 EndFlow t text flows.Ends = text ≡ text_of t
 EndFlow t text (flows.Settled v) = (text ≢ text_of t) × (v ≡ verdicts.WrongEnd)
 
--- the most bytes before the text of a step's line: the name of its kind (15), its place and its number (10 each, as
--- they have 32 bits), with a space after each
+-- the most bytes before the text of a step's line: the name of its kind (15, as `VariantLanguage` has), its place and
+-- its number (10 each, as they have 32 bits), with a space after each, 38 in all
 abbrev pub longest_label : ℕ
 longest_label = 38
 

@@ -21,8 +21,8 @@ pub record IsStoppedByRead {I : Type 0} (P : Selection) (input input' : Device I
   pub failed : HasFailed input input'
   pub owed : IsOwedToLastFeed P text written
 
--- all reads that a run may make were made, and the last one still gave bytes; the lines of the text that are selected
--- up to the last line feed were written
+-- all reads that a run may make were made, each gave a byte at least, also the last; the lines of the text that are
+-- selected up to the last line feed were written
 pub record IsStoppedByTurns {I : Type 0} (P : Selection) (input' : Device I) (reads : ℕ)
     (read text written : List ℕ) : Type 0 where
   pub all_made : reads ≡ most_reads
@@ -49,9 +49,9 @@ EndsAs P remaining input input' output output' reads read text written (Err faul
     IsWide read × (written ≡ [])
 
 -- A run that writes the lines of a reader that are selected. The byte order mark of UTF-8 with which the bytes may
--- begin is passed over. Whatever ended the run, what was written is a front of those lines. `remaining` gives the bytes
--- that a reader has left, and `contents` those that an output was given; `input'` and `output'` are the reader and the
--- output after the run.
+-- begin is passed over. Whatever ended the run, what was written is a front of those lines. The result names a device
+-- that failed (`read_rises`, `write_rises`). `remaining` gives the bytes that a reader has left, and `contents` those
+-- that an output was given; `input'` and `output'` are the reader and the output after the run.
 pub record SelectsLines {I O : Type 0} (P : Selection) (remaining : I → Option (List ℕ))
     (contents : O → Option (List ℕ)) (input input' : Device I) (output output' : Device O)
     (result : Result ℕ ToolFault) : Type 0 where

@@ -68,7 +68,8 @@ pub record GoesTo (here : Option TagForm) (old new : Following) : Type 0 where
   pub emptied : new.kept.items ≡ []
   pub counted : new.number ≡ old.number + 1
 
--- the kept line was judged and settles nothing: the verdict on further lines is that on all of them
+-- the kept line was judged and settles nothing: whatever lines follow, the verdict on them from the new state is that
+-- on the kept line and them from the old one
 pub record GoesOn (R : List EntryParts) (old new : Following) : Type 0 where
   pub proper : IsProperIf R new.here
   pub emptied : new.kept.items ≡ []
@@ -87,7 +88,8 @@ SettlesKept R state None = KeepsFew R state.here (length state.kept.items)
 SettlesKept R state (Some v) = (more : List ℕ) → IsOneLine state.kept.items
     → Judges R state.number state.here (lines_of (state.kept.items ++ more)) v
 
--- a piece was taken in: the verdict on the kept line and further bytes is that on all of them
+-- a piece was taken in: whatever bytes follow, the verdict on what is kept now and them is that on what was kept, the
+-- piece and them
 pub record Takes (R : List EntryParts) (piece : List ℕ) (old new : Following) : Type 0 where
   pub proper : IsProperIf R new.here
   pub counted : new.number ≤ old.number + length piece

@@ -49,6 +49,8 @@ struct Objects<'a, L: Lookup> {
 impl<'a, L: Lookup> Lines for Objects<'a, L> {
     ghost longest = { longest_line };
 
+    /// The table is that of the beginning, the bytes are the objects for the lines, and it is known whether one was
+    /// refused.
     ghost answered = { λ first here lines bytes. (here.checked.now ≡ first.checked.now)
         × AreObjects (L.listed here.checked.now) lines bytes here.refused };
 

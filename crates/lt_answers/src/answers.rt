@@ -24,7 +24,7 @@ fn append_canonical(objects: &mut Vec<u8>, canonical: &[u8]) -> Result<(), Alloc
     Ok(())
 }
 
-/// Appends the member `place` with this place of a fault.
+/// Appends a comma (44) and the member `place` with this place of a fault.
 fn append_next_place(objects: &mut Vec<u8>, place: u32) -> Result<(), AllocError>
     ensures { OnOk result (objects.new.items ≡ objects.old.items ++ 44 ∷ member_text (member (codes "place") (decimal place))) }
 {
@@ -33,7 +33,7 @@ fn append_next_place(objects: &mut Vec<u8>, place: u32) -> Result<(), AllocError
     Ok(())
 }
 
-/// Appends the member `place`: the place of the fault that a refusal names, or null if it names none.
+/// Appends a comma (44) and the member `place`: the place of the fault that a refusal names, or null if it names none.
 fn append_place(objects: &mut Vec<u8>, refusal: &TextRefusal) -> Result<(), AllocError>
     ensures { OnOk result (objects.new.items ≡ objects.old.items ++ 44 ∷ member_text (member (codes "place") (or_null decimal (place_of refusal.now)))) }
 {
@@ -45,7 +45,7 @@ fn append_place(objects: &mut Vec<u8>, refusal: &TextRefusal) -> Result<(), Allo
     }
 }
 
-/// Appends the member `variant`: the variant that steps can repeat, or null if the refusal names none.
+/// Appends a comma (44) and the member `variant`: the variant that steps can repeat, or null if the refusal names none.
 fn append_variant(objects: &mut Vec<u8>, refusal: &TextRefusal) -> Result<(), AllocError>
     ensures { OnOk result (objects.new.items ≡ objects.old.items ++ 44 ∷ member_text (member (codes "variant") (or_null string (variant_of refusal.now)))) }
 {

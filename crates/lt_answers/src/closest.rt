@@ -1,4 +1,5 @@
-//! The line that lookup finds among those so far.
+//! The line that lookup finds among those so far. A range falls back to a tag, and so finds it, if it becomes the tag
+//! when subtags at its end are cut off (RFC 4647, 3.4): `zh-Hant-HK` falls back to `zh-Hant` and `zh`.
 ghost use Rattle.std.specs.Prelude.{◌↔◌, IsTrue, MatchOption, OnOk, length};
 ghost use Rattle.lt_answers.specs.Closest as spec;
 
@@ -43,7 +44,8 @@ fn is_closer(closest: &Option<Closest>, range: usize, count: usize) -> bool
     }
 }
 
-/// Makes `line` the closest one, if its tag, whose subtags are `tag`, is closer than what is found so far.
+/// Makes `line` the closest one, if its tag, whose subtags are `tag`, is closer than what is found so far. The clause
+/// is on any lines of which `closest` is the closest, since they are not kept: then it is that of them and this line.
 fn take_subtags(
     alloc: Global,
     ranges: &[LanguageRange],
@@ -64,9 +66,10 @@ fn take_subtags(
     Ok(())
 }
 
-/// Makes a line the closest one if it is a tag, and an earlier range finds its extlang form than found the closest line so
-/// far, or the same range finds it and it has more subtags. The caller cuts a long line to LONGEST_KEPT bytes, since what
-/// follows them changes nothing.
+/// Makes a line the closest one if it is a tag, and an earlier range finds its extlang form than found the closest line
+/// so far, or the same range finds it and it has more subtags. The caller cuts a long line to LONGEST_KEPT bytes, since
+/// what follows them changes nothing. The clause is on any lines before, which are not kept, and any line that is cut
+/// to `line`.
 pub(crate) fn take_line<L: Lookup>(
     alloc: Global,
     checked: &Checked<L>,

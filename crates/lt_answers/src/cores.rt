@@ -1,4 +1,4 @@
-//! The members of the core of a tag.
+//! The members of the core of a tag, which is its language, extlangs, script, region and variants.
 ghost use Rattle.std.specs.Prelude.{◌≡◌, ◌++◌, ◌∷◌, OnOk, codes, option_copied};
 ghost use Rattle.lt_show.specs.Values.{member, member_text, more_members, or_null};
 ghost use Rattle.lt_answers.specs.Parts.{core_members, core_members_of, no_core_members, region_value, script_value};
@@ -9,7 +9,8 @@ use lt_subtag::{Case, Subtag};
 use lt_tag::Core;
 use std::alloc::AllocError;
 
-/// Appends the member `script`, in title case (RFC 5646, 2.1.1), or null if there is none.
+/// Appends a comma (44) and the member `script`, in title case (RFC 5646, 2.1.1), or null if there is none.
+/// `script.entry` is the parameter as it came in.
 fn append_script(objects: &mut Vec<u8>, script: Option<&Subtag>) -> Result<(), AllocError>
     ensures { OnOk result (objects.new.items ≡ objects.old.items ++ 44 ∷ member_text (member (codes "script") (or_null script_value (option_copied script.entry)))) }
 {
@@ -19,7 +20,8 @@ fn append_script(objects: &mut Vec<u8>, script: Option<&Subtag>) -> Result<(), A
     }
 }
 
-/// Appends the member `region`, in upper case (RFC 5646, 2.1.1), or null if there is none.
+/// Appends a comma (44) and the member `region`, in upper case (RFC 5646, 2.1.1), or null if there is none.
+/// `region.entry` is the parameter as it came in.
 fn append_region(objects: &mut Vec<u8>, region: Option<&Subtag>) -> Result<(), AllocError>
     ensures { OnOk result (objects.new.items ≡ objects.old.items ++ 44 ∷ member_text (member (codes "region") (or_null region_value (option_copied region.entry)))) }
 {
@@ -55,7 +57,8 @@ pub(crate) fn append_no_core(objects: &mut Vec<u8>) -> Result<(), AllocError>
     Ok(())
 }
 
-/// Appends the members of the core of a tag, which are null and empty arrays if it has none.
+/// Appends the members of the core of a tag, which are null and empty arrays if it has none. `core.entry` is the
+/// parameter as it came in.
 pub(crate) fn append_core_of(objects: &mut Vec<u8>, core: Option<&Core>) -> Result<(), AllocError>
     ensures { OnOk result (objects.new.items ≡ objects.old.items ++ more_members (core_members_of (option_copied core.entry))) }
 {

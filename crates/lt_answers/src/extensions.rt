@@ -22,7 +22,7 @@ fn append_plain(objects: &mut Vec<u8>, extension: &Extension) -> Result<(), Allo
 }
 
 /// Appends a `t` extension as an object of its parts, or of its subtags if they do not have the form of RFC 6497, 2.2. The
-/// singleton must be `t`.
+/// singleton must be `t`, by which `extension_value` takes these parts.
 #[tactic(auto, using(crate::proofs::ExtensionLemmas::of_transform, crate::proofs::ExtensionLemmas::of_no_transform))]
 fn append_t(objects: &mut Vec<u8>, alloc: Global, extension: &Extension) -> Result<(), OutOfMemory>
     requires { extension.now.singleton ≡ transform }
@@ -36,7 +36,8 @@ fn append_t(objects: &mut Vec<u8>, alloc: Global, extension: &Extension) -> Resu
     Ok(())
 }
 
-/// Appends a `u` extension as an object of its parts. The singleton must be `u`.
+/// Appends a `u` extension as an object of its parts, which each has. The singleton must be `u`, by which
+/// `extension_value` takes these parts.
 #[tactic(auto, using(crate::proofs::ExtensionLemmas::of_unicode))]
 fn append_u(objects: &mut Vec<u8>, alloc: Global, extension: &Extension) -> Result<(), OutOfMemory>
     requires { extension.now.singleton ≡ unicode }
@@ -83,7 +84,7 @@ fn append_extensions(
     Ok(())
 }
 
-/// Appends the member `extensions`, the array of these extensions.
+/// Appends a comma (44) and the member `extensions`, the array of these extensions.
 pub(crate) fn append_next_extensions(
     objects: &mut Vec<u8>,
     alloc: Global,

@@ -1,4 +1,5 @@
-//! Judging the lines of a reader.
+//! Judging the lines of a reader as an explanation of a tag: each names a step that leads to a further tag, with the
+//! text of that tag, and the last tells the end. A verdict is settled where no further line can change it.
 ghost use Rattle.std.specs.Prelude.{◌<◌, ◌+◌, ◌^◌, ◌≡◌, IfOk, OnOk, length};
 ghost use Rattle.lt_registry.specs.Validity.{IsProper};
 ghost use Rattle.lt_answers.specs.Judging.{IsProperIf, end_verdict};
@@ -57,7 +58,7 @@ impl Following {
     }
 
     /// Judges the line that is kept, and goes on to the next one. None if no verdict is settled yet. The tag to which the lines
-    /// lead must be proper, and the number of the next line must fit into 64 bits.
+    /// lead must be proper, as `judge_line` requires, and the number of the next line must fit into 64 bits.
     #[tactic(auto, using(crate::proofs::FollowingLemmas::ends_on, crate::proofs::FollowingLemmas::leads_on))]
     fn judge_kept<L: Lookup>(
         &mut self,
@@ -103,9 +104,9 @@ impl Following {
         judge_front(alloc, table, self.number, here, &self.kept)
     }
 
-    /// Takes the next bytes, and judges the lines that they end and the front of the line after those. None if no verdict is
-    /// settled yet. The tag to which the lines lead must be proper. The number of the next line, plus one and the length of the
-    /// piece, must fit into 64 bits.
+    /// Takes the next bytes, and judges the lines that they end and the front of the line after those. None if no
+    /// verdict is settled yet. The tag to which the lines lead must be proper. The number of the next line, plus one
+    /// and the length of the piece, each byte of which may end a line, must fit into 64 bits.
     #[tactic(auto, using(crate::proofs::FollowingLemmas::first_turn, crate::proofs::FollowingLemmas::turn_proper, crate::proofs::FollowingLemmas::next_turn, crate::proofs::FollowingLemmas::turn_room))]
     fn take_piece<L: Lookup>(
         &mut self,
@@ -166,10 +167,13 @@ struct Verifying<'a, L> {
 impl<'a, L: Lookup> Pieces<()> for Verifying<'a, L> {
     type Answer = Verdict;
 
+    /// Between two pieces the table is that of the beginning, and no verdict is settled by the bytes that were read.
     ghost taken = { λ first _ _ read here. (L.listed here.table.now ≡ L.listed first.table.now) × spec.IsFollowed (L.listed first.table.now) first.following read here.following };
 
+    /// A piece ends the run where the bytes so far settle the verdict, whatever follows, or where memory runs out.
     ghost stopped = { λ first _ _ read _ result. spec.Settles (L.listed first.table.now) first.following read result };
 
+    /// At the end the verdict is that on all bytes, or memory runs out.
     ghost finished = { λ first _ _ read _ result. spec.JudgesAll (L.listed first.table.now) first.following read result };
 
     /// Judges the lines that the piece ends and the front of the line after those; the first that settles the verdict ends the

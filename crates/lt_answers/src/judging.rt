@@ -81,8 +81,8 @@ pub(crate) fn judge_line<L: Lookup>(
     }
 }
 
-/// The most bytes of the kind (15), the place and the number (10 digits each, as they have 32 bits) of a step, with a
-/// space after each.
+/// The most bytes of the label of a step: its kind (15, as `VariantLanguage` has), its place and its number (10 digits
+/// each, as they have 32 bits), with a space after each, 38 in all.
 const LONGEST_LABEL: usize = 38;
 
 /// Judges the front of a line that goes on. `here` is the tag to which the lines before it lead, which must be proper, and

@@ -30,6 +30,7 @@ struct LookingUp<'a, L: Lookup> {
 impl<'a, L: Lookup> Lines for LookingUp<'a, L> {
     ghost longest = { longest_kept };
 
+    /// The table and the ranges are those of the beginning, nothing is written, and `closest` is that of the lines.
     ghost answered = { λ first here lines bytes. (here.checked.now ≡ first.checked.now) × (here.ranges.now ≡ first.ranges.now)
         × (bytes ≡ []) × Holds (L.listed here.checked.now) here.ranges.now lines here.closest };
 
@@ -50,7 +51,7 @@ impl<'a, L: Lookup> Lines for LookingUp<'a, L> {
 }
 
 impl<'a, L: Lookup> LookingUp<'a, L> {
-    /// The line that was found, or None if none was.
+    /// The line that was found, or None if none was. `self.entry` is `self` as it came in.
     fn into_line(self) -> Option<Vec<u8>>
         ensures { result ≡ option_map (λ closest. closest.line) self.entry.closest }
     {

@@ -13,7 +13,8 @@ use lt_tag::OutOfMemory;
 use simdutf8::basic::from_utf8;
 use std::alloc::{AllocError, Global};
 
-/// Appends the beginning of the object of a text that is UTF-8: `input` is the text, and `bytes` is null.
+/// Appends the beginning of the object of a text that is UTF-8, as `true` says in the clause: `input` is the text, and
+/// `bytes` is null.
 fn append_text(objects: &mut Vec<u8>, text: &[u8]) -> Result<(), AllocError>
     ensures { OnOk result (objects.new.items ≡ objects.old.items ++ opening true text.now) }
 {
@@ -22,8 +23,8 @@ fn append_text(objects: &mut Vec<u8>, text: &[u8]) -> Result<(), AllocError>
     Ok(())
 }
 
-/// Appends the beginning of the object of bytes that are no UTF-8: `input` is null, and `bytes` is their hexadecimal
-/// digits.
+/// Appends the beginning of the object of bytes that are no UTF-8, as `false` says in the clause: `input` is null, and
+/// `bytes` is their hexadecimal digits.
 fn append_bytes(objects: &mut Vec<u8>, alloc: Global, bytes: &[u8]) -> Result<(), AllocError>
     ensures { OnOk result (objects.new.items ≡ objects.old.items ++ opening false bytes.now) }
 {
@@ -57,7 +58,7 @@ fn append_opening(objects: &mut Vec<u8>, alloc: Global, text: &[u8]) -> Result<(
 /// - `class`, `language`, `extlangs`, `script`, `region`, `variants`, `extensions` and `private`: the parts of the tag that
 ///   the text is read as, in conventional case (RFC 5646, 2.1 and 2.1.1). A part that is not there is null or an empty array.
 ///
-/// The call is refused only if memory runs out, after which a front of the object may have been appended.
+/// The call is refused only if memory runs out, after which a part of the object may have been appended.
 #[tactic(auto, using(crate::proofs::ObjectLemmas::object_whole))]
 pub fn append_object<L: Lookup>(
     objects: &mut Vec<u8>,

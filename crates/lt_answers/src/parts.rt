@@ -34,7 +34,7 @@ fn append_keywords(objects: &mut Vec<u8>, keywords: &[Keyword]) -> Result<(), Al
     Ok(())
 }
 
-/// Appends the member `keywords`, the array of these keywords.
+/// Appends a comma (44) and the member `keywords`, the array of these keywords.
 fn append_next_keywords(objects: &mut Vec<u8>, keywords: &[Keyword]) -> Result<(), AllocError>
     ensures { OnOk result (objects.new.items ≡ objects.old.items ++ 44 ∷ member_text (member (codes "keywords") (array keyword_value keywords.now))) }
 {
@@ -80,7 +80,7 @@ fn append_fields(objects: &mut Vec<u8>, fields: &[Field]) -> Result<(), AllocErr
     Ok(())
 }
 
-/// Appends the member `fields`, the array of these fields.
+/// Appends a comma (44) and the member `fields`, the array of these fields.
 fn append_next_fields(objects: &mut Vec<u8>, fields: &[Field]) -> Result<(), AllocError>
     ensures { OnOk result (objects.new.items ≡ objects.old.items ++ 44 ∷ member_text (member (codes "fields") (array field_value fields.now))) }
 {

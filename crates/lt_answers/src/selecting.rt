@@ -31,6 +31,8 @@ struct Selecting<'a, L: Lookup> {
 impl<'a, L: Lookup> Lines for Selecting<'a, L> {
     ghost longest = { longest_kept };
 
+    /// The table, the scheme and the ranges are those of the beginning, and the bytes are the selected lines, `count`
+    /// of them.
     ghost answered = { λ first here lines bytes. (here.checked.now ≡ first.checked.now) × (here.scheme ≡ first.scheme) × (here.ranges.now ≡ first.ranges.now)
         × AreOwed (IsSelected (L.listed here.checked.now) here.scheme here.ranges.now) lines bytes here.count };
 

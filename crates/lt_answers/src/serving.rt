@@ -30,6 +30,7 @@ struct Keeping<'a, L: Lookup> {
 impl<'a, L: Lookup> Lines for Keeping<'a, L> {
     ghost longest = { longest_kept };
 
+    /// The table is that of the beginning, nothing is written, and the lines that are tags are kept with their subtags.
     ghost answered = { λ first here lines bytes. (here.checked.now ≡ first.checked.now) × (bytes ≡ [])
         × AreTagLines (L.listed here.checked.now) lines (texts_of here.lines.items) here.tags.items };
 
@@ -64,8 +65,9 @@ fn put_line(
     Ok(())
 }
 
-/// Puts a line after others if it is a tag that has an extlang form. The caller cuts a long line to LONGEST_KEPT bytes, since
-/// what follows them changes nothing.
+/// Puts a line after others if it is a tag that has an extlang form. The caller cuts a long line to LONGEST_KEPT bytes,
+/// since what follows them changes nothing. The clause is on any lines before of which `lines` are those that are tags,
+/// and any line that is cut to `line`.
 fn take_tag<L: Lookup>(
     alloc: Global,
     checked: &Checked<L>,
@@ -92,7 +94,8 @@ fn line_at(mut lines: Vec<Vec<u8>>, place: usize) -> Option<Vec<u8>>
     }
 }
 
-/// The line that preferences serve of these lines, whose subtags are `tags`. None if the preferences serve none of them.
+/// The line that preferences serve of these lines, whose subtags are `tags`. None if the preferences serve none of
+/// them. The clause is on each registry and all lines of a reader of which `lines` are those that are tags.
 fn served(preferences: &[Preference], lines: Vec<Vec<u8>>, tags: &[TagSubtags]) -> Option<Vec<u8>>
     ensures { ServesOf preferences.now lines.items tags.now result }
 {

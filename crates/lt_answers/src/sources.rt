@@ -20,7 +20,7 @@ fn add_subtags(text: &mut Vec<u8>, subtags: &[Subtag]) -> Result<(), AllocError>
     Ok(())
 }
 
-/// Appends a subtag to a text, after a hyphen, if there is one.
+/// Appends a subtag to a text, after a hyphen, if there is one. `subtag.entry` is the parameter as it came in.
 fn add_subtag(text: &mut Vec<u8>, subtag: Option<&Subtag>) -> Result<(), AllocError>
     ensures { OnOk result (text.new.items ≡ text.old.items ++ after_hyphens (option_to_list (option_copied subtag.entry))) }
 {
@@ -45,6 +45,7 @@ fn text_of(alloc: Global, core: &Core) -> Result<Vec<u8>, OutOfMemory>
 }
 
 /// Appends a comma (44) and the member `source`: the text of the source of a `t` extension, or null if there is none.
+/// `source.entry` is the parameter as it came in.
 pub(crate) fn append_source(
     objects: &mut Vec<u8>,
     alloc: Global,

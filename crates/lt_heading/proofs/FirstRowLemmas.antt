@@ -1,4 +1,4 @@
--- The first row of a text that comes in pieces.
+-- The first row of a text that comes in pieces: a piece and the end, by whether the byte order mark is known.
 use Rattle.std.proofs.Common.{◌≡◌, ◌++◌, ◌∙◌, ◌⊎◌, inl, inr, ℕ, List, [], Bool, Option, Some, None, Result, Ok, Err}
 use Rattle.std.proofs.Common.{true, false, length, take, sym, ap, refl, subst, append_assoc, append-nil}
 use Rattle.std.proofs.Math.Seq.{take-append_seam}

@@ -1,4 +1,4 @@
--- Names, one after another.
+-- The names of a heading, one after another, as `look_up_in_row` reads, lists and compares them.
 use Rattle.std.proofs.Common.{◌≡◌, ◌≢◌, ◌+◌, ◌++◌, ◌∷◌, ◌∙◌, ℕ, Bool, true, false, List, [], inl, inr, length, nat_lt}
 use Rattle.std.proofs.Common.{sym, ap, refl, subst, arith, append_assoc, append-nil, length-append}
 use Rattle.std.proofs.lemmas.Bool.{cases_Bool, ltb-false, ltb-true}

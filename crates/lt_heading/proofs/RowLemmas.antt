@@ -1,4 +1,4 @@
--- Rows and line feeds, by what parts fields.
+-- Where line feeds end rows: in TSV each does, in CSV each outside of quotes.
 use Rattle.std.proofs.Common.{◌≡◌, ◌≢◌, ◌<◌, ◌++◌, ◌∷◌, ℕ, List, [], true, false, length, refl, arith}
 use Rattle.std.proofs.lemmas.List.Elements.{All-append}
 use Rattle.lt_jar.specs.Lines.{IsOneLine}

@@ -1,4 +1,4 @@
--- Pieces of a text that is one row so far.
+-- The loop of `take_text` over a piece, which is appended to a text that is one row so far.
 use Rattle.std.proofs.Common.{◌≡◌, ◌++◌, ◌∷◌, ◌∙◌, inl, inr, ℕ, List, [], Some, None, Ok, Err, true, false, length, sym}
 use Rattle.std.proofs.Common.{ap, refl, append_assoc, append-nil}
 use Rattle.lt_jar.specs.Lines.{IsOneLine}

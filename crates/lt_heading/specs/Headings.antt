@@ -43,7 +43,7 @@ pub record IsWholeRow (S : Separator) (row : List ℕ) : Type 0 where
   pub closed : is_open S row ≡ false
   pub short : length row ≤ longest_row
 
--- the first of these rows, None if there is none
+-- the first of these rows, which is whole, or None if there are no rows
 abbrev pub IsFirstOf : Separator → List (List ℕ) → Option (List ℕ) → Type 0
 IsFirstOf S rows None = rows ≡ []
 IsFirstOf S rows (Some row) = (others : List (List ℕ)) × (rows ≡ row ∷ others) × IsWholeRow S row
@@ -84,8 +84,9 @@ abbrev pub long_fault : Separator → ToolFault
 long_fault separators.Tab = faults.BadTsv 1
 long_fault (separators.Delimiter delimiter) = faults.BadCsv 1
 
--- why the heading of a reader was not read: `before` and `after` are its device, whose bytes `remaining` gives, and
--- `read` the bytes that so many `reads` gave; OutOfMemory may be answered of any reader
+-- Why the heading of a reader was not read: `before` and `after` are its device, whose bytes `remaining` gives, and
+-- `read` the bytes that so many `reads` gave. BadCsv: the reader ended within quotes, or the row is too long.
+-- OutOfMemory may be answered of any reader.
 abbrev pub StopsHeading : {I : Type 0} → Separator → (I → Option (List ℕ)) → (before after : Device I)
     → (reads : ℕ) → (read : List ℕ) → ToolFault → Type 0
 StopsHeading S remaining before after reads read faults.Read = HasFailed before after
@@ -123,7 +124,7 @@ pub record EndsRow (S : Separator) (text : List ℕ) (end : ℕ) : Type 0 where
   pub end_is : end ≡ length row
   pub whole : IsWholeRow S row
 
--- the text before this place, None if there is no text
+-- the first row of a text, which ends at this place; None if the text is empty, and so has no row
 abbrev pub heading_in : (text : List ℕ) → (end : ℕ) → Option (List ℕ)
 heading_in [] end = None
 heading_in (byte ∷ text) end = Some (take end (byte ∷ text))
@@ -186,7 +187,8 @@ TakesPiece S piece old new (Ok (Some end)) =
     (taken_by new ≡ taken_by old ++ piece) × IsMarked new × EndsRow S new.text.items end
 TakesPiece S piece old new (Err f) = StopsText S (taken_by old ++ piece) f
 
--- the byte order mark in the kept bytes was split off, and the text after it taken
+-- the byte order mark in the kept bytes was split off, and the text after it taken: it is one row so far, or its first
+-- row has this length, or why it can't be taken
 abbrev pub BeginsText : Separator → (old new : FirstRow) → Result (Option ℕ) ToolFault → Type 0
 BeginsText S old new (Ok end) = (new.is_begun ≡ true)
     × SplitsMark old.mark.items new.mark.items new.text.items × IsRowIn S new.text.items new.place end

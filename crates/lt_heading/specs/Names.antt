@@ -131,7 +131,9 @@ pub record LooksUp (S : Separator) (heading : Option (List ℕ)) (name : List �
   pub is_found : IsFound name names looked.found
   pub listed : string_bytes looked.listed ≡ shown_names names
 
--- the name was looked up among the first `count` names of a row, before its `rest`; `listed` is the list of these names
+-- The name was looked up among the first `count` names of a row, before its `rest`; `listed` is the list of these
+-- names. Whatever names the rest has, the row has these before them (`are_names`); the row has a byte for each of these
+-- beside the rest (`room`).
 pub record LooksSo (S : Separator) (row rest name : List ℕ) (found : Found) (listed : List ℕ) (count : ℕ) : Type 0 where
   pub names : List (List ℕ)
   pub are_names : (more : List (List ℕ)) → AreNames S rest more → AreNames S row (names ++ more)

@@ -1,4 +1,5 @@
-//! Finding the column that has a name.
+//! Finding the column that has a name in the heading, which is the first row of a reader. What was read for it, the
+//! front, is given too, since the rows are answered from its beginning.
 ghost use Rattle.std.specs.Prelude.{◌≡◌, ◌≤◌, ℕ, List, IfOk, length, string_bytes};
 ghost use Rattle.std.specs.Option.{option_map};
 ghost use Rattle.lt_stream.specs.declared.faults.ToolFault.TheVariants.{OutOfMemory};
@@ -33,6 +34,7 @@ pub enum ColumnFault {
     Name(String),
 }
 
+/// By this `?` makes a fault of reading one of the heading; so says `from_gives`.
 impl From<ToolFault> for ColumnFault {
     ghost from_gives = { λ fault given. given ≡ Heading fault };
 
@@ -41,6 +43,7 @@ impl From<ToolFault> for ColumnFault {
     }
 }
 
+/// The same, of a lack of memory.
 impl From<AllocError> for ColumnFault {
     ghost from_gives = { λ _ given. given ≡ Heading OutOfMemory };
 
@@ -63,6 +66,7 @@ fn line_of(alloc: Global, whose: &str, shown: &str, listed: &str) -> Result<Stri
 }
 
 /// The number of the only column of a name. If there is none, or more than one, the refusal is the line that says so.
+/// `looked` doesn't keep the names of the heading, so the clause is on each list of names of which it is true.
 fn pick_column(alloc: Global, looked: &Looked, name: &str) -> Result<usize, ColumnFault>
     ensures { (names : List (List ℕ)) → IsFound name.now names looked.now.found → string_bytes looked.now.listed ≡ shown_names names → PicksColumn name.now names result }
 {
@@ -76,7 +80,8 @@ fn pick_column(alloc: Global, looked: &Looked, name: &str) -> Result<usize, Colu
     Err(ColumnFault::Name(line_of(alloc, whose, &shown, &looked.listed)?))
 }
 
-/// The part of a text before the index `end`, or None if the text is empty. The index must be within the text, or at its end.
+/// The first row of a text, which ends at the index `end`, or None if the text is empty and so has no row. The index
+/// must be within the text, or at its end.
 fn heading_in(text: &[u8], end: usize) -> Option<&[u8]>
     requires { end ≤ length text.now }
     ensures { option_map (λ row. row.now) result ≡ spec.heading_in text.now end }

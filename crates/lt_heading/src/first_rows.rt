@@ -33,7 +33,7 @@ fn place_then(separator: Separator, place: Place, part: &[u8]) -> Place
     }
 }
 
-/// The fault of a first row that is too long, with the number of its line.
+/// The fault of a first row that is too long, with the number of its line, 1.
 fn long_fault(separator: Separator) -> ToolFault
     ensures { result ≡ spec.long_fault separator }
 {
@@ -89,7 +89,7 @@ fn take_text(
 }
 
 impl FirstRow {
-    /// No bytes taken so far.
+    /// No bytes taken so far (`nothing`), so that a byte order mark may still come (`undecided`).
     pub(crate) fn new(alloc: Global) -> FirstRow
         ensures undecided { IsUndecided result }
         ensures nothing { spec.taken_by result ≡ [] }
@@ -102,8 +102,9 @@ impl FirstRow {
         }
     }
 
-    /// Splits the byte order mark off the bytes that are kept, and takes the text after it. It gives the index in that text
-    /// at which the first row ends, or None if it goes on. Refused as `append_part` is. No text must have been taken before.
+    /// Splits the byte order mark off the bytes that are kept, and takes the text after it. It gives the index in that
+    /// text at which the first row ends, or None if it goes on. Refused as `append_part` is. No text must have been
+    /// taken before (`none`), so that the place is still that where a text begins (`fresh`).
     fn begin(&mut self, separator: Separator) -> Result<Option<usize>, ToolFault>
         requires none { self.old.text.items ≡ [] }
         requires fresh { self.old.place ≡ Place.Fresh }
@@ -151,7 +152,8 @@ impl FirstRow {
         Ok(mark)
     }
 
-    /// Ends the text, which is one row, and gives its length. Refused with `BadCsv(1)` if a quote is open.
+    /// Ends the text, which is one row, and gives its length. Refused with `BadCsv(1)` if a quote is open. That depends
+    /// on the place alone, so the clause holds for every separator.
     fn end_text(&self) -> Result<usize, ToolFault>
         ensures { (separator : Separator) → EndsText separator self.now result }
     {
@@ -187,10 +189,13 @@ pub(crate) struct Heading {
 impl Pieces<()> for Heading {
     type Answer = usize;
 
+    /// Between two pieces all bytes that were read are kept, and don't end the first row.
     ghost taken = { λ first start now read here. spec.IsTaken first.separator read here };
 
+    /// A piece ends the run where it ends the first row, or where the row can't be taken.
     ghost stopped = { λ first start now read here result. spec.StopsPieces first.separator read here.first result };
 
+    /// The reader's end ends the first row, or it can't be taken.
     ghost finished = { λ first start now read here result. FinishesText first.separator read here.first result };
 
     /// Takes the next bytes, and gives the index in the text after the mark at which the first row ends, if they end it.

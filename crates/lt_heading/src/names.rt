@@ -9,10 +9,10 @@ use lt_rows::{Separator, find_field, text_in};
 use lt_words::escaped;
 use std::alloc::{AllocError, Global};
 
-/// The most names of a heading that are listed where one is not found.
+/// The most names of a heading that are listed where one is not found, so that the line stays short.
 const MOST_LISTED: usize = 64;
 
-/// The most bytes of a name that are shown.
+/// The most bytes of a name that are shown, for the same reason.
 const MOST_SHOWN: usize = 64;
 
 /// Where a name stands among others.
@@ -48,7 +48,8 @@ pub(crate) struct Looked {
     pub(crate) listed: String,
 }
 
-/// The text between the quotes of a field, with each doubled quote as one (RFC 4180, 2).
+/// The text between the quotes of a field, with each doubled quote as one (RFC 4180, 2). The `false` in the clause says
+/// that no quote comes before the text.
 fn undoubled(alloc: Global, text: &[u8]) -> Result<Vec<u8>, AllocError>
     ensures { IfOk result (λ name. name.items ≡ spec.undoubled false text.now) }
 {
@@ -174,7 +175,8 @@ fn without_return(row: &[u8]) -> &[u8]
     }
 }
 
-/// Looks a name up among the names of the columns in a heading. Without a heading it is missing.
+/// Looks a name up among the names of the columns in a heading. Without a heading it is missing. In the clause
+/// `heading.entry` is the parameter as it came in.
 pub(crate) fn look_up(
     alloc: Global,
     separator: Separator,

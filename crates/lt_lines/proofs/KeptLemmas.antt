@@ -1,4 +1,4 @@
--- What is counted of a line of which a front is kept.
+-- What is counted of a line of which a front is kept: of a long tag the front is enough for the tallies.
 use Rattle.std.proofs.Common.{◌≡◌, ◌<◌, ◌-◌, ◌++◌, ◌∷◌, ◌∙◌, inl, inr, ℕ, List, [], Bool, true, false, length, take}
 use Rattle.std.proofs.Common.{sym, ap, refl, subst, arith, if◌then◌else◌, take_all, length-take-le}
 use Rattle.std.proofs.lemmas.Bool.Decides.{leb_tells}

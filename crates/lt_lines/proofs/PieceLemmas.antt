@@ -1,4 +1,4 @@
--- What the turns over a piece of lines keep.
+-- What the turns of the loop of `Answering::take_piece` over a piece of lines keep.
 use Rattle.std.proofs.Common.{◌≡◌, ◌≤◌, ◌+◌, ◌++◌, ◌∷◌, ◌∙◌, inl, inr, ℕ, List, [], Option, Result, Ok, Err, OnOk}
 use Rattle.std.proofs.Common.{length, take, sym, ap, refl, subst, arith, append_assoc, append-nil, length-append}
 use Rattle.std.specs.Io.KnownBytes.{Appends}

@@ -137,8 +137,8 @@ pub record AppendsReply (T : Terms) (first : Bool) (line old new : List ℕ) (re
   pub owed : IsReplyTo T first line (reply bytes refused)
 
 -- The answer to a line, of whose front `kept` was kept, and whose last bytes are `part`, was appended to the answers
--- `old`, which gives `new`. `first` is whether the line is the first of the text, and `refused` whether the answer is
--- a refusal.
+-- `old`, which gives `new`. It answers each line of whose front, `last`, the same is kept. `first` is whether the line
+-- is the first of the text, and `refused` whether the answer is a refusal.
 pub record AppendsLine (T : Terms) (first : Bool) (kept part old new : List ℕ) (refused : Bool) : Type 0 where
   pub bytes : List ℕ
   pub grown : new ≡ old ++ bytes
@@ -172,8 +172,9 @@ pub record AreRecent (R : List EntryParts) (form : LineForm) (recent : RecentAns
   pub whole : All (IsRecent R form) recent.whole
   pub ends : AreEnds R recent.ends
 
--- The bytes `bytes` were read, and `written` was written. Their whole lines are answered, each answer is written or
--- waits to be, and what is needed of the rest is kept.
+-- The bytes `bytes` were read, and `written` was written. Their whole lines, `lines`, are answered, each answer is
+-- written or waits to be, they are counted and tallied, and what is needed of the rest, `last`, is kept. The answers
+-- that were given lately are right.
 pub record IsTaken (T : Terms) (bytes written : List ℕ) (state : Answering) : Type 0 where
   pub lines : List (List ℕ)
   pub last : List ℕ
@@ -289,8 +290,9 @@ IsPieceStop T piece old new before after written f = StopsTooLong T piece old ne
     ⊎ (IsStop before after f ×
     ((bytes out : List ℕ) → IsTaken T bytes out old → IsBegun T (bytes ++ piece) (out ++ written)))
 
--- a piece of the reader's bytes was taken in, and all answers that are due were written; or a fault ended the run.
--- `old` and `before` are the state and the output before that, `new` and `after` those after it
+-- A piece of the reader's bytes was taken in, and all answers that are due were written; or a fault ended the run.
+-- `old` and `before` are the state and the output before that, `new` and `after` those after it. That holds of any
+-- `bytes` read and `out` written before. The counts lose room for one line for each byte at most (`room`).
 pub record TakesPiece {W : Type 0} (T : Terms) (contents : W → Option (List ℕ)) (piece : List ℕ)
     (old new : Answering) (before after : Device W) (result : Result (Unit {0}) ToolFault) : Type 0 where
   pub written : List ℕ

@@ -13,8 +13,8 @@ use Rattle.lt_lines.specs.declared.runs.Counts.{Counts}
 use Rattle.lt_stream.specs.declared.faults.ToolFault.{ToolFault}
 use Rattle.lt_stream.specs.declared.faults.ToolFault.TheVariants as faults
 
--- the byte order mark of these bytes, if they have one, was written, and the text after it was taken in by the state
--- that answers lines
+-- The byte order mark of these bytes, if they have one, was written, and the text after it was taken in by the state
+-- that answers lines. The mark is the same whatever bytes follow (`split`, `narrow`).
 pub record IsTakenAfter (T : Terms) (bytes written : List ℕ) (state : Marked) : Type 0 where
   pub begun : state.is_begun ≡ true
   pub emptied : state.front.items ≡ []

@@ -25,8 +25,8 @@ pub record IsStoppedByRead {I : Type 0} (T : Terms) (input input' : Device I) (r
   pub failed : HasFailed input input'
   pub owed : AfterMark T (TalliesToLastFeed T tallies) read written
 
--- the most reads that a run may make were made, and the last still gave bytes; what is owed up to the last line feed
--- was written
+-- the most reads that a run may make were made, each gave a byte at least, also the last; what is owed up to the last
+-- line feed was written
 pub record IsStoppedByTurns {I : Type 0} (T : Terms)
     (input' : Device I) (reads : ℕ) (read written : List ℕ) (tallies : List Tally) : Type 0 where
   pub all_made : reads ≡ most_reads
@@ -76,9 +76,9 @@ EndsAs T remaining input input' output output' reads read written tallies (Err f
 EndsAs T remaining input input' output output' reads read written tallies (Err faults.OutOfMemory) = Unit {0}
 
 -- A run over the lines of a reader. Whatever ended it, what was written is a front of what is owed. The tallies are
--- those of the lines that were answered, but where a write or memory failed. `remaining` gives the bytes that a reader
--- has left, and `contents` those that an output was given; `input'` and `output'` are the reader and the output after
--- the run.
+-- those of the lines that were answered, but where a write or memory failed. The result names a device that failed
+-- (`read_rises`, `write_rises`). `remaining` gives the bytes that a reader has left, and `contents` those that an
+-- output was given; `input'` and `output'` are the reader and the output after the run.
 pub record RunsLines {I O : Type 0} (T : Terms) (remaining : I → Option (List ℕ)) (contents : O → Option (List ℕ))
     (input input' : Device I) (output output' : Device O) (tallies : List Tally)
     (result : Result Counts ToolFault) : Type 0 where

@@ -18,8 +18,8 @@ use Rattle.lt_rows.specs.declared.rows.Separator.TheVariants as separators
 abbrev pub separators_in : RowForm → ℕ
 separators_in row = if row.is_kept then 2 else 1
 
--- what the answer to a line, `bytes`, tells of the line's refusal: it follows `! `, or the row as it was and its
--- separators
+-- what the answer to a line, `bytes`, tells of the line's refusal: it follows the 2 bytes of `! `, or the row as it was
+-- and its separators
 abbrev pub told_in : LineForm → (line bytes : List ℕ) → List ℕ
 told_in forms.Tag line bytes = drop 2 bytes
 told_in (forms.Row row) line bytes = drop (length (content_of line) + separators_in row) bytes

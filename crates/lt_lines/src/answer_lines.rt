@@ -1,4 +1,5 @@
-//! The line that answers a text.
+//! The line that answers a text, appended to the answers `lines`. What is told of a refusal is its name, and its place
+//! or the variant that steps can repeat.
 ghost use Rattle.std.specs.Prelude.{◌≡◌, ◌≤◌, ◌++◌, IfOk, OnOk, vec_len};
 ghost use Rattle.std.specs.Fmt.{decimal};
 ghost use Rattle.lt_jar.specs.Lines.{content_of};
@@ -59,7 +60,8 @@ pub(crate) fn without_return(line: &[u8]) -> &[u8]
 }
 
 /// Appends the line that answers a text, its canonical text or `! ` and its refusal, and tells whether it was refused.
-/// `ends` are the canonical ends that were found lately.
+/// `ends` are the ends of canonical texts, for example `-u-nu-latn`, that were found lately. If they are right
+/// (`AreEnds`), so is the answer (`owed`), and they stay so (`ends`). By `grown` the answer begins where `lines` ended.
 #[tactic(auto, using(crate::proofs::TextLemmas::canonical_reply))]
 pub(crate) fn append_answer<L: Lookup>(
     lines: &mut Vec<u8>,

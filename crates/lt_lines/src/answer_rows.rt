@@ -1,4 +1,5 @@
-//! The line that answers a row.
+//! The line that answers a row, appended to the answers `lines`. A row is kept (`--keep`) where it stays as it is, and
+//! two fields are added; else the canonical text replaces that of its field, and one field is added.
 ghost use Rattle.std.specs.Prelude.{◌≡◌, ◌≤◌, ◌++◌, ◌&&◌, [], IfOk, OnOk, length, take};
 ghost use Rattle.lt_jar.specs.Lines.{content_of};
 ghost use Rattle.lt_rows.specs.Looks.{HasTextAt, IsLookAt};
@@ -93,9 +94,10 @@ fn end_refused(
     Ok(())
 }
 
-/// Appends a row as it is, and two fields after it: the canonical text of its tag and an empty one, or an empty one and why
-/// the tag is refused. Tells whether it is refused. The tag is the first `count` bytes of `text`; what follows them is for
-/// speed alone, as 32 bytes are taken at once. `line` is the line of the row. `text` must have at least `count` bytes.
+/// Appends a row as it is, and two fields after it: the canonical text of its tag and an empty one, or an empty one and
+/// why the tag is refused. Tells whether it is refused. The tag is the first `count` bytes of `text` (which must have
+/// so many); what follows them is for speed alone, as 32 bytes are taken at once. `line` is the line of the row. If
+/// `recent` is right, the answer is, and `recent` stays right.
 #[inline(never)]
 fn append_kept<L: Lookup>(
     lines: &mut Vec<u8>,
@@ -128,10 +130,11 @@ fn append_kept<L: Lookup>(
     }
 }
 
-/// Appends the answer to a row whose tag stands at `place`, and tells whether the tag is refused. The row's line is the first
-/// `count` bytes of `text`, and must have no carriage return outside of quotes but one that ends it; what follows these bytes
-/// is for speed alone, as 32 bytes are taken at once. The clauses suppose that all that `recent` has is right, and then it
-/// stays so. The same is kept of the fields of rows and of records of CSV. `text` must have at least `count` bytes.
+/// Appends the answer to a row whose tag stands at `place`, and tells whether the tag is refused. The row's line is the
+/// first `count` bytes of `text` (which must have so many), and must have no carriage return outside of quotes but one
+/// that ends it. What follows them is for speed alone, as 32 bytes are taken at once. If `recent` is right, the answer
+/// is, and `recent` stays right. `LineForm.Row` stands in the clauses for both forms, as the same is kept of the fields
+/// of rows and of records of CSV.
 #[inline(always)]
 fn append_found<L: Lookup>(
     lines: &mut Vec<u8>,
@@ -175,9 +178,9 @@ fn append_found<L: Lookup>(
     }
 }
 
-/// Looks at a row whose front was kept from an earlier piece, so that it isn't known what its bytes lack. The row's line is
-/// the first `count` bytes of `text`, and `before` is how many fields come before that of the tag. `text` must have at least
-/// `count` bytes.
+/// Looks at a row whose front was kept from an earlier piece, so that it isn't known what its bytes lack. The row's
+/// line is the first `count` bytes of `text` (which must have so many), and `before` is how many fields come before
+/// that of the tag.
 #[inline(never)]
 fn look_at_kept(separator: Separator, before: usize, text: &[u8], count: usize) -> Look
     requires { count ≤ length text.now }
@@ -186,9 +189,9 @@ fn look_at_kept(separator: Separator, before: usize, text: &[u8], count: usize) 
     look_at_row(separator, UNKNOWN, before, text, count)
 }
 
-/// What the look at a row found: `look`, or, where there was none before, a look at the first `count` bytes of `text`. `look`
-/// must be one at the same bytes for the same field. `before` is how many fields come before that of the tag. `text` must
-/// have at least `count` bytes.
+/// What the look at a row found: `look`, or, where there was none before, a look at the first `count` bytes of `text`
+/// (which must have so many). `look` must be one at the same bytes for the same field. `before` is how many fields come
+/// before that of the tag.
 #[inline(always)]
 fn looked_at(
     separator: Separator,
@@ -207,10 +210,11 @@ fn looked_at(
     }
 }
 
-/// Appends the answer to a row, and tells whether it is refused: `BadReturn` and `NoColumn` are told in its last field, and
-/// so is the refusal of its tag. The row's line is the first `count` bytes of `text`; what follows them is for speed alone,
-/// as up to 64 bytes are taken at once. `look` must be the look at it, if there was one. `text` must have at least `count`
-/// bytes.
+/// Appends the answer to a row, and tells whether it is refused: `BadReturn` and `NoColumn` are told in its last field,
+/// and so is the refusal of its tag. The row's line is the first `count` bytes of `text` (which must have so many);
+/// what follows them is for speed alone, as up to 64 bytes are taken at once. `look` must be the look at it, if there
+/// was one. If `recent` is right, the answer is, and `recent` stays right; `LineForm.Row` stands in the clauses for
+/// both forms of rows.
 #[inline(always)]
 fn append_row<L: Lookup>(
     lines: &mut Vec<u8>,
@@ -275,10 +279,11 @@ fn append_heading(
     Ok(false)
 }
 
-/// Appends the answer to a line, and tells whether it is refused. The line is a heading if `is_first`, as the first of all
-/// is, and the form has one; each other is a row. It is the first `count` bytes of `text`; what follows them is for speed
-/// alone, as up to 64 bytes are taken at once. `look` must be the look at it, if there was one. `text` must have at least
-/// `count` bytes.
+/// Appends the answer to a line, and tells whether it is refused. The line is a heading if `is_first`, as the first of
+/// all is, and the form has one; each other is a row. It is the first `count` bytes of `text` (which must have so
+/// many); what follows them is for speed alone, as up to 64 bytes are taken at once. `look` must be the look at it, if
+/// there was one. If `recent` is right, the answer is, and `recent` stays right; `LineForm.Row` stands in the clauses
+/// for both forms of rows.
 #[inline(always)]
 pub(crate) fn append_among<L: Lookup>(
     lines: &mut Vec<u8>,

@@ -1,4 +1,5 @@
-//! Answering lines that come in pieces.
+//! Answering lines that come in pieces. Of an unfinished line the bytes so far are kept, and answers that are not yet
+//! written are owed. The `terms` of clauses are the registry's entries, the codes and the form of lines.
 ghost use Rattle.std.specs.Prelude.{◌≡◌, ◌≤◌, ◌+◌, ◌++◌, ◌∷◌, ◌↔◌, List, ℕ, [], false, IfOk, IsTrue, OnOk, length, take, vec_len};
 ghost use Rattle.lt_jar.specs.Lines.{IsOneLine};
 ghost use Rattle.lt_registry.specs.Parts.{EntryParts};
@@ -55,7 +56,8 @@ pub(crate) struct Answering {
     recent: RecentAnswers,
 }
 
-/// Keeps a further part of a line. Of a line that is a tag, `LONGEST_KEPT` bytes in all are kept at most.
+/// Keeps a further part of a line. Of a line that is a tag, `LONGEST_KEPT` bytes in all are kept at most, which
+/// `part_kept` counts on from the bytes that are kept already.
 fn keep(form: LineForm, kept: &mut Vec<u8>, part: &[u8]) -> Result<(), AllocError>
     ensures { OnOk result (kept.new.items ≡ kept.old.items ++ spec.part_kept form (vec_len kept.old) part.now) }
 {
@@ -78,9 +80,10 @@ fn long_fault(form: LineForm, line: u64) -> ToolFault
     }
 }
 
-/// Appends the answer to a line, and tells whether it was refused. The line is the first `count` bytes of `text`; what
-/// follows them is for speed alone, as up to 64 bytes are taken at once. `is_first` is whether it is the first of all, so
-/// that it may be a heading, and `look` must be the look at it, if there was one. `text` must have at least `count` bytes.
+/// Appends the answer to a line, and tells whether it was refused. The line is the first `count` bytes of `text` (which
+/// must have so many); what follows them is for speed alone, as up to 64 bytes are taken at once. `is_first` is whether
+/// it is the first of all, so that it may be a heading, and `look` must be the look at it, if there was one. If
+/// `recent` is right, the answer is, and `recent` stays right.
 #[tactic(auto, using(crate::proofs::TextLemmas::csv_recent))]
 #[inline(always)]
 fn append_reply<L: Lookup>(
@@ -137,7 +140,9 @@ fn append_reply<L: Lookup>(
 }
 
 /// Appends the answer to a line of which a front was kept, and tells whether it was refused. The line is what is in
-/// `kept` and then `part`, which is kept too; `is_first` is whether it is the first of all.
+/// `kept` and then `part`, which is kept too; `is_first` is whether it is the first of all. By `owed` the answer is
+/// that to each line with this front, since of a long tag the rest isn't kept. If `recent` is right, the answer is, and
+/// `recent` stays right.
 #[inline(never)]
 fn append_kept_line<L: Lookup>(
     lines: &mut Vec<u8>,
@@ -170,10 +175,11 @@ fn append_kept_line<L: Lookup>(
     )
 }
 
-/// Appends the answer to a line, and tells whether it was refused. The line is what is in `kept` and then the first `count`
-/// bytes of `text`, which are kept too if anything was; what follows them is for speed alone, as up to 64 bytes are taken at
-/// once. `is_first` is whether it is the first of all. `look` must be the look at it, and there must be none if anything is
-/// kept. `text` must have at least `count` bytes.
+/// Appends the answer to a line, and tells whether it was refused. The line is what is in `kept` and then the first
+/// `count` bytes of `text` (which must have so many), which are kept too if anything was. What follows them is for
+/// speed alone, as up to 64 bytes are taken at once. `is_first` is whether it is the first of all. `look` must be the
+/// look at it, and there must be none if anything is kept. If `recent` is right, the answer is, and `recent` stays
+/// right.
 #[inline(always)]
 fn append_line<L: Lookup>(
     lines: &mut Vec<u8>,
@@ -219,7 +225,7 @@ fn line_at<'a>(kept: &'a [u8], part: &'a [u8]) -> &'a [u8]
 }
 
 impl Answering {
-    /// No bytes were taken so far, and no answers wait.
+    /// No bytes were taken so far, and no answers wait. `recent` is empty, so it is right by any entries and form.
     pub(crate) fn new(alloc: Global) -> Answering
         ensures items { (result.kept.items ≡ []) × (result.owed.items ≡ []) }
         ensures place { (result.place ≡ Place.Fresh) × (result.feeds ≡ 0) }
@@ -241,10 +247,11 @@ impl Answering {
         }
     }
 
-    /// Answers the line that ends after the first `count` bytes of `text`, counts it, and keeps nothing of it. What follows
-    /// these bytes is for speed alone, as up to 64 bytes are taken at once. `look` must be the look at the line, and there
-    /// must be none if a front of the line was kept. The counts must have room for a line more. `text` must have at least
-    /// `count` bytes.
+    /// Answers the line that ends after the first `count` bytes of `text` (which must have so many), counts it, and
+    /// keeps nothing of it. What follows these bytes is for speed alone, as up to 64 bytes are taken at once. `look`
+    /// must be the look at the line, and there must be none if a front of the line was kept. The counts must have room
+    /// for a line more. By `taken`, if these end a whole line, a state that was right for what was read and written so
+    /// far is right with them and a line feed (10) too. By `counted` the counts lose room for one line at most.
     #[inline(always)]
     fn answer_line<L: Lookup>(
         &mut self,
@@ -306,10 +313,11 @@ impl Answering {
         Ok(())
     }
 
-    /// Takes the first `count` bytes of `text` and the line feed after them: answers the row or the record that they end, or
-    /// keeps them if the line feed is within quotes. What follows in `text` is for speed alone, as up to 64 bytes are taken
-    /// at once. `lacks` must be true of the `count` bytes: it is what they are known to lack. The counts must have room for a
-    /// line more. `text` must have at least `count` bytes.
+    /// Takes the first `count` bytes of `text` (which must have so many) and the line feed after them: answers the row
+    /// or the record that they end, or keeps them if the line feed is within quotes. What follows in `text` is for
+    /// speed alone, as up to 64 bytes are taken at once. `lacks` must be true of the `count` bytes: it is what they are
+    /// known to lack. The counts must have room for a line more. By `taken`, if these have no line feed (10) and don't
+    /// make the row too long, a state that was right for what was read and written so far is right with them too.
     #[inline(never)]
     fn end_row<L: Lookup>(
         &mut self,
@@ -335,10 +343,11 @@ impl Answering {
         self.answer_line(alloc, basis, form, &look, text, count)
     }
 
-    /// Takes the first `count` bytes of `text` and the line feed after them: answers the line that they end, or keeps them if
-    /// the line feed is within the quotes of a record. What follows in `text` is for speed alone, as up to 64 bytes are taken
-    /// at once. `lacks` must be true of the `count` bytes: it is what they are known to lack. The counts must have room for a
-    /// line more. `text` must have at least `count` bytes.
+    /// Takes the first `count` bytes of `text` (which must have so many) and the line feed after them: answers the line
+    /// that they end, or keeps them if the line feed is within the quotes of a record. What follows in `text` is for
+    /// speed alone, as up to 64 bytes are taken at once. `lacks` must be true of the `count` bytes: it is what they are
+    /// known to lack. The counts must have room for a line more. By `taken`, if these have no line feed (10) and don't
+    /// make the line too long, a state that was right for what was read and written so far is right with them too.
     #[inline(always)]
     fn end_line<L: Lookup>(
         &mut self,
@@ -364,7 +373,8 @@ impl Answering {
         }
     }
 
-    /// Writes the answers that wait, so that none do then. Refused if the write fails.
+    /// Writes the answers that wait, so that none do then. Refused if the write fails. By `writes` what was written and
+    /// what still waits is what waited; by `emptied` nothing waits.
     fn write<W: Write>(&mut self, output: &mut Device<W>) -> Result<(), ToolFault>
         ensures writes { spec.WritesOwed W.contents self.old self.new output.old output.new result }
         ensures emptied { OnOk result (self.new.owed.items ≡ []) }
@@ -374,7 +384,7 @@ impl Answering {
         Ok(())
     }
 
-    /// Writes the answers that wait if they are `FULL` bytes or more. Refused if the write fails.
+    /// Writes the answers that wait if they are `FULL` bytes or more, and else nothing. Refused if the write fails.
     fn write_much<W: Write>(&mut self, output: &mut Device<W>) -> Result<(), ToolFault>
         ensures writes { spec.WritesOwed W.contents self.old self.new output.old output.new result }
         ensures emptied { OnOk result (full ≤ vec_len self.old.owed → self.new.owed.items ≡ []) }
@@ -423,7 +433,7 @@ impl Answering {
 
     /// Takes `piece`, the next bytes of the input, answers the lines that they end, and writes the answers. A last line
     /// without a line feed is kept for the next piece. Refused at a row or a record that is too long, and where memory or a
-    /// write fails. The counts must have room for a line more than `piece` has bytes.
+    /// write fails. The counts must have room for a line more than `piece` has bytes, each of which may be a line feed.
     pub(crate) fn take_piece<L: Lookup, W: Write>(
         &mut self,
         alloc: Global,
@@ -453,8 +463,9 @@ impl Answering {
         self.write(output)
     }
 
-    /// Answers a last line that has no line feed, if there is one. What is kept is the whole line: no bytes follow, and there
-    /// was no look. The text must not end within quotes, and the counts must have room for a line more.
+    /// Answers a last line that has no line feed, if there is one. What is kept is the whole line: no bytes follow, and
+    /// there was no look. The text must not end within quotes, and the counts must have room for a line more. Then all
+    /// lines are answered of what was read so far, if the state was right for that.
     fn end_last<L: Lookup>(
         &mut self,
         alloc: Global,

@@ -1,4 +1,5 @@
-//! Lines of rows that are looked at before they are answered.
+//! Lines of rows that are looked at before they are answered. A look finds whether the row ends within quotes, and
+//! where the text of its field is, or why there is none.
 ghost use Rattle.std.specs.Prelude.{◌≡◌, ◌≤◌, MatchOption, length, take};
 ghost use Rattle.lt_jar.specs.Lines.{content_of};
 ghost use Rattle.lt_rows.specs.Looks.{IsLookAt, LacksIn};
@@ -26,9 +27,9 @@ pub(crate) fn lacks_in(form: LineForm, piece: &[u8]) -> Lacks
     }
 }
 
-/// Looks at a row for the field that comes after `before` others. The row's line is the first `count` bytes of `text`; what
-/// follows them is for speed alone, as 64 bytes are taken at once. `lacks` must be true of the line: it is what the line is
-/// known to lack. `text` must have at least `count` bytes.
+/// Looks at a row for the field that comes after `before` others. The row's line is the first `count` bytes of `text`
+/// (which must have so many); what follows them is for speed alone, as 64 bytes are taken at once. `lacks` must be true
+/// of the line: it is what the line is known to lack.
 #[tactic(auto, using(crate::proofs::LookLemmas::content_short))]
 #[inline(always)]
 pub(crate) fn look_at_row(
@@ -46,9 +47,9 @@ pub(crate) fn look_at_row(
     look_at(separator, lacks, text, row.len(), before)
 }
 
-/// Looks at a line of `form`, the first `count` bytes of `text`, before it is answered. What follows them is for speed alone,
-/// as 64 bytes are taken at once. `lacks` must be true of the line: it is what the line is known to lack. None if it is no
-/// row or record, or if `kept` has a front of it. `text` must have at least `count` bytes.
+/// Looks at a line of `form`, the first `count` bytes of `text` (which must have so many), before it is answered. What
+/// follows them is for speed alone, as 64 bytes are taken at once. `lacks` must be true of the line: it is what the
+/// line is known to lack. None if it is no row or record, or if `kept` has a front of it.
 #[inline(always)]
 pub(crate) fn look_ahead(
     form: LineForm,

@@ -36,7 +36,8 @@ fn may_have_mark(form: LineForm) -> bool
 }
 
 impl Marked {
-    /// A text whose lines have this form, of which no bytes were taken so far.
+    /// A text whose lines have this form, of which no bytes were taken so far. As nothing is answered yet, the clause
+    /// holds for any registry and codes (`terms`) with this form.
     pub(crate) fn new(alloc: Global, form: LineForm) -> Marked
         ensures { (terms : Terms) → terms.form ≡ form → IsNew terms result }
     {

@@ -1,4 +1,5 @@
-//! Answers that were given lately, which are given again.
+//! Answers that were given lately, which are given again. They are right (`AreRecent`) where each is the answer to its
+//! text.
 ghost use Rattle.std.specs.Prelude.{◌≡◌, ◌≤◌, false, IfOk, IsTrue, List, MatchOption, OnOk, length, take};
 ghost use Rattle.lt_registry.specs.Parts.{EntryParts};
 ghost use Rattle.lt_codes.specs.Codes.{registered_text};
@@ -23,7 +24,7 @@ pub(crate) struct RecentAnswers {
 }
 
 impl RecentAnswers {
-    /// No answers so far.
+    /// No answers so far, and so none that is wrong, by whatever entries R and form.
     pub(crate) fn new(alloc: Global) -> RecentAnswers
         ensures { (R : List EntryParts) (form : LineForm) → AreRecent R form result }
     {
@@ -51,9 +52,9 @@ fn replaced_text(
     }
 }
 
-/// Appends the answer to a tag, and tells whether it was refused. The tag is the first `count` bytes of `text`, read with the
-/// basis's table of codes if there is one; what follows them is for speed alone, as 32 bytes are taken at once. `text` must
-/// have at least `count` bytes.
+/// Appends the answer to a tag, and tells whether it was refused. The tag is the first `count` bytes of `text` (which
+/// must have so many), read with the basis's table of codes if there is one; what follows them is for speed alone, as
+/// 32 bytes are taken at once. If `recent` is right, the answer is, and `recent` stays right.
 pub(crate) fn append_again<L: Lookup>(
     lines: &mut Vec<u8>,
     alloc: Global,
@@ -74,9 +75,9 @@ pub(crate) fn append_again<L: Lookup>(
     }
 }
 
-/// Appends the answer to a tag, the first `count` bytes of `text`, read with the codes of a table, and tells whether it was
-/// refused. What follows in `text` is for speed alone, as 32 bytes are taken at once. `text` must have at least `count`
-/// bytes.
+/// Appends the answer to a tag, the first `count` bytes of `text` (which must have so many), read with the codes of a
+/// table, and tells whether it was refused. What follows in `text` is for speed alone, as 32 bytes are taken at once.
+/// If `recent` is right, the answer is, and `recent` stays right.
 #[inline(never)]
 fn append_replaced<L: Lookup>(
     lines: &mut Vec<u8>,
@@ -99,9 +100,10 @@ fn append_replaced<L: Lookup>(
     }
 }
 
-/// Appends the answer to a tag, the first `count` bytes of `text`, and tells whether it was refused. A text whose subtags
-/// stay as they are is answered at once. Another answer that was given lately is not worked out again: if `text` has at least
-/// 32 bytes, it is looked for without a copy. `text` must have at least `count` bytes.
+/// Appends the answer to a tag, the first `count` bytes of `text` (which must have so many), and tells whether it was
+/// refused. A text whose subtags stay as they are is answered at once. Another answer that was given lately is not
+/// worked out again: if `text` has at least 32 bytes, it is looked for without a copy. If `recent` is right, the answer
+/// is, and `recent` stays right.
 #[inline(always)]
 fn append_read<L: Lookup>(
     lines: &mut Vec<u8>,
@@ -142,9 +144,10 @@ fn append_usual_answer<L: Lookup>(
     Ok(told)
 }
 
-/// Appends the answer to a tag, the first `count` bytes of `text`, and tells whether it was refused. An answer that was given
-/// lately is taken; any other is worked out and put with those. What follows in `text` is for speed alone, as 32 bytes are
-/// taken at once. `text` must have at least `count` bytes.
+/// Appends the answer to a tag, the first `count` bytes of `text` (which must have so many), and tells whether it was
+/// refused. An answer that was given lately is taken; any other is worked out and put with those. What follows in
+/// `text` is for speed alone, as 32 bytes are taken at once. If `recent` is right, the answer is, and `recent` stays
+/// right.
 fn append_found<L: Lookup>(
     lines: &mut Vec<u8>,
     alloc: Global,
@@ -172,9 +175,9 @@ fn append_found<L: Lookup>(
     Ok(refused)
 }
 
-/// Appends the canonical text of a field and gives None, or gives why it is refused. The field is the first `count` bytes of
-/// `rest`, read with the basis's table of codes if there is one; what follows them is for speed alone, as 32 bytes are taken
-/// at once. `rest` must have at least `count` bytes.
+/// Appends the canonical text of a field and gives None, or gives why it is refused. The field is the first `count`
+/// bytes of `rest` (which must have so many), read with the basis's table of codes if there is one; what follows them
+/// is for speed alone, as 32 bytes are taken at once. If `recent` is right, the answer is, and `recent` stays right.
 #[inline(always)]
 pub(crate) fn append_field<L: Lookup>(
     lines: &mut Vec<u8>,
@@ -199,9 +202,9 @@ pub(crate) fn append_field<L: Lookup>(
     }
 }
 
-/// Appends the canonical text of a field, the first `count` bytes of `rest` read with the codes of a table, and gives None,
-/// or gives why it is refused. What follows in `rest` is for speed alone, as 32 bytes are taken at once. `rest` must have at
-/// least `count` bytes.
+/// Appends the canonical text of a field, the first `count` bytes of `rest` (which must have so many) read with the
+/// codes of a table, and gives None, or gives why it is refused. What follows in `rest` is for speed alone, as 32 bytes
+/// are taken at once. If `recent` is right, the answer is, and `recent` stays right.
 #[inline(never)]
 fn append_replaced_field<L: Lookup>(
     lines: &mut Vec<u8>,
@@ -227,9 +230,10 @@ fn append_replaced_field<L: Lookup>(
     }
 }
 
-/// Appends the canonical text of a field, the first `count` bytes of `rest`, and gives None, or gives why it is refused. A
-/// field whose subtags stay as they are is answered at once. Another canonical text that was found lately is not worked out
-/// again: if `rest` has at least 32 bytes, it is looked for without a copy. `rest` must have at least `count` bytes.
+/// Appends the canonical text of a field, the first `count` bytes of `rest` (which must have so many), and gives None,
+/// or gives why it is refused. A field whose subtags stay as they are is answered at once. Another canonical text that
+/// was found lately is not worked out again: if `rest` has at least 32 bytes, it is looked for without a copy. If
+/// `recent` is right, the answer is, and `recent` stays right.
 #[inline(always)]
 fn append_read_field<L: Lookup>(
     lines: &mut Vec<u8>,
@@ -252,10 +256,10 @@ fn append_read_field<L: Lookup>(
     append_found_field(lines, alloc, checked, row, recent, rest, count)
 }
 
-/// Appends the canonical text of a field, the first `count` bytes of `rest`, and gives None, or gives why it is refused. A
-/// canonical text that was found lately is taken; any other is worked out and put with those. What follows in `rest` is for
-/// speed alone, as 32 bytes are taken at once. Not inlined, so that the way of a field that stays is short. `rest` must have
-/// at least `count` bytes.
+/// Appends the canonical text of a field, the first `count` bytes of `rest` (which must have so many), and gives None,
+/// or gives why it is refused. A canonical text that was found lately is taken; any other is worked out and put with
+/// those. What follows in `rest` is for speed alone, as 32 bytes are taken at once. Not inlined, so that the way of a
+/// field that stays is short. If `recent` is right, the answer is, and `recent` stays right.
 #[inline(never)]
 fn append_found_field<L: Lookup>(
     lines: &mut Vec<u8>,

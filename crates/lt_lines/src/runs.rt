@@ -51,11 +51,14 @@ struct Reading<'a, L: Lookup> {
 impl<'a, L: Lookup, W: Write> Pieces<Device<W>> for Reading<'a, L> {
     type Answer = Counts;
 
+    /// Between two pieces the basis and the form are those of the beginning, and the answers that are due are written.
     ghost taken = { λ first start now read here. (terms (ground_of L.listed here.basis.now) here.form ≡ terms (ground_of L.listed first.basis.now) first.form)
         × spec.IsReading (terms (ground_of L.listed first.basis.now) first.form) W.contents start now read here.text };
 
+    /// A piece ends the run only by a fault.
     ghost stopped = { λ first start now read here result. spec.StopsReading (terms (ground_of L.listed first.basis.now) first.form) W.contents start now read here.text.answering.tallies result };
 
+    /// At the end all that is owed is written and counted, or a fault ended the run.
     ghost finished = { λ first start now read here result. spec.EndsReading (terms (ground_of L.listed first.basis.now) first.form) W.contents start now read here.text.answering.tallies result };
 
     /// Answers the lines that the piece ends. Only a fault ends the run here: it is refused as `Marked::take_piece` is.

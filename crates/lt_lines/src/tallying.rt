@@ -9,7 +9,7 @@ use lt_rows::{Separator, find_field, text_in};
 use lt_stream::Tallies;
 use std::alloc::{AllocError, Global};
 
-/// The most bytes that are shown of a text that is refused; a longer one is cut.
+/// The most bytes that are shown of a text that is refused; a longer one is cut, so that a summary is short.
 const MOST_SHOWN: usize = 64;
 
 /// How many separators are between a row as it was and what a refusal tells: two where rows are kept, as an empty field is
@@ -20,8 +20,8 @@ fn separators_in(row: RowForm) -> usize
     if row.is_kept { 2 } else { 1 }
 }
 
-/// What `answer` tells of why it refuses `line`: the name of the fault, and a place or a variant. This comes after `! `, or
-/// after the row and its separators.
+/// What `answer` tells of why it refuses `line`: the name of the fault, and a place or a variant. This comes after the
+/// 2 bytes of `! `, or after the row and its separators.
 #[tactic(auto, using(crate::proofs::FaultLemmas::after_front))]
 fn told_in<'a>(form: LineForm, line: &[u8], answer: &'a [u8]) -> &'a [u8]
     ensures { result.now ≡ spec.told_in form line.now answer.now }
@@ -35,7 +35,7 @@ fn told_in<'a>(form: LineForm, line: &[u8], answer: &'a [u8]) -> &'a [u8]
     &answer[before.min(answer.len())..]
 }
 
-/// Where the name ends with which `told` begins: at the first byte that is a space or below. None if no byte is.
+/// Where the name ends with which `told` begins: at the first byte that is a space (32) or below. None if no byte is.
 fn name_end(told: &[u8]) -> Option<usize>
     ensures { result ≡ position (λ byte. nat_le byte 32) told.now }
 {

@@ -1,4 +1,4 @@
--- Where the first field of the rest of a row ends.
+-- Where the first field of the rest of a row ends, which is what is left of the row behind fields that are skipped.
 use Rattle.std.proofs.Common.{refl, ◌≡◌, ◌≢◌, ◌≤◌, ◌<◌, ◌+◌, ◌-◌, ◌↔◌, ◌++◌, [], ◌∷◌, ◌∙◌, ℕ, zero, suc, Bool, true}
 use Rattle.std.proofs.Common.{false, IsTrue, List, Option, Some, None, inl, inr, length, sym, ap, arith, subst, take}
 use Rattle.std.proofs.Common.{drop, get_or, ne_eqb, append_assoc, append-nil, length-append, take-append-drop}

@@ -1,4 +1,4 @@
--- The places of a byte among 64, as the bits of a number.
+-- The places of a byte among 64 bytes, which are looked at together, as the bits of a number.
 use Rattle.std.proofs.Common.{◌≡◌, ◌≢◌, ◌≤◌, ◌<◌, ◌+◌, ◌-◌, ◌==◌, ◌++◌, ◌↔◌, ◌∙◌, ℕ, Bool, true, false, List, Some}
 use Rattle.std.proofs.Common.{None, inl, inr, length, map, cond, refl, sym, ap, arith, bit_or, count_by, subst, take}
 use Rattle.std.proofs.Common.{drop, get_or, take-add, take-append-drop}

@@ -1,4 +1,4 @@
--- Where a byte is first.
+-- Where a byte is first, as `split_first` finds it.
 use Rattle.std.proofs.Common.{refl, ◌≡◌, ◌≢◌, ◌≤◌, ◌<◌, ◌+◌, ◌-◌, ◌++◌, ◌∷◌, ◌∙◌, ℕ, List, length, length-append, sym}
 use Rattle.std.proofs.Common.{ap, arith, subst, take, drop, get_or, add-one, take-append-drop}
 use Rattle.std.proofs.Math.Seq.{drop-cons, get_or-append_seam, take-length}

@@ -1,4 +1,4 @@
--- A text that is looked through from one place of a byte to the next.
+-- A text that is looked through from one place of a byte to the next, as `split_outside` does.
 use Rattle.std.proofs.Common.{◌≡◌, ◌≤◌, ◌+◌, ◌-◌, ◌++◌, [], ◌∷◌, ◌∙◌, ℕ, true, false, List, length, sym, ap, arith}
 use Rattle.std.proofs.Common.{subst, take, drop, append_assoc, length-append, take-append-drop}
 use Rattle.std.proofs.Math.Seq.{take-append_seam}

@@ -45,7 +45,8 @@ records_from delimiter place (byte ∷ text) =
     if (byte == 10) && not (is_quoted place) then [] ∷ records_from delimiter places.Fresh text
     else begin_first byte (records_from delimiter (place_after delimiter place byte) text)
 
--- what is before the first byte `stop` outside of quotes, and what is after it; None where there is no such byte
+-- `parts` is what is before the first byte `stop` outside of quotes, and what is after it, each a slice whose bytes are
+-- its `now`; or None where there is no such byte
 abbrev pub SplitsOutside : (delimiter stop : ℕ) → List ℕ → Option (Bor (List ℕ) × Bor (List ℕ)) → Type 0
 SplitsOutside delimiter stop text parts = MatchOption parts (IsFreeOutside delimiter stop places.Fresh text)
     (λ p. IsFreeOutside delimiter stop places.Fresh p.0.now

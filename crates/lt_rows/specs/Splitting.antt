@@ -7,7 +7,8 @@ use Rattle.std.specs.List.{All}
 abbrev pub IsFreeOf : ℕ → List ℕ → Type 0
 IsFreeOf byte bytes = All (λ other. other ≢ byte) bytes
 
--- what is before the first place of the byte, and what is after it; None where the byte is not there
+-- `parts` is what is before the first place of the byte, and what is after it, each a slice whose bytes are its `now`;
+-- or None where the byte is not there
 abbrev pub SplitsAt : ℕ → List ℕ → Option (Bor (List ℕ) × Bor (List ℕ)) → Type 0
 SplitsAt byte bytes parts = MatchOption parts (IsFreeOf byte bytes)
     (λ p. IsFreeOf byte p.0.now × (bytes ≡ p.0.now ++ byte ∷ p.1.now))

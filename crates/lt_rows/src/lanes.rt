@@ -33,7 +33,8 @@ fn count_in_lanes(byte: u8, text: &[u8]) -> usize
         .count_ones() as usize
 }
 
-/// The lowest `count` of the bits, with the others cleared. `count` must be less than 64.
+/// The lowest `count` of the bits, with the others cleared. `count` must be less than 64, by which a `u64` can be
+/// shifted.
 #[inline(always)]
 fn bits_below(bits: u64, count: usize) -> u64
     requires { count < 64 }
@@ -42,8 +43,8 @@ fn bits_below(bits: u64, count: usize) -> u64
     bits & ((1 << count) - 1)
 }
 
-/// Where a byte is in a row: bit k is set where it is at place k. The row is the first `count` bytes of `text`.
-/// `count` must be less than 64, and the text must have at least 64 bytes.
+/// Where a byte is in a row, from its place 0 on: bit k is set where it is at place k. The row is the first `count`
+/// bytes of `text`. `count` must be less than 64, and the text must have at least 64 bytes.
 #[inline(always)]
 pub(crate) fn bits_in(byte: u8, text: &[u8], count: usize) -> u64
     requires { (count < 64) × (64 ≤ length text.now) }
@@ -52,7 +53,9 @@ pub(crate) fn bits_in(byte: u8, text: &[u8], count: usize) -> u64
     bits_below(bits_of(byte, text), count)
 }
 
-/// Clears the lowest bit that is set and gives its place: the next place of a byte in a row. None if no bit is set.
+/// Clears the lowest bit that is set and gives its place: the next place of a byte in a row. None if no bit is set. The
+/// bits don't tell of which byte and row they are, so the clauses are on each that they may be of, from `start` on. The
+/// answer is the next place, it is inside of the row, and the bits left are those behind it.
 #[inline(always)]
 pub(crate) fn take_lowest(bits: &mut u64) -> Option<usize>
     ensures next { (byte start : ℕ) (row : List ℕ) → AreBitsFrom byte start row bits.old → IsNextPlace byte start row result }

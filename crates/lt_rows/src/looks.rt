@@ -1,4 +1,5 @@
-//! What a row is answered by.
+//! A look at a row finds what the row is answered by: a carriage return outside of quotes, or that it has too few
+//! fields, or where the text of one field is.
 ghost use Rattle.std.specs.Prelude.{◌≡◌, ◌≤◌, ◌↔◌, ℕ, List, IsTrue, drop, length, take};
 ghost use Rattle.lt_rows.specs.Looks.{AreLackedIn, HasTextAt, IsLookAt, IsPlainLine, LacksIn, ends_quoted};
 ghost use Rattle.lt_rows.specs.Plain.{IsPlain};
@@ -95,8 +96,9 @@ fn is_plain_line(separator: Separator, lacks: Lacks, text: &[u8], count: usize) 
     }
 }
 
-/// Whether each separator in a row parts fields, as far as that is known. Each tab does. Each delimiter does if the
-/// row has no line feeds by `is_line` and no quotes by `lacks`.
+/// Whether each separator in a row parts fields, as far as that is known. Each tab does. Each delimiter does if the row
+/// has no line feeds (10) by `is_line` and no quotes by `lacks`. The clause is on each row that these may be said of,
+/// since the function sees none.
 fn is_plain(separator: Separator, is_line: bool, lacks: Lacks) -> bool
     ensures { (row : List ℕ) → LacksIn row lacks → (IsTrue is_line → IsFreeOf 10 row) → IsTrue result → IsPlain separator row }
 {
@@ -121,7 +123,8 @@ fn is_open_from(delimiter: u8, text: &[u8], count: usize, start: usize) -> bool
 }
 
 /// Whether a row ends within quotes. The row is the first `count` bytes of `text`, and one of its fields begins at
-/// `start`, which must be at most `count`. What `lacks` says must be true of the row.
+/// `start`, which must be at most `count`: the clause holds if so, after whatever number of fields (`before`). What
+/// `lacks` says must be true of the row.
 #[tactic(auto, using(crate::proofs::LookLemmas::closed_row))]
 #[inline(always)]
 fn is_open(separator: Separator, lacks: Lacks, text: &[u8], count: usize, start: usize) -> bool
@@ -146,7 +149,7 @@ fn is_open(separator: Separator, lacks: Lacks, text: &[u8], count: usize, start:
 }
 
 /// Where the text of a field is: between its quotes, if it has them. The field goes from `start` to `end` of a row,
-/// which must be places in it, in this order.
+/// which must be places in it, in this order. The clause holds whichever field of the row that is (`before`).
 #[inline(always)]
 fn text_at(separator: Separator, row: &[u8], start: usize, end: usize) -> TextAt
     requires { (start ≤ end) × (end ≤ length row.now) }

@@ -21,7 +21,9 @@ fn with_more(text: &[u8], count: usize) -> &[u8]
     &text[..text.len().min(count.saturating_add(TOGETHER))]
 }
 
-/// The next of the places of a byte. None if it is not below `count`, or no place is left.
+/// The next of the places of a byte. None if it is not below `count`, or no place is left. `places` don't tell what
+/// they are of, so `next` and `rest` are on each byte and each text `near` whose places from `start` on they may be.
+/// The answer is the next among the first `count` bytes, and the places left are those behind it.
 #[inline(always)]
 fn next_within(places: &mut Memchr<'_>, count: usize) -> Option<usize>
     ensures within { IfSome result (λ end. end < count) }
@@ -37,7 +39,8 @@ fn next_within(places: &mut Memchr<'_>, count: usize) -> Option<usize>
 }
 
 /// Where the field of a row that comes after `before` others begins and ends. None if the row has no such field. The
-/// row is the first `count` bytes of `text`, and each separator in it must part fields.
+/// row is the first `count` bytes of `text`, and each separator in it must part fields. A row of less than 64 bytes is
+/// looked at in one step, if the text has 64.
 #[inline(always)]
 pub(crate) fn plain_field_at(
     separator: Separator,

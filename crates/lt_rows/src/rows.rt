@@ -29,8 +29,8 @@ impl Separator {
         }
     }
 
-    /// Where the first field of the rest of a row ends, or None if no separator ends it. The rest is the first `count` bytes
-    /// of `text`, and `is_line` may be true only if it has no line feeds.
+    /// Where the first field of the rest of a row ends, or None if no separator ends it. The rest is the first `count`
+    /// bytes of `text`, and `is_line` may be true only if it has no line feeds (10).
     #[inline(always)]
     fn field_end(self, is_line: bool, text: &[u8], count: usize) -> Option<usize>
         requires count { count ≤ length text.now }
@@ -52,7 +52,7 @@ impl Separator {
     }
 }
 
-/// Whether a quote is the first of the first `count` bytes of a text, which must have so many.
+/// Whether a quote (34) is the first of the first `count` bytes of a text, which must have so many.
 #[inline(always)]
 fn begins_quoted(text: &[u8], count: usize) -> bool
     requires { count ≤ length text.now }
@@ -72,7 +72,7 @@ fn end_outside(delimiter: u8, rest: &[u8]) -> Option<usize>
 }
 
 /// Where the first delimiter outside of quotes is among the first `count` bytes of a text. None if no delimiter is
-/// outside of quotes. The text must have so many bytes, at least one, and begin with a quote. It is likely that no
+/// outside of quotes. The text must have so many bytes, at least one, and begin with a quote (34). It is likely that no
 /// quote is doubled in its field, so the next quote is looked for first.
 #[inline(always)]
 fn quoted_end(delimiter: u8, text: &[u8], count: usize) -> Option<usize>
@@ -95,8 +95,8 @@ fn quoted_end(delimiter: u8, text: &[u8], count: usize) -> Option<usize>
     end_outside(delimiter, &text[..count])
 }
 
-/// Where the rest of a row begins after `before` fields, or None if it has no more than these. The row is the first `count`
-/// bytes of `text`, and `is_line` may be true only if it has no line feeds.
+/// Where the rest of a row begins after `before` fields, or None if it has no more than these. The row is the first
+/// `count` bytes of `text`, and `is_line` may be true only if it has no line feeds (10).
 #[inline(always)]
 fn skip_fields(
     separator: Separator,
@@ -119,9 +119,9 @@ fn skip_fields(
     Some(at)
 }
 
-/// Where the field of a row that comes after `before` others begins and ends, or None if there are fewer. The row is the
-/// first `count` bytes of `text`. `is_line` may be true only of a row without line feeds, and `is_plain` only of one in
-/// which each separator parts fields.
+/// Where the field of a row that comes after `before` others begins and ends, or None if there are fewer. The row is
+/// the first `count` bytes of `text`. `is_line` may be true only of a row without line feeds (10), and `is_plain` only
+/// of one in which each separator parts fields.
 #[inline(always)]
 pub(crate) fn field_at(
     separator: Separator,

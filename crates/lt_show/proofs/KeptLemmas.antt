@@ -1,4 +1,5 @@
--- The records that a reader lends one by one are kept.
+-- The loop of `read_draft`, which keeps the records that a reader lends one by one, and what `read_records` makes of
+-- them.
 use Rattle.std.proofs.Common.{◌≡◌, ℕ, true, false, List, [], ◌∷◌, ◌++◌, ap, sym, subst, ◌∙◌, Option, Ok, Err}
 use Rattle.std.proofs.lemmas.List.{map-append}
 use Rattle.lt_jar.specs.Records.{Field}

@@ -1,4 +1,5 @@
--- Records whose fields that nobody asks for are left out give the same entries and faults.
+-- Records without the fields that `kept_fields` leaves out give the same entries and faults, so a registry can be made
+-- of what is kept.
 use Rattle.std.proofs.Common.{◌≡◌, ◌+◌, ◌++◌, ◌∷◌, ◌∙◌, inl, inr, ℕ, Bool, true, false, List, [], Some, ap, refl, sym}
 use Rattle.std.proofs.Common.{subst, length, map, filter, find, count_by, if◌then◌else◌}
 use Rattle.std.proofs.lemmas.Bool.{cases_Bool, false_from_ne_true, or_left, or_right}
@@ -172,6 +173,7 @@ entries_from number (r ∷ records) es (inr h) = inr (
   (h.1.0, h.1.1, h.1.2, entry_of (kept_fields r) r (kept_alike r) number h.1.0 h.1.3, entries_from (number + 1) records h.1.1 h.1.4),
 )
 
+-- the same of all records, which are counted from 1
 pub entries_kept : (records : List (List Field)) (es : List EntryParts) → HasEntries (map kept_fields records) es → HasEntries records es
 entries_kept records es h = entries_from 1 records es h
 
@@ -184,6 +186,7 @@ record Was (records before : List (List Field)) (here : List Field) (after : Lis
   fronts : map kept_fields front ≡ before
   is : kept_fields one ≡ here
 
+-- each record among those of which fields are left out was such a record
 was : (records before : List (List Field)) (here : List Field) (after : List (List Field))
     → map kept_fields records ≡ before ++ here ∷ after → Was records before here after
 was [] [] here after e = let bad = e in cc

@@ -1,4 +1,4 @@
--- The rows of parts, one after another.
+-- The rows of parts, one after another, as the loop of `rows_of` adds them.
 use Rattle.std.proofs.Common.{◌≡◌, ◌<◌, ◌+◌, ◌++◌, ◌∷◌, ◌∙◌, ℕ, List, [], ap, append_assoc, arith, get_or, length, sym, take}
 use Rattle.std.proofs.lemmas.List.{length-take-le, take_more}
 use Rattle.lt_tag.specs.Parts.{TagForm}

@@ -1,4 +1,4 @@
--- Lemmas on strings.
+-- A text without escapes, which `append_content` appends at once.
 use Rattle.std.proofs.Common.{◌≡◌, ℕ, List, [], ◌∷◌, true, refl, arith}
 use Rattle.std.specs.List.{list_all}
 use Rattle.lt_show.specs.Strings.{escaped_text, is_plain}

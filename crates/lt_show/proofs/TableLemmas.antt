@@ -1,4 +1,4 @@
--- The table of a tag in its parts.
+-- The table of a tag is its text and the lines of its rows, as they are appended.
 use Rattle.std.proofs.Common.{◌≡◌, ◌++◌, ◌∷◌, ◌∙◌, ℕ, List, [], ap, append_assoc}
 use Rattle.lt_jar.specs.Records.{Field}
 use Rattle.lt_tag.specs.Parts.{TagForm}

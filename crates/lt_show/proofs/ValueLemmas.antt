@@ -1,4 +1,4 @@
--- Lemmas on values.
+-- An array of JSON that grows by one value, as in the loops that append arrays.
 use Rattle.std.proofs.Common.{◌≡◌, ℕ, List, [], ◌∷◌, ◌++◌, length, sym, ◌∙◌, append-nil, append_assoc}
 use Rattle.std.proofs.lemmas.List.{flat_map_more}
 use Rattle.lt_show.specs.Values.{after_commas, comma_at, commaed}

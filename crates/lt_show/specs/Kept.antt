@@ -1,4 +1,5 @@
--- The records of a registry that are kept while it is read. No public contract cites this.
+-- The records of a registry that are kept while it is read. A draft has them so far, and `lacks` tells whether memory
+-- ran out for one. No public contract cites this.
 use Rattle.std.specs.Prelude.{◌≡◌, ℕ, Bool, true, false, List, [], ◌∷◌, ◌++◌, Option, Result, Ok, Err, map}
 use Rattle.lt_jar.specs.Records.{Field}
 use Rattle.lt_jar.specs.Sources.{Advances, record_in}
@@ -22,8 +23,9 @@ pub record KeepsMore (r : List Field) (old new : Draft) : Type 0 where
 abbrev pub Keeps : List Field → (old new : Draft) → Type 0
 Keeps r old new = new.lacks ≡ false → KeepsMore r old new
 
--- A call for the next record, from the reader `old` to `new`: the draft `draft` took the record that the reader lent,
--- and became `drafted`, or is as it was where there was none.
+-- A call for the next record, from the reader `old` to `new`, which `advances` describes: the draft `draft` took the
+-- record that the reader lent, and became `drafted` (`takes`), or is as it was where there was none (`keeps`). The
+-- reader's device is the same (`same_reference`). `remaining` is what a reader has left, where that is known.
 pub record KeepsNext {R : Type 0} (remaining : R → Option (List ℕ)) (old new : JarReader R JarSource)
     (draft drafted : Draft) (result : Result Bool JarFault) : Type 0 where
   pub same_reference : new.device.ghost_name ≡ old.device.ghost_name
@@ -44,7 +46,7 @@ AnswersDraft remaining (Ok draft) before after bytes reads =
     (records : List (List Field)) × IsReadWhole remaining before after bytes records × HasKept draft records
 AnswersDraft remaining (Err fault) before after bytes reads = IsJarRefusal remaining before after bytes reads fault
 
--- the answer is the fault that a read failed
+-- the answer is the fault that a read failed, as it must be if the device counts a failure
 abbrev pub IsJarFailure : Result Draft JarFault → Type 0
 IsJarFailure (Ok draft) = ⊥
 IsJarFailure (Err fault) = fault.kind ≡ jars.Read

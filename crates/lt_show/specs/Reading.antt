@@ -25,7 +25,7 @@ AnswersWith remaining (Err (faults.Registry fault)) before after bytes reads =
     AnswersAs remaining (Err fault) before after bytes reads
 AnswersWith remaining (Err faults.OutOfMemory) before after bytes reads = Unit {0}
 
--- the answer is the fault that a read failed
+-- the answer is the fault that a read failed, as it must be if the device counts a failure
 abbrev pub IsFailure : RecordsReading → Type 0
 IsFailure (Ok both) = ⊥
 IsFailure (Err (faults.Registry fault)) = IsReadFailure (Err fault)

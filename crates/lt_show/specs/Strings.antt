@@ -3,7 +3,7 @@ use Rattle.std.specs.Prelude.{◌/◌, ◌%◌, ◌+◌, ◌==◌, ◌&&◌, not
 use Rattle.std.specs.Prelude.{nat_lt}
 use Rattle.std.specs.List.{flat_map}
 
--- the last digit of a number to the base 16: 0 to 9 (48 to 57), or a to f (97 to 102)
+-- the last digit of a number to the base 16: 0 to 9 (48 to 57), or a to f (97 to 102, which is 87 + 10 to 87 + 15)
 abbrev pub hex_digit : ℕ → ℕ
 hex_digit n = if nat_lt (n % 16) 10 then 48 + n % 16 else 87 + n % 16
 
@@ -12,8 +12,8 @@ hex_digit n = if nat_lt (n % 16) 10 then 48 + n % 16 else 87 + n % 16
 abbrev pub is_plain : ℕ → Bool
 is_plain byte = nat_le 32 byte && not (byte == 34) && not (byte == 92)
 
--- A byte as it is in a string: a quote and a backslash with a backslash (92) before it, and a control character as a
--- backslash, `u` (117) and four digits to the base 16.
+-- A byte as it is in a string: a quote and a backslash with a backslash (92) before it. A control character is a
+-- backslash, `u` (117) and four digits to the base 16, of which two are 0 (48).
 abbrev pub escaped : ℕ → List ℕ
 escaped byte =
     if is_plain byte then byte ∷ []

@@ -19,7 +19,7 @@ use Rattle.lt_show.specs.declared.tables.Widths.{Widths}
 abbrev pub padded : ℕ → List ℕ → List ℕ
 padded width cell = cell ++ (replicate (width - length cell) 32 ++ 32 ∷ 32 ∷ [])
 
--- a byte of a text as it is shown: as a space (32) if it is a control character of ASCII
+-- a byte of a text as it is shown: as a space (32) if it is a control character of ASCII (below 32, or 127)
 abbrev pub shown_byte : ℕ → ℕ
 shown_byte byte = if nat_lt byte 32 || (byte == 127) then 32 else byte
 
@@ -71,7 +71,7 @@ row_text widths text records row = row_line widths text row ++ fields_text (fiel
 abbrev pub rows_text : (text : List ℕ) → List (List Field) → List Row → List ℕ
 rows_text text records rows = flat_map (row_text (widths_of text rows) text records) rows
 
--- what `show` prints of a tag, by the entries of a registry and the records of its file: its text, and the table of its
--- rows
+-- what `show` prints of a tag, by the entries of a registry and the records of its file: its text, a line feed (10),
+-- and the table of its rows
 abbrev pub table_of : List EntryParts → List (List Field) → TagForm → List ℕ
 table_of R records tag = text_of tag ++ 10 ∷ rows_text (text_of tag) records (rows_of R tag)

@@ -1,11 +1,12 @@
-//! What the record of a number says, and which fields are kept of it.
+//! The fields of a registry's records. `langtag show` prints the fields that are shown. Reading a registry keeps those,
+//! and the fields by which its entries are made, so that all else takes no memory.
 ghost use Rattle.std.specs.Prelude.{◌≡◌};
 ghost use Rattle.lt_show.specs.Fields as spec;
 
 use lt_jar::{JarField, Record};
 
-/// The fields of the record of a number in a file, counted from 1, with the header counted too; no fields if there is no
-/// such record.
+/// The fields of the record of a number in a file. Records are counted from 1, with the header counted too. There are
+/// no fields where there is no such record, as for 0.
 pub fn fields_of(records: &[Record], number: u32) -> &[JarField]
     ensures { result.now ≡ spec.fields_of records.now number }
 {
@@ -32,7 +33,8 @@ fn is_of_entry(field: &JarField) -> bool
         || name.eq_ignore_ascii_case("File-Date")
 }
 
-/// Whether a field is kept: it is shown, or it tells what its record registers.
+/// Whether a field is kept where a registry is read: it is shown, or it tells what its record registers. `Added` is not
+/// kept.
 pub(crate) fn is_kept(field: &JarField) -> bool
     ensures { result ≡ spec.is_kept field.now }
 {

@@ -44,8 +44,8 @@ fn append_fields(objects: &mut Vec<u8>, fields: &[JarField]) -> Result<(), Alloc
     Ok(())
 }
 
-/// Appends the member `fields`: the array of the shown fields of the record that is listed, which is empty if there is
-/// none. The records are those of the registry's file.
+/// Appends a comma (44) and the member `fields`: the array of the shown fields of the record that is listed, which is
+/// empty if there is none. The records are those of the registry's file.
 fn append_listed(
     objects: &mut Vec<u8>,
     records: &[Record],
@@ -71,7 +71,7 @@ fn listing_name(listing: Listing) -> &'static str
     }
 }
 
-/// Appends the member `record`: the number of the record that is listed, or null if there is none.
+/// Appends a comma (44) and the member `record`: the number of the record that is listed, or null if there is none.
 fn append_record(objects: &mut Vec<u8>, listing: Listing) -> Result<(), AllocError>
     ensures { OnOk result (objects.new.items ≡ objects.old.items ++ 44 ∷ member_text (member (codes "record") (record_value listing))) }
 {
@@ -145,7 +145,7 @@ fn append_each(
 /// Appends the [`rows_of`] a tag as an array of JSON. Each row is an object with the members `place`, `kind`, `text`,
 /// `listing` (`Record`, `Unregistered` or `Unlisted`), `record` (its number, or null) and `fields`. The fields are an array
 /// of objects with a `name` and a `body`: those fields of the record that are shown. The records are those of the registry's
-/// file. The only refusal is running out of memory, after which a front of it may have been appended.
+/// file. The only refusal is running out of memory, after which a part of it may have been appended.
 pub fn append_rows<L: Lookup>(
     objects: &mut Vec<u8>,
     alloc: Global,

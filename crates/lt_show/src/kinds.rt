@@ -17,8 +17,8 @@ pub enum PartKind {
     Variant,
     /// The singleton that begins an extension (RFC 5646, 2.2.6): `u` of `de-u-co-phonebk`.
     Singleton,
-    /// A subtag of an extension that is no `u` or `t` extension, or of a `t` extension that has no parts
-    /// (RFC 5646, 2.2.6): `bbb` of `en-a-bbb`.
+    /// A subtag of an extension that is no `u` or `t` extension, or of a `t` extension without the form of
+    /// RFC 6497, 2.2 (RFC 5646, 2.2.6): `bbb` of `en-a-bbb`.
     ExtensionSubtag,
     /// An attribute of a `u` extension (RFC 6067, 2.1): `attr` of `de-u-attr-co-phonebk`.
     Attribute,
@@ -77,7 +77,8 @@ impl PartKind {
         }
     }
 
-    /// The kind that a part of a core has in the source of a `t` extension. Any other kind stays.
+    /// The kind that a language, extlang, script, region or variant has in the source of a `t` extension: `Language`
+    /// becomes `SourceLanguage`. Any other kind stays.
     pub(crate) fn in_source(self) -> PartKind
         ensures { result ≡ spec.in_source self }
     {

@@ -56,7 +56,8 @@ fn kind_of(kind: PartKind) -> Option<Kind>
     }
 }
 
-/// The listing that an entry gives: its record, or `Unregistered` if there is none.
+/// The listing that an entry gives: its record, or `Unregistered` if there is none. In the clause `entry.entry` is the
+/// parameter `entry` as it came in.
 pub(crate) fn listed(entry: Option<&Entry>) -> Listing
     ensures { result ≡ listing_by (option_copied entry.entry) }
 {
@@ -66,8 +67,8 @@ pub(crate) fn listed(entry: Option<&Entry>) -> Listing
     }
 }
 
-/// What a table has for the subtag that a text spells, under a kind of record: `Unregistered` where the text is no
-/// subtag, too.
+/// What a table has for the subtag that a text spells, under a kind of record: `Unregistered` where no such record has
+/// it, or where the text is no subtag.
 fn listing_under<L: Lookup>(table: &L, kind: Kind, text: &[u8]) -> Listing
     ensures { result ≡ listing_by (entry_of (L.listed table.now) kind text.now) }
 {

@@ -1,4 +1,4 @@
-//! The members of objects.
+//! The members of objects of JSON, appended to the bytes `texts`.
 ghost use Rattle.std.specs.Prelude.{◌≡◌, ◌++◌, ◌∷◌, [], OnOk};
 ghost use Rattle.lt_show.specs.Strings.{string};
 ghost use Rattle.lt_show.specs.Values as spec;
@@ -17,7 +17,8 @@ fn append_named(texts: &mut Vec<u8>, name: &[u8]) -> Result<(), AllocError>
     Ok(())
 }
 
-/// Appends the beginning of an object, up to the colon after the name of its first member (RFC 8259, 4).
+/// Appends the beginning of an object, from its brace (123) to the colon after the name of its first member (RFC 8259,
+/// 4).
 pub fn append_first_name(texts: &mut Vec<u8>, name: &[u8]) -> Result<(), AllocError>
     ensures { OnOk result (texts.new.items ≡ texts.old.items ++ 123 ∷ spec.named name.now) }
 {
@@ -26,8 +27,8 @@ pub fn append_first_name(texts: &mut Vec<u8>, name: &[u8]) -> Result<(), AllocEr
     Ok(())
 }
 
-/// Appends the name of a member that is not the first of its object, with the comma before it and the colon after it
-/// (RFC 8259, 4).
+/// Appends the name of a member that is not the first of its object, with the comma (44) before it and the colon after
+/// it (RFC 8259, 4).
 pub fn append_name(texts: &mut Vec<u8>, name: &[u8]) -> Result<(), AllocError>
     ensures { OnOk result (texts.new.items ≡ texts.old.items ++ 44 ∷ spec.named name.now) }
 {
@@ -36,7 +37,8 @@ pub fn append_name(texts: &mut Vec<u8>, name: &[u8]) -> Result<(), AllocError>
     Ok(())
 }
 
-/// Appends the beginning of an object, up to the end of its first member, whose value is the string of `text`.
+/// Appends the beginning of an object, from its brace (123) to the end of its first member, whose value is the string
+/// of `text`.
 pub fn append_first_string(texts: &mut Vec<u8>, name: &[u8], text: &[u8]) -> Result<(), AllocError>
     ensures { OnOk result (texts.new.items ≡ texts.old.items ++ 123 ∷ spec.member_text (spec.member name.now (string text.now))) }
 {
@@ -45,7 +47,8 @@ pub fn append_first_string(texts: &mut Vec<u8>, name: &[u8], text: &[u8]) -> Res
     Ok(())
 }
 
-/// Appends a member that is not the first of its object, with the comma before it. Its value is the string of `text`.
+/// Appends a member that is not the first of its object, with the comma (44) before it. Its value is the string of
+/// `text`.
 pub fn append_next_string(texts: &mut Vec<u8>, name: &[u8], text: &[u8]) -> Result<(), AllocError>
     ensures { OnOk result (texts.new.items ≡ texts.old.items ++ 44 ∷ spec.member_text (spec.member name.now (string text.now))) }
 {
@@ -54,7 +57,7 @@ pub fn append_next_string(texts: &mut Vec<u8>, name: &[u8], text: &[u8]) -> Resu
     Ok(())
 }
 
-/// Appends a member that is not the first of its object, with the comma before it. Its value is null.
+/// Appends a member that is not the first of its object, with the comma (44) before it. Its value is null.
 pub fn append_next_null(texts: &mut Vec<u8>, name: &[u8]) -> Result<(), AllocError>
     ensures { OnOk result (texts.new.items ≡ texts.old.items ++ 44 ∷ spec.member_text (spec.member name.now spec.null)) }
 {

@@ -20,8 +20,9 @@ pub struct Part {
     pub length: usize,
 }
 
-/// The pieces of a text between its hyphens, each as a part of the kind that has the same index in `kinds`. There are as many
-/// parts as the shorter of the two lists has elements. The only refusal is running out of memory.
+/// The pieces of a text between its hyphens, each as a part of the kind that has the same index in `kinds`; the first
+/// begins at 0. There are as many parts as the shorter of the two lists has elements: for a tag they are equally long.
+/// The only refusal is running out of memory.
 fn place(alloc: Global, kinds: &[PartKind], text: &[u8]) -> Result<Vec<Part>, OutOfMemory>
     ensures { IfOk result (λ parts. parts.items ≡ placed 0 kinds.now (pieces text.now)) }
 {
@@ -47,8 +48,9 @@ fn place(alloc: Global, kinds: &[PartKind], text: &[u8]) -> Result<Vec<Part>, Ou
 /// The parts of a tag in their order: what each subtag is (RFC 5646, 2.1; RFC 6067, 2.1; RFC 6497, 2.2), and where it is in
 /// the text that [`write_tag`](lt_tag::write_tag) gives. A grandfathered tag is one part.
 ///
-/// For example, `zh-Hant-HK-x-ab` has a language of 2 bytes at 0, a script of 4 at 3, a region of 2 at 8, the `x` of private use
-/// at 11 and a subtag of private use of 2 bytes at 13. The only refusal is running out of memory.
+/// For example, `zh-Hant-HK-x-ab` has a language of 2 bytes at 0, a script of 4 at 3, a region of 2 at 8, the `x` of
+/// private use at 11 and a subtag of private use of 2 bytes at 13. The only refusal is running out of memory. The
+/// clause `spell` adds that the parts lose nothing: what they cut out of the text, joined by hyphens, is the text.
 pub fn parts(alloc: Global, tag: &Tag) -> Result<Vec<Part>, OutOfMemory>
     ensures parts { IfOk result (λ parts. parts.items ≡ parts_of tag.now) }
     ensures spell { IfOk result (λ parts. Spell parts.items (text_of tag.now)) }

@@ -21,7 +21,8 @@ pub enum RecordsFault {
     OutOfMemory,
 }
 
-/// A copy of a field. It is refused only where memory runs out.
+/// A copy of a field, since a reader lends its record only until the next one. It is refused only where memory runs
+/// out.
 fn copy_field(alloc: Global, field: &JarField) -> Result<JarField, OutOfMemory>
     ensures { IfOk result (λ copy. copy ≡ field.now) }
 {
@@ -78,8 +79,9 @@ impl Draft {
         }
     }
 
-    /// Keeps a record after the others, with copies of those of these fields that are kept. Once memory runs out for one, no
-    /// more are kept; the file is read on, since a fault of it is answered before the lack of memory.
+    /// Keeps a record after the others, with copies of those of these fields that are kept. Once memory runs out for
+    /// one, no more are kept, and the clause says no more; the file is read on, since a fault of it is answered before
+    /// the lack of memory.
     fn take(&mut self, alloc: Global, fields: &[JarField])
         ensures { Keeps fields.now self.old self.new }
     {
@@ -88,7 +90,8 @@ impl Draft {
         }
     }
 
-    /// Keeps the next record of a reader, and tells whether there is one. It is refused with the reader's fault.
+    /// Keeps the next record of a reader, and tells whether there is one. It is refused with the reader's fault. In the
+    /// clause `R.remaining` gives what the reader has left, where that is known.
     fn take_next<R: Read>(
         &mut self,
         alloc: Global,
@@ -107,7 +110,7 @@ impl Draft {
     }
 }
 
-/// The records that a device gives, read to its end, or the fault of the file.
+/// A draft of the records that a device gives, read to its end, or the fault of the file.
 #[tactic(auto, using(crate::proofs::KeptLemmas::kept_none))]
 fn read_draft<R: Read>(alloc: Global, device: &mut Device<R>) -> Result<Draft, JarFault>
     ensures { ReadsDraft R.remaining device.old device.new result }

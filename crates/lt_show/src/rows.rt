@@ -13,7 +13,7 @@ use std::alloc::Global;
 /// What is shown of a part of a tag, or of the whole of it.
 #[derive(Clone, Copy, Debug, PartialEq, Eq)]
 pub struct Row {
-    /// Its place, counted from 1.
+    /// Its place among the parts of the tag, counted from 1; for the whole of the tag, 1.
     pub place: usize,
     /// What it is.
     pub subject: Subject,
@@ -48,7 +48,8 @@ fn row_of<L: Lookup>(table: &L, tag: &Tag, text: &[u8], place: usize, part: &Par
     }
 }
 
-/// The row of a whole tag that is registered as redundant (RFC 5646, 2.2.8), or no row. `text` must be the text of the tag.
+/// The row of a whole tag that is registered as redundant (RFC 5646, 2.2.8), or no row. `text` must be the text of the
+/// tag, since its length is that of the row.
 fn whole_rows<L: Lookup>(
     alloc: Global,
     table: &L,

@@ -1,4 +1,4 @@
-//! Strings.
+//! The strings of JSON, appended to the bytes `texts`.
 ghost use Rattle.std.specs.Prelude.{◌≡◌, ◌++◌, ◌∷◌, [], OnOk};
 ghost use Rattle.std.specs.List.{list_all};
 ghost use Rattle.lt_show.specs.Strings as spec;
@@ -31,7 +31,8 @@ fn hex_digit(number: u8) -> u8
     }
 }
 
-/// Appends a byte as it is in a string: itself, or its escape.
+/// Appends a byte as it is in a string: itself, or its escape, which is a backslash and a quote or backslash, or `\u00`
+/// and two digits to the base 16 for a control character.
 fn append_escaped(texts: &mut Vec<u8>, byte: u8) -> Result<(), AllocError>
     ensures { OnOk result (texts.new.items ≡ texts.old.items ++ spec.escaped byte) }
 {

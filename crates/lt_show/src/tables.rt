@@ -1,4 +1,4 @@
-//! The rows of a tag as a table for people.
+//! The rows of a tag as a table for people. `told` is the text that it is appended to.
 ghost use Rattle.std.specs.Prelude.{◌≡◌, ◌++◌, OnOk, map, replicate};
 ghost use Rattle.lt_show.specs.Tables as spec;
 ghost use Rattle.lt_show.specs.Tables.{field_line, fields_text, padded, row_line, row_text, rows_text, table_of};
@@ -18,7 +18,7 @@ const PLACE: usize = 3;
 /// The width of the column of names of fields: the longest that are shown have 15 characters, for example `Preferred-Value`.
 const NAME: usize = 15;
 
-/// Appends `count` spaces.
+/// Appends `count` spaces (32).
 fn append_spaces(told: &mut Vec<u8>, count: usize) -> Result<(), OutOfMemory>
     ensures { OnOk result (told.new.items ≡ told.old.items ++ replicate count 32) }
 {
@@ -38,7 +38,8 @@ fn append_padded(told: &mut Vec<u8>, width: usize, cell: &[u8]) -> Result<(), Ou
     Ok(())
 }
 
-/// The byte that is shown for a byte of a text: a space for a control character of ASCII, else the byte itself.
+/// The byte that is shown for a byte of a text: a space for a control character of ASCII (0 to 31, and 127), else the
+/// byte itself.
 fn shown_byte(byte: u8) -> u8
     ensures { result ≡ spec.shown_byte byte }
 {
@@ -125,7 +126,8 @@ fn append_listing(told: &mut Vec<u8>, alloc: Global, listing: Listing) -> Result
     Ok(())
 }
 
-/// Appends the line of a row, whose text is cut out of `text`, the text of the tag.
+/// Appends the line of a row, whose text is cut out of `text`, the text of the tag. Where no record registers such
+/// parts, the line ends with that text.
 fn append_row_line(
     told: &mut Vec<u8>,
     alloc: Global,
@@ -172,7 +174,7 @@ fn append_row(
 /// Appends what is shown of a tag for people: a line with the tag in conventional case, and then for each of its [`rows_of`] a
 /// line with the place, the kind, the text and the number of the record, or that it is not registered, and below it a line
 /// for each field of the record that [`is_shown`]. The records are those of the registry's file. The only refusal is
-/// running out of memory, after which a front of it may have been appended.
+/// running out of memory, after which a part of it may have been appended.
 ///
 /// ```text
 /// zh-x-a

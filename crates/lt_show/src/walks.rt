@@ -93,7 +93,8 @@ fn append_t(alloc: Global, kinds: &mut Vec<PartKind>, parts: &TParts) -> Result<
     append_fields(kinds, &parts.fields)
 }
 
-/// Adds the kinds of the subtags after the singleton of a `u` extension. The singleton must be `u`.
+/// Adds the kinds of the subtags after the singleton of a `u` extension, each of which has parts. The singleton must be
+/// `u`, by which `subtag_kinds` takes these kinds.
 fn append_unicode(
     alloc: Global,
     kinds: &mut Vec<PartKind>,
@@ -107,7 +108,7 @@ fn append_unicode(
 }
 
 /// Adds the kinds of the subtags after the singleton of a `t` extension. If they don't have the form of RFC 6497, 2.2, each is
-/// an `ExtensionSubtag`. The singleton must be `t`.
+/// an `ExtensionSubtag`. The singleton must be `t`, by which `subtag_kinds` takes these kinds.
 fn append_transform(
     alloc: Global,
     kinds: &mut Vec<PartKind>,
@@ -155,7 +156,8 @@ fn append_private(kinds: &mut Vec<PartKind>, subtags: &[Subtag]) -> Result<(), O
     append_each(kinds, PartKind::PrivateUse, subtags)
 }
 
-/// The kinds of the parts of a tag, in their order.
+/// The kinds of the parts of a tag, in their order. Each subtag is a part, but a grandfathered tag is one part as a
+/// whole.
 pub(crate) fn part_kinds(alloc: Global, tag: &Tag) -> Result<Vec<PartKind>, OutOfMemory>
     ensures { IfOk result (λ kinds. kinds.items ≡ spec.part_kinds tag.now) }
 {

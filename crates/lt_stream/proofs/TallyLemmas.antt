@@ -1,4 +1,5 @@
--- One line more that was refused.
+-- `Tallies::count`: the tallies of some refused lines become those of them and one more, whose fault has a tally
+-- (`counted`) or none (`begun`).
 use Rattle.std.proofs.Common.{◌≡◌, ◌≤◌, ◌<◌, ◌+◌, ◌++◌, ◌∷◌, ◌∙◌, inl, inr, ℕ, zero, suc, List, [], true, false, Some}
 use Rattle.std.proofs.Common.{None, cond, length, min, nat_lt, sym, ap, refl, subst, arith, get_or, set}
 use Rattle.std.specs.List.{AllByRecursion, IsDistinct, count_by, find, position, position_or_len}

@@ -9,8 +9,9 @@ use Rattle.lt_stream.specs.declared.faults.ToolFault.{ToolFault}
 use Rattle.lt_stream.specs.declared.faults.ToolFault.TheVariants as faults
 use Rattle.lt_stream.specs.declared.texts.Text.{Text}
 
--- The mark of these bytes is passed over, if they have one, whatever follows them, and the text after it is taken as
--- lines. `start` is the output at the beginning of the run, and `now` the output here. Q tells what is answered.
+-- The mark of these bytes is passed over, if they have one, and the text after it is taken as lines. No byte that
+-- follows changes that (`split`, `narrow`). `start` is the output at the beginning of the run, and `now` the output
+-- here. Q tells what is answered.
 pub record IsPast {A W : Type 0} (Q : Answered A) (longest : ℕ) (contents : W → Option (List ℕ))
     (start now : Device W) (bytes : List ℕ) (state : Text A) : Type 0 where
   pub begun : state.is_begun ≡ true
@@ -35,8 +36,8 @@ abbrev pub IsTakenText : {A W : Type 0} → Answered A → ℕ → (W → Option
 IsTakenText Q longest contents start now bytes state =
     IsPast Q longest contents start now bytes state ⊎ IsWaiting Q longest contents start now bytes state
 
--- a write failed or memory ran out, and what was written is a front of the answers to the text after the mark; `start`,
--- `now` and Q as in IsPast
+-- A write failed or memory ran out, and what was written is a front of the answers to the text after the mark. Of bytes
+-- with a mark of UTF-16 nothing is written, so only memory can run out (`narrow`). `start`, `now` and Q as in IsPast.
 pub record IsCutAfter {A W : Type 0} (Q : Answered A) (contents : W → Option (List ℕ)) (start now : Device W)
     (bytes : List ℕ) (fault : ToolFault) : Type 0 where
   pub mark : List ℕ
@@ -45,7 +46,8 @@ pub record IsCutAfter {A W : Type 0} (Q : Answered A) (contents : W → Option (
   pub narrow : IsWide bytes → fault ≡ faults.OutOfMemory
   pub cut : IsCutOff Q contents start now text fault
 
--- the bytes begin with a byte order mark of UTF-16, and nothing was written; `start`, `now` and Q as in IsPast
+-- The bytes begin with a byte order mark of UTF-16, and nothing was written, which is a front of the answers to any
+-- text (`begun`). `start`, `now` and Q as in IsPast.
 pub record IsStoppedWide {A W : Type 0} (Q : Answered A) (start now : Device W) (bytes : List ℕ)
     (fault : ToolFault) : Type 0 where
   pub named : fault ≡ faults.Utf16
@@ -53,7 +55,8 @@ pub record IsStoppedWide {A W : Type 0} (Q : Answered A) (start now : Device W) 
   pub untouched : now ≡ start
   pub begun : (text : List ℕ) → IsBegun Q text []
 
--- a piece can end a run by its fault alone; `start`, `now` and Q as in IsPast
+-- A piece can end a run only by a fault: a failed write, lack of memory or a mark of UTF-16. `start`, `now` and Q as in
+-- IsPast.
 abbrev pub StopsText : {A W : Type 0} → Answered A → (W → Option (List ℕ)) → (start now : Device W) → List ℕ
     → Result (Unit {0}) ToolFault → Type 0
 StopsText Q contents start now bytes (Ok _) = ⊥

@@ -16,8 +16,9 @@ use Rattle.lt_stream.specs.declared.lines.Lined.{Lined}
 abbrev pub full : ℕ
 full = 65536
 
--- These bytes were read. Their whole lines are answered, which Q tells, each answer is written or waits to be, and of
--- the rest the first `longest` bytes are kept. The output was `start` at the beginning of the run, and is `now` here.
+-- These bytes were read. Their whole lines, `lines`, are answered, which Q tells, each answer is written or waits to
+-- be, and of the rest, `last`, the first `longest` bytes are kept, at least one if it has any. The output was `start`
+-- at the beginning of the run, and is `now` here; no write failed (`same`).
 pub record IsDuring {A W : Type 0} (Q : Answered A) (longest : ℕ) (contents : W → Option (List ℕ))
     (start now : Device W) (bytes : List ℕ) (state : Lined A) : Type 0 where
   pub some : 0 < longest

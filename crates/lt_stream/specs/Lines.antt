@@ -22,8 +22,8 @@ pub record HasLine {A : Type 0} (Q : A → Answered A) (answers : A) : Type 0 wh
   pub answered : Q first answers lines bytes
   pub few : length lines + 1 < 2 ^ 64
 
--- Bytes were appended that answer each line whose first bytes, at most `longest`, are `front`. `owed` and `owed'` are
--- the answers that wait before and after, `old` and `new` is what answers.
+-- Bytes, `part`, were appended that answer each line whose first bytes, at most `longest`, are `front`, whatever lines
+-- were answered before. `owed` and `owed'` are the answers that wait before and after, `old` and `new` is what answers.
 pub record TakesLine {A : Type 0} (Q : A → Answered A) (longest : ℕ) (front owed owed' : List ℕ)
     (old new : A) : Type 0 where
   pub part : List ℕ
@@ -42,7 +42,7 @@ pub record IsAnsweredToLastFeed {A : Type 0} (Q : Answered A) (bytes written : L
   pub last_one : IsOneLine last
   pub answered : Q answers lines written
 
--- what was written is a front of what answers the first lines of the bytes
+-- what was written is a front of the bytes `all`, which answer the first lines of the bytes that were read
 pub record IsBegun {A : Type 0} (Q : Answered A) (bytes written : List ℕ) : Type 0 where
   pub lines : List (List ℕ)
   pub others : List (List ℕ)
@@ -65,8 +65,8 @@ pub record IsStoppedByRead {I A : Type 0} (Q : Answered A) (input input' : Devic
   pub failed : HasFailed input input'
   pub owed : IsAnsweredToLastFeed Q text written answers
 
--- the most reads that a run may make were made, the last still gave bytes, and the lines of the text up to its last
--- line feed (10) are answered
+-- the most reads that a run may make were made, each gave a byte at least, also the last, and the lines of the text up
+-- to its last line feed (10) are answered
 pub record IsStoppedByTurns {I A : Type 0} (Q : Answered A) (input' : Device I) (reads : ℕ)
     (read text written : List ℕ) (answers : A) : Type 0 where
   pub all_made : reads ≡ most_reads
@@ -89,9 +89,9 @@ EndsAs Q remaining input input' output output' reads read text written answers (
 EndsAs Q remaining input input' output output' reads read text written answers (Err faults.OutOfMemory) = Unit {0}
 EndsAs Q remaining input input' output output' reads read text written answers (Err _) = ⊥
 
--- A run that answers the lines of a reader. Whatever ended it, what was written is a front of the answers. Names with
--- ' are of the devices after it; `remaining` tells what a reader has still to give, `contents` what a writer has
--- taken.
+-- A run that answers the lines of a reader. Whatever ended it, what was written is a front of the answers. The result
+-- names a device that failed (`read_rises`, `write_rises`). Names with ' are of the devices after it; `remaining` tells
+-- what a reader has still to give, `contents` what a writer has taken.
 pub record RunsOverLines {I O A : Type 0} (Q : Answered A) (remaining : I → Option (List ℕ))
     (contents : O → Option (List ℕ)) (input input' : Device I) (output output' : Device O) (answers : A)
     (result : Result (Unit {0}) ToolFault) : Type 0 where

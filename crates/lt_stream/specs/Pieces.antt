@@ -25,8 +25,8 @@ pub record HasRoom {O P : Type 0} (T : P → RunFact O P) (count : ℕ) (now : O
   pub taken : T first start now read state
   pub few : length read + count < 2 ^ 63
 
--- If `T` is true before a piece, it is true after it too, or `S` is true of the run that the piece ends. `before` and
--- `after` are the output, `old` and `new` the state of what takes the pieces.
+-- If `T` is true before a piece, it is true after it too, or `S` is true of the run that the piece ends, whatever was
+-- read before. `before` and `after` are the output, `old` and `new` the state of what takes the pieces.
 abbrev pub TakesPiece : {O P A : Type 0} → (P → RunFact O P) → (P → EndFact O P A) → List ℕ → (before after : O)
     → (old new : P)
     → Result (Option A) ToolFault → Type 0
@@ -67,7 +67,8 @@ pub record IsStoppedByRead {I A : Type 0} (T : List ℕ → Type 0) (input input
   pub failed : HasFailed input input'
   pub taken : T read
 
--- the most reads that a run may make were made, the last still gave bytes, and `T` is true of the bytes that were read
+-- the most reads that a run may make were made, each gave a byte at least, also the last, and `T` is true of the bytes
+-- that were read
 pub record IsStoppedByTurns {I A : Type 0} (T : List ℕ → Type 0) (input input' : Device I) (reads : ℕ)
     (read : List ℕ) (result : Result A ToolFault) : Type 0 where
   pub fault : result ≡ Err faults.TooManyTurns

@@ -24,8 +24,9 @@ EndsAfterMark Q remaining input input' output output' reads read text written an
     EndsAs Q remaining input input' output output' reads read text written answers result
 
 -- A run that answers the lines of a text. The byte order mark of UTF-8 with which the bytes may begin is no part of it,
--- and bytes that begin with one of UTF-16 are refused. Names with ' are of the devices after the run; `remaining` tells
--- what a reader has still to give, `contents` what a writer has taken.
+-- and bytes that begin with one of UTF-16 are refused (`narrow`). The result names a device that failed (`read_rises`,
+-- `write_rises`). Names with ' are of the devices after the run; `remaining` tells what a reader has still to give,
+-- `contents` what a writer has taken.
 pub record RunsOverText {I O A : Type 0} (Q : Answered A) (remaining : I → Option (List ℕ))
     (contents : O → Option (List ℕ)) (input input' : Device I) (output output' : Device O) (answers : A)
     (result : Result (Unit {0}) ToolFault) : Type 0 where

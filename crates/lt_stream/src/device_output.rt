@@ -1,4 +1,4 @@
-//! Writing to a device.
+//! Writing to a device, which is a writer whose failures are counted.
 ghost use Rattle.std.specs.Prelude.{◌++◌, ◌∷◌, []};
 ghost use Rattle.std.specs.Fmt.{decimal};
 ghost use Rattle.lt_stream.specs.DeviceOutput.{WritesText};
@@ -9,8 +9,9 @@ use itoa::Buffer;
 use lt_jar::Device;
 use std::io::Write;
 
-/// Writes a text. If a write fails or takes none of some bytes, the answer is `Write`, and a front of the text was
-/// written.
+/// Writes a text, in as many writes as the device needs. If one fails or takes none of some bytes, the answer is
+/// `Write`, and the bytes of the text before it were written. `W.contents` in the clause is what the writer has taken,
+/// where that is known.
 pub fn write_text<W: Write>(text: &[u8], output: &mut Device<W>) -> Result<(), ToolFault>
     ensures { WritesText W.contents text.now output.old output.new result }
 {

@@ -43,6 +43,7 @@ impl ToolFault {
     }
 }
 
+/// By this `?` makes the fault `OutOfMemory` of a lack of memory; so says `from_gives`.
 impl From<AllocError> for ToolFault {
     ghost from_gives = { λ _ fault. fault ≡ faults.OutOfMemory };
 
@@ -51,6 +52,7 @@ impl From<AllocError> for ToolFault {
     }
 }
 
+/// The same, of the lack of memory of a call of `lt_tag`.
 impl From<OutOfMemory> for ToolFault {
     ghost from_gives = { λ _ fault. fault ≡ faults.OutOfMemory };
 

@@ -1,4 +1,5 @@
-//! Runs over the lines of a reader.
+//! Runs over the lines of a reader. The first bytes of a line are kept until its line feed comes, and the answers that
+//! wait to be written are owed.
 ghost use Rattle.std.specs.Prelude.{◌≡◌, ◌<◌, ◌≤◌, List, ℕ, [], IfOk, OnOk, vec_len};
 ghost use Rattle.lt_stream.specs.Lines.{HasLine, RunsOverLines, TakesLine};
 ghost use Rattle.lt_stream.specs.Lined as spec;
@@ -28,8 +29,8 @@ pub trait Lines {
         ensures { result ≡ longest };
 
     /// Answers a line, of which `line` is the front that is kept: appends the answer to `owed`, where answers wait to
-    /// be written. The lines answered must be so few that 64 bits count them with this one. Refused where memory runs
-    /// out.
+    /// be written. The clause holds for each line with this front, and whatever was answered before. The lines answered
+    /// must be so few that 64 bits count them with this one. Refused where memory runs out.
     fn take_line(
         &mut self,
         alloc: Global,
@@ -51,7 +52,7 @@ pub(crate) struct Lined<A> {
 }
 
 impl<A: Lines> Lined<A> {
-    /// No line read so far.
+    /// Before any line is read nothing is kept or owed.
     pub(crate) fn new(alloc: Global, answers: A) -> Lined<A>
         ensures answers { result.answers ≡ answers }
         ensures kept { result.kept.items ≡ [] }
@@ -84,7 +85,8 @@ impl<A: Lines> Lined<A> {
         Ok(())
     }
 
-    /// Writes the answers that wait, so that none waits then. Refused if a write fails.
+    /// Writes the answers that wait, so that none waits then. Refused if a write fails. By `writes` what was written
+    /// and what still waits is what waited; by `emptied` nothing waits.
     fn write<W: Write>(&mut self, output: &mut Device<W>) -> Result<(), ToolFault>
         ensures writes { spec.WritesOwed W.contents self.old self.new output.old output.new result }
         ensures emptied { OnOk result (self.new.owed.items ≡ []) }
@@ -94,7 +96,7 @@ impl<A: Lines> Lined<A> {
         Ok(())
     }
 
-    /// Writes the answers that wait if they are `FULL` bytes or more. Refused if a write fails.
+    /// Writes the answers that wait if they are `FULL` bytes or more, and else nothing. Refused if a write fails.
     fn write_much<W: Write>(&mut self, output: &mut Device<W>) -> Result<(), ToolFault>
         ensures writes { spec.WritesOwed W.contents self.old self.new output.old output.new result }
         ensures emptied { OnOk result (spec.full ≤ vec_len self.old.owed → self.new.owed.items ≡ []) }
@@ -133,10 +135,13 @@ impl<A: Lines> Lined<A> {
 impl<A: Lines, W: Write> Pieces<Device<W>> for Lined<A> {
     type Answer = ();
 
+    /// Between two pieces the whole lines so far are answered, and all answers written.
     ghost taken = { λ first. spec.IsTaken (A.answered first.answers) A.longest W.contents };
 
+    /// A piece ends the run only by a fault, with a front of the answers written.
     ghost stopped = { λ first start now read _ result. spec.Stops (A.answered first.answers) W.contents start now read result };
 
+    /// At the end all lines are answered and all answers written, or a fault ended the run as above.
     ghost finished = { λ first. spec.Finishes (A.answered first.answers) W.contents };
 
     /// Answers the lines that the piece ends, and writes the answers. It never ends the run but by a fault: a failed
@@ -169,7 +174,8 @@ impl<A: Lines, W: Write> Pieces<Device<W>> for Lined<A> {
 }
 
 /// Answers the lines of a reader, in their order, and gives back what answered them. `answers` must have answered
-/// nothing before, and must keep at least one byte of a line.
+/// nothing before (`first`), and must keep at least one byte of a line (`some`), which tells of a last line without a
+/// line feed.
 ///
 /// A line feed ends a line, and what follows the last one is a line if it is anything. The answers to the lines of
 /// the bytes that were read are written before the next read. Of a line that goes on no more is kept than the answers

@@ -8,7 +8,7 @@ use lt_jar::Device;
 use std::alloc::Global;
 use std::io::Read;
 
-/// The most reads of one run.
+/// The most reads of one run, so that it ends even where the reader has no end.
 const MOST_READS: u32 = 10_000_000;
 
 /// The most bytes that a read is asked for.
@@ -30,7 +30,8 @@ pub trait Pieces<O> {
     ghost finished: { Self → O → O → List ℕ → Self → Result Self.Answer ToolFault → Type 0 };
 
     /// Takes the next bytes. An answer, or a fault, ends the run; with None it goes on. The run must have read less
-    /// than 2^63 bytes, these bytes counted too.
+    /// than 2^63 bytes, these bytes counted too, so that 64 bits count its lines. Each has, as it makes at most
+    /// 10,000,000 reads of 65,536 bytes.
     fn take_piece(
         &mut self,
         alloc: Global,
@@ -46,8 +47,8 @@ pub trait Pieces<O> {
         ensures { FinishesPieces taken finished output.old output.new self.old self.new result };
 }
 
-/// Reads a reader, and hands its bytes to `pieces` until that has an answer, or to the end of the reader. It gives
-/// the answer. What `taken` says must hold before the first read.
+/// Reads a reader, and hands its bytes to `pieces` until that has an answer, or to the end of the reader. It gives the
+/// answer. What `taken` says must hold before the first read, of an output that is as at the beginning and of no bytes.
 ///
 /// - `Read`, if a read fails.
 /// - `TooManyTurns`, if all 10,000,000 reads were made and the last gave bytes.

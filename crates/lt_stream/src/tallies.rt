@@ -24,6 +24,7 @@ pub struct Tallies {
     faults: Vec<Tally>,
 }
 
+/// Clauses see tallies as the list of the tallies of faults.
 impl Model for Tallies {
     ghost use Rattle.std.specs.Prelude.{List};
     ghost use Rattle.lt_stream.specs.declared.tallies.Tally.{Tally};
@@ -73,8 +74,9 @@ impl Tallies {
             .position(|tally| fault == tally.fault.as_slice())
     }
 
-    /// Counts a line that was refused: its number, the name of its fault, and the text that was refused. Where memory runs
-    /// out, nothing is counted.
+    /// Counts a line that was refused: its number, the name of its fault, and the text that was refused. Where memory
+    /// runs out, nothing is counted (`unchanged`). The clause `counted` is on every list of lines that these may be the
+    /// tallies of, since they don't keep the lines; the list must be so short that 64 bits count one line more.
     pub fn count(
         &mut self,
         alloc: Global,

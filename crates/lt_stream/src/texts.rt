@@ -1,4 +1,5 @@
-//! Runs over the lines of a text that may begin with a byte order mark.
+//! Runs over the lines of a text that may begin with a byte order mark. The front of the text, its first bytes, waits
+//! while it may be a part of one.
 ghost use Rattle.std.specs.Prelude.{◌≡◌, ◌<◌, ◌↔◌, ◌++◌, [], IfErr, IfOk, IsTrue, length};
 ghost use Rattle.lt_rows.specs.Marks.{IsWide, MayBeMark};
 ghost use Rattle.lt_stream.specs.Pieces.{HasRoom};
@@ -14,7 +15,8 @@ use lt_rows::{is_wide, may_be_mark, split_mark};
 use std::alloc::Global;
 use std::io::{Read, Write};
 
-/// Adds the next bytes to the first ones of a text, and tells whether they may still be a part of a byte order mark.
+/// Adds the next bytes to the first ones of a text (`added`), and tells whether they may still be a part of a byte
+/// order mark (`waits`). Bytes that it doesn't refuse begin with none of UTF-16 (`narrow`).
 ///
 /// - `Utf16`, if they begin with one of UTF-16.
 /// - `OutOfMemory`, if memory runs out.
@@ -42,9 +44,9 @@ struct Text<A> {
 }
 
 impl<A: Lines> Text<A> {
-    /// Passes over the byte order mark of the first bytes, if there is one, and takes what follows it as lines. The
-    /// run must have read less than 2^63 bytes, the first bytes counted too. Only a fault ends the run here: a failed
-    /// write, or lack of memory.
+    /// Passes over the byte order mark of the first bytes, if there is one, and takes what follows it as lines. The run
+    /// must have read less than 2^63 bytes, the first bytes counted too, as `Lined::take_piece` requires. Only a fault
+    /// ends the run here: a failed write, or lack of memory.
     fn begin<W: Write>(
         &mut self,
         alloc: Global,
@@ -62,10 +64,14 @@ impl<A: Lines> Text<A> {
 impl<A: Lines, W: Write> Pieces<Device<W>> for Text<A> {
     type Answer = ();
 
+    /// Between two pieces the first bytes wait, or the whole lines after the mark are answered, and all answers
+    /// written.
     ghost taken = { λ first. spec.IsTakenText (A.answered first.lined.answers) A.longest W.contents };
 
+    /// A piece ends the run only by a fault: by a mark of UTF-16, or with a front of the answers written.
     ghost stopped = { λ first start now read _ result. spec.StopsText (A.answered first.lined.answers) W.contents start now read result };
 
+    /// At the end all lines after the mark are answered and all answers written, or a fault ended the run as above.
     ghost finished = { λ first. spec.FinishesText (A.answered first.lined.answers) W.contents };
 
     /// Answers the lines that the piece ends. The first bytes wait until it is known whether they are a byte order mark;
@@ -96,8 +102,8 @@ impl<A: Lines, W: Write> Pieces<Device<W>> for Text<A> {
     }
 }
 
-/// Answers the lines of a text as [`run_lines`](crate::run_lines) does. A byte order mark of UTF-8 at its beginning
-/// is passed over, and one of UTF-16 is refused.
+/// Answers the lines of a text as [`run_lines`](crate::run_lines) does, which requires the same. A byte order mark of
+/// UTF-8 at its beginning is passed over, and one of UTF-16 is refused.
 ///
 /// - `Utf16`, if the text begins with a byte order mark of UTF-16: nothing has been written.
 /// - Every fault of [`run_lines`](crate::run_lines).

@@ -3,7 +3,8 @@ use Rattle.lt_answers.specs.Answering.{AreObjects}
 use Rattle.lt_answers.proofs.AnsweringLemmas.{run_mapped}
 use Rattle.lt_answers.proofs.answering.write_objects.Goals as goal
 
--- the run answered the lines as its last state tells, and the result is whether a line was refused in that state
+-- the clause AnswersByObjects: the run answered the lines as its last state tells, and the result is whether a line was
+-- refused in that state
 pub returns : goal.returns
 returns g c =
     run_mapped (λ a. a.refused) _ (λ refused lines bytes. AreObjects (g.L.Lookup.listed c.args.checked.now) lines bytes refused)

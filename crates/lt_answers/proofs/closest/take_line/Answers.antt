@@ -2,6 +2,8 @@ use Rattle.std.proofs.lemmas.Result.{on_ok_weaker}
 use Rattle.lt_answers.proofs.ClosestLemmas.{takes_line, takes_nothing}
 use Rattle.lt_answers.proofs.closest.take_line.Goals as goal
 
+-- The clause of `take_line`, TakesLine, on any lines before, at its two ends.
+
 -- the line has these subtags, so it changes the closest line as they do
 pub returns-in-Some : goal.returns-in-Some
 returns-in-Some g c =

@@ -2,6 +2,8 @@ use Rattle.std.proofs.Common.{◌≡◌, ◌∙◌, ap, length, sym, true, false
 use Rattle.lt_answers.proofs.ClosestLemmas.{takes_closer, takes_none, takes_other}
 use Rattle.lt_answers.proofs.closest.take_subtags.Goals as goal
 
+-- The clause of `take_subtags`, TakesSubtags, on any lines before, at its three ends.
+
 -- no range falls back to the tag, so the closest line stays
 pub returns-in_default : goal.returns-in_default
 returns-in_default c = takes_none c.args.ranges.now c.args.tag.now c.args.line.now c.args.closest.now c.in_default.ensures

@@ -3,6 +3,8 @@ use Rattle.lt_answers.specs.Verifying.{IsFollowed}
 use Rattle.lt_answers.proofs.FollowingLemmas.{followed_none, run_lacks, run_verifies}
 use Rattle.lt_answers.proofs.following.verify_lines.Goals as goal
 
+-- The clause of `verify_lines`, VerifiesLines, at its two ends, and what `run_pieces` requires at the beginning.
+
 -- memory ran out before the first read
 pub returns-in_err-new : goal.returns-in_err-new
 returns-in_err-new g c = run_lacks c.from_residual.result c.from_residual.ensures.1

@@ -4,6 +4,9 @@ use Rattle.lt_answers.specs.StepLines.{end_line}
 use Rattle.lt_answers.proofs.LineLemmas.{front_names_nothing, front_other, step_goes_on, step_within}
 use Rattle.lt_answers.proofs.judging.judge_front.Goals as goal
 
+-- The clause of `judge_front`, SettlesFront, where the front is longer than a label: a verdict that holds however the
+-- line goes on (`more`), or that the front is short enough to be kept.
+
 -- the front is longer than a label and names no step and no end, so the line names none however it goes on
 pub returns-in_default-read_step : goal.returns-in_default-read_step
 returns-in_default-read_step g c = (

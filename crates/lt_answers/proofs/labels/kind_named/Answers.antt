@@ -2,7 +2,7 @@ use Rattle.std.proofs.Common.{arith}
 use Rattle.lt_answers.proofs.LineLemmas.{kind_at}
 use Rattle.lt_answers.proofs.labels.kind_named.Goals as goal
 
--- the loop has passed all 14 kinds of step, and none of them has this name
+-- the clause where the answer is None: the loop has passed all 14 kinds of step, and none of them has this name
 pub returns : goal.returns
 returns c = λ kind named.
     let at = kind_at kind in

@@ -6,6 +6,8 @@ use Rattle.std.proofs.lemmas.Slice.Eq.{slice_eq-Decides}
 use Rattle.std.proofs.lemmas.Str.{IsUtf8-from_ascii}
 use Rattle.lt_answers.proofs.labels.number_of.Goals as goal
 
+-- The clause of `number_of`: IsNoNumber where the answer is None, and else that the digits are the number's.
+
 -- the decimal form of a number is ASCII, and so it is UTF-8, but these bytes are not
 pub returns-in_default : goal.returns-in_default
 returns-in_default c = λ n h e. c.in_default.ensures.cases.0

@@ -3,6 +3,8 @@ use Rattle.lt_rewrite.specs.Names.{name_of}
 use Rattle.lt_answers.proofs.LineLemmas.{one_words, step_words}
 use Rattle.lt_answers.proofs.labels.read_step.Goals as goal
 
+-- The clause of `read_step`: IsNoName where the answer is None, and else IsStepLine.
+
 -- the line of a step has four words, but this one has fewer
 pub returns-in_err-words : goal.returns-in_err-words
 returns-in_err-words c = rw c.from_residual.ensures (λ step text is. c.in_err-words.ensures (name_of step.kind)

@@ -3,6 +3,8 @@ use Rattle.lt_rows.proofs.SplitLemmas.{no_split}
 use Rattle.lt_answers.proofs.LineLemmas.{one_split}
 use Rattle.lt_answers.proofs.labels.words_of.Goals as goal
 
+-- The clause of `words_of` where the answer is None, HasFewWords: no four words are the line's.
+
 -- the line has no space, but a line of four words has three
 pub returns-in_err-name : goal.returns-in_err-name
 returns-in_err-name c = rw c.from_residual.ensures (λ name place number text w. no_split 32 c.args.line.now name _

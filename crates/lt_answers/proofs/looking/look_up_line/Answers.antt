@@ -5,6 +5,8 @@ use Rattle.lt_answers.proofs.LookingLemmas.{found_is}
 use Rattle.lt_answers.proofs.SearchLemmas.{search_ended, searched}
 use Rattle.lt_answers.proofs.looking.look_up_line.Goals as goal
 
+-- The clause of `look_up_line`, SearchesLines by LooksUp, at its two ends.
+
 -- the fault that ended the run is the result; a write into memory that failed is a lack of memory
 pub returns-in_err-in_memory : goal.returns-in_err-in_memory
 returns-in_err-in_memory g c =

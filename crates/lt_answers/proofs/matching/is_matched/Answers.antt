@@ -1,6 +1,8 @@
 use Rattle.lt_answers.proofs.MatchedLemmas.{matched_as, none_matched}
 use Rattle.lt_answers.proofs.matching.is_matched.Goals as goal
 
+-- The clause of `is_matched`, that it tells exactly whether IsMatched is true, at its two ends.
+
 -- these are the only subtags of the text, so it is matched exactly if one of the ranges matches them
 pub returns-in-Some : goal.returns-in-Some
 returns-in-Some g c =

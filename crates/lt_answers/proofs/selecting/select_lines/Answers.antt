@@ -3,6 +3,8 @@ use Rattle.lt_answers.specs.Selection.{IsSelected}
 use Rattle.lt_answers.proofs.SelectingLemmas.{selects, selects_not}
 use Rattle.lt_answers.proofs.selecting.select_lines.Goals as goal
 
+-- The clause of `select_lines`, SelectsLines, at its two ends.
+
 -- the fault that ended the run is the result, and what was written is a front of the selected lines
 pub returns-in_err-end : goal.returns-in_err-end
 returns-in_err-end g c =

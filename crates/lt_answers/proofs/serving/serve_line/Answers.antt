@@ -4,6 +4,8 @@ use Rattle.lt_answers.specs.Served.{ServesAmong}
 use Rattle.lt_answers.proofs.SearchLemmas.{search_ended, searched}
 use Rattle.lt_answers.proofs.serving.serve_line.Goals as goal
 
+-- The clause of `serve_line`, SearchesLines by ServesAmong, at its two ends.
+
 -- the fault that ended the run is the result; a write into memory that failed is a lack of memory
 pub returns-in_err-in_memory : goal.returns-in_err-in_memory
 returns-in_err-in_memory g c =

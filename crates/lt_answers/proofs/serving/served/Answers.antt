@@ -1,6 +1,8 @@
 use Rattle.lt_answers.proofs.ServedLemmas.{serves_best, serves_none}
 use Rattle.lt_answers.proofs.serving.served.Goals as goal
 
+-- The clause of `served`, ServesOf, at its two ends.
+
 -- the preferences find no tag acceptable, so they serve no line
 pub returns-in_err-place : goal.returns-in_err-place
 returns-in_err-place c =

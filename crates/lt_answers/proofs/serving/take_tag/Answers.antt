@@ -2,6 +2,8 @@ use Rattle.std.proofs.lemmas.Result.{on_ok_weaker}
 use Rattle.lt_answers.proofs.ServedLemmas.{takes_no_tag, takes_tag}
 use Rattle.lt_answers.proofs.serving.take_tag.Goals as goal
 
+-- The clause of `take_tag`, TakesTag, on any lines before, at its two ends.
+
 -- the line is a tag, so it is put after the others, and its subtags after theirs
 pub returns-in-Some : goal.returns-in-Some
 returns-in-Some g c =

@@ -4,6 +4,8 @@ use Rattle.lt_heading.specs.Headings.{heading_in}
 use Rattle.lt_heading.proofs.ReadLemmas.{finds_column, finds_fault, finds_no_heading, reads_heading}
 use Rattle.lt_heading.proofs.finding.find_column.Goals as goal
 
+-- The clause of `find_column`, FindsColumn, at three of its ends.
+
 -- the heading was not read, and the fault is that of the reading
 pub returns-in_err-end : goal.returns-in_err-end
 returns-in_err-end g c =

@@ -3,6 +3,8 @@ use Rattle.std.proofs.lemmas.Result.{err_from_is_err_and}
 use Rattle.lt_heading.proofs.TakenLemmas.{turn_ends, turn_feed_long, turn_last, turn_long, turn_next}
 use Rattle.lt_heading.proofs.first_rows.take_text.Goals as goal
 
+-- The clause of `take_text`, TakesText, at each of its ends, and the invariant after a turn.
+
 -- the bytes before the line feed make the row too long, or memory ran out for them
 pub returns-in_err-place : goal.returns-in_err-place
 returns-in_err-place c =

@@ -8,7 +8,9 @@ use Rattle.lt_heading.specs.declared.names.Looked.{Looked}
 use Rattle.lt_heading.proofs.NameLemmas.{after_is, first_is, looks_last, looks_next}
 use Rattle.lt_heading.proofs.names.look_up_in_row.Goals as goal
 
--- what a comparison says
+-- The clause of `look_up_in_row` where the last field of the row was looked at, and the invariant after a turn.
+
+-- the answer `r` of a comparison is true exactly if the two lists are equal
 same_of : (r : Bool) (xs ys : List ℕ) → r ≡ bytes_eq xs ys → (r ≡ true → xs ≡ ys) × (xs ≡ ys → r ≡ true)
 same_of r xs ys is = rw is (bytes_eq-Decides xs ys)
 

@@ -6,5 +6,6 @@ use Rattle.lt_heading.proofs.names.look_up_in_row.Given as goal
 abbrev pub invariant-loop-field : goal.invariant-loop-field
 invariant-loop-field l = LooksSo l.separator l.row l.rest l.name l.found (string_bytes l.listed) l.count
 
+-- so it ends: each turn leaves less of the row
 abbrev pub decreases-loop-field : goal.decreases-loop-field
 decreases-loop-field l = length l.rest

@@ -3,7 +3,7 @@ use Rattle.std.proofs.lemmas.List.{take_min}
 use Rattle.lt_heading.specs.Names.{most_shown}
 use Rattle.lt_heading.proofs.names.shown_front.Goals as goal
 
--- the smaller of both lengths cuts the name as the greatest length that is shown does
+-- the clause: the smaller of 64 and the name's length cuts the name as 64, `most_shown`, does
 pub returns : goal.returns
 returns c =
     let least : c.min.result ≡ min most_shown (length c.args.name.now) = omega (arith, c.min.ensures) in

@@ -10,20 +10,22 @@ use Rattle.lt_lines.proofs.RowLemmas.{found_answered, found_kept, found_refused,
 use Rattle.lt_lines.proofs.answer_rows.append_found.Goals as goal
 use Rattle.lt_lines.proofs.answer_rows.append_found.Goals.{After-append_field, After-without_return-row}
 
--- the text of the field, in the piece and in the row
+-- The clause `owed` of `append_found` comes last: the row is answered, refused, or kept (`--keep`).
+
+-- the text of the field is the same bytes of the piece and of the row
 text_is : (g : _) (c : After-without_return-row g)
     → take (c.args.place.end - c.args.place.start) (take (length c.args.text.now - c.args.place.start)
     (drop c.args.place.start c.args.text.now))
     ≡ take (c.args.place.end - c.args.place.start) (drop c.args.place.start (content_of (take c.args.count c.args.text.now)))
 text_is g c = text_within c.args.text.now c.args.count c.args.place c.requires.count c.requires.place.ordered c.requires.place.inside
 
--- the rest of the row from a place on
+-- the rest of the row from the place `at` on, as a slice and as a list
 rest_is : (g : _) (c : After-without_return-row g) (at : ℕ)
     → take (length c.without_return-row.result.now - at) (drop at c.without_return-row.result.now)
     ≡ drop at (content_of (take c.args.count c.args.text.now))
 rest_is g c at = take_rest c.without_return-row.result.now at ∙ ap (drop at) c.without_return-row.ensures
 
--- what is in front of the text
+-- before the field is answered, what was appended is the row in front of the field's text
 front_is : (g : _) (c : After-append_field g) → c.extend_from_slice.new.self.items
     ≡ c.args.lines.now.items ++ take c.args.place.start (content_of (take c.args.count c.args.text.now))
 front_is g c = c.in_ok-extend_from_slice.ensures.items

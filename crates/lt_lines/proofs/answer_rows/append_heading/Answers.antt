@@ -3,7 +3,8 @@ use Rattle.lt_rows.specs.Rows.{HasReturn}
 use Rattle.lt_lines.specs.Owed.{heading_line, row_line, with_canonical}
 use Rattle.lt_lines.proofs.answer_rows.append_heading.Goals as goal
 
--- no carriage return was found outside of quotes, so the names of the new fields are what is owed
+-- the clause where the heading is not refused: no carriage return was found outside of quotes, so the names of the new
+-- fields are what is owed
 pub returns : goal.returns
 returns c =
     let same = c.without_return-heading.ensures in

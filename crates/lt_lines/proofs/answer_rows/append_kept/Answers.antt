@@ -5,6 +5,8 @@ use Rattle.lt_lines.proofs.RowLemmas.{kept_answered, kept_refused}
 use Rattle.lt_lines.proofs.answer_rows.append_kept.Goals as goal
 use Rattle.lt_lines.proofs.answer_rows.append_kept.Goals.{After-append_field}
 
+-- The clause `owed` of `append_kept`: the field has a canonical text, or is refused.
+
 -- the row and a separator are in front of what is added
 front : (g : _) (c : goal.After-append_field g)
     → c.push.new.self.items ≡ (c.args.lines.now.items ++ content_of c.args.line.now) ++ separator c.args.separator ∷ []

@@ -6,7 +6,7 @@ use Rattle.lt_lines.proofs.PartLemmas.{kept_more}
 use Rattle.lt_lines.proofs.TextLemmas.{reply_for_kept}
 use Rattle.lt_lines.proofs.answering.append_kept_line.Goals as goal
 
--- the answer to what is kept is that to a line that goes on so
+-- the clause `owed`: the answer to what is kept is that to each line of which this is kept
 pub returns-clause-owed : goal.returns-clause-owed
 returns-clause-owed g c =
     let G = ground_of g.L.Lookup.listed c.args.basis.now in

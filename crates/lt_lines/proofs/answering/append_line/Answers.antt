@@ -6,6 +6,8 @@ use Rattle.lt_stream.proofs.PartLemmas.{no_items, some_items}
 use Rattle.lt_lines.proofs.PartLemmas.{nothing_kept}
 use Rattle.lt_lines.proofs.answering.append_line.Goals as goal
 
+-- The clauses `owed` and `kept` of `append_line`, where nothing was kept and where a front of the line was.
+
 -- nothing was kept, so the bytes are the whole line, and the answer to them is that to the line
 pub returns-then-is_empty-clause-owed : goal.returns-then-is_empty-clause-owed
 returns-then-is_empty-clause-owed g c =

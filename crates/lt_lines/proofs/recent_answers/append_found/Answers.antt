@@ -3,7 +3,7 @@ use Rattle.lt_lines.specs.declared.forms.LineForm.TheVariants as forms
 use Rattle.lt_lines.proofs.TextLemmas.{put_appended}
 use Rattle.lt_lines.proofs.recent_answers.append_found.Goals as goal
 
--- the answer that was worked out is right, so it may be put with the others
+-- the clause `recent` where an answer was worked out: it is right, so with it all stay so
 pub returns-clause-recent : goal.returns-clause-recent
 returns-clause-recent g c = λ recent.
     let a = (c.in_ok-refused.ensures {u = tt}).owed recent.ends in

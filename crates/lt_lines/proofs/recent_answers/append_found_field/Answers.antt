@@ -3,7 +3,8 @@ use Rattle.lt_lines.specs.declared.forms.LineForm.TheVariants as forms
 use Rattle.lt_lines.proofs.TextLemmas.{put_appended}
 use Rattle.lt_lines.proofs.recent_answers.append_found_field.Goals as goal
 
--- all that `recent` keeps was right before, and is after: what is put there is the canonical text that was appended
+-- the clause `recent` where a canonical text was worked out: what is put with the others is the text that was appended,
+-- so all stay right
 pub returns-in-Ok-clause-recent : goal.returns-in-Ok-clause-recent
 returns-in-Ok-clause-recent g c = λ recent.
     let a = c.in-Ok.ensures.appended recent.ends in

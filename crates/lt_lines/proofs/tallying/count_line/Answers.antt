@@ -5,7 +5,8 @@ use Rattle.lt_stream.specs.Tallies.{refused}
 use Rattle.lt_lines.specs.Tallied.{most_shown}
 use Rattle.lt_lines.proofs.tallying.count_line.Goals as goal
 
--- the fault and the front of the tag are those of this line, and they are what is counted
+-- the clause CountsLine: the fault and the front of the tag, at most 64 bytes, are those of this line, and are what is
+-- counted
 pub returns : goal.returns
 returns c =
     let text = c.tag_in-text.result.now in

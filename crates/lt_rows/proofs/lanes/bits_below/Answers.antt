@@ -3,11 +3,11 @@ use Rattle.std.specs.Int.{bit_at}
 use Rattle.memchr.proofs.lemmas.BitLemmas.{bit_at_low_kept, bit_at_low_only, shl_one}
 use Rattle.lt_rows.proofs.lanes.bits_below.Goals as goal
 
--- a power of two is at least 1
+-- `(1 << count) - 1` doesn't fall below 0, since 1 << count, a power of two, is at least 1
 pub overflow_sub-result : goal.overflow_sub-result
 overflow_sub-result c = omega (arith, shl_one c.args.count c.requires, pow_pos c.args.count)
 
--- 2^count - 1 has just the lowest `count` bits set
+-- the clause: 2^count - 1 has just the lowest `count` bits set, so just these are kept
 pub returns : goal.returns
 returns c k =
     let bits = c.args.bits in

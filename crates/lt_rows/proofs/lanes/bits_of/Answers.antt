@@ -4,7 +4,7 @@ use Rattle.std.specs.Int.{bit_at}
 use Rattle.lt_rows.proofs.LaneLemmas.{bit_of}
 use Rattle.lt_rows.proofs.lanes.bits_of.Goals as goal
 
--- bit k of the mask is the answer of the comparison at place k
+-- the clause, at a place k below 64: bit k of the mask is the answer of the comparison there
 pub returns : goal.returns
 returns c k below =
     let text = c.args.text.now in

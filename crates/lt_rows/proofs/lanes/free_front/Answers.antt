@@ -2,7 +2,7 @@ use Rattle.std.proofs.Common.{◌≡◌, arith, bit_or}
 use Rattle.lt_rows.proofs.LaneLemmas.{free_block, neither_set}
 use Rattle.lt_rows.proofs.lanes.free_front.Goals as goal
 
--- no bit is set for the next 64 bytes, so neither byte is among them
+-- a turn keeps the invariant: no bit is set for the next 64 bytes, so neither byte is among them
 pub loop-at-preserved : goal.loop-at-preserved
 loop-at-preserved c =
     let i = c.loop-at.invariant in

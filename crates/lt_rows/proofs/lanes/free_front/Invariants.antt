@@ -6,5 +6,6 @@ use Rattle.lt_rows.proofs.lanes.free_front.Given as goal
 abbrev pub invariant-loop-at : goal.invariant-loop-at
 invariant-loop-at l = (l.at ≤ length l.text) × IsFreeOf l.one (take l.at l.text) × IsFreeOf l.other (take l.at l.text)
 
+-- so it ends: each turn leaves fewer bytes
 abbrev pub decreases-loop-at : goal.decreases-loop-at
 decreases-loop-at l = length l.text - l.at

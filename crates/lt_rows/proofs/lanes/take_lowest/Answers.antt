@@ -4,6 +4,8 @@ use Rattle.std.proofs.lemmas.Nat.Bits.{bit_at-trailing_zeros, bit_at_and, bit_at
 use Rattle.lt_rows.proofs.LaneLemmas.{lowest_next, lowest_there, none_set, others_set}
 use Rattle.lt_rows.proofs.lanes.take_lowest.Goals as goal
 
+-- The clauses of `take_lowest`, for any byte, start and row whose places the bits are.
+
 -- no bit is set, so the byte is nowhere in what is left of the row
 pub returns-then-all-eq0-clause-next : goal.returns-then-all-eq0-clause-next
 returns-then-all-eq0-clause-next c = λ byte start row are. none_set byte start row c.args.bits.now are (omega (arith, c.if-all-eq0.true))

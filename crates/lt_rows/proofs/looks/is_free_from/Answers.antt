@@ -1,7 +1,7 @@
 use Rattle.lt_rows.proofs.LaneLemmas.{free_of_rest}
 use Rattle.lt_rows.proofs.looks.is_free_from.Goals as goal
 
--- the front is free of the byte, so the text is exactly if the rest is
+-- the clause, in both directions: the front is free of the byte, so the text is free of it exactly if the rest is
 pub returns : goal.returns
 returns c =
     let rest = free_of_rest c.args.byte c.args.front c.args.text.now c.requires.0 c.requires.1 in

@@ -5,7 +5,8 @@ use Rattle.lt_rows.specs.declared.rows.Separator.{Separator}
 use Rattle.lt_rows.proofs.LookLemmas.{open_from}
 use Rattle.lt_rows.proofs.looks.is_open.Goals as goal
 
--- a field begins outside of quotes, so the row ends within quotes exactly if its rest from `start` on does
+-- the clause where the delimiter is no quote (34): a field begins outside of quotes, so the row ends within quotes
+-- exactly if its rest from `start` on does
 pub returns-else-delimiter-eq34 : goal.returns-else-delimiter-eq34
 returns-else-delimiter-eq34 c = λ before skipped.
     let row = take c.args.count c.args.text.now in

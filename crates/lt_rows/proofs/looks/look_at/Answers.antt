@@ -6,6 +6,9 @@ use Rattle.lt_rows.proofs.looks.look_at.Goals as goal
 use Rattle.lt_rows.proofs.looks.look_at.Goals.{After-field_at, else-not-is_line-via-then-not-is_line+else-has_return}
 use Rattle.lt_rows.proofs.looks.look_at.Goals.{else-not-is_line-via-else-not-is_line}
 
+-- The clause of `look_at`, IsLookAt, at its three ends: whether the row ends within quotes (`ends`), and what was found
+-- in it (`found`).
+
 -- a carriage return is outside of quotes, and the end of the row is found from its first field on
 pub returns-then-has_return : goal.returns-then-has_return
 returns-then-has_return c = record {

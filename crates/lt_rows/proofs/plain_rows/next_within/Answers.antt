@@ -2,6 +2,8 @@ use Rattle.std.proofs.Common.{◌∙◌, arith, sym}
 use Rattle.lt_rows.proofs.PlainLemmas.{next_far, next_inside, next_none, places_on}
 use Rattle.lt_rows.proofs.plain_rows.next_within.Goals as goal
 
+-- The clauses `next` and `rest` of `next_within`, for any byte and text whose places are left.
+
 -- the first place that is left is among the first `count` bytes, so it is the next
 pub returns-then-end-count-clause-next : goal.returns-then-end-count-clause-next
 returns-then-end-count-clause-next c = λ byte start text near is le all.

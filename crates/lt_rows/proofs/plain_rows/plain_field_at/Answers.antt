@@ -6,6 +6,9 @@ use Rattle.lt_rows.proofs.RowLemmas.{skips_none}
 use Rattle.lt_rows.proofs.plain_rows.plain_field_at.Goals as goal
 use Rattle.lt_rows.proofs.plain_rows.plain_field_at.Goals.{After-loop-field}
 
+-- The invariant before the loop and after a turn, and the clause of `plain_field_at` at its ends: HasFewer where the
+-- answer is None, and else IsFieldAt.
+
 -- before the loop no field is skipped, and all places of the separator are left
 pub loop-field-init : goal.loop-field-init
 loop-field-init c = (

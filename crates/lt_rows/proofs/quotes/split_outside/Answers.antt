@@ -3,6 +3,9 @@ use Rattle.lt_rows.specs.Quotes.{is_quoted, place_after}
 use Rattle.lt_rows.proofs.StopLemmas.{free_past, free_to_end, inside_past, place_past, split_there}
 use Rattle.lt_rows.proofs.quotes.split_outside.Goals as goal
 
+-- The clause of `split_outside`, SplitsOutside, where it finds a `stop` and where it doesn't, and the invariant after a
+-- turn.
+
 -- this `stop` is outside of quotes, and all before it are within
 pub returns-then-not-is_quoted : goal.returns-then-not-is_quoted
 returns-then-not-is_quoted c =

@@ -3,7 +3,7 @@ use Rattle.lt_rows.specs.Quotes.{IsFreeOutside, place_at}
 use Rattle.lt_rows.specs.declared.quotes.Place.TheVariants as places
 use Rattle.lt_rows.proofs.quotes.split_outside.Given as goal
 
--- each such byte so far is within quotes, and the place is the one after the bytes so far
+-- each byte `stop` among the bytes passed is within quotes, and the place is the one after these bytes
 abbrev pub invariant-loop-front : goal.invariant-loop-front
 invariant-loop-front l = record {
   inside : l.passed ≤ length l.text;
@@ -11,5 +11,6 @@ invariant-loop-front l = record {
   free : IsFreeOutside l.delimiter l.stop places.Fresh (take l.passed l.text);
 }
 
+-- so it ends: each turn leaves fewer bytes
 abbrev pub decreases-loop-front : goal.decreases-loop-front
 decreases-loop-front l = length l.text - l.passed

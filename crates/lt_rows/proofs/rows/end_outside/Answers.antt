@@ -2,7 +2,7 @@ use Rattle.lt_rows.specs.declared.rows.Separator.TheVariants as separators
 use Rattle.lt_rows.proofs.FieldLemmas.{end_by_parts}
 use Rattle.lt_rows.proofs.rows.end_outside.Goals as goal
 
--- no delimiter is outside of quotes before this one, so it ends the field
+-- the clause EndsField, where a delimiter is found: none is outside of quotes before it, so it ends the field
 pub returns-in-Some : goal.returns-in-Some
 returns-in-Some c =
     let e = c.in-Some.ensures in

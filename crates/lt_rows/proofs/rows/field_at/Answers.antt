@@ -5,7 +5,9 @@ use Rattle.lt_rows.specs.Splitting.{IsFreeOf}
 use Rattle.lt_rows.proofs.FieldLemmas.{field_ended, field_last, left_is}
 use Rattle.lt_rows.proofs.rows.field_at.Goals as goal
 
--- a row without line feeds has none in its rest either
+-- What `field_end` requires, and the clause of `field_at`, IsFieldAt, at its two last ends.
+
+-- a row without line feeds (10) has none in its rest either
 pub field_end-requires-clause-line : goal.field_end-requires-clause-line
 field_end-requires-clause-line c = λ is.
     let start = c.in_ok-start.start in

@@ -2,6 +2,8 @@ use Rattle.std.proofs.Common.{◌≢◌, arith}
 use Rattle.lt_rows.proofs.FieldLemmas.{quoted_last, quoted_more, tail_long}
 use Rattle.lt_rows.proofs.rows.quoted_end.Goals as goal
 
+-- The clause of `quoted_end`, EndsField, where the next quote settles it.
+
 -- the quote that closes the field is the last byte, so no delimiter is outside of quotes
 pub returns-then-end-count : goal.returns-then-end-count
 returns-then-end-count c =

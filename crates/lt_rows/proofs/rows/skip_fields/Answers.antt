@@ -4,7 +4,7 @@ use Rattle.lt_rows.proofs.FieldLemmas.{left_is, skips_one}
 use Rattle.lt_rows.proofs.RowLemmas.{skips_last}
 use Rattle.lt_rows.proofs.rows.skip_fields.Goals as goal
 
--- no separator ends this field, and one field more was to come, so the row has too few
+-- the clause HasFewer where the answer is None: no separator ends this field, and one more was to come
 pub returns-in-None : goal.returns-in-None
 returns-in-None c =
     let at = c.loop-field.at in
@@ -13,7 +13,7 @@ returns-in-None c =
     (subst (IsRowField c.args.separator) (left_is c.args.text.now c.args.count at c.loop-field.invariant.0)
     c.in-None.ensures) (omega (arith, c.loop-field-test.true))
 
--- a turn skips one field more, with the separator that ends it
+-- a turn keeps the invariant: it skips one field more, with the separator that ends it
 pub loop-field-preserved : goal.loop-field-preserved
 loop-field-preserved c =
     let at = c.loop-field.at in

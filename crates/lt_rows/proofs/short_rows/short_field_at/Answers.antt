@@ -6,6 +6,9 @@ use Rattle.lt_rows.proofs.RowLemmas.{skips_none}
 use Rattle.lt_rows.proofs.short_rows.short_field_at.Goals as goal
 use Rattle.lt_rows.proofs.short_rows.short_field_at.Goals.{After-loop-field}
 
+-- The invariant before the loop and after a turn, that a sum doesn't overflow, and the clause of `short_field_at` at
+-- its ends: HasFewer where the answer is None, and else IsFieldAt.
+
 -- before the loop no field is skipped, and the bits are those of all separators of the row
 pub loop-field-init : goal.loop-field-init
 loop-field-init c = (

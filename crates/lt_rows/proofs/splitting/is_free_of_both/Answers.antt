@@ -3,6 +3,8 @@ use Rattle.std.proofs.lemmas.Bool.Decides.{leb_tells}
 use Rattle.lt_rows.proofs.NearLemmas.{either_near, neither_before, neither_near}
 use Rattle.lt_rows.proofs.splitting.is_free_of_both.Goals as goal
 
+-- The clause of `is_free_of_both`, in both directions, where one of the bytes is found and where neither is.
+
 -- one of the two was found first at this place, so both are absent exactly if it is behind the first `count`
 pub returns-in-Some : goal.returns-in-Some
 returns-in-Some c =

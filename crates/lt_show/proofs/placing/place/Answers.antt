@@ -3,7 +3,7 @@ use Rattle.lt_show.specs.declared.kinds.PartKind.TheVariants as kinds
 use Rattle.lt_show.proofs.placing.place.Goals.{else-loop-kind-test, then-loop-kind-test+in_ok-push+then-is_none}
 use Rattle.lt_show.proofs.placing.place.Goals as goal
 
--- a hyphen ends the part that was placed, so what is left begins after the hyphen
+-- a turn keeps the invariant where a hyphen ends the part that was placed: what is left begins after the hyphen
 pub loop-kind-preserved : goal.loop-kind-preserved
 loop-kind-preserved c =
     reached_next _ _ _ _ _ _ _ _
@@ -17,7 +17,8 @@ loop-kind-preserved c =
     })
     c.if-is_none.ensures
 
--- the loop ended after the last kind or after a part that no hyphen ends, so the parts so far are all
+-- the result is `placed`: the loop ended after the last kind, or after a part that no hyphen ends, so no part is
+-- missing
 pub returns : goal.returns
 returns c =
     elim c.loop-kind-test.branch [

@@ -3,7 +3,7 @@ use Rattle.std.proofs.lemmas.Result.{err_from_is_err_and}
 use Rattle.lt_show.proofs.KeptLemmas.{kept_ended, kept_more, kept_stops}
 use Rattle.lt_show.proofs.reading.read_draft.Goals as goal
 
--- the fault of the reader is that of the reading
+-- the clause `ReadsDraft` of a fault, which is the reader's
 pub returns-in_err-take_next : goal.returns-in_err-take_next
 returns-in_err-take_next g c =
     let p = err_from_is_err_and c.from_residual-in_err-take_next.result c.from_residual-in_err-take_next.ensures.1 in
@@ -14,7 +14,7 @@ returns-in_err-take_next g c =
     (rw c.in_err-take_next.was at c.take_next.ensures.advances) in
     rw (p.1, p.2) (search rules)
 
--- the reader has no record left, so the draft has kept all of them
+-- the clause `ReadsDraft` of a draft: the reader has no record left, so the draft has kept all of them
 pub returns : goal.returns
 returns g c =
     let no_more = c.in_ok-take_next.was ∙ ap Ok c.if-branch.false in
@@ -25,7 +25,8 @@ returns g c =
     let same = c.take_next.ensures.keeps no_more in
     rw same (search rules)
 
--- a turn keeps one record more, unless memory ran out for it or for one before
+-- a turn keeps the invariant: the reader's device is the same, and the draft has kept one record more, unless memory
+-- ran out for it or for one before
 pub records-preserved : goal.records-preserved
 records-preserved g c =
     let more = c.in_ok-take_next.was ∙ ap Ok c.if-branch.true in (

@@ -1,11 +1,11 @@
 use Rattle.lt_show.proofs.KindLemmas.{transform_kinds, no_transform_kinds}
 use Rattle.lt_show.proofs.walks.append_transform.Goals as goal
 
--- the subtags of a `t` extension have the kinds of the parts into which they were split
+-- the kinds of the parts into which `split_t` split the subtags are those that `subtag_kinds` gives for the extension
 pub returns-in-Ok : goal.returns-in-Ok
 returns-in-Ok c = rw (transform_kinds c.args.extension.now _ c.requires c.in-Ok.ensures.parts) c.append_t.ensures
 
--- the subtags have no parts of a `t` extension, so each is an ExtensionSubtag
+-- `split_t` found no parts, so `subtag_kinds` gives ExtensionSubtag for each subtag, as was appended
 pub returns-in-Err-BadTransform : goal.returns-in-Err-BadTransform
 returns-in-Err-BadTransform c =
     let plain = no_transform_kinds c.args.extension.now c.requires

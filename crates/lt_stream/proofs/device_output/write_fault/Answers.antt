@@ -6,6 +6,8 @@ use Rattle.lt_stream.proofs.DeviceLemmas.{wrote_less, wrote_more}
 use Rattle.lt_stream.proofs.device_output.write_fault.Goals as goal
 use Rattle.lt_stream.proofs.device_output.write_fault.Goals.{In_ok-write_text-2}
 
+-- Each goal but `named` is the clause of `write_fault`, `WritesText` of the line, at one of its ends.
+
 -- a front of `! ` was written, which is a front of the line too
 pub returns-in_err-write_text : goal.returns-in_err-write_text
 returns-in_err-write_text g c =

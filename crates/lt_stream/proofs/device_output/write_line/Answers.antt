@@ -4,6 +4,8 @@ use Rattle.lt_stream.specs.DeviceOutput.{WritesText}
 use Rattle.lt_stream.proofs.DeviceLemmas.{wrote_less, wrote_more}
 use Rattle.lt_stream.proofs.device_output.write_line.Goals as goal
 
+-- The clause of `write_line`, `WritesText` of ` line ` and the number, at its two ends.
+
 -- a front of ` line ` was written, which is a front of the whole too
 pub returns-in_err-write_text : goal.returns-in_err-write_text
 returns-in_err-write_text g c =

@@ -4,6 +4,8 @@ use Rattle.std.proofs.lemmas.List.{take_rest}
 use Rattle.lt_stream.proofs.DeviceLemmas.{appends_more, wrote_front, failed_from}
 use Rattle.lt_stream.proofs.device_output.write_text.Goals as goal
 
+-- The clause of `write_text`, `WritesText`, at its three ends, and the invariant after a turn.
+
 -- the write took none of some bytes, which counts as a failure, and a front of the text was written before
 pub returns-in-Ok-eq0 : goal.returns-in-Ok-eq0
 returns-in-Ok-eq0 g c =

@@ -11,5 +11,6 @@ invariant-loop-at g l = record {
   failures : failures_of l.output ≡ failures_of l.fn.output;
 }
 
+-- so it ends: each turn leaves fewer bytes to write
 abbrev pub decreases-loop-at : goal.decreases-loop-at
 decreases-loop-at g l = length l.text - l.at

@@ -5,6 +5,9 @@ use Rattle.lt_stream.proofs.RunLemmas.{run_failed, run_finished, run_first, run_
 use Rattle.lt_stream.proofs.pieces.run_pieces.Goals as goal
 use Rattle.lt_stream.proofs.pieces.run_pieces.Goals.{After-deref}
 
+-- The invariant before the loop and after a turn, what the calls of `take_piece` and `finish` require, and the clause
+-- of `run_pieces`, RunsPieces, at each of its ends.
+
 -- there is no memory for a piece, so the run ends before a read
 pub returns-in_err-buffer : goal.returns-in_err-buffer
 returns-in_err-buffer g c =
@@ -49,7 +52,7 @@ returns g c =
     run_turns g.P.Pieces.taken g.P.Pieces.stopped g.P.Pieces.finished _ _ _ _ _ _ _ _ c.loop-read.invariant.turn
     (omega (arith, c.loop-read-test.false, c.loop-read.auto._read-end))
 
--- the bytes that were read are at the front of the buffer, which keeps its size
+-- the bytes that were read are at the front of the buffer, which keeps its size, 65,536 bytes
 reads : (g : _) (c : goal.After-deref g) → (length c.read.new.buf ≡ 65536)
     × ReadsPiece g.R.Read.remaining c.loop-read.input c.read.new.self (take c.in-Ok.count c.read.new.buf)
     × (c.deref.result.now ≡ c.read.new.buf)

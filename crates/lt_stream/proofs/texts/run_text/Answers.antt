@@ -3,7 +3,8 @@ use Rattle.lt_stream.proofs.LinedLemmas.{taken_none}
 use Rattle.lt_stream.proofs.TextRunLemmas.{runs_text}
 use Rattle.lt_stream.proofs.texts.run_text.Goals as goal
 
--- before the run no byte waits, and no bytes may become a mark
+-- `run_pieces` requires `IsTakenText` of a run that has not begun: no byte waits, and no bytes may become a mark, as
+-- that of UTF-8 (239, 187, 191)
 pub run_pieces-end-requires : goal.run_pieces-end-requires
 run_pieces-end-requires g c = inr (record {
   begun = refl;
@@ -14,6 +15,6 @@ run_pieces-end-requires g c = inr (record {
       c.new-2.ensures.owed (rw c.new-2.ensures.answers c.requires.first);
 })
 
--- a run over the pieces of a text is a run over its lines
+-- the clause `RunsOverText`: the run over pieces that `run_pieces` promises is a run over the lines of the text
 pub returns : goal.returns
 returns g c = rw (c.into_answers.ensures, ← c.new-2.ensures.answers) (runs_text _ _ _ _ _ _ _ _ _ _ c.run_pieces-end.ensures)

@@ -5,8 +5,8 @@ use Rattle.lt_answers.specs.Answering.{AreObjects}
 use Rattle.lt_answers.proofs.AnsweringLemmas.{objects_more}
 use Rattle.lt_answers.proofs.answering.ObjectsLines.take_line.Goals as goal
 
--- the object of the line and a line feed (10) come after those of the lines before, and a line is refused so far if
--- this one is or one before it was
+-- what `Lines` promises of a line, TakesLine: its object and a line feed (10) come after those of the lines before, and
+-- a line is refused so far if this one is or one before it was
 pub returns : goal.returns
 returns g c =
     let R = g.L.Lookup.listed c.args.self.now.checked.now in

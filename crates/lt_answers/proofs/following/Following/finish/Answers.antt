@@ -3,6 +3,8 @@ use Rattle.lt_stream.proofs.PartLemmas.{some_items}
 use Rattle.lt_answers.proofs.FollowingLemmas.{last_judged}
 use Rattle.lt_answers.proofs.following.Following.finish.Goals as goal
 
+-- The clause of `Following::finish`, JudgesEnd, where a last line is kept.
+
 -- the last line, which no line feed ends, settles the verdict
 pub returns-in-Some : goal.returns-in-Some
 returns-in-Some g c =

@@ -4,6 +4,8 @@ use Rattle.lt_stream.proofs.PartLemmas.{some_items}
 use Rattle.lt_answers.proofs.FollowingLemmas.{begun_line, settled_rest}
 use Rattle.lt_answers.proofs.following.Following.judge_rest.Goals as goal
 
+-- What `judge_front` requires, and the clause of `judge_rest`, SettlesKept.
+
 -- the explanation has ended and a further line has begun, which is a bad step however it goes on
 pub returns-in_default : goal.returns-in_default
 returns-in_default g c =

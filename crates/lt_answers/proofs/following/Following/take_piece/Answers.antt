@@ -2,6 +2,9 @@ use Rattle.std.proofs.lemmas.Result.{IfOk-weaker}
 use Rattle.lt_answers.proofs.FollowingLemmas.{last_turn, settled_turn}
 use Rattle.lt_answers.proofs.following.Following.take_piece.Goals as goal
 
+-- The clause of `Following::take_piece`, TakesPiece, where a line of the piece settles the verdict and where the loop
+-- ends.
+
 -- the line that the line feed ends settles the verdict, whatever follows the piece
 pub returns-in-Some-2 : goal.returns-in-Some-2
 returns-in-Some-2 g c =

@@ -3,6 +3,8 @@ use Rattle.std.proofs.lemmas.Result.{err_from_is_err_and}
 use Rattle.lt_answers.proofs.FollowingLemmas.{followed_proper, followed_room, judged_all}
 use Rattle.lt_answers.proofs.following.VerifyingPiecesUnit.finish.Goals as goal
 
+-- `finish` of `Verifying`: what `Following::finish` requires, and what `Pieces` promises of the end, JudgesAll.
+
 -- the tag to which the lines lead is proper, and so few bytes were read that a line's number fits into 64 bits
 pub finish-requires : goal.finish-requires
 finish-requires g c =

@@ -4,6 +4,9 @@ use Rattle.lt_answers.specs.Verifying.{IsFollowed, Settles}
 use Rattle.lt_answers.proofs.FollowingLemmas.{followed_piece, followed_proper, followed_room, settled_piece, takes_or_settles}
 use Rattle.lt_answers.proofs.following.VerifyingPiecesUnit.take_piece.Goals as goal
 
+-- `take_piece` of `Verifying`: what `Following::take_piece` requires, and what `Pieces` promises of a piece: IsFollowed
+-- with it read too, or Settles.
+
 -- the tag to which the lines lead is proper, and so few bytes were read that a line's number fits into 64 bits
 pub take_piece-requires : goal.take_piece-requires
 take_piece-requires g c =

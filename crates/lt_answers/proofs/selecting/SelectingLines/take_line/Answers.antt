@@ -3,6 +3,8 @@ use Rattle.lt_answers.proofs.MatchedLemmas.{selected_tells}
 use Rattle.lt_answers.proofs.SelectingLemmas.{owed_few, owed_no, owed_yes}
 use Rattle.lt_answers.proofs.selecting.SelectingLines.take_line.Goals as goal
 
+-- That the count doesn't overflow, and what `Lines` promises of a line, TakesLine, selected or not.
+
 -- no more lines are counted than were read, so the count has room for one more
 pub overflow_add-self : goal.overflow_add-self
 overflow_add-self g c = let r = c.requires in omega (arith, r.few, owed_few _ r.lines r.bytes _ r.answered.3)

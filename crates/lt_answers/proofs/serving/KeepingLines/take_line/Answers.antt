@@ -2,7 +2,7 @@ use Rattle.std.proofs.Common.{[], ◌∙◌, append-nil, sym}
 use Rattle.std.proofs.lemmas.Result.{on_ok_weaker}
 use Rattle.lt_answers.proofs.serving.KeepingLines.take_line.Goals as goal
 
--- nothing is written for the line, and it is kept if it is a tag
+-- what `Lines` promises of a line, TakesLine: nothing is written for it, and it is kept if it is a tag
 pub returns : goal.returns
 returns g c = on_ok_weaker c.take_tag.result (λ takes. record {
   part = [];

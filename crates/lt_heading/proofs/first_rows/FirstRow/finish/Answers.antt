@@ -1,6 +1,8 @@
 use Rattle.lt_heading.proofs.FirstRowLemmas.{begun_of, finish_begun, finish_last, undecided_of}
 use Rattle.lt_heading.proofs.first_rows.FirstRow.finish.Goals as goal
 
+-- The clause of `finish`, FinishesText, where it calls `end_text`.
+
 -- the mark is known, so the bytes end as the text does
 pub returns-then-self : goal.returns-then-self
 returns-then-self c =

@@ -1,7 +1,7 @@
 use Rattle.std.proofs.Common.{[], ◌∷◌, inl, refl}
 use Rattle.lt_heading.proofs.first_rows.FirstRow.new.Goals as goal
 
--- no bytes may still become a mark
+-- the clause `undecided`: no bytes may still become a mark, for example that of UTF-8 (239, 187, 191)
 pub returns-clause-undecided : goal.returns-clause-undecided
 returns-clause-undecided c = record {
   begun = refl;

@@ -4,6 +4,8 @@ use Rattle.lt_heading.specs.declared.first_rows.FirstRow.{FirstRow}
 use Rattle.lt_heading.proofs.FirstRowLemmas.{begun_of, piece_begins, piece_begun, undecided_of}
 use Rattle.lt_heading.proofs.first_rows.FirstRow.take_piece.Goals as goal
 
+-- The clause of `take_piece`, TakesPiece, where the text takes the piece and where it begins with it.
+
 -- the mark is known, so the piece is appended to the text after it
 pub returns-then-self : goal.returns-then-self
 returns-then-self c =
@@ -13,7 +15,7 @@ returns-then-self c =
     piece_begun S c.args.piece.now old new c.take_text.result (begun_of S old c.if-self.true c.requires) refl
     c.if-self.true c.take_text.ensures
 
--- what a test did not find
+-- what a test `r` of the bytes `seen` did not find is not so
 tells_not : (P : List ℕ → Type 0) (seen text : List ℕ) (r : Bool) → IsTrue r ↔ P seen → r ≡ false → seen ≡ text → P text → ⊥
 tells_not P seen text r tells not same holds = let bad : true ≡ false = sym (tells.1 (subst P (sym same) holds)) ∙ not in cc
 

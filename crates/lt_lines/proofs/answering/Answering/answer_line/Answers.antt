@@ -6,7 +6,8 @@ use Rattle.lt_lines.proofs.KeptLemmas.{counts_line}
 use Rattle.lt_lines.proofs.TakenLemmas.{taken_line}
 use Rattle.lt_lines.proofs.answering.Answering.answer_line.Goals as goal
 
--- the bytes that were appended are the answer to the line, and the tallies count it by them if it is a refusal
+-- the clause `taken`, whatever was read and written so far: the bytes that were appended are the answer to the line,
+-- and the tallies count it by them if it is a refusal
 pub returns-clause-taken : goal.returns-clause-taken
 returns-clause-taken g c = λ bytes out one t.
     let T = terms (ground_of g.L.Lookup.listed c.args.basis.now) c.args.form in

@@ -4,6 +4,8 @@ use Rattle.lt_lines.proofs.EndLemmas.{answered_none, last_answered}
 use Rattle.lt_stream.proofs.PartLemmas.{no_items, some_items}
 use Rattle.lt_lines.proofs.answering.Answering.end_last.Goals as goal
 
+-- The clause of `end_last`, that all lines of the bytes are answered, at its two ends.
+
 -- nothing is kept, so a line feed ended each line, and all are answered
 pub returns-then-is_empty : goal.returns-then-is_empty
 returns-then-is_empty g c = λ bytes out t.

@@ -11,7 +11,9 @@ use Rattle.lt_lines.proofs.TakenLemmas.{taken_within}
 use Rattle.lt_lines.proofs.answering.Answering.end_row.Goals as goal
 use Rattle.lt_lines.proofs.answering.Answering.end_row.Goals.{After-is_open}
 
--- whether the line goes on after the line feed
+-- The clause `taken` of `end_row`: where the line goes on after the line feed, and where it ends.
+
+-- what `is_open` answered is whether the line goes on after the line feed
 open_there : (g : _) (c : After-is_open g) → (c.args.self.now.kept.items ≡ [] → c.args.self.now.place ≡ places.Fresh)
     → c.is_open.result ≡ is_quoted (place_then c.args.form c.args.self.now.place (take c.args.count c.args.text.now))
 open_there g c fresh =

@@ -3,7 +3,7 @@ use Rattle.std.proofs.KnownBytes.{Appends-nil}
 use Rattle.lt_lines.proofs.EndLemmas.{ends_in_quotes}
 use Rattle.lt_lines.proofs.answering.Answering.finish.Goals as goal
 
--- a quote is open, so the text ends within the record whose first line the fault names
+-- the clause FinishesLines where a quote is open: the text ends within the record whose first line the fault names
 pub returns-then-is_quoted : goal.returns-then-is_quoted
 returns-then-is_quoted g c =
     let line = c.kept_from.result in

@@ -5,6 +5,8 @@ use Rattle.lt_lines.proofs.EndLemmas.{begun_answered, owed_all}
 use Rattle.lt_lines.proofs.TakenLemmas.{begun_nothing}
 use Rattle.lt_lines.proofs.answering.Answering.finish_closed.Goals as goal
 
+-- The clause of `finish_closed`, FinishesLines, at its three ends.
+
 -- memory ran out for the last answer, and nothing more was written
 pub returns-in_err-end_last : goal.returns-in_err-end_last
 returns-in_err-end_last g c =

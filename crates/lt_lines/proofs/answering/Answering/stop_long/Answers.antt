@@ -3,6 +3,8 @@ use Rattle.lt_lines.specs.Answering.{line_of}
 use Rattle.lt_lines.specs.Owed.{long_fault}
 use Rattle.lt_lines.proofs.answering.Answering.stop_long.Goals as goal
 
+-- What `kept_from` requires, and the clause of `stop_long`, StopsLong, at its two ends.
+
 -- a write changes neither the counts nor the line feeds, so there is room as before
 pub kept_from-requires : goal.kept_from-requires
 kept_from-requires g c =

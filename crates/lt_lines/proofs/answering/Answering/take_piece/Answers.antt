@@ -11,7 +11,10 @@ use Rattle.lt_lines.proofs.PieceLemmas.{PieceTurn, turn_fails, turn_kept, turn_l
 use Rattle.lt_lines.proofs.answering.Answering.take_piece.Goals as goal
 use Rattle.lt_lines.proofs.answering.Answering.take_piece.Goals.{In_ok-end_line}
 
--- the line is a front of the rest of the piece
+-- What `end_line` requires of its bytes, the invariant after a turn, and the clause of `take_piece`, TakesPiece, at
+-- each of its ends.
+
+-- the line is a front of the rest of the piece, so that has so many bytes
 pub end_line-requires-clause-count : goal.end_line-requires-clause-count
 end_line-requires-clause-count g c =
     let split : IsOneLine c.in-Some.line.now × (c.loop-line.rest.now ≡ c.in-Some.line.now ++ 10 ∷ c.in-Some.after.now) =
@@ -25,7 +28,7 @@ returns-in_err-end_line g c =
     rw (p.1, p.2) (turn_stops _ _ _ _ _ _ _ _ c.loop-line.invariant.0 _ _ _ [] (Appends-nil _)
     (inr (refl, c.loop-line.invariant.0.failures)) (_, refl))
 
--- what is not too long
+-- what a test `r` did not find is not so
 fits : {P : Type 0} (r : Bool) → IsTrue r ↔ P → r ≡ false → P → ⊥
 fits r tells not long = let bad : true ≡ false = sym (tells.1 long) ∙ not in cc
 
@@ -44,7 +47,7 @@ returns-then-is_too_long-2 g c =
     (sym (append-nil c.loop-line.rest.now))
     (c.is_too_long-2.ensures.0 c.if-is_too_long-2.true) c.stop_long-then-is_too_long-2.ensures
 
--- after the answer to a line
+-- after the answer to a line the front of the piece up to it is taken, and what follows its line feed is left
 after_line : (g : _) (c : goal.In_ok-end_line g)
     → PieceTurn (terms (ground_of g.L.Lookup.listed c.args.basis.now)
     c.args.form) g.W.Write.contents c.args.piece.now c.in-Some.after.now c.args.self.now c.end_line.new.self

@@ -10,5 +10,6 @@ invariant-loop-line g l = PieceTurn (terms (ground_of g.L.Lookup.listed l.basis)
     l.rest l.fn.self l.self l.fn.output l.output
     × IsKnownToLack l.rest l.lacks
 
+-- so it ends: each turn leaves less of the piece
 abbrev pub decreases-loop-line : goal.decreases-loop-line
 decreases-loop-line g l = length l.rest

@@ -3,6 +3,8 @@ use Rattle.std.proofs.lemmas.Result.{err_from_is_err_and}
 use Rattle.lt_lines.proofs.TextRunLemmas.{begin_done, begin_stopped, begin_unwritten}
 use Rattle.lt_lines.proofs.marked.Marked.begin.Goals as goal
 
+-- What `take_piece` requires, and the clause of `begin`, BeginsText, at its three ends.
+
 -- the text has no more bytes than were kept, so there is room for its lines
 pub take_piece-requires : goal.take_piece-requires
 take_piece-requires g c =

@@ -3,6 +3,9 @@ use Rattle.std.proofs.lemmas.Result.{err_from_is_err_and}
 use Rattle.lt_lines.proofs.TextEndLemmas.{finish_front, finish_stopped, finish_text}
 use Rattle.lt_lines.proofs.marked.Marked.finish.Goals as goal
 
+-- The room for lines that its calls of `finish` require, and the clause of `Marked::finish`, FinishesText, at its three
+-- ends.
+
 -- the room for the kept bytes and a line is room for a line
 pub finish-requires : goal.finish-requires
 finish-requires g c = record {

@@ -4,7 +4,8 @@ use Rattle.lt_lines.specs.declared.forms.LineForm.{LineForm}
 use Rattle.lt_lines.proofs.TextRunLemmas.{new_text}
 use Rattle.lt_lines.proofs.marked.Marked.new.Goals as goal
 
--- nothing was read, and the text has begun already if no mark is looked for
+-- the clause IsNew, for any terms T of this form: nothing was read, and the text has begun already if no mark is looked
+-- for
 pub returns : goal.returns
 returns c = λ T form.
     let new = c.new-answering.ensures in

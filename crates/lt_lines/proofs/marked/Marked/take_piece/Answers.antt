@@ -4,6 +4,8 @@ use Rattle.lt_rows.specs.Marks.{IsWide, MayBeMark}
 use Rattle.lt_lines.proofs.TextRunLemmas.{text_begins, text_lacks, text_may_be, text_piece, text_wide}
 use Rattle.lt_lines.proofs.marked.Marked.take_piece.Goals as goal
 
+-- The room for lines that its calls require, and the clause of `Marked::take_piece`, TakesText, at each of its ends.
+
 -- the room for the kept bytes and the piece is room for the piece
 pub take_piece-requires : goal.take_piece-requires
 take_piece-requires g c = record {
@@ -43,7 +45,7 @@ begin-requires g c =
     let long = ap length c.in_ok-extend_from_slice.ensures.items ∙ length-append c.args.self.now.front.items c.args.piece.now in
     record { room = omega (arith, c.requires.room, long); feeds = omega (arith, c.requires.feeds, long); refused = c.requires.refused }
 
--- what a test did not find
+-- what a test `r` of the bytes `seen` did not find is not so
 tells_not : (P : List ℕ → Type 0) (seen text : List ℕ) (r : Bool) → IsTrue r ↔ P seen → r ≡ false → seen ≡ text → P text → ⊥
 tells_not P seen text r tells not same holds = let bad : true ≡ false = sym (tells.1 (subst P (sym same) holds)) ∙ not in cc
 

@@ -3,6 +3,8 @@ use Rattle.std.proofs.lemmas.Result.{on_ok_weaker}
 use Rattle.lt_stream.proofs.PartLemmas.{no_items, some_items}
 use Rattle.lt_stream.proofs.lines.Lined.end_last.Goals as goal
 
+-- The clause of `end_last`, `EndsLast`, at its two ends.
+
 -- nothing is kept, so there is no last line, and nothing changes
 pub returns-then-is_empty : goal.returns-then-is_empty
 returns-then-is_empty g c = let kept = c.args.self.now.kept in

@@ -4,6 +4,8 @@ use Rattle.lt_stream.proofs.LinedLemmas.{answered_all, answered_fails, answered_
 use Rattle.lt_stream.proofs.LineRunLemmas.{has_line}
 use Rattle.lt_stream.proofs.lines.LinedPiecesDevice.finish.Goals as goal
 
+-- `finish` of `Lined`: what `end_last` requires, and at its ends what `Pieces` promises: `Finishes`.
+
 -- the lines answered are no more than the bytes read, which are few enough for one line more
 pub end_last-requires : goal.end_last-requires
 end_last-requires g c = let r = c.requires in has_line _ _ _ _ r.start _ r.read _ r.taken.during (omega (arith, r.few))

@@ -4,6 +4,9 @@ use Rattle.lt_stream.proofs.LineRunLemmas.{turn_line, turn_room, turn_written}
 use Rattle.lt_stream.proofs.lines.LinedPiecesDevice.take_piece.Goals as goal
 use Rattle.lt_stream.proofs.lines.LinedPiecesDevice.take_piece.Goals.{In_ok-end_line}
 
+-- `take_piece` of `Lined`: the invariant before the loop and after a turn, what `end_line` requires, and at its ends
+-- what `Pieces` promises: `IsTaken` with the piece read too, or `Stops`.
+
 -- before the loop no line of the piece is answered, and the whole piece is left
 pub loop-line-init : goal.loop-line-init
 loop-line-init g c = first_turn _ _ _ _ _ _

@@ -3,6 +3,8 @@ use Rattle.lt_stream.specs.Tallies.{refused}
 use Rattle.lt_stream.proofs.TallyLemmas.{begun, counted}
 use Rattle.lt_stream.proofs.tallies.Tallies.count.Goals as goal
 
+-- The goals are the clause `counted` of `count`: with one refused line more, these are the tallies of the lines.
+
 -- the tally of this fault counts one line more, and those of other faults stay right as they are
 pub returns-in-Some-clause-counted : goal.returns-in-Some-clause-counted
 returns-in-Some-clause-counted c = λ lines room tallies.

@@ -2,7 +2,8 @@ use Rattle.std.proofs.Common.{ap, arith, length, length-append, refl}
 use Rattle.lt_stream.proofs.TextLemmas.{room_less}
 use Rattle.lt_stream.proofs.texts.Text.begin.Goals as goal
 
--- the text after the mark is no longer than the first bytes, for which there is room
+-- what `take_piece` of the lines requires: the text after the mark is no longer than the first bytes, for which `begin`
+-- itself requires room
 pub take_piece-requires : goal.take_piece-requires
 take_piece-requires g c =
     room_less _ _ _ _ _
@@ -14,7 +15,7 @@ take_piece-requires g c =
       ap length c.deref.ensures.value,
     )) c.requires
 
--- the first bytes are a mark or none, and then a text, which is taken as lines
+-- the clause `Begins`: the first bytes are a mark or none, and then a text, which is taken as lines
 pub returns : goal.returns
 returns g c = record {
   mark = c.split_mark.result.0.now;

@@ -3,6 +3,8 @@ use Rattle.std.proofs.lemmas.Result.{err_from_is_err_and}
 use Rattle.lt_stream.proofs.TextLemmas.{ending_fails, ending_finishes, ending_room, past_finishes, past_room, waiting_room}
 use Rattle.lt_stream.proofs.texts.TextPiecesDevice.finish.Goals as goal
 
+-- `finish` of `Text`: the room that its calls require, and at its ends what `Pieces` promises: `FinishesText`.
+
 -- past the mark the lines have the room of the text
 pub finish-requires : goal.finish-requires
 finish-requires g c = past_room g.A.Lines.answered g.A.Lines.longest g.W.Write.contents _ _ _ c.if-self.true c.requires

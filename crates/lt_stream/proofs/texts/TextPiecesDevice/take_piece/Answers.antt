@@ -3,6 +3,9 @@ use Rattle.std.proofs.lemmas.Result.{err_from_is_err_and}
 use Rattle.lt_stream.proofs.TextLemmas.{past_room, past_takes, waiting_begins, waiting_more, waiting_refused, waiting_room}
 use Rattle.lt_stream.proofs.texts.TextPiecesDevice.take_piece.Goals as goal
 
+-- `take_piece` of `Text`: the room that its calls require, and at its ends what `Pieces` promises: `IsTakenText` with
+-- the piece read too, or `StopsText`.
+
 -- past the mark the lines have the room of the text
 pub take_piece-requires : goal.take_piece-requires
 take_piece-requires g c = past_room g.A.Lines.answered g.A.Lines.longest g.W.Write.contents _ _ _ c.if-self.true c.requires
