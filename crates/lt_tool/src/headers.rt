@@ -1,4 +1,5 @@
-//! An Accept-Language header that is read from words.
+//! An Accept-Language header that is read from words. `ByRegistry` says in a clause that the registry is read first,
+//! and that only if it is not refused, the rest follows by its entries.
 ghost use Rattle.std.specs.Prelude.{◌≡◌, IfOk, string_bytes};
 ghost use Rattle.lt_tool.specs.Registries.{ByRegistry};
 ghost use Rattle.lt_tool.specs.Selected as spec;
@@ -30,7 +31,8 @@ fn header_line(alloc: Global, refusal: &HeaderRefusal) -> Result<String, AllocEr
     }
 }
 
-/// The fault of a refused header; or of memory that ran out, for the header or for this line.
+/// The fault of a refused header: wrong usage, with the line that tells it; or of memory that ran out, for the header
+/// or for this line.
 fn fault_of(alloc: Global, refusal: &HeaderRefusal) -> Fault
     ensures { IsHeaderFault refusal.now result }
 {

@@ -1,4 +1,6 @@
-//! A run of the program, from its command to what it came to.
+//! A run of the program, from its command to what it came to. In clauses `CalledAt P.FnMut` says what one call of the
+//! opener did, by its state before, the path, the answer and its state after. `P.IsAlwaysCallable` says that it may
+//! be called at any time, with any path.
 ghost use Rattle.std.specs.Prelude.{◌≡◌};
 ghost use Rattle.std.specs.Fn.{CalledAt};
 ghost use Rattle.std.specs.Option.{option_map};
@@ -245,9 +247,9 @@ fn end_of_words(fault: WordsFault) -> Result<Answer, Fault>
     }
 }
 
-/// Says why the words are no command, and gives what the run came to. Help and the version are printed, and any other fault
-/// is told on the errors. The status is 0 for help and the version, 3 for words that name no command, and 4 where memory ran
-/// out or a write failed.
+/// Says why the words are no command, and gives what the run came to (`ends`); the input is not read (`unread`). Help
+/// and the version are printed, and any other fault is told on the errors. The status is 0 for help and the version,
+/// 3 for words that name no command, and 4 where memory ran out or a write failed.
 pub fn report<I, O: Write, E: Write>(
     alloc: Global,
     fault: WordsFault,

@@ -1,4 +1,5 @@
-//! Language ranges that are read from words.
+//! Language ranges that are read from words. `ByRegistry` says in a clause that the registry is read first, and that
+//! only if it is not refused, the rest follows by its entries.
 ghost use Rattle.std.specs.Prelude.{◌≡◌, ◌++◌, ◌∷◌, [], IfErr, IfOk, OnOk, map, string_bytes};
 ghost use Rattle.lt_range.specs.Matched.{IsExtlangRange};
 ghost use Rattle.lt_range.specs.Refusals.{IsRangeRefusal};
@@ -107,7 +108,8 @@ fn range_line(alloc: Global, refused: &RefusedRange) -> Result<String, AllocErro
     format!(in alloc; "! {name} range {number}\n")
 }
 
-/// The fault of a refused range; or of memory that ran out, for the range or for this line.
+/// The fault of a refused range: wrong usage, with the line that tells it; or of memory that ran out, for the range
+/// or for this line.
 fn fault_of(alloc: Global, refused: &RefusedRange) -> Fault
     ensures { IsRangeFault refused.now result }
 {

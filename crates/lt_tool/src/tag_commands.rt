@@ -119,7 +119,8 @@ fn is_passed(refusal: &TextRefusal, own: &Result<Vec<u8>, TextRefusal>) -> bool
     }
 }
 
-/// The fault of two texts, one of which is refused: it says whether that is the first or the second.
+/// The fault of two texts, one of which is refused: it says whether that is the first or the second. `refusal`
+/// doesn't say that, so the first text is made canonical alone.
 fn pair_fault<L: Lookup>(
     alloc: Global,
     checked: &Checked<L>,
