@@ -1,5 +1,4 @@
-//! An Accept-Language header that is read from words. `ByRegistry` says in a clause that the registry is read first,
-//! and that only if it is not refused, the rest follows by its entries.
+//! An Accept-Language header that is read from words.
 ghost use Rattle.std.specs.Prelude.{◌≡◌, IfOk, string_bytes};
 ghost use Rattle.lt_tool.specs.Registries.{ByRegistry};
 ghost use Rattle.lt_tool.specs.Selected as spec;

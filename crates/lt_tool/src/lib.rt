@@ -3,7 +3,8 @@
 //!
 //! In clauses `stream F.remaining file.old file.new` is a file before and after a call, with `F.remaining`, which
 //! gives the bytes that are left in it, where they are known. Of an output `O.contents` gives the bytes that it took.
-//! `L.listed checked.now` are the entries of a registry, `R` in definitions.
+//! `L.listed checked.now` are the entries of a registry, `R` in definitions. `ByRegistry` says that the registry of a
+//! command is read first, and that the rest follows by its entries if they pass the check.
 #![tactic(auto)]
 
 mod answers;

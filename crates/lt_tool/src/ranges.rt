@@ -1,5 +1,4 @@
-//! Language ranges that are read from words. `ByRegistry` says in a clause that the registry is read first, and that
-//! only if it is not refused, the rest follows by its entries.
+//! Language ranges that are read from words.
 ghost use Rattle.std.specs.Prelude.{◌≡◌, ◌++◌, ◌∷◌, [], IfErr, IfOk, OnOk, map, string_bytes};
 ghost use Rattle.lt_range.specs.Matched.{IsExtlangRange};
 ghost use Rattle.lt_range.specs.Refusals.{IsRangeRefusal};

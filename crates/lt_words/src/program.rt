@@ -141,12 +141,12 @@ pub(crate) static SUMMARY: Argument = Argument {
 };
 
 /// What `--version` prints: the version, which tools/describe.py writes here, and the kits that prove and build the
-/// program, by the number of their logic, which a kit has in its file `KIT-ID`.
+/// program, by the number of their logic.
 const VERSION: &str = "1.1.0 (rattle-kit-13 logic dac8208d650f15bf)";
 
 /// The argument that is wanted, as the parser takes it: a positional, which is required, may be repeated, or both, an
-/// option with a value, or a flag. It is not global (`local`), that is, not one of the subcommands below too: only of
-/// such arguments does `clap` state what a command with them is.
+/// option with a value, or a flag. It is not global (`local`), that is, one of the subcommands below too: `clap`
+/// states what a command is only if it has no such argument.
 fn new_argument<'a>(alloc: Global, wanted: &Argument) -> Arg<'a>
     ensures rule { rule_of result ≡ rule_for wanted.now.form wanted.now.name.now }
     ensures local { result.global ≡ false }
@@ -161,8 +161,8 @@ fn new_argument<'a>(alloc: Global, wanted: &Argument) -> Arg<'a>
     }
 }
 
-/// A subcommand with this name, help and arguments (`app`). None of them is global (`globals`): only of such a
-/// subcommand does `clap` state what a program with it is.
+/// A subcommand with this name, help and arguments (`app`). None of them is global (`globals`), as `clap` asks of a
+/// subcommand that is added.
 fn new_subcommand<'a>(
     alloc: Global,
     name: &'a str,

@@ -1,8 +1,8 @@
 //! The values of a subcommand's arguments.
 //!
-//! `matches` are what the parser found. In the clauses `rows_of (found_of matches.now)` are their rows, one for each
-//! argument, with its values. Where a call refuses with `Usage`, its second clause says that no value would be right;
-//! memory may run out in any call.
+//! `matches` are what the parser found, and `rows_of (found_of matches.now)` a row with the values of each argument.
+//! Where a call refuses with `Usage`, its last clause says that no answer would be right; memory may run out in any
+//! call.
 ghost use Rattle.std.specs.Prelude.{◌≡◌, ◌↔◌, [], ◌∷◌, IfOk, IfErr, IsTrue, Some, map, option_map, string_bytes};
 ghost use Rattle.std.specs.Str.Parse.{AllDigits, without_leading_plus};
 ghost use Rattle.lt_words.specs.Reading.{AreGiven, FitsHeading, IsColumn, IsDecimal, IsNoColumn, IsNoNumber, IsNumber, AreRangesGiven, HasCompany, IsAlone, LacksDelimiter, LacksMatching, LacksRanges, LacksValue, delimiter_given, matching_given, values_given};

@@ -15,7 +15,7 @@ returns-in_ok-from_str-in-Some c =
     sym (sym (first_value-rows found c.args.option.now.name.now) ∙ sym c.get_str.ensures ∙ ap (option_map now_of) c.in-Some.is
     ∙ ap (λ (text : List ℕ). Some text) (sym c.in_ok-from_str-in-Some.ensures.ok))
 
--- the matches have no value, and None is given
+-- the matches have no value
 pub returns-in-None : goal.returns-in-None
 returns-in-None c =
     let found = (out-ArgMatches c.args.matches.now).found in

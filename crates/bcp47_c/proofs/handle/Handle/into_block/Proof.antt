@@ -1,4 +1,5 @@
--- The handle holds a registry, so it owns what the block does, and the two fields are moved.
+-- `Handle::into_block` meets its contract, shown of its code step by step: the handle holds a registry, so it owns
+-- what the block does, and the two fields are moved.
 use mathlib.Core.Path.{◌≡◌, refl}
 use mathlib.Core.List.{List, [], ◌∷◌, ◌++◌}
 use mir.Val.{Val}
