@@ -5,8 +5,8 @@
 //! buffer is not written; the status is then 5, and the length is the one that is needed.
 //!
 //! In clauses `registry` is what the handle holds, which no argument says: `requires` says that it is open, and
-//! `kept` that it holds the same afterwards. Each call takes that out of the handle and puts it back. A buffer is
-//! seen before and after a call (`buffer.old`, `buffer.new`), since what follows the text stays in it.
+//! `kept` that it holds the same afterwards. A call takes that out of the handle and puts it back. A buffer is seen
+//! before and after a call (`buffer.old`, `buffer.new`), since what follows the text stays in it.
 #![tactic(auto)]
 
 ghost use Rattle.std.specs.Prelude.{◌≡◌, ◌≤◌, ◌<◌, ◌≢◌, [], Some, None, length, slice_index_or};

@@ -55,12 +55,12 @@ fn tell_people<F: Read + Drop, Q: FnMut(&str) -> io::Result<F>, T: Write>(
 /// Runs the program by its words as [`run_program`] does, and answers the exit status (`runs`). `registry` is the
 /// path of the file that the name `@` means. `opener` and `people.again` must be callable at any time, with any path.
 ///
-/// At a terminal, or where the words ask for a summary, it then tells people what the run came to; else `people`
-/// stays as it was (`tells`). If all lines or records of `canon`, `codes`, `tsv` or `csv` were answered, it tells how
-/// many there were and how many were refused. For each fault it tells how many it refused, which was the first, and
-/// what to do. If something else was refused or failed, it tells what that means and what to do, and which file was
-/// refused or can't be opened. If a record of a registry is at fault, it opens the file again, and tells what the
-/// record is and where it begins.
+/// At a terminal, or where the words ask for a summary, it then tells people what the run came to; where nobody is
+/// told, `people` stays as it was (`tells`). If all lines or records of `canon`, `codes`, `tsv` or `csv` were
+/// answered, it tells how many there were and how many were refused. For each fault it tells how many it refused,
+/// which was the first, and what to do. If something else was refused or failed, it tells what that means and what to
+/// do, and which file was refused or can't be opened. If a record of a registry is at fault, it opens the file again,
+/// and tells what the record is and where it begins.
 pub fn run_for_people<
     F: Read + Drop,
     P: FnMut(&str) -> io::Result<F>,

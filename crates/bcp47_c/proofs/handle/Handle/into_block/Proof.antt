@@ -26,6 +26,7 @@ use Rattle.bcp47_c.specs.contracts.handle.Handle.into_block as f
 use Rattle.bcp47_c.proofs.handle.Handle.into_block.Statement.{statement}
 use Rattle.bcp47_c.proofs.handle.Handle.into_block.Code as code
 
+-- the caller keeps no parameter
 abbrev stayed : Stays f.ended.signature.params f.ended.kept
 stayed = (stay_dropped (plain (λ _. held_handle)) yes, tt)
 
