@@ -7,11 +7,12 @@ use Rattle.bcp47_c.specs.Replacing.{no_memory, HasFaultSaid, IsReplacingRefusal}
 use Rattle.bcp47_c.specs.declared.replacing.Refused.{Refused}
 use Rattle.bcp47_c.specs.declared.replacing.Section.{Section}
 
--- memory may run out for any text
+-- that memory ran out may be said of any text
 pub no_fault_memory : (skipped : ℕ) (text : List ℕ) → HasFaultSaid skipped text no_memory
 no_fault_memory skipped text = record { fault = memory_fault; owed = refl; told = refl }
 
--- a section that is not replaced
+-- where the section that a modifier replaces is there and can't be replaced, what is said of that is why the tag is
+-- not changed
 pub not_changed : (section : Option Section) (there : Section) (text value : List ℕ) (refused : Refused)
     → section ≡ Some there → IsReplacingRefusal there text value refused → IsNotChanged section text value refused.said
 not_changed section there text value refused e r = subst

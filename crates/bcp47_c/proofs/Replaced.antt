@@ -1,4 +1,5 @@
--- A tag with a section replaced has its shape, and the text that is made of it is read as its list.
+-- A tag with a section replaced has the shape of a langtag (RFC 5646, 2.1), and the text that is made of it is read
+-- as its list of subtags.
 use Rattle.std.proofs.Common.{◌≡◌, ℕ, ◌≤◌, ◌+◌, ◌-◌, true, List, [], ◌∷◌, ◌++◌, length, refl, sym, ap, ◌∙◌, arith, inl, inr, subst}
 use Rattle.std.specs.Prelude.{flat_map, option_to_list, position, drop, not, Some, IsSome}
 use Rattle.std.specs.List.{list_all, join_with_byte}
@@ -35,7 +36,7 @@ use Rattle.bcp47_c.specs.declared.replacing.Section.TheVariants as sections
 
 -- ---- shapes
 
--- a core with a section of another has its shape
+-- a core with a section of another has the shape of a core, where both have it
 core_with : (section : Section) (c d : CoreParts) → IsCore c → IsCore d → IsCore (with_core section c d)
 core_with sections.Language c d h k = record {
   language = k.language;
@@ -76,7 +77,7 @@ core_with sections.Variants c d h k = record {
 core_with sections.Extensions c d h k = h
 core_with sections.PrivateUse c d h k = h
 
--- a langtag with a section of another has its shape
+-- a langtag with a section of another has the shape of a langtag, where both have it
 pub replaced_shaped : (section : Section) (c d : CoreParts) (es fs : List ExtensionParts) (ps qs : List (List ℕ))
     → IsLangTag c es ps → IsLangTag d fs qs
     → IsLangTag (with_core section c d) (with_extensions section es fs) (with_private section ps qs)

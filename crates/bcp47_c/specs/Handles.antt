@@ -1,4 +1,5 @@
--- What a handle of the C library owns: nothing, or the box of a registry.
+-- What a handle of the C library owns: nothing, or the box of a registry. `the_row` is what is known of the type
+-- `Opened`.
 use base.Fml.{Fml, ftrue}
 use base.Stored.{Coded}
 use denote.RawPtr.{Ptr}

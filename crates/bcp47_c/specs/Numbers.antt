@@ -1,5 +1,5 @@
--- The numbers of faults, classes and kinds of step in C. The number 0 of a fault means none, for example where memory
--- ran out, which the status says.
+-- The numbers of faults, classes and kinds of step in C, for which `bindings/c/bcp47.h` has constants. The number 0
+-- of a fault means none, for example where memory ran out, which the status says.
 use Rattle.std.specs.Prelude.{ℕ, ◌≡◌, ◌≢◌, Option, Some, None}
 use Rattle.lt_subtag.specs.declared.SubtagFault.{SubtagFault}
 use Rattle.lt_subtag.specs.declared.SubtagFault.TheVariants as subtag_kinds

@@ -26,10 +26,11 @@ abbrev pub past : Option ℕ → List ℕ → List ℕ
 past (Some index) text = drop (index + 1) text
 past None text = []
 
--- a text up to the first such byte, and past it
+-- a text up to the first byte `mark`; all of it where there is none
 abbrev pub before : ℕ → List ℕ → List ℕ
 before mark text = until (position (λ b. b == mark) text) text
 
+-- a text past the first byte `mark`; nothing where there is none
 abbrev pub after : ℕ → List ℕ → List ℕ
 after mark text = past (position (λ b. b == mark) text) text
 

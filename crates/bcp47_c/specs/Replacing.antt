@@ -103,7 +103,7 @@ abbrev pub bearing : Section → List ℕ → List ℕ
 bearing sections.Language value = value
 bearing section value = behind_language value
 
--- how many subtags of that text come before the value
+-- how many subtags of the text by which a value is read come before the value: the language `de`, or none
 abbrev pub before_value : Section → ℕ
 before_value sections.Language = 0
 before_value section = 1

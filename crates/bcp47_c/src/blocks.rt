@@ -6,7 +6,8 @@ ghost use Rattle.std.specs.Box.Ownership.{box_owns};
 use std::alloc::Allocator;
 use std::marker::Model;
 
-/// What a box consists of: the place of its value, and the allocator that frees it. It is never dropped.
+/// What a box consists of: the place of its value, and the allocator that frees it. It is never dropped. Contracts
+/// see the value as `value`.
 pub struct Block<T, A: Allocator> {
     pub(crate) place: *mut T,
     pub(crate) alloc: A,

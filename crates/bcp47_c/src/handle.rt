@@ -25,7 +25,7 @@ impl Model for Handle {
 }
 
 impl Handle {
-    /// A handle that holds nothing, whatever its place, which is never read then.
+    /// A handle that holds nothing, whatever its place, which is never read then. Its ghost field `held` says so.
     fn empty(place: *mut u8, alloc: Global) -> Handle
         ensures { result.held ≡ None }
     {

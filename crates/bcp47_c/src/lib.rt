@@ -1,8 +1,12 @@
 //! BCP 47 language tags by a registry of language subtags, for programs in C: the calls of the crate `bcp47` as
 //! functions of C. A program in Rattle begins with `bcp47` itself.
 //!
-//! A call on a [`Handle`] needs it open, which its caller must see to: nothing checks C. A text that does not
-//! fit its buffer is not written; the status is then 5, and the length is the one that is needed.
+//! A call on a [`Handle`] needs it open, which its caller must see to: nothing checks C. A text that does not fit its
+//! buffer is not written; the status is then 5, and the length is the one that is needed.
+//!
+//! In clauses `registry` is what the handle holds, which no argument says: `requires` says that it is open, and
+//! `kept` that it holds the same afterwards. A call takes that out of the handle and puts it back. A buffer is seen
+//! before and after a call (`buffer.old`, `buffer.new`), since what follows the text stays in it.
 #![tactic(auto)]
 
 ghost use Rattle.std.specs.Prelude.{◌≡◌, ◌≤◌, ◌<◌, ◌≢◌, [], Some, None, length, slice_index_or};
@@ -505,7 +509,8 @@ pub extern "C" fn bcp47_handle_upgrade_check(
     outcome
 }
 
-/// Writes the name of a status, 0 to 12, for example `NotATag` for 1; nothing for another number.
+/// Writes the name of a status, 0 to 12, for example `NotATag` for 1 (`named`); nothing for another number (`none`),
+/// since `bindings/c/names.c` names the greater ones.
 #[unsafe(no_mangle)]
 pub extern "C" fn bcp47_write_status_name(status: u8, buffer: &mut [u8]) -> Outcome
     ensures named { status ≤ 12 → IsDelivered (ended 0) (slice_index_or status_names status []) buffer.old buffer.new result }
@@ -533,8 +538,8 @@ pub extern "C" fn bcp47_write_fault_name(fault: u8, buffer: &mut [u8]) -> Outcom
     deliver(ended(DONE), name.as_bytes(), buffer)
 }
 
-/// Writes the name of a kind of step, 1 to 14, as the program prints it: `Extlang` for 1; nothing for another
-/// number.
+/// Writes the name of a kind of step, 1 to 14, as the program prints it: `Extlang` for 1 (`named`, of each kind `k`
+/// that has the number, which is one at most); nothing for another number (`none`).
 #[unsafe(no_mangle)]
 pub extern "C" fn bcp47_write_kind_name(kind: u8, buffer: &mut [u8]) -> Outcome
     ensures named { (k : StepKind) → kind ≡ number_of.step_kind k → IsDelivered (ended 0) (name_of k) buffer.old buffer.new result }

@@ -18,7 +18,7 @@ pub(crate) enum Scheme {
     Lookup,
 }
 
-/// The scheme that has a number, or None if none has it.
+/// The scheme that has a number in C, or None if none has it.
 pub(crate) fn scheme_of(number: u32) -> Option<Scheme>
     ensures { IsSchemeOf number result }
 {
@@ -30,8 +30,8 @@ pub(crate) fn scheme_of(number: u32) -> Option<Scheme>
     })
 }
 
-/// Whether a range matches a tag by a scheme, both by their subtags; by lookup, whether the range, cut from its end, is
-/// the tag (RFC 4647, 3.4).
+/// Whether a range matches a tag by a scheme, both by their subtags; by lookup, whether the tag is the range, or what
+/// is left of it once it is cut from its end (RFC 4647, 3.4).
 fn is_matched(scheme: Scheme, range: &LanguageRange, tag: &TagSubtags) -> bool
     ensures { IsTrue result ↔ MatchesBy (matching scheme) range.now tag.now }
 {
@@ -75,7 +75,8 @@ fn refuse_range(refusal: &RangeRefusal, buffer: &mut [u8]) -> Outcome
 }
 
 /// Tells whether a language range matches the tag that `text` is read as, by a scheme, or why the range, or else the
-/// tag, is refused. The buffer is for the variant that steps can repeat, where one of them is refused for that.
+/// tag, is refused: the outcome's `text` is 1 for the range, 2 for the tag. The buffer is for the variant that steps
+/// can repeat, where one of them is refused for that.
 pub(crate) fn answer_match(
     alloc: Global,
     registry: &Registry,

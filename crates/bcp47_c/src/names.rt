@@ -104,7 +104,8 @@ pub(crate) fn fault_name(fault: u8) -> &'static str
     }
 }
 
-/// The name of the kind of step that has a number, or an empty text if no kind has it.
+/// The name of the kind of step that has a number, or an empty text if no kind has it. The clause `named` says it of
+/// each kind `k` that has the number, which is one at most.
 #[tactic(auto, using(crate::proofs::KindNumbers::same_kind))]
 pub(crate) fn kind_name(number: u8) -> &'static str
     ensures named { (k : StepKind) → number ≡ number_of.step_kind k → result.now ≡ name_of k }

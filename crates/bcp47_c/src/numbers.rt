@@ -1,4 +1,5 @@
-//! The numbers of statuses and faults.
+//! The numbers of statuses and faults, for which `bindings/c/bcp47.h` has constants. Faults of all kinds share one
+//! row of numbers, 1 to 55; 0 is none.
 ghost use Rattle.std.specs.Prelude.{◌≡◌};
 ghost use Rattle.bcp47_c.specs.Numbers as numbers;
 

@@ -1,4 +1,4 @@
-//! What a handle holds.
+//! What a handle holds. A clause with `Some self.new` is one on a handle, and says what it holds then.
 ghost use Rattle.std.specs.Prelude.{◌≡◌, IfOk, IfErr, Ok, Err, Some, length};
 ghost use Rattle.lt_canon.specs.ExplanationTexts.{IsExplanationTextOf};
 ghost use Rattle.lt_canon.specs.Texts.{IsCanonicalTextOf, IsTextRefusal};
@@ -97,8 +97,8 @@ impl Opened {
         }
     }
 
-    /// Keeps the records that bytes have with the registry, in place of those that were kept, and gives the status 0. Or it
-    /// gives 7 where the bytes are not in the format, and 4 where memory ran out; nothing changes then.
+    /// Keeps the records that bytes have with the registry, in place of those that were kept, and gives the status 0.
+    /// Or it gives 7 where the bytes are not in the format, and 4 where memory ran out; nothing changes then.
     pub(crate) fn keep(&mut self, alloc: Global, bytes: &[u8]) -> u8
         ensures { Keeps self.old (Some self.new) bytes.now result }
     {
@@ -115,8 +115,9 @@ impl Opened {
         }
     }
 
-    /// Keeps the list of the tags that texts are, in place of the one that was kept, and answers the status 0; or answers why
-    /// one of them is refused, and nothing changes then. The texts have these lengths, and stand one after another in a text.
+    /// Keeps the list of the tags that texts are, in place of the one that was kept, and answers the status 0; or
+    /// answers why one of them is refused, and nothing changes then. The texts have these lengths, and stand one
+    /// after another in a text.
     pub(crate) fn list(&mut self, alloc: Global, text: &[u8], lengths: &[usize]) -> Outcome
         ensures { Lists self.old (texts_of lengths.now text.now) (Some self.new) result }
     {
@@ -334,7 +335,8 @@ impl Opened {
 /// Checks, when it is compiled, that threads may share a type and hand its values to one another.
 fn shareable<T: Send + Sync>() {}
 
-/// Threads may share what a handle holds: the handles of a registry share it.
+/// Threads may share what a handle holds: the handles of a registry share it. Nobody calls this; it only has to
+/// compile.
 pub(crate) fn opened_is_shareable() {
     shareable::<Opened>();
 }

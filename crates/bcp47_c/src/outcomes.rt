@@ -1,4 +1,4 @@
-//! What a call answers, and how it writes a text into a buffer.
+//! What a call answers, and how it writes a text into a buffer. The numbers are those of `numbers.rt`.
 ghost use Rattle.std.specs.Prelude.{◌≡◌};
 ghost use Rattle.bcp47_c.specs.Outcomes as spec;
 ghost use Rattle.bcp47_c.specs.Outcomes.{AreDelivered, IsDelivered, IsRefused};

@@ -29,7 +29,8 @@ fn show(alloc: Global, tag: &Tag) -> Result<Shown, OutOfMemory>
     Ok(Shown { text, parts })
 }
 
-/// The last of some parts that has more than one byte. None if no part has.
+/// The last of some parts that has more than one byte, so is no singleton. None if no part has; the None of the
+/// clause says that none was found before them.
 fn last_long(parts: &[Part]) -> Option<&Part>
     ensures { option_copied result ≡ spec.last_long None parts.now }
 {

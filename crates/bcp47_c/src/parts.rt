@@ -81,7 +81,8 @@ fn kind_of(number: u8) -> Option<PartKind>
     })
 }
 
-/// The name of the kind of part that has a number, or an empty text if no kind has it.
+/// The name of the kind of part that has a number, or an empty text if no kind has it. The clause `named` says it of
+/// each kind `k` that has the number, which is one at most.
 #[tactic(auto, using(crate::proofs::PartKindNumbers::same_part_kind))]
 fn part_kind_name(number: u8) -> &'static str
     ensures named { (k : PartKind) → number ≡ spec.part_kind k → result.now ≡ name_of k }

@@ -1,4 +1,5 @@
-//! The tag that the name of a POSIX locale stands for.
+//! The tag that the name of a POSIX locale stands for. A name is `language[_territory][.codeset][@modifier]`, as in
+//! `sr_RS.UTF-8@latin`.
 ghost use Rattle.std.specs.Prelude.{◌≡◌, ◌==◌, IfOk, IfErr, position};
 ghost use Rattle.bcp47_c.specs.Posix as spec;
 ghost use Rattle.bcp47_c.specs.Posix.{IsNoPosixTag, IsNotChanged, IsChanged, IsPosixTag, IsShownAs, WritesPosix};
@@ -54,14 +55,14 @@ fn after(text: &[u8], mark: u8) -> &[u8]
     }
 }
 
-/// Whether a modifier says nothing of the tag.
+/// Whether a modifier says nothing of the tag: there is none, or it is of a currency or of an order.
 fn is_silent(text: &[u8]) -> bool
     ensures { result ≡ spec.is_silent text.now }
 {
     text == b"".as_slice() || text == b"euro".as_slice() || text == b"abegede".as_slice()
 }
 
-/// Whether a modifier names Latin letters.
+/// Whether a modifier names Latin letters; `iqtelif` are those of Tatar.
 fn is_latin(text: &[u8]) -> bool
     ensures { result ≡ spec.is_latin text.now }
 {
@@ -126,7 +127,8 @@ fn hyphen_for(byte: u8) -> u8
     if byte == b'_' { b'-' } else { byte }
 }
 
-/// The text of a tag that a locale has, without its codeset and its modifier.
+/// The text of a tag that a locale has, without its codeset and its modifier: with hyphens for underscores. `C` and
+/// `POSIX` stand for American English with the order and the forms of POSIX.
 fn tag_text(alloc: Global, locale: &[u8]) -> Result<Vec<u8>, OutOfMemory>
     ensures { IfOk result (λ text. text.items ≡ spec.tag_text locale.now) }
 {
@@ -140,7 +142,8 @@ fn tag_text(alloc: Global, locale: &[u8]) -> Result<Vec<u8>, OutOfMemory>
     Ok(text)
 }
 
-/// The text of the tag that a text is read as, in conventional case, or why the text is no tag.
+/// The text of the tag that a text is read as, in conventional case, or why the text is no tag; the 0 of the clause
+/// says that places count all its subtags.
 #[tactic(auto, using(crate::proofs::Locales::no_fault_memory))]
 fn show(alloc: Global, text: &[u8]) -> Result<Vec<u8>, Said>
     ensures shown { IfOk result (λ made. IsShownAs text.now made.items) }
@@ -176,7 +179,8 @@ fn change(
     }
 }
 
-/// The text of the tag that the name of a locale stands for, or why there is none.
+/// The text of the tag that the name of a locale stands for, or why there is none. An unknown modifier is the fault
+/// BadByte at 0, since the modifier has no place in the tag.
 fn tag_of(alloc: Global, name: &[u8]) -> Result<Vec<u8>, Said>
     ensures made { IfOk result (λ made. IsPosixTag name.now made.items) }
     ensures refused { IfErr result (IsNoPosixTag name.now) }

@@ -1,4 +1,5 @@
-//! A tag with one of its sections replaced or taken away.
+//! A tag with one of its sections replaced or taken away. The new section is a value, which is read as part of a text
+//! that is a tag, the bearing text: a language as it is, and any other value behind the language `de`.
 ghost use Rattle.std.specs.Prelude.{◌≡◌, ◌≤◌, ◌++◌, None, IfOk, IfErr, OnOk, not, position, drop, flat_map, length, option_to_list, option_copied};
 ghost use Rattle.std.specs.List.{join_with_byte};
 ghost use Rattle.lt_tag.specs.Lists.{longest_text};
@@ -50,7 +51,7 @@ pub(crate) struct Refused {
     pub(crate) said: Said,
 }
 
-/// The section that has a number, or None if none has it.
+/// The section that has a number, which is that of the kind of part that begins it, or None if none has it.
 fn section_of(number: u32) -> Option<Section>
     ensures { IsSectionOf number result }
 {
@@ -104,7 +105,7 @@ fn has(section: Section, kind: PartKind) -> bool
     }
 }
 
-/// How many subtags come before the value in the text by which it is read.
+/// How many subtags come before the value in the bearing text: `de`, or none.
 fn before_value(section: Section) -> u32
     ensures { result ≡ spec.before_value section }
 {
@@ -114,7 +115,8 @@ fn before_value(section: Section) -> u32
     }
 }
 
-/// What an outcome says of a fault of a text whose first `skipped` subtags are not counted.
+/// What an outcome says of a fault of a text whose first `skipped` subtags are not counted, as `de` is not in a
+/// bearing text.
 pub(crate) fn fault_said(skipped: u32, fault: TagFault) -> Said
     ensures { result ≡ spec.fault_said skipped fault }
 {
@@ -137,7 +139,8 @@ impl From<OutOfMemory> for Said {
     }
 }
 
-/// The langtag that a tag is. Refused where it is a tag of private use, or a grandfathered one.
+/// The langtag that a tag is. Refused where it is a tag of private use, or a grandfathered one: these alone have no
+/// core.
 fn langtag_of(tag: Tag) -> Result<Langtag, Said>
     ensures langtag { IfOk result (λ langtag. form langtag ≡ tag) }
     ensures none { IfErr result (λ said. (core_of tag ≡ None) × (said ≡ spec.no_language)) }
@@ -156,7 +159,7 @@ fn langtag_of(tag: Tag) -> Result<Langtag, Said>
     }
 }
 
-/// The langtag that a text is read as, or why it is none.
+/// The langtag that a text is read as, or why it is none. All its subtags are counted, as the 0 of the clause says.
 fn read_langtag(alloc: Global, text: &[u8]) -> Result<Langtag, Said>
     ensures langtag { IfOk result (λ langtag. ReadsLangtag text.now (form langtag)) }
     ensures none { IfErr result (IsNoLangtag 0 text.now) }
@@ -167,7 +170,9 @@ fn read_langtag(alloc: Global, text: &[u8]) -> Result<Langtag, Said>
     }
 }
 
-/// The text by which the value of a section is read.
+/// The bearing text, by which the value of a section is read: of the value `hk` it is `hk` for a language, and
+/// `de-hk` for any other section, for which no value gives `de`. A language has two letters at least, so no value
+/// that fits a tag is too long behind it.
 fn bearing(alloc: Global, section: Section, value: &[u8]) -> Result<Vec<u8>, OutOfMemory>
     ensures { IfOk result (λ text. text.items ≡ spec.bearing section value.now) }
 {
@@ -229,7 +234,8 @@ fn read_value(alloc: Global, section: Section, value: &[u8]) -> Result<Langtag, 
     }
 }
 
-/// The core whose language and extlangs the tag has, once a section of it is replaced by that of the other.
+/// The core whose language and extlangs the tag has, once a section of it is replaced by that of the other. The two
+/// clauses speak of these alone, since the rest of that core may be another.
 fn language<'a>(section: Section, tag: &'a Langtag, other: &'a Langtag) -> &'a Core
     ensures language { result.now.language ≡ (with_core section tag.now.core other.now.core).language }
     ensures extlangs { result.now.extlangs ≡ (with_core section tag.now.core other.now.core).extlangs }
@@ -341,7 +347,8 @@ fn add_private(text: &mut Vec<u8>, subtags: &[Subtag]) -> Result<(), OutOfMemory
     add_all(text, subtags)
 }
 
-/// The subtags, in lower case and with hyphens between them, of a tag with a section replaced by that of another.
+/// The subtags, in lower case and with hyphens (45) between them, of a tag with a section replaced by that of
+/// another.
 #[tactic(auto, using(crate::proofs::Replaced::spelled_joined))]
 fn join(
     alloc: Global,
@@ -362,8 +369,9 @@ fn join(
     Ok(text)
 }
 
-/// The text of a tag with a section replaced by that of another, in conventional case. Both must have the form of a tag.
-/// Refused if the text has more than 1,024 bytes, or where memory runs out.
+/// The text of a tag with a section replaced by that of another, in conventional case (`made`). Both must have the
+/// form of a tag. Refused if the text has more than 1,024 bytes, `longest_text` (`short`, `long`), or where memory
+/// runs out.
 fn write_replaced(
     alloc: Global,
     section: Section,

@@ -44,8 +44,8 @@ fn no_memory() -> AvailableRefusal
     }
 }
 
-/// The list of the tags that texts of these lengths are, which stand one after another in a text; or why one of them is
-/// refused.
+/// The list of the tags that texts of these lengths are, which stand one after another in a text; or why one of them
+/// is refused. In the clause `listed` the count of the texts says that all of them are listed.
 pub(crate) fn list_tags(
     alloc: Global,
     registry: &Registry,
@@ -65,7 +65,7 @@ pub(crate) fn list_tags(
     }
 }
 
-/// The number of a tag as C has it.
+/// The number of a tag as C has it, in an `int`: 2147483647, the greatest, stands for all that are greater.
 fn as_int(number: usize) -> u32
     ensures { result ≡ min number 2147483647 }
 {

@@ -1,4 +1,5 @@
-//! Whether steps in numbers are a trace.
+//! Whether steps in numbers are a trace: each leads on from the tag to which the one before led, and the last to the
+//! tag that is told. The front of the numbers are the steps up to the first numbers that are no step.
 ghost use Rattle.std.specs.Prelude.{◌≡◌, IfErr, OnOk};
 ghost use Rattle.bcp47_c.specs.Traces as spec;
 ghost use Rattle.bcp47_c.specs.Traces.{IsToldFault, TellsTrace};

@@ -14,6 +14,7 @@ use std::fs;
 use std::io::{self, ErrorKind, IsTerminal};
 use std::process::ExitCode;
 
+/// Runs the program by its words, with the streams and files of the host, `rt`, and ends with its status, 0 to 4.
 fn main(rt: HostRuntime) -> ExitCode {
     let mut opener = |name: &str| fs::open(&rt, name);
     // What is no file on a disk is not opened again: a pipe has given its bytes, and to open one may wait for a writer.

@@ -3,7 +3,8 @@ use lt_tool::{Command, WordsFault, read_words, word_text};
 use std::alloc::{Alloc, AllocError};
 use std::env::{Env, FillError};
 
-/// The bytes of the word of this number, if there is one.
+/// The bytes of the word of this number, if there is one. The buffer, at first of 256 bytes, is doubled as long as
+/// the word does not fit, so at most as often as a `usize` has bits.
 fn word_bytes(rt: &HostRuntime, number: usize) -> Result<Option<Vec<u8>>, WordsFault> {
     let mut buffer = vec![in rt.alloc(); 0u8; 256]?;
     for _ in 0..usize::BITS {
@@ -22,7 +23,8 @@ fn word_bytes(rt: &HostRuntime, number: usize) -> Result<Option<Vec<u8>>, WordsF
     Err(WordsFault::OutOfMemory)
 }
 
-/// The words of the command line, of which the first is the program's name, or why they can't be had.
+/// The words of the command line, of which the first is the program's name, or why they can't be had: one is not
+/// UTF-8, or memory ran out.
 fn words_given(rt: &HostRuntime) -> Result<Vec<String>, WordsFault> {
     let mut words = Vec::new(rt.alloc());
     for number in 0..usize::MAX {

@@ -19,7 +19,8 @@ abbrev pub is_asked : (at_terminal : Bool) → Result Command WordsFault → Boo
 is_asked at_terminal (Ok command) = is_told at_terminal command
 is_asked at_terminal (Err fault) = false
 
--- the command that the words name was run; or they name none, nothing was opened or read, and the run says why
+-- the command that the words name was run; or they name none, nothing was opened or read, and the run says why;
+-- `calls` relates the opener's state, `before`, a path, the answer and the next state, at last `after`
 abbrev pub ComesTo : {P F I O E : Type 0} → (P → List ℕ → Result F Error → P → Type 0) → (F → Option (List ℕ))
     → Result Command WordsFault → (registry : List ℕ) → (before after : P) → Stream I → Stream O → Stream E → Outcome
     → Type 0
@@ -28,7 +29,8 @@ ComesTo calls bytes (Ok command) registry before after input output errors outco
 ComesTo calls bytes (Err fault) registry before after input output errors outcome =
     (after ≡ before) × IsUntouched input × Reports fault output errors outcome
 
--- a run of the program by its words, and its exit status; `registry` is the path of the file that `@` means
+-- a run of the program by its words, and its exit status; `registry` is the path of the file that `@` means, and
+-- `calls` and `bytes` say what the opener does and which bytes a file has
 pub record RunsWords {P F I O E : Type 0} (calls : P → List ℕ → Result F Error → P → Type 0)
     (bytes : F → Option (List ℕ)) (words : Result Command WordsFault) (registry : List ℕ) (before after : P)
     (input : Stream I) (output : Stream O) (errors : Stream E) (status : ℕ) : Type 0 where

@@ -9,8 +9,8 @@ use std::alloc::{AllocError, Global};
 const OF_REGISTRY: &str =
     "@ is the registry that LANGTAG_REGISTRY names, or else the installed one.\n";
 
-/// Whether a text may be meant as a tag and not as the name of a file: it is a tag, and begins with a language of at most 3
-/// letters.
+/// Whether a text may be meant as a tag and not as the name of a file: it is a tag, and begins with a language of at
+/// most 3 letters, as registered languages do.
 fn is_likely_tag(alloc: Global, text: &[u8]) -> bool {
     first_subtag(text).len() <= 3 && read_tag(alloc, text).is_ok()
 }

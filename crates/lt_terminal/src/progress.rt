@@ -28,9 +28,9 @@ pub struct Progress<'a, W, T> {
 }
 
 impl<'a, W, T> Progress<'a, W, T> {
-    /// A writer over `inner` that took nothing so far. If `is_told`, it tells people how many lines it took, each time a
-    /// million is full; false where the output is a terminal itself, whose lines tell that. `is_unread` is set once a write
-    /// finds no reader.
+    /// A writer over `inner`, in a device that has not failed (`inner`), that took nothing so far. If `is_told`, it
+    /// tells people how many lines it took, each time a million is full (`told`); false where the output is a
+    /// terminal itself, whose lines tell that. `is_unread` is set once a write finds no reader.
     pub fn new(
         alloc: Global,
         inner: W,
@@ -72,7 +72,9 @@ fn tell_progress<T: Write>(alloc: Global, before: u64, after: u64, people: &mut 
 impl<'a, W: Write, T: Write> Write for Progress<'a, W, T> {
     ghost contents = { λ progress. W.contents (inner_of progress.inner) };
 
-    /// Writes once to the writer, and counts the lines that it took, if a person is told of them.
+    /// Writes once to the writer, and counts the lines that it took, if a person is told of them; else nothing is
+    /// written to people (`told`). As of each writer, it takes no more than `buf` (`bound`), and what it takes
+    /// follows what it took before (`bytes`). An error is a failure of its device (`fails`).
     fn write(&mut self, buf: &[u8]) -> io::Result<usize>
         ensures bound { WritesAtMost result buf.now }
         ensures bytes { WriteAppends (W.contents (inner_of self.old.inner)) (W.contents (inner_of self.new.inner)) result buf.now }
@@ -98,7 +100,7 @@ impl<'a, W: Write, T: Write> Write for Progress<'a, W, T> {
         }
     }
 
-    /// Flushes the writer.
+    /// Flushes the writer, which takes no bytes by that (`bytes`).
     fn flush(&mut self) -> io::Result<()>
         ensures bytes { Keeps (W.contents (inner_of self.old.inner)) (W.contents (inner_of self.new.inner)) }
     {

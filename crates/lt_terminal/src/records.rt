@@ -1,7 +1,8 @@
 //! Where a record is in the file of a registry.
 use std::alloc::{AllocError, Global};
 
-/// Where a record begins, and what it is of.
+/// Where a record begins, its line counted from 1, and what it is of, for example the kind `region` and the name
+/// `BU`.
 #[derive(Drop)]
 struct Place<'a> {
     line: u64,

@@ -1,4 +1,5 @@
-//! The run.
+//! The run. In clauses `CalledAt P.FnMut` says what a call of the opener does; `stream` is a device before and after
+//! the run, with what gives its bytes.
 ghost use Rattle.std.specs.Prelude.{◌≡◌, false};
 ghost use Rattle.std.specs.Fn.{CalledAt};
 ghost use Rattle.lt_terminal.specs.People as spec;
@@ -32,8 +33,9 @@ fn is_told(at_terminal: bool, command: &Command) -> bool
     at_terminal || command.has_summary()
 }
 
-/// Tells people what the run of a command came to, if they are to be told. `registry` is the path that `@` means.
-/// `people.again` must be callable at any time, with any path.
+/// Tells people what the run of a command came to, if they are to be told; else their device and all else of `people`
+/// stays as it was (the clause). `registry` is the path that `@` means. `people.again` must be callable at any time,
+/// with any path.
 fn tell_people<F: Read + Drop, Q: FnMut(&str) -> io::Result<F>, T: Write>(
     alloc: Global,
     command: &Command,
@@ -50,14 +52,15 @@ fn tell_people<F: Read + Drop, Q: FnMut(&str) -> io::Result<F>, T: Write>(
     tell(alloc, command, registry, outcome, people);
 }
 
-/// Runs the program by its words as [`run_program`] does, and answers the exit status. `registry` is the path of the file
-/// that the name `@` means. `opener` and `people.again` must be callable at any time, with any path.
+/// Runs the program by its words as [`run_program`] does, and answers the exit status (`runs`). `registry` is the
+/// path of the file that the name `@` means. `opener` and `people.again` must be callable at any time, with any path.
 ///
-/// At a terminal, or where the words ask for a summary, it then tells people what the run came to. If all lines or records of
-/// `canon`, `codes`, `tsv` or `csv` were answered, it tells how many there were and how many were refused. For each fault it
-/// tells how many it refused, which was the first, and what to do. If something else was refused or failed, it tells what
-/// that means and what to do, and which file was refused or can't be opened. If a record of a registry is at fault, it opens
-/// the file again, and tells what the record is and where it begins.
+/// At a terminal, or where the words ask for a summary, it then tells people what the run came to; where nobody is
+/// told, `people` stays as it was (`tells`). If all lines or records of `canon`, `codes`, `tsv` or `csv` were
+/// answered, it tells how many there were and how many were refused. For each fault it tells how many it refused,
+/// which was the first, and what to do. If something else was refused or failed, it tells what that means and what to
+/// do, and which file was refused or can't be opened. If a record of a registry is at fault, it opens the file again,
+/// and tells what the record is and where it begins.
 pub fn run_for_people<
     F: Read + Drop,
     P: FnMut(&str) -> io::Result<F>,

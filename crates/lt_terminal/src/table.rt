@@ -34,7 +34,8 @@ pub(crate) fn append_counts(
     told.extend_from_slice(b" refused\n")
 }
 
-/// The byte that stands for one of a refused text: a question mark for what is not printable in ASCII.
+/// The byte that stands for one of a refused text: a question mark for what is not printable in ASCII, so that a text
+/// does nothing at a terminal.
 fn shown_byte(byte: u8) -> u8 {
     if byte >= b' ' && byte <= b'~' {
         byte

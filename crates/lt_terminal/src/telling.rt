@@ -1,4 +1,5 @@
-//! What a person is told after a run.
+//! What a person is told after a run. `registry` is the path that `@` means. `again` opens a file of the command
+//! again, and must be callable at any time, with any path (`Q.IsAlwaysCallable`).
 
 use crate::advice::{append_likely, append_refused};
 use crate::hints::append_hint;
@@ -14,7 +15,7 @@ use lt_tool::{Answer, Command, Fault, Outcome, Role, Status, Tags, path_of};
 use std::alloc::{AllocError, Global};
 use std::io::{self, Read, Write};
 
-/// The most bytes of a registry in which a record is looked for: 16 MiB.
+/// The most bytes of a registry in which a record is looked for: 16 MiB, some thirty times IANA's.
 const MOST_READ: u64 = 16_777_216;
 
 /// The name of what a command answers one by one: a line or a record.
@@ -50,7 +51,7 @@ fn refused_file<'a>(command: &'a Command, fault: &Fault) -> Option<&'a str> {
     }
 }
 
-/// Appends the line of a refused file, with its path. `registry` is the path that `@` means.
+/// Appends the line of a refused file, with its path.
 fn append_file(
     told: &mut Vec<u8>,
     command: &Command,
@@ -132,8 +133,8 @@ fn append_ranges(told: &mut Vec<u8>, texts: &[String]) -> Result<(), AllocError>
     Ok(())
 }
 
-/// The first bytes of a file, as many as a record is looked for in. None if the file can't be opened or read, or where memory
-/// runs out. `again` must be callable at any time, with any path.
+/// The first bytes of a file, as many as a record is looked for in. None if the file can't be opened or read, or
+/// where memory runs out.
 fn bytes_of<F: Read + Drop, Q: FnMut(&str) -> io::Result<F>>(
     alloc: Global,
     again: &mut Q,
@@ -148,9 +149,8 @@ fn bytes_of<F: Read + Drop, Q: FnMut(&str) -> io::Result<F>>(
     Some(bytes)
 }
 
-/// The line that says what the record is that a fault names, and where it begins in its file, which is read again for that.
-/// None if the fault names no record, or if the record can't be found. `registry` is the path that `@` means, and `again`
-/// must be callable at any time, with any path.
+/// The line that says what the record is that a fault names, and where it begins in its file, which is read again for
+/// that. None if the fault names no record, or if the record can't be found.
 fn place_of<F: Read + Drop, Q: FnMut(&str) -> io::Result<F>>(
     alloc: Global,
     command: &Command,
@@ -168,7 +168,6 @@ fn place_of<F: Read + Drop, Q: FnMut(&str) -> io::Result<F>>(
 }
 
 /// Appends what a fault means, and what to do: which text or file is refused, or which file can't be opened, and why.
-/// `registry` is the path that `@` means.
 fn append_cause(
     told: &mut Vec<u8>,
     alloc: Global,
@@ -194,8 +193,8 @@ fn append_cause(
     Ok(())
 }
 
-/// Appends what is told of a fault: what it means, and what to do; and, if the fault names a record of a registry, where it
-/// begins. `registry` is the path that `@` means, and `again` must be callable at any time, with any path.
+/// Appends what is told of a fault: what it means, and what to do; and, if the fault names a record of a registry,
+/// where it begins.
 fn append_fault<F: Read + Drop, Q: FnMut(&str) -> io::Result<F>>(
     told: &mut Vec<u8>,
     alloc: Global,
@@ -233,8 +232,7 @@ fn append_of_answer(
     }
 }
 
-/// The lines that a person is told of what a run of a command came to. `registry` is the path that `@` means, and `again`
-/// must be callable at any time, with any path.
+/// The lines that a person is told of what a run of a command came to.
 fn told_of<F: Read + Drop, Q: FnMut(&str) -> io::Result<F>>(
     alloc: Global,
     command: &Command,
@@ -268,8 +266,8 @@ fn is_left(outcome: &Outcome, is_unread: bool) -> bool {
     matches!(&outcome.end, Err(Fault::Run(ToolFault::Write))) && is_unread
 }
 
-/// Tells a person what a run of a command came to, if there is memory for it. Tells nothing if the output has no reader any
-/// more. `registry` is the path that `@` means, and `people.again` must be callable at any time, with any path.
+/// Tells a person what a run of a command came to, if there is memory for it. Tells nothing if the output has no
+/// reader any more.
 pub(crate) fn tell<F: Read + Drop, Q: FnMut(&str) -> io::Result<F>, T: Write>(
     alloc: Global,
     command: &Command,

@@ -1,4 +1,4 @@
--- Bytes that were read ahead.
+-- Bytes that were read ahead of a run, to find a column, and are read again before the rest.
 use Rattle.std.proofs.Common.{◌≡◌, ℕ, List, Option, None, Some, refl}
 use Rattle.std.specs.Fmt.{option_append}
 use Rattle.std.specs.Io.KnownBytes.{Keeps, prepend_known}

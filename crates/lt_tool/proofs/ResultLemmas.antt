@@ -1,4 +1,5 @@
--- What follows from the results of a run's steps.
+-- What follows from the results of a run's steps. `IsErrAnd result P` says what a `?` returned: an error of which `P`
+-- is true.
 use Rattle.std.proofs.Common.{◌≡◌, inl, inr, refl, ℕ, List, Result, Ok, Err, IsErrAnd, Option, None, Some, subst}
 use Rattle.std.specs.Borrow.{Bor}
 use Rattle.std.specs.Prelude.{option_copied}
@@ -23,13 +24,13 @@ pub is_fault : {A : Type 0} (fault : Fault) (result : Result A Fault) → IsErrA
 is_fault fault (Ok value) is = absurd is
 is_fault fault (Err f) is = rw is refl
 
--- a step for which memory ran out
+-- a step for which memory ran out gives what is allowed, whatever `P` and `Q` ask
 pub gives_no_memory : {A : Type 0} (P : A → Type 0) (Q : Fault → Type 0) (result : Result A Fault)
     → IsErrAnd result (λ f. f ≡ no_memory) → Gives P Q result
 gives_no_memory P Q (Ok value) is = absurd is
 gives_no_memory P Q (Err f) is = inr is
 
--- a step that refuses a text
+-- a step that refuses a text as `Q` says gives what is allowed
 pub gives_text_fault : {A : Type 0} (P : A → Type 0) (Q : TextRefusal → Type 0) (refusal : TextRefusal) (result : Result
     A Fault) → Q refusal → IsErrAnd result (λ f. f ≡ faults.Text refusal)
     → Gives P (IsTextFault Q) result

@@ -141,6 +141,7 @@ module _ {O : Type 0} (contents : O → Option (List ℕ)) (Shows : (text block 
           → map f (drop i texts) ≡ f text ∷ map f (drop (i + 1) texts)
       left_more within is = ap (map f) (drop_more texts i text within ∙ ap (λ (x : X). x ∷ drop (i + 1) texts) (sym is))
 
+      -- the block of the text at `i` was written, so those from the index `i + 1` on are left
       pub shown_more : (refused : Bool) → i < length texts → text ≡ get_or texts i text
           → HasShown (map f texts) (map f (drop i texts)) before any
           → WritesBlock (Shows (f text)) (stream contents before between) (Ok refused)
@@ -149,6 +150,7 @@ module _ {O : Type 0} (contents : O → Option (List ℕ)) (Shows : (text block 
           shown_next (map f texts) (f text) (map f (drop (i + 1) texts)) before between any refused
           (subst (λ (l : List (List ℕ)). HasShown (map f texts) l before any) (left_more within is) shown) block
 
+      -- the block of the text at `i` was not written whole, so the run ended there
       pub shown_stop : (fault : ToolFault) → i < length texts → text ≡ get_or texts i text
           → HasShown (map f texts) (map f (drop i texts)) before any
           → WritesBlock (Shows (f text)) (stream contents before between) (Err fault)
@@ -157,6 +159,7 @@ module _ {O : Type 0} (contents : O → Option (List ℕ)) (Shows : (text block 
           shown_cut (map f texts) (f text) (map f (drop (i + 1) texts)) before between any fault
           (subst (λ (l : List (List ℕ)). HasShown (map f texts) l before any) (left_more within is) shown) block
 
+  -- the index `i` is past the last text, so all blocks were written
   pub shown_all : {X : Type 0} (f : X → List ℕ) (texts : List X) (i : ℕ) (before : Device O) (any : Bool)
       → length texts ≤ i → HasShown (map f texts) (map f (drop i texts)) before any
       → WritesBlocks Shows (map f texts) (stream contents start before) (Ok any)

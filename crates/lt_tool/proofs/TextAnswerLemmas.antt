@@ -1,4 +1,4 @@
--- What is answered to a text.
+-- What is answered to a text, as one statement, from the two clauses of a call.
 use Rattle.std.proofs.Common.{ℕ, List, Global, Vec, Result, Ok, Err}
 use Rattle.std.specs.Prelude.{IfErr, IfOk}
 use Rattle.lt_canon.specs.Texts.{IsCanonicalTextOf, IsTextRefusal}

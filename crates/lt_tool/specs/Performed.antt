@@ -1,4 +1,5 @@
--- What a command does with its files and the standard streams, and what it comes to.
+-- What a command does with its files and the standard streams, and what it comes to. The files were `files` and are
+-- `files'`; `between` is the device between two parts of the run; `before` and `after` are the tallies.
 use Rattle.std.specs.Prelude.{◌≡◌, ℕ, List, [], Option, Result, Ok, Err}
 use Rattle.lt_jar.specs.declared.devices.Device.{Device}
 use Rattle.lt_stream.specs.declared.tallies.Tally.{Tally}

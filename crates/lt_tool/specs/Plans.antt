@@ -20,14 +20,15 @@ use Rattle.lt_tool.specs.declared.streams.Source.{Source}
 abbrev pub PlansJson : {F : Type 0} → Stream F → Result Plan Fault → Type 0
 PlansJson file result = ByRegistry file (λ R result. result ≡ Ok (plans.Json R)) result
 
--- only the first of the files was read, and `Gives` is true of it
+-- only the first of the files was read, of which `Gives` is true, and nothing of the second and of the input; the
+-- files were `before` and are `after`
 abbrev pub ReadsFirst : {F I : Type 0} → (F → Option (List ℕ)) → (before after : Files F) → Stream I
     → (Stream (Source F) → Type 0) → Type 0
 ReadsFirst bytes before after input Gives =
     (after.second ≡ before.second) × IsUntouched input × Gives (stream (bytes_of bytes) before.first after.first)
 
--- for each command, what was read of its files and of its input, and what is then left to do, or why the run ends;
--- `bytes` gives the bytes of a file, where they are known
+-- For each command, what was read of its files and of its input, and what is then left to do, or why the run ends.
+-- `bytes` gives the bytes of a file, where they are known; the files were `before` and are `after`.
 abbrev pub Plans : {F I : Type 0} → (F → Option (List ℕ)) → Command → (before after : Files F) → Stream I
     → Result Plan Fault → Type 0
 Plans bytes (command.Classify tag) before after input result =

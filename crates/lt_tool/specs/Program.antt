@@ -1,4 +1,5 @@
--- A whole run of the program, from its command to what it came to.
+-- A whole run of the program, from its command to what it came to. `calls` relates the opener's state, a path, the
+-- answer and the next state; `before` and `after` are such states, and `registry` is the path that `@` means.
 use Rattle.std.specs.Prelude.{◌≡◌, ◌≢◌, ◌⊎◌, ℕ, Bool, true, false, List, [], Option, Some, None, String, Vec}
 use Rattle.std.specs.Prelude.{Result, Ok, Err, IfErr, IfOk, length, codes, string_bytes}
 use Rattle.std.specs.IoError.{error_kind}
@@ -44,8 +45,8 @@ abbrev pub IsOpened : {F : Type 0} → Result F Error → Result (Source F) Faul
 IsOpened (Ok file) result = result ≡ Ok (sources.File file)
 IsOpened (Err error) result = (fault : Fault) × IsFileFault (error_kind error) fault × (result ≡ Err fault)
 
--- the file that a name means is opened by one call; `calls` relates the opener's state, a path, the answer and the next
--- state
+-- the file that a name means is opened by one call; `calls` relates the opener's state, a path, the answer and the
+-- next state
 pub record OpensNamed {P F : Type 0} (calls : P → List ℕ → Result F Error → P → Type 0) (before after : P)
     (taken : Bool) (registry name : List ℕ) (result : Result (Source F) Fault) : Type 0 where
   pub path : List ℕ

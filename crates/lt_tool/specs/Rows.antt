@@ -1,4 +1,6 @@
--- Which lines a command is to answer, and by what: tags, or rows with a column of tags.
+-- Which lines a command is to answer, and by what: tags, or rows with a column of tags. `named` says whether a table
+-- of codes is named, and `bytes` gives the bytes of a file, where they are known. The `front` of a plan is what was
+-- read of the input to find a column by its name.
 use Rattle.std.specs.Prelude.{◌≡◌, ◌-◌, ℕ, Bool, true, false, List, Option, Some, None, Result, Ok, Err, IfErr, is_some}
 use Rattle.std.specs.Prelude.{string_bytes}
 use Rattle.lt_registry.specs.Parts.{EntryParts}

@@ -68,7 +68,8 @@ abbrev pub codes_of : Option (List Code) → List Code
 codes_of None = []
 codes_of (Some codes) = codes
 
--- lines of this form were answered, by the entries of a registry and the codes of a table
+-- lines of this form were answered, by the entries of a registry and the codes of a table; `end` and `all` are what
+-- the run over them came to, and its tallies
 pub record RunsOver {I O : Type 0} (ground : Ground) (form : LineForm) (input : Stream I) (output : Stream O)
     (tallies : List Tally) (result : End) : Type 0 where
   pub end : Result Counts ToolFault
@@ -86,7 +87,8 @@ Ahead I = Chain (Bor (List ℕ)) (MutBor (Device I))
 abbrev pub bytes_ahead : {I : Type 0} → (I → Option (List ℕ)) → Ahead I → Option (List ℕ)
 bytes_ahead bytes ahead = chain_remaining (λ front. Some front.now) (λ rest. bytes (inner_of rest.now)) ahead
 
--- lines were answered from a reader of the bytes `front`, and then of the input
+-- lines were answered from a reader of the bytes `front`, and then of the input: it had these bytes `before`
+-- (`same`), where those of the input are known
 pub record RunsAhead {I O : Type 0} (plan : LinesPlan) (front : List ℕ) (input : Stream I) (output : Stream O)
     (tallies : List Tally) (result : End) : Type 0 where
   pub before : Device (Ahead I)

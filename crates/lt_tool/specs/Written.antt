@@ -1,4 +1,5 @@
--- What is on the output and the errors of a run after a text was written to one of them.
+-- What is on the output and the errors of a run after a text was written to one of them. A front of a text is its
+-- first bytes, from none to all. A device counts its failures, and has failed where that count rose.
 use Rattle.std.specs.Prelude.{◌≡◌, ◌⊎◌, ◌++◌, ℕ, List, Result, Err, IfErr, IfOk}
 use Rattle.std.specs.Io.KnownBytes.{Appends}
 use Rattle.lt_jar.specs.Devices.{HasFailed, failures_of, inner_of}

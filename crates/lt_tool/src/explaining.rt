@@ -17,7 +17,8 @@ use lt_tag::OutOfMemory;
 use std::alloc::Global;
 use std::io::Write;
 
-/// Lines are written once this many bytes of them are there, so that few writes are made and little memory is held.
+/// Lines are written once this many bytes of them are there, 64 KiB, so that few writes are made and little memory is
+/// held.
 const FULL: usize = 65536;
 
 /// Appends bytes. Refused where memory runs out.

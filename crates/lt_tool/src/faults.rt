@@ -87,8 +87,9 @@ impl Fault {
         }
     }
 
-    /// The name by which the manual explains the fault, for example `BadByte` or `C2`. Wrong usage has none, since its text
-    /// says all.
+    /// The name by which the manual explains the fault, for example `BadByte` or `C2`. Wrong usage has none, since
+    /// its text says all. It has no contract: it is for what people are told after a run, whose texts no clause
+    /// states.
     pub fn name(&self) -> Option<&'static str> {
         Some(match self {
             Fault::Text(refusal) | Fault::OtherText(refusal) => refusal.name(),
@@ -104,8 +105,8 @@ impl Fault {
         })
     }
 
-    /// The number of the record that the fault names, counted from 1, and the registry that has it. None if the fault names
-    /// no record.
+    /// The number of the record that the fault names, counted from 1, and the registry that has it. None if the fault
+    /// names no record. It has no contract, for the same reason as [`Fault::name`].
     pub fn record(&self) -> Option<(Role, u32)> {
         match self {
             Fault::Registry(role, refusal) => Some((*role, refusal.record()?)),
@@ -121,6 +122,8 @@ impl Fault {
 impl From<TextRefusal> for Fault {
     ghost from_gives = { λ refusal fault. fault ≡ faults.Text refusal };
 
+    /// The fault of a refused text, where `?` ends a call. Only `equal` has a second text, and it says which is
+    /// refused.
     fn from(refusal: TextRefusal) -> Fault {
         Fault::Text(refusal)
     }
@@ -129,6 +132,7 @@ impl From<TextRefusal> for Fault {
 impl From<OutOfMemory> for Fault {
     ghost from_gives = { λ _ fault. fault ≡ faults.Run tool_faults.OutOfMemory };
 
+    /// The fault of a call that memory ran out for, where `?` ends it.
     fn from(_error: OutOfMemory) -> Fault {
         Fault::Run(ToolFault::OutOfMemory)
     }

@@ -30,7 +30,8 @@ fn header_line(alloc: Global, refusal: &HeaderRefusal) -> Result<String, AllocEr
     }
 }
 
-/// The fault of a refused header; or of memory that ran out, for the header or for this line.
+/// The fault of a refused header: wrong usage, with the line that tells it; or of memory that ran out, for the header
+/// or for this line.
 fn fault_of(alloc: Global, refusal: &HeaderRefusal) -> Fault
     ensures { IsHeaderFault refusal.now result }
 {

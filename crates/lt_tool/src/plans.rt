@@ -1,4 +1,4 @@
-//! What is left to do once the files that a command names are read and judged.
+//! What is left to do once the files that a command names are read and judged: a plan, which `running` carries out.
 ghost use Rattle.std.specs.Prelude.{◌≡◌};
 ghost use Rattle.lt_tool.specs.Plans.{Plans, PlansJson};
 ghost use Rattle.lt_tool.specs.Streams.{stream};

@@ -1,4 +1,6 @@
-//! A run of the program, from its command to what it came to.
+//! A run of the program, from its command to what it came to. The opener opens the files that a command names, and
+//! must be callable at any time, with any path (`P.IsAlwaysCallable`). In clauses `CalledAt P.FnMut` says what one
+//! call of it did, by its state before, the path, the answer and its state after.
 ghost use Rattle.std.specs.Prelude.{◌≡◌};
 ghost use Rattle.std.specs.Fn.{CalledAt};
 ghost use Rattle.std.specs.Option.{option_map};
@@ -39,7 +41,8 @@ pub fn path_of<'a>(name: &'a str, is_taken: bool, registry: &'a str) -> &'a str
     }
 }
 
-/// The fault of a file that can't be opened, with a line for a person that says which and why.
+/// The fault of a file that can't be opened, with a line for a person that says which and why; or of memory that ran
+/// out for that.
 fn file_fault(alloc: Global, path: &str, error: &io::Error) -> Fault
     ensures { IsFileFault (error_kind error.now) result }
 {
@@ -49,8 +52,8 @@ fn file_fault(alloc: Global, path: &str, error: &io::Error) -> Fault
     }
 }
 
-/// Opens the file that a name means. `is_taken` says whether the command reads the standard input for itself, and `registry`
-/// is the path that `@` means. The opener must be callable at any time, with any path. Refused if the opener gives an error.
+/// Opens the file that a name means. `is_taken` says whether the command reads the standard input for itself, and
+/// `registry` is the path that `@` means. Refused if the opener gives an error.
 fn open_named<F: Read + Drop, P: FnMut(&str) -> io::Result<F>>(
     alloc: Global,
     opener: &mut P,
@@ -68,8 +71,7 @@ fn open_named<F: Read + Drop, P: FnMut(&str) -> io::Result<F>>(
     }
 }
 
-/// Opens the file of this name, if there is a name. The opener must be callable at any time, with any path. Refused if the
-/// opener gives an error.
+/// Opens the file of this name, if there is a name. Refused if the opener gives an error.
 fn open_file<F: Read + Drop, P: FnMut(&str) -> io::Result<F>>(
     alloc: Global,
     opener: &mut P,
@@ -86,8 +88,8 @@ fn open_file<F: Read + Drop, P: FnMut(&str) -> io::Result<F>>(
     }
 }
 
-/// Opens the files that a command names, in the order in which they are read. The opener must be callable at any time, with
-/// any path. Refused at the first file for which the opener gives an error.
+/// Opens the files that a command names, in the order in which they are read. Refused at the first file for which the
+/// opener gives an error.
 fn open_files<F: Read + Drop, P: FnMut(&str) -> io::Result<F>>(
     alloc: Global,
     command: &Command,
@@ -120,9 +122,9 @@ fn ask<I: Read>(command: &Command, input: &mut Device<I>) -> Result<(), Fault>
     }
 }
 
-/// Opens the files that a command names. If the command reads the input, the input is asked for no bytes first, so that a
-/// closed input is not taken for a file that is opened in its place. The opener must be callable at any time, with any path.
-/// Refused if the input can't be read or the opener gives an error.
+/// Opens the files that a command names. If the command reads the input, the input is asked for no bytes first, so
+/// that a closed input is not taken for a file that is opened in its place. Refused if the input can't be read or the
+/// opener gives an error.
 fn prepare<F: Read + Drop, P: FnMut(&str) -> io::Result<F>, I: Read>(
     alloc: Global,
     command: &Command,
@@ -245,9 +247,9 @@ fn end_of_words(fault: WordsFault) -> Result<Answer, Fault>
     }
 }
 
-/// Says why the words are no command, and gives what the run came to. Help and the version are printed, and any other fault
-/// is told on the errors. The status is 0 for help and the version, 3 for words that name no command, and 4 where memory ran
-/// out or a write failed.
+/// Says why the words are no command, and gives what the run came to (`ends`); the input is not read (`unread`). Help
+/// and the version are printed, and any other fault is told on the errors. The status is 0 for help and the version,
+/// 3 for words that name no command, and 4 where memory ran out or a write failed.
 pub fn report<I, O: Write, E: Write>(
     alloc: Global,
     fault: WordsFault,

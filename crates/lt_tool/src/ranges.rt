@@ -107,7 +107,8 @@ fn range_line(alloc: Global, refused: &RefusedRange) -> Result<String, AllocErro
     format!(in alloc; "! {name} range {number}\n")
 }
 
-/// The fault of a refused range; or of memory that ran out, for the range or for this line.
+/// The fault of a refused range: wrong usage, with the line that tells it; or of memory that ran out, for the range
+/// or for this line.
 fn fault_of(alloc: Global, refused: &RefusedRange) -> Fault
     ensures { IsRangeFault refused.now result }
 {

@@ -1,4 +1,5 @@
-//! The registry that a command names.
+//! The registry that a command names. A file is first read as entries or a fault, its reading, and then judged: its
+//! entries pass the check, or the registry is refused.
 ghost use Rattle.std.specs.Prelude.{◌≡◌, Err, Ok};
 ghost use Rattle.lt_tool.specs.Registries as spec;
 ghost use Rattle.lt_tool.specs.Registries.{IsJudged, IsRegistryRefusal, ReadsFile, ReadsJudged};
@@ -41,7 +42,8 @@ impl RegistryRefusal {
         }
     }
 
-    /// The name of the fault, or the code of the condition that is not met.
+    /// The name of the fault, or the code of the condition that is not met. It has no contract: it serves
+    /// [`Fault::name`].
     pub(crate) fn name(&self) -> &'static str {
         match self {
             RegistryRefusal::Jar(fault) => fault.kind.name(),
@@ -51,8 +53,8 @@ impl RegistryRefusal {
         }
     }
 
-    /// The number of the record at fault, counted from 1. None for a fault of the format, which has a line instead, and where
-    /// memory ran out.
+    /// The number of the record at fault, counted from 1. None for a fault of the format, which has a line instead,
+    /// and where memory ran out. It has no contract: it serves [`Fault::record`].
     pub(crate) fn record(&self) -> Option<u32> {
         match self {
             RegistryRefusal::Record(fault) => Some(fault.number),
@@ -82,7 +84,7 @@ impl From<RegistryFault> for RegistryRefusal {
 }
 
 /// The entries, as a table that passed the check, or why they are refused: the first finding of the check, or that
-/// memory ran out.
+/// memory ran out. In the clause `Ok registry` is the reading of the file that had these entries.
 pub(crate) fn check_entries(
     alloc: Global,
     registry: Registry,

@@ -1,4 +1,6 @@
-//! Lines that are tags, and rows with a column of tags.
+//! Lines that are tags, and rows with a column of tags. The ground is what they are answered by: a registry, and a
+//! table of codes if one is named. The front is what was read of the input to find a column by its name, which is
+//! answered too.
 ghost use Rattle.std.specs.Prelude.{◌≡◌};
 ghost use Rattle.lt_tool.specs.Rows as spec;
 ghost use Rattle.lt_tool.specs.Rows.{FindsPlace, PlansRows, PlansTags, ReadsCodes, ReadsGround};
@@ -102,6 +104,8 @@ pub(crate) struct ColumnPlace {
 impl From<ColumnFault> for Fault {
     ghost from_gives = { λ missing fault. fault ≡ spec.of_column_fault missing };
 
+    /// The fault of a column that is not found: wrong usage where the heading does not have it once, with the line
+    /// that tells it, or the fault of reading the heading.
     fn from(fault: ColumnFault) -> Fault {
         match fault {
             ColumnFault::Name(line) => Fault::Usage(line),

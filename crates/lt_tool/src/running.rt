@@ -99,7 +99,7 @@ fn selected(end: Result<u64, ToolFault>) -> Result<Answer, Fault>
     }
 }
 
-/// A line with the line feed that ends it. Refused where memory runs out.
+/// A line with the line feed (10) that ends it. Refused where memory runs out.
 pub(crate) fn ended(mut line: Vec<u8>) -> Result<Vec<u8>, OutOfMemory>
     ensures { IfOk result (λ text. text.items ≡ line.items ++ 10 ∷ []) }
 {

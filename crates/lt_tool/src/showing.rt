@@ -1,4 +1,4 @@
-//! What the records of a registry say of tags, printed tag by tag.
+//! What the records of a registry say of tags, printed tag by tag. What is printed of one text is a block.
 ghost use Rattle.std.specs.Prelude.{◌≡◌, ◌||◌, ◌++◌, ◌∷◌, [], IfOk, Ok, false, map, string_bytes, true};
 ghost use Rattle.lt_show.specs.Tables.{shown_byte};
 ghost use Rattle.lt_tool.specs.Shown as spec;
@@ -59,7 +59,8 @@ fn show_object<L: Lookup, O: Write>(
     write_block(&object, refused, output)
 }
 
-/// A block for people: the bytes `head`, the line of a refusal, and an empty line.
+/// A block for people: the bytes `head`, the line of a refusal, and an empty line. The `true` of the clause says that
+/// the text is refused.
 fn refused_block(head: Vec<u8>, refusal: &TextRefusal) -> Result<Vec<u8>, OutOfMemory>
     ensures { IfOk result (λ block. EndsRefused refusal.now head.items block.items true) }
 {
@@ -82,7 +83,8 @@ fn show_refused<O: Write>(
     write_block(&block, true, output)
 }
 
-/// A text that is no tag, as a line that does nothing at a terminal.
+/// A text that is no tag, as a line that does nothing at a terminal: spaces stand for control characters. A line feed
+/// (10) ends it.
 fn printable_line(alloc: Global, text: &[u8]) -> Result<Vec<u8>, OutOfMemory>
     ensures { IfOk result (λ line. line.items ≡ map shown_byte text.now ++ 10 ∷ []) }
 {
@@ -218,7 +220,8 @@ fn refusal_of(fault: RecordsFault) -> RegistryRefusal
     }
 }
 
-/// The plan to show tags by a registry and its records (`both`), or why the registry fails the check.
+/// The plan to show tags by a registry and its records (`both`), which were read of a file, or why the registry fails
+/// the check.
 fn plan_kept<'a>(alloc: Global, both: (Registry, Jar), tags: &'a Tags) -> Result<Plan<'a>, Fault>
     ensures { PlansBy tags.now (Ok both) result }
 {

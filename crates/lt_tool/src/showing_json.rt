@@ -1,4 +1,5 @@
-//! What the records of a registry say of a tag, as a line of JSON.
+//! What the records of a registry say of a tag, as a line of JSON. The contracts state whether the tag is refused,
+//! but not the bytes of the line, so the functions that only append some have none.
 ghost use Rattle.std.specs.Prelude.{IfOk};
 ghost use Rattle.lt_tool.specs.Shown.{EndsTag, ShowsObject};
 

@@ -11,7 +11,8 @@ pub enum Status {
     Refused = 1,
     /// A registry, a table of codes or an upgrade was refused.
     RegistryRefused = 2,
-    /// The words name no command, a column that the input has not, or more than once, or a range or a header that is refused.
+    /// The words are wrong: they name no command, or a column that the heading of the input has not or has more than
+    /// once, or a range or a header of theirs is refused.
     Usage = 3,
     /// A file was not opened, a read or a write failed, the reads were too many, records of CSV end within quotes, a row
     /// or a record is too long, the input is in UTF-16, or memory ran out.

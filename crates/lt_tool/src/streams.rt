@@ -30,7 +30,8 @@ impl<F: Read> Read for Source<F> {
 
     ghost remaining = { λ source. bytes_of F.remaining source };
 
-    /// Reads once from the file, or gives no bytes if there is none.
+    /// Reads once from the file, or gives no bytes if there is none. As of each reader, no more bytes are given than
+    /// `buf` has room for (`bound`), and they are the next of those that are left (`bytes`).
     fn read(&mut self, buf: &mut [u8]) -> io::Result<usize>
         ensures bound { ReadsAtMost result buf.new }
         ensures bytes { ReadConsumes (bytes_of F.remaining self.old) (bytes_of F.remaining self.new) result buf.new }

@@ -105,9 +105,9 @@ fn equality<L: Lookup>(
     Ok(equivalent(alloc, checked, &tag, &other)?)
 }
 
-/// Whether the first of two texts passes, so that `refusal` is that of the second. `own` is what is answered to the first
-/// alone. It passes if it is a tag that has a canonical form; and if `refusal` says that a text is no tag, it passes without
-/// a canonical form too.
+/// Whether the first of two texts passes, so that `refusal` is that of the second. `own` is what is answered to the
+/// first alone. It passes if it is a tag that has a canonical form. If `refusal` says that a text is no tag, it
+/// passes without a canonical form too, since both texts are read before a tag is judged.
 fn is_passed(refusal: &TextRefusal, own: &Result<Vec<u8>, TextRefusal>) -> bool
     ensures { result ≡ spec_of_tags.is_passed refusal.now own.now }
 {
@@ -119,7 +119,8 @@ fn is_passed(refusal: &TextRefusal, own: &Result<Vec<u8>, TextRefusal>) -> bool
     }
 }
 
-/// The fault of two texts, one of which is refused: it says whether that is the first or the second.
+/// The fault of two texts, one of which is refused: it says whether that is the first or the second. `refusal`
+/// doesn't say that, so the first text is made canonical alone.
 fn pair_fault<L: Lookup>(
     alloc: Global,
     checked: &Checked<L>,

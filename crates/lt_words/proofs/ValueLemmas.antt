@@ -1,4 +1,4 @@
--- The values of positionals.
+-- What is shown of positionals without a value, of texts that name no column, and of the names of subcommands.
 use Rattle.std.proofs.Common.{◌≡◌, ◌<◌, ◌∙◌, ℕ, Bool, true, false, List, [], ◌∷◌, Option, Some, None, map, sym, ap}
 use Rattle.std.proofs.Common.{refl, subst, slice_index, ◌==◌, if◌then◌else◌, le-leb}
 use Rattle.std.specs.Char.{digit_value, is_ascii_digit}
@@ -95,7 +95,7 @@ pub no_name : (text : Text) (heading : Bool) → (IsDecimal text → ⊥) → he
 no_name text heading other without (columns.Number number) is fits = other is.digits
 no_name text heading other without (columns.Name name) is fits = let bad : true ≡ false = sym fits ∙ without in cc
 
--- ---- subcommands
+-- ---- subcommands: where a positional has no value, no command of the subcommand is named
 
 -- the subcommand by the third letter `a` of its name and the `first`, as bytes of ASCII: these tell all names apart
 by_letters : ℕ → ℕ → Subcommand

@@ -1,4 +1,4 @@
--- The command line on words that are written out.
+-- Worked examples: what the command line gives for words that are written out.
 use Rattle.std.proofs.Common.{◌≡◌, List, [], ◌∷◌, Option, None, Some, codes, option_map, refl}
 use Rattle.clap.proofs.OnLiterals.{clap_on_literals}
 use Rattle.clap.specs.Words.{Text, fault_of, first_of, subcommand_of}

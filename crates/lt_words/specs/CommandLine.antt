@@ -1,4 +1,5 @@
--- The command line of the program, as `clap` sees it.
+-- The command line of the program, as `clap` sees it: an `App` is a command with its subcommands, a `Rule` is an
+-- argument, and a `Text` is the bytes of a word.
 use Rattle.std.specs.Prelude.{List, [], ◌∷◌, ◌++◌, Some, true, codes, map}
 use Rattle.clap.specs.Words.{App, Rule, Text, new_app, new_rule, with_rule, with_subcommand}
 use Rattle.clap.specs.declared.builder.action.ArgAction.TheVariants.{Append, Set, SetTrue}
@@ -27,7 +28,7 @@ option id name = record (new_rule id) { long = Some name; action = Some Set }
 abbrev pub flag : (name : Text) → Rule
 flag name = record (new_rule name) { long = Some name; action = Some SetTrue }
 
--- the rule for the argument `id`, by how it is given
+-- the rule for an argument, by how it is given and by its name, `id`
 abbrev pub rule_for : Form → Text → Rule
 rule_for forms.Positional id = positional id
 rule_for forms.Repeated id = repeated id
@@ -109,7 +110,7 @@ subcommands =
     sub.Classify ∷ sub.Check ∷ sub.Canon ∷ sub.Codes ∷ sub.Tsv ∷ sub.Csv ∷ sub.Match ∷ sub.Extlang
     ∷ sub.Equal ∷ sub.Explain ∷ sub.Verify ∷ sub.Upgrade ∷ sub.Show ∷ sub.Json ∷ []
 
--- the program with these subcommands, in this order
+-- the program with these subcommands, in this order; `.top` is a subcommand alone
 abbrev pub with_subcommands : App → List Subcommand → App
 with_subcommands app [] = app
 with_subcommands app (s ∷ more) =

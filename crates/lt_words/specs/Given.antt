@@ -7,7 +7,7 @@ use Rattle.std.specs.Str.{IsUtf8}
 use Rattle.lt_words.specs.declared.faults.WordsFault.{WordsFault}
 use Rattle.lt_words.specs.declared.faults.WordsFault.TheVariants as fault
 
--- the last digit of a number to the base 16: 0 to 9 (48 to 57), or a to f (97 to 102)
+-- the last digit of a number to the base 16: 0 to 9 (48 to 57), or a to f (97 to 102, which is 87 and 10 to 15)
 abbrev pub hex_digit : ℕ → ℕ
 hex_digit n = if nat_lt (n % 16) 10 then 48 + n % 16 else 87 + n % 16
 

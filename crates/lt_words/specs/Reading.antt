@@ -1,4 +1,7 @@
--- The command that the words of a command line name, or why they name none.
+-- The command that the words of a command line name, or why they name none. `clap` defines the matches of words: a
+-- subcommand and a `Row` for each argument that was found, with its values. Of rows, `first_of` gives the first value
+-- of the argument with a name, and `all_of` all its values. `fault_of` gives the kinds of error that the parser may
+-- answer to words, none where they are right.
 use Rattle.std.specs.Prelude.{◌≡◌, ◌≢◌, ◌<◌, ◌^◌, ◌==◌, ◌&&◌, ◌||◌, not, ⊤, ℕ, Bool, true, false, List, [], ◌∷◌, Option, Some}
 use Rattle.std.specs.Prelude.{None, if◌then◌else◌, bytes_eq, codes, map, nat_lt, option_map, string_bytes}
 use Rattle.std.specs.Char.{is_ascii_alphanumeric}
@@ -243,7 +246,7 @@ IsRefused words (fault.Usage text) =
     × (fault_of langtag words ≡ kind.DisplayVersion ∷ [] → ⊥)
 IsRefused words fault.OutOfMemory = ⊤
 
--- ---- the steps
+-- ---- the steps of reading, each with why it refuses; Help and Version come only of a parse (`IsFaultOf`)
 
 -- one of these required arguments has no value among the matches; OutOfMemory may be answered in any case
 abbrev pub LacksValue : List Row → List Text → WordsFault → Type 0

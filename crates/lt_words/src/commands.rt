@@ -132,7 +132,7 @@ impl Command {
     }
 
     /// Whether the command reads the standard input, whatever file it names: `canon`, `codes`, `tsv`, `csv`, `match`,
-    /// `verify` and `json` do.
+    /// `verify` and `json` do. The file name `-` can't mean the standard input for them.
     pub fn reads_input(&self) -> bool
         ensures { result ≡ reads_input_of self.now }
     {

@@ -1,4 +1,4 @@
-//! The bytes of the words of a command line.
+//! The text of a word of the command line, or the message for a word that is not UTF-8, whose bytes are shown in it.
 ghost use Rattle.std.specs.Prelude.{◌≡◌, ◌++◌, ◌∷◌, [], IfErr, IfOk, OnOk, encode_utf8, string_bytes};
 ghost use Rattle.lt_words.specs.Given as spec;
 ghost use Rattle.lt_words.specs.Given.{IsNoText};
@@ -13,7 +13,8 @@ fn is_shown(byte: u8) -> bool
     byte >= b' ' && byte <= b'~' && byte != b'"' && byte != b'\\'
 }
 
-/// The last digit of a number to the base 16, from `0` to `9` or from `a` to `f`.
+/// The last digit of a number to the base 16, from `0` to `9` or from `a` to `f`: `b` of 0xab. The clause says which
+/// byte it is in UTF-8.
 fn hex_digit(number: u8) -> char
     ensures { encode_utf8 result ≡ spec.hex_digit number ∷ [] }
 {
@@ -37,8 +38,8 @@ fn append_escaped(said: &mut String, byte: u8) -> Result<(), AllocError>
     said.push(hex_digit(byte))
 }
 
-/// Bytes as they are shown: each that is printable ASCII and no quote or backslash as it is, and any other as `\x` and two digits to
-/// the base 16.
+/// Bytes as they are shown: each that is printable ASCII and no quote or backslash as it is, and any other as `\x`
+/// and two digits to the base 16.
 pub fn escaped(alloc: Global, bytes: &[u8]) -> Result<String, AllocError>
     ensures { IfOk result (λ text. string_bytes text ≡ spec.escaped bytes.now) }
 {

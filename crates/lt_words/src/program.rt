@@ -1,4 +1,5 @@
-//! The command line of the program, as `clap` reads it.
+//! The command line of the program, as `clap` reads it. In the clauses `app_of` and `rule_of` are what `clap`'s
+//! contracts see of a command and of an argument, which is all but the texts of help.
 ghost use Rattle.std.specs.Prelude.{◌≡◌, false, IfOk, map};
 ghost use Rattle.lt_words.specs.CommandLine.{langtag, program, rule_for, subcommand};
 ghost use Rattle.clap.specs.declared.builder.command.Command.TheViews.{out-Command as fields_of};
@@ -30,6 +31,7 @@ pub(crate) struct Argument {
     help: &'static str,
 }
 
+// The arguments. Two may have the same `name`, as `TABLE` and `CODES` do, but no subcommand takes both.
 pub(crate) static TAG: Argument = Argument {
     name: "TAG",
     form: Form::Positional,
@@ -138,11 +140,13 @@ pub(crate) static SUMMARY: Argument = Argument {
     help: "Says on standard error what was refused, and why",
 };
 
-/// The version, and the kits that prove and build the program, by their logic.
+/// What `--version` prints: the version, which tools/describe.py writes here, and the kits that prove and build the
+/// program, by the number of their logic.
 const VERSION: &str = "1.1.0 (rattle-kit-13 logic dac8208d650f15bf)";
 
 /// The argument that is wanted, as the parser takes it: a positional, which is required, may be repeated, or both, an
-/// option with a value, or a flag.
+/// option with a value, or a flag. It is not global (`local`), that is, one of the subcommands below too: `clap`
+/// states what a command is only if it has no such argument.
 fn new_argument<'a>(alloc: Global, wanted: &Argument) -> Arg<'a>
     ensures rule { rule_of result ≡ rule_for wanted.now.form wanted.now.name.now }
     ensures local { result.global ≡ false }
@@ -157,7 +161,8 @@ fn new_argument<'a>(alloc: Global, wanted: &Argument) -> Arg<'a>
     }
 }
 
-/// A subcommand with this name, help and arguments.
+/// A subcommand with this name, help and arguments (`app`). None of them is global (`globals`), as `clap` asks of a
+/// subcommand that is added.
 fn new_subcommand<'a>(
     alloc: Global,
     name: &'a str,
@@ -187,7 +192,8 @@ fn new_program<'a>(alloc: Global) -> Command<'a>
         .subcommand_required(true)
 }
 
-/// The program with a further subcommand, which has this name, help and arguments.
+/// The program with a further subcommand, which has this name, help and arguments. In the clause `.top` is the
+/// subcommand alone, without subcommands of its own.
 fn with_new<'a>(
     alloc: Global,
     program: Command<'a>,

@@ -1,4 +1,9 @@
 //! Reading the words of the command line.
+//!
+//! `clap` parses them to matches: the name of a subcommand, and a row with the values of each argument. In the
+//! clauses `rows_of (found_of values.now)` are these rows. A reader of a command has two clauses. `named`: the
+//! command that it gives is what the name and the rows say. `unnamed`: what it refuses with `Usage` is no command at
+//! all; memory may run out for any words.
 ghost use Rattle.std.specs.Prelude.{◌≡◌, IfOk, IfErr, map, Some, string_bytes};
 ghost use Rattle.lt_words.specs.CommandLine.{name_of};
 ghost use Rattle.lt_words.specs.Reading.{Reads, IsRefused, IsNamed, NamesNone, IsFaultOf};
@@ -169,7 +174,7 @@ fn command_of(alloc: Global, matches: &ArgMatches<'_>) -> Result<Command, WordsF
 }
 
 /// The fault of words that could not be parsed, by the kind of the parser's error and by its text, which `error`
-/// displays: `Help` and `Version` where these are asked for, else `Usage`, or `OutOfMemory`.
+/// displays (`D.output`): `Help` and `Version` where these are asked for, else `Usage`, or `OutOfMemory`.
 fn fault_of<D: Display>(alloc: Global, kind: ErrorKind, error: &D) -> WordsFault
     ensures { IsFaultOf kind (D.output error.now) result }
 {

@@ -1,4 +1,8 @@
 //! The values of a subcommand's arguments.
+//!
+//! `matches` are what the parser found, and `rows_of (found_of matches.now)` a row with the values of each argument.
+//! Where a call refuses with `Usage`, its last clause says that no answer would be right; memory may run out in any
+//! call.
 ghost use Rattle.std.specs.Prelude.{◌≡◌, ◌↔◌, [], ◌∷◌, IfOk, IfErr, IsTrue, Some, map, option_map, string_bytes};
 ghost use Rattle.std.specs.Str.Parse.{AllDigits, without_leading_plus};
 ghost use Rattle.lt_words.specs.Reading.{AreGiven, FitsHeading, IsColumn, IsDecimal, IsNoColumn, IsNoNumber, IsNumber, AreRangesGiven, HasCompany, IsAlone, LacksDelimiter, LacksMatching, LacksRanges, LacksValue, delimiter_given, matching_given, values_given};
@@ -11,7 +15,8 @@ use crate::program::{Argument, DELIMITER, EXTENDED, LOOKUP, RANGE};
 use clap::ArgMatches;
 use std::alloc::{AllocError, Global};
 
-/// The value of a positional. Refused with `Usage` if it has none.
+/// The value of a positional, which is an argument that is given by its place. Refused with `Usage` if it has none.
+/// The clauses speak of lists of one, since their definitions are of all positionals of a command.
 pub(crate) fn value_of(
     alloc: Global,
     matches: &ArgMatches<'_>,
@@ -43,7 +48,7 @@ pub(crate) fn two_values(
     Ok((value, other))
 }
 
-/// Copies of texts.
+/// Copies of texts, in their order, which a command then owns.
 fn copies_of(alloc: Global, texts: &[&str]) -> Result<Vec<String>, AllocError>
     ensures { IfOk result (λ copies. map string_bytes copies.items ≡ map (λ text. text.now) texts.now) }
 {
@@ -102,7 +107,7 @@ fn without_plus(text: &[u8]) -> &[u8]
     }
 }
 
-/// Whether a text has digits alone.
+/// Whether a text has decimal digits alone (10 in the clause is the base). It is true of an empty text too.
 #[tactic(auto, using(crate::proofs::ValueLemmas::digits_next, crate::proofs::ValueLemmas::no_digit))]
 fn are_digits(bytes: &[u8]) -> bool
     ensures { IsTrue result ↔ AllDigits 10 bytes.now }
@@ -125,7 +130,8 @@ fn is_decimal(text: &str) -> bool
     !digits.is_empty() && are_digits(digits)
 }
 
-/// The number of a column, counted from 1. Refused with `Usage` if the text is no number from 1 to 2^64 - 1.
+/// The number of a column, counted from 1. Refused with `Usage` if the text is no decimal number from 1 to 2^64 - 1,
+/// the greatest `usize`.
 fn number_of(alloc: Global, text: &str) -> Result<usize, WordsFault>
     ensures number { IfOk result (IsNumber text.now) }
     ensures none { IfErr result (IsNoNumber text.now) }
@@ -141,8 +147,8 @@ fn number_of(alloc: Global, text: &str) -> Result<usize, WordsFault>
     }
 }
 
-/// The column that a text names: by its number, or, if the rows have a heading, by its name. Refused with `Usage` if it
-/// names none.
+/// The column that a text names (`column`): by its number, or, only if the rows have a heading (`fits`), by its name.
+/// Refused with `Usage` if it names none.
 #[tactic(auto, using(crate::proofs::ValueLemmas::no_number, crate::proofs::ValueLemmas::no_name))]
 pub(crate) fn column_of(alloc: Global, text: &str, heading: bool) -> Result<Column, WordsFault>
     ensures column { IfOk result (IsColumn text.now) }
@@ -233,7 +239,8 @@ pub(crate) fn ranges_of(alloc: Global, matches: &ArgMatches<'_>) -> Result<Range
     Ok(Ranges { texts, matching })
 }
 
-/// Refused with `Usage` if a range is given, or a flag that says how ranges match: a header has ranges of its own.
+/// Checks that nothing stands beside the option `--accept` which only ranges need. Refused with `Usage` if a range is
+/// given, or a flag that says how ranges match: a header has ranges of its own.
 pub(crate) fn check_alone(alloc: Global, matches: &ArgMatches<'_>) -> Result<(), WordsFault>
     ensures alone { IfOk result (λ _. IsAlone (rows_of (found_of matches.now))) }
     ensures company { IfErr result (HasCompany (rows_of (found_of matches.now))) }

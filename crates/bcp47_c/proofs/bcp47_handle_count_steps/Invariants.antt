@@ -1,4 +1,4 @@
--- The call of `take` is given the registry that the handle holds before the call.
+-- For its ghost argument `registry` the call of `take` gets the registry that the handle holds before the call.
 use Rattle.bcp47_c.proofs.bcp47_handle_count_steps.Given as goal
 
 abbrev pub ghost-take : goal.ghost-take

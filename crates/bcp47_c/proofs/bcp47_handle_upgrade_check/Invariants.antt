@@ -1,4 +1,5 @@
--- The call of `take` is given the older of the registries that the handles hold before the call, and the other one the newer.
+-- For their ghost argument `registry` the call of `take` gets the registry that the older handle holds, and that of
+-- `check_newer` the newer one.
 use Rattle.bcp47_c.proofs.bcp47_handle_upgrade_check.Given as goal
 
 abbrev pub ghost-take : goal.ghost-take

@@ -1,4 +1,4 @@
--- The call of `into_block` is given the registry that the handle holds before the call.
+-- For its ghost argument `registry` the call of `into_block` gets the registry that the handle holds before the call.
 use Rattle.bcp47_c.proofs.handle.take.Given as goal
 
 abbrev pub ghost-into_block : goal.ghost-into_block

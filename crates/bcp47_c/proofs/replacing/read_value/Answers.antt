@@ -3,7 +3,7 @@ use Rattle.bcp47_c.specs.Replacing.{IsNoValue}
 use Rattle.bcp47_c.proofs.Replaced.{foreign_value}
 use Rattle.bcp47_c.proofs.replacing.read_value.Goals as goal
 
--- the value is read as a langtag, but its part at this index is in another section
+-- the value is read as a langtag, but its part at this index is in another section, so it is no value (Misplaced)
 pub returns-in-Some-clause-none : goal.returns-in-Some-clause-none
 returns-in-Some-clause-none c =
     subst (λ (fault : ℕ). IsNoValue c.args.section c.args.value.now

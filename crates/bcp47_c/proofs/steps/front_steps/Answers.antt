@@ -3,7 +3,7 @@ use Rattle.bcp47_c.proofs.Fronts.{front_until, front_of_all}
 use Rattle.bcp47_c.proofs.steps.front_steps.Goals.{else-loop-numbers-test, then-loop-numbers-test+in_default}
 use Rattle.bcp47_c.proofs.steps.front_steps.Goals as goal
 
--- what is beyond the last step, where the loop has ended
+-- numbers that stand for what is beyond the last ones; they are not looked at
 abbrev none : StepNumbers
 none = record { kind = 0; place = 0; number = 0 }
 

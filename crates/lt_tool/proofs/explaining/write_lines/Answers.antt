@@ -1,3 +1,5 @@
+-- The bytes `head`, the lines of an explanation and the bytes `tail` are written by pieces. `lines` keeps in memory
+-- what is not written yet; where the call ends early, a front of all these bytes was written.
 use Rattle.std.proofs.lemmas.Result.{err_from_is_err_and}
 use Rattle.lt_tool.proofs.ExplainedLemmas.{HasWritten, written_all, written_kept, written_lacks, written_less, written_none, written_step}
 use Rattle.lt_tool.proofs.explaining.write_lines.Goals as goal

@@ -1,3 +1,5 @@
+-- For each command: which files and streams are left as they were, and the plan that the command's own function
+-- makes.
 use Rattle.std.proofs.Common.{refl}
 use Rattle.lt_tool.proofs.plans.make_plan.Goals as goal
 

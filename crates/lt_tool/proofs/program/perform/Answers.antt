@@ -2,7 +2,7 @@ use Rattle.std.proofs.Common.{◌∙◌, ap}
 use Rattle.lt_tool.specs.Codes.{code_of}
 use Rattle.lt_tool.proofs.program.perform.Goals as goal
 
--- the number is the code of the status in which the run ended
+-- what the call did is what `carry_out` did, and the number is the code of the status in which that run ended
 pub returns : goal.returns
 returns g c =
     record {

@@ -1,3 +1,4 @@
+-- For each plan: which streams and tallies are left as they were, and what the plan's own function did and gave.
 use Rattle.std.proofs.Common.{refl}
 use Rattle.lt_tool.proofs.running.run.Goals as goal
 

@@ -4,7 +4,8 @@ use Rattle.lt_lines.specs.Running.{RunsLines}
 use Rattle.lt_tool.proofs.ResultLemmas.{codes_lent}
 use Rattle.lt_tool.proofs.running.run_over.Goals as goal
 
--- the lines are answered by the registry and the table of the ground, which the basis only lends
+-- the lines are answered by the registry and the table of the ground: the basis that is given to `run_tallied`
+-- borrows both
 pub returns : goal.returns
 returns g c = record {
   end = c.run_tallied-end.result;

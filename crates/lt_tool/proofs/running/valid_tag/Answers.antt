@@ -7,7 +7,7 @@ use Rattle.lt_canon.specs.TextAnswers.{IsValidityRefusal}
 use Rattle.lt_canon.proofs.TextRefusals.{validity_refused}
 use Rattle.lt_tool.proofs.running.valid_tag.Goals as goal
 
--- `validate` finds no fault, which for a tag of these extensions means that it is valid
+-- `validate` finds no fault, so the tag is valid: it has the form of a tag, as the clause `tag` of `extensions` says
 pub returns-in-Ok-clause-valid : goal.returns-in-Ok-clause-valid
 returns-in-Ok-clause-valid g c =
     subst (λ l. IsValid (g.L.Lookup.listed l) c.in_ok-tag.tag) c.table.ensures.value

@@ -3,7 +3,7 @@ use Rattle.lt_tag.specs.Faults.{HasTag}
 use Rattle.lt_canon.proofs.TextRefusals.{pair_refused}
 use Rattle.lt_tool.proofs.tag_commands.equality.Goals as goal
 
--- both texts are tags, and one of the tags is refused
+-- both texts are tags, and one of the tags is refused, which is a refusal of the two texts
 pub returns-in_err-equivalent-clause-refusal : goal.returns-in_err-equivalent-clause-refusal
 returns-in_err-equivalent-clause-refusal g c =
     let p = err_from_is_err_and c.from_residual-in_err-equivalent.result c.from_residual-in_err-equivalent.ensures.1 in

@@ -3,11 +3,11 @@ use Rattle.std.proofs.lemmas.Result.{IfOk-weaker}
 use Rattle.clap.specs.Words.{App, Shape, app_of, with_subcommand}
 use Rattle.lt_words.proofs.program.new_langtag.Goals as goal
 
--- one subcommand more
+-- if `old` is the command line `old_is`, and `new` is `old` with one subcommand more, `new` is `old_is` with that
 adds : (old new : App) (sub : Shape) (old_is : App) → old ≡ old_is → new ≡ with_subcommand old sub → new ≡ with_subcommand old_is sub
 adds old new sub old_is e is = is ∙ ap (λ (a : App). with_subcommand a sub) e
 
--- the fourteen calls add the subcommands one by one, in the order of the command line
+-- the fourteen calls add the subcommands one by one, in the order of `langtag`
 pub returns : goal.returns
 returns c =
     let one = adds _ (app_of c.in_ok-program.program) _ _ c.new_program-program.ensures c.in_ok-program.ensures in

@@ -1,3 +1,5 @@
+-- Each subcommand has a reader of its values: what that refuses is no command of the subcommand (the clause
+-- `unnamed`).
 use Rattle.lt_words.proofs.reading.read_command.Goals as goal
 
 -- the subcommand is `tsv`, and its values name no command

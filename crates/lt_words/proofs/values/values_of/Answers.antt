@@ -11,7 +11,7 @@ use Rattle.lt_words.proofs.values.values_of.Goals as goal
 abbrev now_of : Bor (List (Bor Text)) → List Text
 now_of texts = map (λ (text : Bor Text). text.now) texts.now
 
--- the values, if there are any
+-- the values, or an empty list where the argument was not found
 abbrev or_none : Option (List Text) → List Text
 or_none texts = option_map_or (λ (l : List Text). l) texts []
 

@@ -1,4 +1,5 @@
--- What is owned at the place is owned by a box of it.
+-- `Block::into_box` meets its contract, shown of its code step by step: the box that is made owns what is owned at
+-- the place, so it has the same value. The brackets list what is known at that point of the code.
 use mathlib.Core.Path.{◌≡◌, refl, sym, subst, ap}
 use mathlib.Core.List.{List, [], ◌∷◌, ◌++◌}
 use lib.Dec.{T}

@@ -1,4 +1,5 @@
--- The box is taken apart, and its place is owned as the box owned it.
+-- `Block::of` meets its contract, shown of its code step by step: the box is taken apart, and its place is owned as
+-- the box owned it, with the same value. The brackets list what is known at that point of the code.
 use mathlib.Core.Path.{◌≡◌, refl, ap, ◌∙◌}
 use mathlib.Core.List.{List, [], ◌∷◌, ◌++◌}
 use mir.MapTy.{inst_fn}

@@ -1,4 +1,5 @@
--- A handle that holds nothing owns its two fields alone.
+-- `Handle::empty` meets its contract, shown of its code step by step: a handle that holds nothing owns its two fields
+-- alone.
 use mathlib.Core.Path.{refl}
 use mathlib.Core.List.{List, [], ◌∷◌, ◌++◌}
 use lib.Dec.{T}

@@ -1,4 +1,5 @@
--- The handle holds a registry, so it owns what the block does, and the two fields are moved.
+-- `Handle::into_block` meets its contract, shown of its code step by step: the handle holds a registry, so it owns
+-- what the block does, and the two fields are moved.
 use mathlib.Core.Path.{◌≡◌, refl}
 use mathlib.Core.List.{List, [], ◌∷◌, ◌++◌}
 use mir.Val.{Val}
@@ -25,6 +26,7 @@ use Rattle.bcp47_c.specs.contracts.handle.Handle.into_block as f
 use Rattle.bcp47_c.proofs.handle.Handle.into_block.Statement.{statement}
 use Rattle.bcp47_c.proofs.handle.Handle.into_block.Code as code
 
+-- the caller keeps no parameter
 abbrev stayed : Stays f.ended.signature.params f.ended.kept
 stayed = (stay_dropped (plain (λ _. held_handle)) yes, tt)
 

@@ -24,6 +24,7 @@ use Rattle.bcp47_c.specs.contracts.handle.Handle.of_block as f
 use Rattle.bcp47_c.proofs.handle.Handle.of_block.Statement.{statement}
 use Rattle.bcp47_c.proofs.handle.Handle.of_block.Code as code
 
+-- the caller keeps no parameter
 abbrev stayed : Stays f.ended.signature.params f.ended.kept
 stayed = (stay_dropped (plain (λ _. held_block)) yes, tt)
 
