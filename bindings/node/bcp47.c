@@ -168,20 +168,37 @@ static napi_value text_by(napi_env env, napi_callback_info info) {
     return outcome.status == of->status ? string_of(env, buffer, outcome.length) : refusal(env, outcome);
 }
 
-/* show(registry, tag) and explain(registry, tag, most): the rows that the program prints, as JSON, and its lines */
-static napi_value text_given(napi_env env, napi_callback_info info) {
+/* An array of the number of the kind, the place, the record and the tag of each step, in turn, and last the text behind these tags. */
+static napi_value steps_of(napi_env env, const bcp47_step *steps, size_t count, const char *tags) {
+    napi_value made = NULL;
+    uint32_t at = 0;
+    napi_create_array(env, &made);
+    for (size_t i = 0; i < count; tags += strlen(tags) + 1, i++) {
+        const uint32_t numbers[] = {steps[i].kind, steps[i].place, steps[i].number};
+        for (int k = 0; k < 3; k++) napi_set_element(env, made, at++, number_of(env, numbers[k]));
+        napi_set_element(env, made, at++, string_of(env, tags, NAPI_AUTO_LENGTH));
+    }
+    napi_set_element(env, made, at, string_of(env, tags, NAPI_AUTO_LENGTH));
+    return made;
+}
+
+/* show(registry, tag) and explain(registry, tag, most): the rows that the program prints, as JSON, and the steps and the canonical text */
+static napi_value given(napi_env env, napi_callback_info info) {
     napi_value values[3], made = NULL;
-    char text[ROOM], *whole;
+    char text[ROOM], *rows = NULL;
     size_t length;
     uint32_t most;
+    bcp47_step *steps = NULL;
+    const char *tags;
     holder *it = takes_held(env, info, 3, values, NULL);
     if (!it || !text_of(env, values[1], text, &length)) return NULL;
     bcp47_outcome outcome = napi_get_value_uint32(env, values[2], &most) == napi_ok
-                                ? bcp47_explanation(it->registry, text, length, most, &whole)
-                                : bcp47_show(it->registry, text, length, &whole);
-    if (outcome.status != BCP47_DONE) return refusal(env, outcome);
-    napi_create_string_utf8(env, whole, outcome.length, &made);
-    bcp47_free(whole);
+                                ? bcp47_steps(it->registry, text, length, most, &steps, &tags)
+                                : bcp47_show(it->registry, text, length, &rows);
+    if (outcome.status != BCP47_DONE) made = refusal(env, outcome);
+    else if (rows) napi_create_string_utf8(env, rows, outcome.length, &made);
+    else made = steps_of(env, steps, outcome.place, tags);
+    bcp47_free(rows), bcp47_free(steps);
     return made;
 }
 
@@ -317,14 +334,14 @@ static napi_value facts(napi_env env, napi_callback_info info) {
 /* names(which): an array of the names of the numbers from 1 on, or of what they mean */
 static napi_value names(napi_env env, napi_callback_info info) {
     static const char *(*const all[])(int) = {bcp47_status_name, bcp47_status_help, bcp47_fault_name, bcp47_fault_help,
-                                              bcp47_part_kind_name};
+                                              bcp47_part_kind_name, bcp47_kind_name};
     napi_value value, made = NULL;
     uint32_t which = 0;
     if (!takes(env, info, 1, &value, NULL)) return NULL;
     napi_get_value_uint32(env, value, &which);
     napi_create_array(env, &made);
     const char *name;
-    for (uint32_t number = 1; *(name = all[which % 5]((int)number)); number++)
+    for (uint32_t number = 1; *(name = all[which % 6]((int)number)); number++)
         napi_set_element(env, made, number, string_of(env, name, NAPI_AUTO_LENGTH));
     return made;
 }
@@ -337,8 +354,8 @@ NAPI_MODULE_INIT() {
     } functions[] = {
         {"open", open_registry, NULL},       {"close", close_registry, NULL},   {"canonical", text_by, &of_canonical},
         {"variant", text_by, &of_variant},   {"extlang", text_by, &of_extlang}, {"parent", text_by, &of_parent},
-        {"posix", text_by, &of_posix},       {"parts", text_by, &of_parts},     {"explain", text_given, NULL},
-        {"show", text_given, NULL},          {"record", record, NULL},          {"validate", validate, NULL},
+        {"posix", text_by, &of_posix},       {"parts", text_by, &of_parts},     {"explain", given, NULL},
+        {"show", given, NULL},               {"record", record, NULL},          {"validate", validate, NULL},
         {"match", match, NULL},              {"facts", facts, NULL},            {"names", names, NULL},
         {"available", available, NULL},      {"best", served, NULL},            {"filter", served, &no_memory},
         {"with", with, NULL},

@@ -4,8 +4,8 @@
 
 // Room for the text of any tag, for its canonical text and for its parts. What is longer is no tag, which the library says of its front.
 const ROOM = 4096, PARTS = 512;
-// What a part and a field take, in bytes.
-const [PART, FIELD] = [24, 16];
+// What a part, a field and a step take, in bytes.
+const [PART, FIELD, STEP] = [24, 16, 12];
 const [DONE, REPEATS, DIFFERENT] = [0, 3, 6];
 
 function callsOf(wasm) {
@@ -71,12 +71,12 @@ function callsOf(wasm) {
   };
   /** The text that a call wrote, where it ended with a status. */
   const written = (status, wanted = DONE) => (ended(status) === wanted ? read(output, words[outcome + 4]) : refusal());
-  /** The text that a call gave, which is freed. */
-  const taken = (place) => {
-    if (!ended(place)) return refusal();
-    const text = read(place, words[outcome + 4]);
+  /** What is read of what a call gave, which is freed: so many as the outcome tells. */
+  const taken = (place, reads) => {
+    look();
+    const answer = words[outcome] ? refusal() : reads(place, words[outcome + 2]);
     wasm.bcp47_free(place);
-    return text;
+    return answer;
   };
 
   const lost = new FinalizationRegistry(([closes, place]) => closes(place));
@@ -93,7 +93,7 @@ function callsOf(wasm) {
   };
   const byRegistry = (writes, wanted) => (held, tag) => written(writes(placeOf(held), input, write(tag, input), output, ROOM), wanted);
   const alone = (writes) => (text) => written(writes(input, write(text, input), output, ROOM));
-  const names = ['status_name', 'status_help', 'fault_name', 'fault_help', 'part_kind_name'].map((it) => wasm[`bcp47_${it}`]);
+  const names = ['status_name', 'status_help', 'fault_name', 'fault_help', 'part_kind_name', 'kind_name'].map((it) => wasm[`bcp47_${it}`]);
 
   return {
     version: zeroEnded(wasm.bcp47_version()),
@@ -131,27 +131,30 @@ function callsOf(wasm) {
     filter: (held, accept) => lendText(accept, (place, size) => lend(new Uint8Array(8 * held.count), (places) =>
       (ended(wasm.bcp47_filter(placeOf(held), place, size, places, held.count)) ? refusal()
         : Array.from({ length: words[outcome + 2] }, (_, i) => words[places / 4 + 2 * i])))),
-    record(held, number) {
-      const place = ended(wasm.bcp47_record(placeOf(held), number));
-      if (words[outcome]) return refusal();
-      const count = words[outcome + 2];
+    record: (held, number) => taken(wasm.bcp47_record(placeOf(held), number), (place, count) => {
       let at = place + FIELD * count;
-      const texts = Array.from({ length: 2 * count }, (_, i) => {
+      return Array.from({ length: 2 * count }, (_, i) => {
         const length = words[(place + 8 * i) / 4];
         at += length + 1;
         return read(at - length - 1, length);
       });
-      wasm.bcp47_free(place);
-      return texts;
-    },
+    }),
     parts(tag) {
       const text = written(wasm.bcp47_parts(input, write(tag, input), output, ROOM, parts, PARTS));
       if (typeof text === 'number') return text;
       const kinds = Array.from({ length: words[outcome + 2] }, (_, i) => 64 + bytes[parts + PART * i]);
       return `${text}.${String.fromCharCode(...kinds)}`;
     },
-    explain: (held, tag, most) => taken(wasm.bcp47_explanation(placeOf(held), input, write(tag, input), most)),
-    show: (held, tag) => taken(wasm.bcp47_show(placeOf(held), input, write(tag, input))),
+    explain: (held, tag, most) => taken(wasm.bcp47_steps(placeOf(held), input, write(tag, input), most), (place, count) => {
+      const facts = [];
+      for (let i = 0, at = place + STEP * count; i <= count; i++) {
+        const step = place + STEP * i, to = zeroEnded(at);
+        facts.push(...(i < count ? [bytes[step], words[step / 4 + 1], words[step / 4 + 2]] : []), to);
+        at += to.length + 1;
+      }
+      return facts;
+    }),
+    show: (held, tag) => taken(wasm.bcp47_show(placeOf(held), input, write(tag, input)), (place) => read(place, words[outcome + 4])),
     validate: (held, tag) => (ended(wasm.bcp47_validate(placeOf(held), input, write(tag, input))) ? refusal() : undefined),
     // a range may have any length
     match: (held, range, tag, scheme) => lendText(range, (place, size) => {

@@ -4,7 +4,7 @@
 const { readFileSync } = require('node:fs');
 const native = require('./native.js');
 
-const [STATUSES, STATUS_HELP, FAULTS, FAULT_HELP, KINDS] = [0, 1, 2, 3, 4].map(native.names);
+const [STATUSES, STATUS_HELP, FAULTS, FAULT_HELP, KINDS, STEPS] = [0, 1, 2, 3, 4, 5].map(native.names);
 const [REPEATS, OUT_OF_MEMORY] = ['ReplacementRepeats', 'OutOfMemory'].map((name) => STATUSES.indexOf(name));
 const SCHEMES = ['basic', 'extended', 'lookup'];
 const CLASSES = { Language: 'langtag', PrivateUseSingleton: 'privateuse', Grandfathered: 'grandfathered' };
@@ -328,12 +328,9 @@ class Registry {
 
   explain(tag, most = 20_000) {
     if (typeof most !== 'number' || Number.isNaN(most)) throw wrongType('most', 'of type number', most);
-    const lines = this.#ask(native.explain, tag, Math.min(Math.max(most, 0), 0xffffffff)).split('\n').slice(0, -1);
-    const [, canonical] = lines.pop().split(' ');
-    return { canonical, steps: lines.map((line) => {
-      const [kind, place, number, tag] = line.split(' ');
-      return { kind, place: Number(place), number: Number(number), tag };
-    }) };
+    const facts = this.#ask(native.explain, tag, Math.min(Math.max(most, 0), 0xffffffff)), canonical = facts.pop(), steps = [];
+    for (let i = 0; i < facts.length; i += 4) steps.push({ kind: STEPS[facts[i]], place: facts[i + 1], number: facts[i + 2], tag: facts[i + 3] });
+    return { canonical, steps };
   }
 
   record(number) {

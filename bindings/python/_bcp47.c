@@ -356,10 +356,26 @@ static PyObject *registry_is_valid(PyObject *self, PyObject *const *arguments, P
     return ask_validity(self, tag_of(arguments, count, names), 1);
 }
 
-/* given(tag, most): the lines of its explanation, with at most so many steps; below 0 what the records say of it, as JSON, for which the
-   first call reads them. */
+/* Puts an object into a list, which takes the reference. */
+static int put(PyObject *list, Py_ssize_t index, PyObject *object) {
+    return object && !PyList_SetItem(list, index, object);
+}
+
+/* A list of steps, each its kind, place and number and the tag to which it leads, and the text behind these tags. */
+static PyObject *steps_of(const bcp47_step *steps, size_t count, const char *tags) {
+    PyObject *list = PyList_New((Py_ssize_t)count);
+    for (size_t i = 0; list && i < count; tags += strlen(tags) + 1, i++)
+        if (!put(list, (Py_ssize_t)i, Py_BuildValue("sIIs", bcp47_kind_name(steps[i].kind), steps[i].place, steps[i].number, tags)))
+            Py_CLEAR(list);
+    return list ? Py_BuildValue("Ns", list, tags) : NULL;
+}
+
+/* given(tag, most): its steps, at most so many, and its canonical text; below 0 what the records say of it, as JSON, for which the first
+   call reads them. */
 static PyObject *registry_given(PyObject *self, PyObject *arguments) {
-    char *whole = NULL;
+    char *rows = NULL;
+    bcp47_step *steps = NULL;
+    const char *tags = NULL;
     PyObject *tag, *made = NULL;
     Py_ssize_t most;
     text it;
@@ -369,22 +385,17 @@ static PyObject *registry_given(PyObject *self, PyObject *arguments) {
         bcp47_outcome outcome;
         registry->calls++;
         Py_BEGIN_ALLOW_THREADS
-        outcome = most < 0 ? bcp47_show(registry->registry, it.bytes, it.length, &whole)
-                           : bcp47_explanation(registry->registry, it.bytes, it.length, (size_t)most, &whole);
+        outcome = most < 0 ? bcp47_show(registry->registry, it.bytes, it.length, &rows)
+                           : bcp47_steps(registry->registry, it.bytes, it.length, (size_t)most, &steps, &tags);
         Py_END_ALLOW_THREADS
         end_call(registry);
-        made = outcome.status == BCP47_DONE                  ? PyUnicode_FromStringAndSize(whole, (Py_ssize_t)outcome.length)
-               : outcome.status == BCP47_REPLACEMENT_REPEATS ? text_by(bcp47_canonical, self, tag) /* which names the variant */
-                                                             : raise_refusal(REFUSED_TAG, outcome, NULL, it.holder);
-        bcp47_free(whole);
+        made = outcome.status != BCP47_DONE ? raise_refusal(REFUSED_TAG, outcome, tags, it.holder)
+               : rows                       ? PyUnicode_FromStringAndSize(rows, (Py_ssize_t)outcome.length)
+                                            : steps_of(steps, outcome.place, tags);
+        bcp47_free(rows), bcp47_free(steps);
     }
     end_text(&it);
     return made;
-}
-
-/* Puts an object into a list, which takes the reference. */
-static int put(PyObject *list, Py_ssize_t index, PyObject *object) {
-    return object && !PyList_SetItem(list, index, object);
 }
 
 /* record(number): a list of the fields, each its name and its body. The first call reads the records. */

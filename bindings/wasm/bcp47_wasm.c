@@ -127,12 +127,6 @@ CALL(int, filter, (at available, TEXT(accept), at places, uint32_t room), (avail
     return told(bcp47_filter(TO(bcp47_available, available), CHARS(accept), TO(size_t, places), room));
 }
 
-CALL(at, explanation, (at registry, TEXT(text), uint32_t most), (registry, BOTH(text), most)) {
-    char *lines;
-    told(bcp47_explanation(TO(bcp47_registry, registry), CHARS(text), most, &lines));
-    return OF(lines);
-}
-
 /* Where the steps are; the tags to which they lead stand behind as many as the outcome tells. */
 CALL(at, steps, (at registry, TEXT(text), uint32_t most), (registry, BOTH(text), most)) {
     bcp47_step *steps;

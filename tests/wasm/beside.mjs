@@ -36,7 +36,7 @@ const ask = (held, tag) => {
 };
 
 assert.equal(wasm.version, addon.version);
-for (let which = 0; which < 5; which++) assert.deepEqual(wasm.names(which), addon.names(which));
+for (let which = 0; which < 6; which++) assert.deepEqual(wasm.names(which), addon.names(which));
 const held = open(readFileSync(path));
 assert.deepEqual(wasm.facts(held[1]).map(String), addon.facts(held[0]).map((it) => String(Buffer.isBuffer(it) ? [...it] : it)));
 for (let number = 0; number < 10000; number += 7) same('record', held, number);

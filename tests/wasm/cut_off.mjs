@@ -10,13 +10,13 @@ const held = calls.open(readFileSync(path));
 const BUSY = 15;
 let cut = 0, busy = 0;
 const asks = [
-  [() => calls.canonical(held, 'zh-yue'), 'yue'], [() => calls.canonical(held, 'i-klingon'), 'tlh'], [() => calls.explain(held, 'sgn-dd', 9), /= gsg\n$/],
+  [() => calls.canonical(held, 'zh-yue'), 'yue'], [() => calls.canonical(held, 'i-klingon'), 'tlh'], [() => calls.explain(held, 'sgn-dd', 9), /^4,2,27,sgn-DE,7,1,44,gsg,gsg$/],
   [() => calls.show(held, 'de-Latn'), /^\[\{"place":1,/], [() => calls.match(held, 'zh-yue', 'yue-GB', 1), true], [() => calls.parts('en-x-a'), /^en-x-a\./],
 ];
 function check([ask, wanted]) {
   const answer = ask();
   if (answer === BUSY) busy++;
-  else if (wanted instanceof RegExp) assert.match(answer, wanted);
+  else if (wanted instanceof RegExp) assert.match(String(answer), wanted);
   else assert.equal(answer, wanted);
 }
 /** Goes down to the end of the stack, and asks at each of the 300 levels on the way back; how many were asked. */

@@ -59,7 +59,6 @@ for (let at = 0, end; (end = lines.indexOf(10, at)) >= 0; at = end + 1, tested++
     add(parts + PART * i, 1);
     add(parts + PART * i + 8, 16);
   }
-  taken(of.bcp47_explanation(registry, ...tag, 3));
   const list = of.bcp47_steps(registry, ...tag, 3), count = told(word(outcome)) ? 0 : word(outcome + 8);
   for (let i = 0; list && i < count; i++) {
     add(list + 12 * i, 1);

@@ -52,7 +52,7 @@ for (let pages = least; !wanted?.every((answer) => answer !== undefined); pages 
   // two of them, so that the second is refused for a while
   const second = said(() => calls.open(registry));
   const answers = [held, second ?? held].flatMap((it) => [
-    () => calls.canonical(it, 'zh-yue'), () => calls.explain(it, tag, 20_000), () => calls.show(it, 'zh-yue-Hant'), () => calls.match(it, `${'*-'.repeat(70_000)}zz`, 'en', 1),
+    () => calls.canonical(it, 'zh-yue'), () => String(calls.explain(it, tag, 20_000)), () => calls.show(it, 'zh-yue-Hant'), () => calls.match(it, `${'*-'.repeat(70_000)}zz`, 'en', 1),
     () => calls.canonical(it, tag), () => calls.validate(it, 'xx'), () => calls.parts('en-x-a'),
   ].map(said));
   wanted = answers;
@@ -61,7 +61,7 @@ for (let pages = least; !wanted?.every((answer) => answer !== undefined); pages 
   // what was let go serves again
   assert.equal(typeof said(() => calls.open(registry)), 'object');
   for (const [i, answer] of answers.entries()) {
-    const right = ['yue', /^SwapAttributes 3 0 en-u-z59-.*\n= en-u-z01-[^\n]*\n$/s, /^\[\{"place":1,/, true, /^en-u-z01-/, undefined, /^en-x-a\./][i % 7];
+    const right = ['yue', /^10,3,0,en-u-z59-.*,en-u-z01-[^,]*,en-u-z01-[^,]*$/, /^\[\{"place":1,/, true, /^en-u-z01-/, undefined, /^en-x-a\./][i % 7];
     if (answer === undefined) continue;
     if (right instanceof RegExp) assert.match(answer, right);
     else if (i % 7 === 5) assert.equal(typeof answer, 'number');

@@ -39,7 +39,7 @@ void wasm_available_close(address);
 int wasm_best(address, address, uint32_t), wasm_filter(address, address, uint32_t, address, uint32_t);
 int wasm_equivalent(address, address, uint32_t, address, uint32_t, address, uint32_t);
 int wasm_match(address, int, address, uint32_t, address, uint32_t, address, uint32_t);
-address wasm_explanation(address, address, uint32_t, uint32_t), wasm_steps(address, address, uint32_t, uint32_t), wasm_show(address, address, uint32_t);
+address wasm_steps(address, address, uint32_t, uint32_t), wasm_show(address, address, uint32_t);
 int wasm_verify(address, address, uint32_t, address, uint32_t, address, uint32_t), wasm_upgrade_check(address, address);
 address wasm_status_name(int), wasm_fault_name(int), wasm_kind_name(int), wasm_part_kind_name(int), wasm_status_help(int), wasm_fault_help(int);
 
@@ -241,12 +241,9 @@ static void test_tag(address at, const char *text, uint32_t length) {
         add(&parts[i].kind, 1), add(&parts[i].start, 16);
     }
     char *lines;
-    address said = wasm_explanation(at, tag, length, 3);
-    SAME((int)told->status, bcp47_explanation(registry, text, length, 3, &lines));
-    test_given(said, lines);
     bcp47_step *list;
     const char *leads;
-    said = wasm_steps(at, tag, length, 3);
+    address said = wasm_steps(at, tag, length, 3);
     SAME((int)told->status, bcp47_steps(registry, text, length, 3, &list, &leads));
     CHECK(!said == !list);
     size_t count = told->status ? 0 : told->place;

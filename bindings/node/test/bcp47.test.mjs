@@ -187,6 +187,8 @@ test('explanations', () => {
   const many = Array.from({ length: 210 }, (_, i) => String.fromCharCode(122 - i / 26, 122 - (i % 26))).join('-');
   assert.throws(() => registry.explain(`en-u-${many}`), { message: 'TooManySteps' });
   for (const wrong of [NaN, 'a', null]) assert.throws(() => registry.explain('sgn-dd', wrong), TypeError);
+  assert.throws(() => registry.explain('en_US'), { message: 'BadByte 1' });
+  assert.throws(() => registry.explain('ja-Latn-hepburn-alalc97-heploc'), { message: 'ReplacementRepeats alalc97', variant: 'alalc97' });
 });
 
 test('what records say', () => {

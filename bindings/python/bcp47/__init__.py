@@ -397,8 +397,8 @@ class Registry(_bcp47.Registry):
 
     def explain(self, tag: Union[str, Tag], most: int = 20_000) -> Explanation:
         """The steps from a tag to its canonical form. Raises RefusedTag, also where there are more than `most`."""
-        *steps, (_, canonical) = (line.split(" ") for line in self._given(tag, max(most, 0)).splitlines())
-        return Explanation(tuple(Step(kind, int(place), int(number), to) for kind, place, number, to in steps), canonical)
+        steps, canonical = self._given(tag, max(most, 0))
+        return Explanation(tuple(map(Step._make, steps)), canonical)
 
     def show(self, tag: Union[str, Tag]) -> List[Row]:
         """What the registry has for the parts of a tag, in order, with the fields of their records (RFC 5646, 3.1.2): Description,

@@ -547,7 +547,7 @@ class Growths(unittest.TestCase):
             (lambda: registry.canonical("zh-yue"), "yue"), (lambda: registry.extlang("yue"), "zh-yue"),
             (lambda: registry.canonical(tag), "yue"), (lambda: registry.is_valid("en_US"), False),
             (lambda: str(bcp47.Tag("EN-us")), "en-US"), (lambda: bcp47._bcp47.read("YUE-hk"), ("yue-HK", b"\1\4")),
-            (lambda: registry.equivalent("zh-yue", tag), True), (lambda: registry._given("en", 9), "= en\n"),
+            (lambda: registry.equivalent("zh-yue", tag), True), (lambda: registry.explain("sgn-dd"), registry.explain("sgn-dd")),
             (lambda: bcp47._bcp47.parent("zh-TW"), "zh"), (lambda: bcp47._bcp47.posix("de_AT"), "de-AT"),
             (lambda: bcp47._bcp47.replaced("de", 4, "AT"), "de-AT"), (lambda: available.filter("de, en"), ["de"]),
             (lambda: available.best("en, de"), "de"), (lambda: registry.available(["de"]).best("de"), "de"),
@@ -622,6 +622,13 @@ class Facts(unittest.TestCase):
         with self.assertRaises(bcp47.RefusedTag) as raised:
             registry.explain("en-u-" + "-".join(f"{chr(122 - n // 26)}{chr(122 - n % 26)}" for n in range(210)))
         self.assertEqual(raised.exception.status, "TooManySteps")
+        for few in (1, 0, -1, -2**70):
+            with self.assertRaisesRegex(bcp47.RefusedTag, "^TooManySteps$"):
+                registry.explain("sgn-dd", few)
+        self.assertEqual(registry.explain("sgn-dd", sys.maxsize), registry.explain("sgn-dd", 2))
+        self.assertRaises(OverflowError, registry.explain, "sgn-dd", sys.maxsize + 1)
+        for wrong in ("2", None, 2.0):
+            self.assertRaises(TypeError, registry.explain, "sgn-dd", wrong)
         self.assertEqual(bcp47.__version__.count("."), 2)
         self.assertEqual({*bcp47.__all__} - {*dir(bcp47)}, set())
 
