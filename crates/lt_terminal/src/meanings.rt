@@ -1,7 +1,7 @@
 //! What each fault means, and what to do: the words that the manual has too.
 
 /// The messages that a person may be told: a name that is printed, a colon, a space, what it means, and what to do. A
-/// range that is refused is wrong usage and needs none, so Empty and BadFirst have none.
+/// range that is refused is wrong usage and needs none, so BadFirst has none.
 const MESSAGES: [&str; 68] = [
     "BadByte: A byte that is no ASCII letter, digit or hyphen: write zh-Hant for zh_Hant; remove quotes, spaces, a byte order mark.",
     "EmptySubtag: Nothing between two hyphens, or an empty text: remove a hyphen too many, or the empty line.",
