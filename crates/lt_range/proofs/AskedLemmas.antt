@@ -1,10 +1,9 @@
 -- The preferences that a header asks for.
 use Rattle.std.proofs.Common.{◌≡◌, ◌<◌, ◌+◌, ◌++◌, ◌∷◌, ◌∙◌, false, ℕ, List, [], length, get_or, map, refl, sym, ap, subst, arith}
-use Rattle.std.specs.Prelude.{Err}
 use Rattle.std.proofs.lemmas.List.{get_or_append_left, get_or_push, get_or-map, length-append, length-map}
 use borrow.Author.Count.{below_more}
 use Rattle.lt_registry.specs.Parts.{EntryParts}
-use Rattle.lt_range.specs.Asked.{ArePreferencesOf, Asks, element_at_place, HasRefusedRange, IsElementRefusal}
+use Rattle.lt_range.specs.Asked.{ArePreferencesOf, element_at_place, HasRefusedRange, IsElementRefusal}
 use Rattle.lt_range.specs.Asked.{IsHeaderRefusal, IsPreferenceOf}
 use Rattle.lt_range.specs.Elements.{ElementParts, parts_of}
 use Rattle.lt_range.specs.HeaderRefusals.{of_accept_fault, of_range_refusal}

@@ -15,5 +15,6 @@ pub mod HeaderLemmas
 pub mod PriorityLemmas
 pub mod MatchLaws
 pub mod PlainRanges
+pub mod StayingLemmas
 pub mod AskedLemmas
 pub mod AvailableLemmas

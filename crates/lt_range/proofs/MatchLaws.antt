@@ -15,7 +15,7 @@ use Rattle.lt_canon.proofs.RepeatedVariants.{canonical_or_repeats, repeat_togeth
 use Rattle.lt_canon.proofs.EndForms.{equivalent_sym, equivalent_trans, star_equivalent}
 use Rattle.lt_range.specs.Ranges.{RangeParts, range_of_tag}
 use Rattle.lt_range.specs.Matched.{HasExtlangList, HasSubtags, IsExtlangRange, IsRangeOfText, MatchesAs, MatchesBy}
-use Rattle.lt_range.specs.Laws.{EquivalentTagsMatchAlike, EquivalentRangesMatchAlike, MatchesAsSpelled}
+use Rattle.lt_range.specs.Laws.{EquivalentTagsMatchAlike, EquivalentRangesMatchAlike}
 use Rattle.lt_range.specs.Laws.{MatchesOnlyAsSpelled, MatchingIsDetermined}
 
 module _ (R : List EntryParts) (C : IsChecked R) where

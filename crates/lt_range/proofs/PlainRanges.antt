@@ -1,5 +1,5 @@
 -- Texts that are no valid tags, and the ranges by which they match.
-use Rattle.std.proofs.Common.{◌≡◌, ◌∙◌, ◌∷◌, ◌++◌, Bool, false, ℕ, inl, inr, List, Ok, Err, IfOk, IfErr, refl, sym, ap, subst}
+use Rattle.std.proofs.Common.{◌≡◌, ◌∙◌, ◌∷◌, ◌++◌, false, ℕ, inl, inr, List, Ok, Err, IfOk, IfErr, refl, sym, subst}
 use Rattle.std.specs.Prelude.{Result}
 use Rattle.lt_tag.specs.Parts.{TagForm}
 use Rattle.lt_tag.proofs.OneTagLemmas.{one_tag_of_text}

@@ -7,7 +7,6 @@ use Rattle.lt_range.specs.Matched.{IsExtlangRange}
 use Rattle.lt_range.specs.Preferences.{at}
 use Rattle.lt_range.specs.Priority.{IsReading}
 use Rattle.lt_range.specs.Refusals.{IsRangeRefusal}
-use Rattle.lt_range.specs.declared.accept_faults.AcceptFault.{AcceptFault}
 use Rattle.lt_range.specs.declared.asked.HeaderRefusal.{HeaderRefusal}
 use Rattle.lt_range.specs.declared.asked.HeaderRefusal.TheVariants as refusals
 use Rattle.lt_range.specs.declared.elements.WeightedRange.{WeightedRange}

@@ -22,12 +22,15 @@ pub enum RangeFault {
 }
 
 impl RangeFault {
-    /// The fault's name: `BadFirst`, `OutOfMemory`, or that of the piece's fault, for example `BadByte`.
+    /// The fault's name: `BadFirst`, `OutOfMemory`, or that of a tag with this fault: `EmptySubtag`, `BadByte` or
+    /// `LongSubtag`.
     pub fn name(self) -> &'static str
         ensures { result.now ≡ name_of self }
     {
         match self {
-            RangeFault::BadSubtag(fault) => fault.name(),
+            RangeFault::BadSubtag(SubtagFault::Empty) => "EmptySubtag",
+            RangeFault::BadSubtag(SubtagFault::BadByte) => "BadByte",
+            RangeFault::BadSubtag(SubtagFault::TooLong) => "LongSubtag",
             RangeFault::BadFirst => "BadFirst",
             RangeFault::OutOfMemory => "OutOfMemory",
         }

@@ -1,5 +1,7 @@
 //! What is matched: extlang forms.
-ghost use Rattle.std.specs.Prelude.{◌≡◌, IfOk, IfErr, MatchOption};
+ghost use Rattle.std.specs.Prelude.{◌≡◌, ◌∷◌, ℕ, List, IfOk, IfErr, IfSome, MatchOption};
+ghost use Rattle.lt_registry.specs.Entries.{is_registered};
+ghost use Rattle.lt_registry.specs.declared.entries.Kind.TheVariants as kinds;
 ghost use Rattle.lt_canon.specs.Refusals.{IsRefusedWith};
 ghost use Rattle.lt_canon.specs.Texts.{IsTextRefusal, ReadsAs};
 ghost use Rattle.lt_range.specs.Matched.{HasExtlangList, HasNoSubtags, HasSubtags, IsExtlangRange, IsRangeOfText, MatchesAs};
@@ -10,7 +12,8 @@ use crate::refusals::RangeRefusal;
 use crate::tag_subtags::TagSubtags;
 use lt_canon::{Refusal, TextRefusal, extlang_form};
 use lt_check::Checked;
-use lt_registry::Lookup;
+use lt_registry::{Kind, Lookup};
+use lt_tag::laws::text_of_tag_has_its_list;
 use lt_tag::{OutOfMemory, Tag, read_tag};
 use std::alloc::Global;
 
@@ -28,6 +31,38 @@ pub fn extlang_subtags<L: Lookup>(
     Ok(TagSubtags::of(alloc, &form)?)
 }
 
+/// Whether the first of these subtags is registered as an extlang.
+fn begins_with_extlang<L: Lookup>(table: &L, subtags: &TagSubtags) -> bool
+    ensures { (s : List ℕ) (ss : List (List ℕ)) → subtags.now ≡ s ∷ ss → result ≡ is_registered (L.listed table.now) kinds.Extlang s }
+{
+    match subtags.subtags().first() {
+        Some(language) => table.entry(Kind::Extlang, language).is_some(),
+        None => false,
+    }
+}
+
+/// The subtags by which the tag of a text is matched, if one flag for each subtag tells that it stays as it is, and the
+/// language is no extlang too: `de-ch` is such a text. None of any other text. Refused only where memory runs out.
+fn staying_subtags<L: Lookup>(
+    alloc: Global,
+    checked: &Checked<L>,
+    text: &[u8],
+) -> Result<Option<TagSubtags>, OutOfMemory>
+    ensures { IfOk result (λ found. IfSome found (HasSubtags (L.listed checked.now) text.now)) }
+{
+    let mut shown = Vec::new(alloc);
+    if !checked.usual().append_text(text, &mut shown)? {
+        return Ok(None);
+    }
+    // So that each piece of the text is known to be a subtag.
+    text_of_tag_has_its_list();
+    let subtags = TagSubtags::of_text(alloc, &shown)?;
+    if begins_with_extlang(checked.table(), &subtags) {
+        return Ok(None);
+    }
+    Ok(Some(subtags))
+}
+
 /// Reads a text as a tag, and gives the subtags by which this tag is matched.
 ///
 /// - `NotATag`, with the fault that `read_tag` answers, exactly where the text is read as no tag.
@@ -41,6 +76,9 @@ pub fn subtags_of_text<L: Lookup>(
     ensures subtags { IfOk result (λ subtags. HasSubtags (L.listed checked.now) text.now subtags) }
     ensures refusal { IfErr result (λ refusal. IsTextRefusal (L.listed checked.now) text.now refusal) }
 {
+    if let Some(subtags) = staying_subtags(alloc, checked, text)? {
+        return Ok(subtags);
+    }
     let tag = read_tag(alloc, text)?;
     Ok(extlang_subtags(alloc, checked, &tag)?)
 }

@@ -26,26 +26,26 @@ impl Model for TagSubtags {
     ghost view = { λ t. t.subtags.items };
 }
 
-/// The subtags between the hyphens of a text, each piece of which must be a subtag. The only refusal is running out of
-/// memory.
-fn read_subtags(alloc: Global, text: &[u8]) -> Result<Vec<Subtag>, OutOfMemory>
-    requires { HasList text.now }
-    ensures { IfOk result (λ subtags. subtags.items ≡ list_of text.now) }
-{
-    let mut subtags = Vec::new(alloc);
-    let mut rest = Some(text);
-    while let Some(bytes) = rest {
-        let (piece, after) = cut_piece(bytes);
-        let Ok(subtag) = Subtag::read(piece) else {
-            unreachable!()
-        };
-        subtags.push(subtag)?;
-        rest = after;
-    }
-    Ok(subtags)
-}
-
 impl TagSubtags {
+    /// The subtags between the hyphens of a text, each piece of which must be a subtag. The only refusal is running out of
+    /// memory.
+    pub(crate) fn of_text(alloc: Global, text: &[u8]) -> Result<TagSubtags, OutOfMemory>
+        requires { HasList text.now }
+        ensures { IfOk result (λ subtags. subtags ≡ list_of text.now) }
+    {
+        let mut subtags = Vec::new(alloc);
+        let mut rest = Some(text);
+        while let Some(bytes) = rest {
+            let (piece, after) = cut_piece(bytes);
+            let Ok(subtag) = Subtag::read(piece) else {
+                unreachable!()
+            };
+            subtags.push(subtag)?;
+            rest = after;
+        }
+        Ok(TagSubtags { subtags })
+    }
+
     /// The subtags of a tag: `zh-Hant-x-ab` has four of them. The only refusal is running out of memory.
     pub fn of(alloc: Global, tag: &Tag) -> Result<TagSubtags, OutOfMemory>
         ensures { IfOk result (λ subtags. subtags ≡ spell tag.now) }
@@ -55,8 +55,7 @@ impl TagSubtags {
         // So that their shapes are known.
         let _ = tag.private();
         let text = write_tag(alloc, tag)?;
-        let subtags = read_subtags(alloc, &text)?;
-        Ok(TagSubtags { subtags })
+        TagSubtags::of_text(alloc, &text)
     }
 
     /// The subtags in their order.

@@ -99,7 +99,7 @@ fn scheme_of(matching: Matching) -> Option<Scheme>
 }
 
 /// The line that tells of a refused range: the name of its refusal and the number of the range, for example
-/// `! Empty range 1`.
+/// `! EmptySubtag range 1`.
 fn range_line(alloc: Global, refused: &RefusedRange) -> Result<String, AllocError>
     ensures { IfOk result (λ line. string_bytes line ≡ spec.range_line refused.now.number refused.now.refusal) }
 {

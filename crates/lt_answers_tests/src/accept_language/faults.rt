@@ -8,10 +8,10 @@ use std::test::Fail;
 /// Texts, the names of their faults, and the numbers of the elements at fault.
 const ROWS: &[(&str, &str, usize)] = &[
     ("en_US", "BadByte", 1),
-    ("da, en-", "Empty", 2),
-    ("da,,abcdefghi", "TooLong", 3),
+    ("da, en-", "EmptySubtag", 2),
+    ("da,,abcdefghi", "LongSubtag", 3),
     ("12", "BadFirst", 1),
-    (";q=1", "Empty", 1),
+    (";q=1", "EmptySubtag", 1),
     ("de, **", "BadByte", 2),
     ("de-*-DE", "ExtendedRange", 1),
     ("de,*-CH;q=2,?", "ExtendedRange", 2),

@@ -1,4 +1,4 @@
-use Rattle.std.proofs.Common.{◌≡◌, ◌+◌, List, ℕ, map, sym, subst}
+use Rattle.std.proofs.Common.{◌+◌, List, map, sym, subst}
 use Rattle.std.proofs.lemmas.Result.{err_from_is_err_and}
 use Rattle.lt_range.specs.Asked.{ArePreferencesOf}
 use Rattle.lt_range.specs.Elements.{parts_of}

@@ -1,4 +1,4 @@
-use Rattle.std.proofs.Common.{◌≡◌, ◌∷◌, ◌∙◌, Bool, false, ℕ, List, rules, sym, subst}
+use Rattle.std.proofs.Common.{◌≡◌, ◌∷◌, ◌∙◌, false, ℕ, List, rules, sym, subst}
 use Rattle.lt_range.specs.Matched.{HasNoSubtags, HasSubtags}
 use Rattle.lt_range.proofs.PlainRanges.{none_as, some_as}
 use Rattle.lt_range.proofs.matched.matching_range.Goals as goal

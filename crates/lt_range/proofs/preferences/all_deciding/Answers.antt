@@ -1,4 +1,4 @@
-use Rattle.std.proofs.Common.{◌≡◌, ◌+◌, ◌++◌, ◌∷◌, ℕ, List, Option, [], sym, subst}
+use Rattle.std.proofs.Common.{◌≡◌, ◌+◌, ℕ, List, Option, [], sym, subst}
 use Rattle.std.proofs.lemmas.List.{get_or_read}
 use Rattle.lt_range.specs.Lookup.{tag_at}
 use Rattle.lt_range.specs.Preferences.{AreDeciding, MayDecide}

@@ -1,7 +1,7 @@
-use Rattle.std.proofs.Common.{◌≡◌, ◌<◌, ◌↔◌, ◌∙◌, ℕ, List, [], IsTrue, false, true, subst, sym, arith}
+use Rattle.std.proofs.Common.{◌≡◌, ◌↔◌, ◌∙◌, ℕ, List, [], IsTrue, false, true, subst, sym, arith}
 use Rattle.std.proofs.lemmas.List.{get_or_read}
 use Rattle.lt_range.specs.Lookup.{tag_at}
-use Rattle.lt_range.specs.Preferences.{IsRefused, NoneOf, ReachesAt, ServesAt}
+use Rattle.lt_range.specs.Preferences.{IsRefused, NoneOf, ReachesAt}
 use Rattle.lt_range.proofs.ServingLemmas.{next_serves, next_same}
 use Rattle.lt_range.proofs.preferences.first_serving.Goals as goal
 use Rattle.lt_range.proofs.preferences.first_serving.Goals.{then-index-first+then-not-is_refused, else-index-first}

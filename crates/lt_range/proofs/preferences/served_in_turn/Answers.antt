@@ -1,6 +1,5 @@
-use Rattle.std.proofs.Common.{◌≡◌, ◌<◌, ◌∙◌, ℕ, List, Option, [], false, sym, subst, arith}
+use Rattle.std.proofs.Common.{◌≡◌, ◌∙◌, [], false, sym, subst, arith}
 use Rattle.std.proofs.lemmas.List.{get_or_read}
-use Rattle.lt_range.specs.Ranges.{RangeParts}
 use Rattle.lt_range.specs.Preferences.{at, Serves}
 use Rattle.lt_range.specs.declared.preferences.Preference.{Preference}
 use Rattle.lt_range.proofs.ServingLemmas.{first_serves, none_before}

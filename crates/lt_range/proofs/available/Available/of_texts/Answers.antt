@@ -1,6 +1,6 @@
-use Rattle.std.proofs.Common.{◌≡◌, ◌+◌, Bor, List, ℕ, map, sym, subst}
+use Rattle.std.proofs.Common.{◌+◌, Bor, List, ℕ, map, sym, subst}
 use Rattle.std.proofs.lemmas.Result.{err_from_is_err_and}
-use Rattle.lt_range.specs.Available.{AreAvailable, text_at}
+use Rattle.lt_range.specs.Available.{AreAvailable}
 use Rattle.lt_range.specs.Matched.{HasSubtags}
 use Rattle.lt_range.proofs.AvailableLemmas.{available_next, refused_at, text_read}
 use Rattle.lt_range.proofs.available.Available.of_texts.Goals as goal

@@ -3,7 +3,7 @@ use Rattle.lt_subtag.specs.Bytes.{folded}
 use Rattle.lt_tag.specs.Lists.{list_of}
 use Rattle.lt_tag.specs.Rest.{pieces_left}
 use Rattle.lt_range.proofs.PieceLemmas.{AreSubtags}
-use Rattle.lt_range.proofs.tag_subtags.read_subtags.Given as goal
+use Rattle.lt_range.proofs.tag_subtags.TagSubtags.of_text.Given as goal
 
 -- the subtags so far and those of what is left are those of the text
 abbrev pub invariant-loop-rest : goal.invariant-loop-rest

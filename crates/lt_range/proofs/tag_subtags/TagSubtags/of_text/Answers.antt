@@ -1,6 +1,6 @@
 use Rattle.std.proofs.Common.{refl}
 use Rattle.lt_range.proofs.PieceLemmas.{are_subtags}
-use Rattle.lt_range.proofs.tag_subtags.read_subtags.Goals as goal
+use Rattle.lt_range.proofs.tag_subtags.TagSubtags.of_text.Goals as goal
 
 -- before the loop no subtag is read, and each piece of the text is one
 pub loop-rest-init : goal.loop-rest-init
