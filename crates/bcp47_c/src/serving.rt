@@ -72,7 +72,8 @@ fn as_int(number: usize) -> u32
     number.min(GREATEST_INT) as u32
 }
 
-/// Answers why a tag is refused, with the number of the tag.
+/// Answers why a tag of a list is refused, with the number of the tag, counted from 1; where memory ran out no tag is
+/// named. No text is answered: text and buffer are empty.
 pub(crate) fn refuse_tag(refused: &AvailableRefusal) -> Outcome
     ensures { result ≡ spec.tag_refused refused.now }
 {

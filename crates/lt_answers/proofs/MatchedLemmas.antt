@@ -48,6 +48,9 @@ module _ (R : List EntryParts) (text : List ℕ) where
 
 -- ---- long lines
 
+-- A text that is a tag has at most 1,024 bytes, so a selected line has at most 1,025, with a carriage return. Of a line
+-- `longest_kept`, 1,026, are kept, so the kept front of a longer line is itself too long to be a tag.
+
 -- a line has at most one byte more than its content
 pub content-length : (line : List ℕ) → length line ≤ length (content_of line) + 1
 content-length line = elim (ends_with_byte 13 line) as (λ t. length line ≤ length (if t then take (length line - 1) line else line) + 1) [

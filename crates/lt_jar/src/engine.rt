@@ -200,7 +200,7 @@ impl Engine {
         self.draft.fields()
     }
 
-    /// The number of the line that is being read.
+    /// The number of the line that is being read, counted from 1.
     pub(crate) fn line(&self) -> u64
         ensures { result ≡ self.now.line }
     {

@@ -61,7 +61,8 @@ impl<'a, L: Lookup, W: Write> Pieces<Device<W>> for Reading<'a, L> {
     /// At the end all that is owed is written and counted, or a fault ended the run.
     ghost finished = { λ first start now read here result. spec.EndsReading (terms (ground_of L.listed first.basis.now) first.form) W.contents start now read here.text.answering.tallies result };
 
-    /// Answers the lines that the piece ends. Only a fault ends the run here: it is refused as `Marked::take_piece` is.
+    /// Answers the lines that the piece ends, and writes the answers. Refused with `BadTsv`, `BadCsv` or `Utf16` where
+    /// the bytes are no rows or records, and where memory or a write fails; only a refusal ends the run here.
     fn take_piece(
         &mut self,
         alloc: Global,
@@ -73,7 +74,8 @@ impl<'a, L: Lookup, W: Write> Pieces<Device<W>> for Reading<'a, L> {
         Ok(None)
     }
 
-    /// Answers what is left, and gives the counts of lines. Refused as `Marked::finish` is.
+    /// Answers a last line without a line feed, if there is one, writes the answers that wait, and gives the counts of
+    /// lines. Refused with `BadCsv` if the text ends within quotes, and where memory or a write fails.
     fn finish(&mut self, alloc: Global, output: &mut Device<W>) -> Result<Counts, ToolFault> {
         self.text.finish(alloc, self.basis, self.form, output)
     }

@@ -1,5 +1,6 @@
 //! The fields of a record that count: Type, Subtag, Tag, Preferred-Value, File-Date and Prefix. What was found of a
-//! record is where the first field of each name is, but for Prefix, which may occur often.
+//! record is where its first Type, Subtag, Tag and Preferred-Value are, whether one of these occurs twice, and whether
+//! there is a File-Date. Prefix may occur often.
 ghost use Rattle.std.specs.Prelude.{◌≡◌, ◌++◌, ◌∷◌, [], ℕ, List, length, Some, None, MatchOption, IfOk, option_map};
 ghost use Rattle.std.specs.List.{slice_get};
 ghost use Rattle.std.specs.Option.{option_copied};

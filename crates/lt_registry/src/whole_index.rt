@@ -22,7 +22,8 @@ pub(crate) struct WholeIndex {
 }
 
 impl WholeIndex {
-    /// The index of the records of whole tags. It is refused only where memory runs out.
+    /// The index of the records of whole tags; of records of one tag only the first of the file is in it. It is refused
+    /// only where memory runs out.
     pub(crate) fn of_entries(alloc: Global, entries: &[Entry]) -> Result<WholeIndex, AllocError>
         ensures { IfOk result (λ index. sorted.IsWholes entries.now index.rows.items) }
     {

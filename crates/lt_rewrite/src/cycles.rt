@@ -62,7 +62,8 @@ fn all_end<L: Lookup>(table: &L) -> bool
     ensures { MatchBool result (All (HasEndingChain (L.listed table.now)) (L.listed table.now)) (All (HasEndingChain (L.listed table.now)) (L.listed table.now) → ⊥) }
 {
     for entry in table.entries() {
-        // In this order a chain comes to an earlier record soon, unless the file is made against it.
+        // A chain is followed only to a record that is earlier in the order, since that one's own chain is followed too:
+        // if none fails, all end. In the mixed order this comes soon, unless the file is made against it.
         if !ends_or_falls(table, Order::Mixed, entry) {
             return false;
         }

@@ -169,7 +169,7 @@ impl PartialEq for Tag {
 
     ghost laws = { partial_equiv_from_equiv (eq_by_cmp_equiv tag_total) };
 
-    /// Whether all parts are equal. A langtag, a private use tag and a grandfathered tag are never equal.
+    /// Whether all parts are equal. Tags of two kinds are never equal.
     fn eq(&self, other: &Tag) -> bool {
         self.cmp(other) == Ordering::Equal
     }

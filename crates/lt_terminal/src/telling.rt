@@ -15,7 +15,7 @@ use lt_tool::{Answer, Command, Fault, Outcome, Role, Status, Tags, path_of};
 use std::alloc::{AllocError, Global};
 use std::io::{self, Read, Write};
 
-/// The most bytes of a registry in which a record is looked for: 16 MiB, some thirty times IANA's.
+/// The most bytes of a registry in which a record is looked for: 16 MiB, some twenty times IANA's.
 const MOST_READ: u64 = 16_777_216;
 
 /// The name of what a command answers one by one: a line or a record.

@@ -70,7 +70,8 @@ abbrev pub line_form : Separator → Rows → ℕ → LineForm
 line_form separators.Tab rows number = forms.Row (row_form rows number)
 line_form (separators.Delimiter delimiter) rows number = forms.Csv (row_form rows number) delimiter
 
--- the fault of a column that is not found
+-- the fault of a column that is not found: wrong usage where the heading does not have its name exactly once, with the
+-- line that says so; or that of reading the heading
 abbrev pub of_column_fault : ColumnFault → Fault
 of_column_fault (column_faults.Name line) = faults.Usage line
 of_column_fault (column_faults.Heading fault) = faults.Run fault

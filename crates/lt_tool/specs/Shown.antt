@@ -155,7 +155,7 @@ ShowsTexts R records tags output result = (any : Result Bool ToolFault)
 
 -- ---- the registry and its records
 
--- the tags are to be shown by the entries of a registry and its records
+-- the tags are to be shown by the entries of a registry and its records; the plan borrows the tags
 abbrev pub PlansShow : Tags → List EntryParts → List (List Field) → Result Plan Fault → Type 0
 PlansShow tags R records result = (t : Bor Tags) × (t.now ≡ tags) × (result ≡ Ok (plans.Show R records t))
 
