@@ -63,8 +63,8 @@ fn by_variant<L: Lookup>(table: &L, language: &[u8], variant: &[u8]) -> Option<u
     }
 }
 
-/// For each regular grandfathered tag of two subtags, such as `zh-min`, of which there are [`REGULAR`]: the number of the record of its second subtag
-/// if the tag is valid as a langtag, and else None.
+/// For each regular grandfathered tag of two subtags, such as `zh-min`, of which there are [`REGULAR`]: the number of
+/// the record of its second subtag if the tag is valid as a langtag, and else None.
 pub(crate) fn validating_records<L: Lookup>(table: &L) -> [Option<u32>; REGULAR]
     ensures { AreValidatedBy (L.listed table.now) regular_cores result }
 {
