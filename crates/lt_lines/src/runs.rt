@@ -61,8 +61,9 @@ impl<'a, L: Lookup, W: Write> Pieces<Device<W>> for Reading<'a, L> {
     /// At the end all that is owed is written and counted, or a fault ended the run.
     ghost finished = { λ first start now read here result. spec.EndsReading (terms (ground_of L.listed first.basis.now) first.form) W.contents start now read here.text.answering.tallies result };
 
-    /// Answers the lines that the piece ends, and writes the answers. Refused with `BadTsv`, `BadCsv` or `Utf16` where
-    /// the bytes are no rows or records, and where memory or a write fails; only a refusal ends the run here.
+    /// Answers the lines that the piece ends, and writes the answers. Refused with `Utf16` at a byte order mark of UTF-16,
+    /// with `BadTsv` or `BadCsv` at a row or a record that is too long, and where memory or a write fails. Only a refusal
+    /// ends the run here.
     fn take_piece(
         &mut self,
         alloc: Global,
