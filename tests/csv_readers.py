@@ -18,8 +18,10 @@ Argument: the program (build/langtag, if there is none). The last line counts; t
 """
 import codecs
 import csv
+import functools
 import io
 import itertools
+import json
 import os
 import random
 import subprocess
@@ -50,6 +52,7 @@ def fail(kind, text, wanted, found):
 
 # ---- the definition
 
+@functools.cache
 def cut(data):
     """The records of a text, each as its fields and whether it has a carriage return outside of quotes before its end;
     and the record that it ends within the quotes of, if it does, with the line in which that begins."""
@@ -81,9 +84,10 @@ def ended(record):
     fields, _ = record
     if fields[-1].endswith(b"\r"):
         return fields[:-1] + [fields[-1][:-1]], b"\r\n"
-    return fields, b"\n"
+    return [*fields], b"\n"
 
 
+@functools.cache
 def value(field):
     """What a field says: without the quotes around text, and with one of two that stand for one."""
     if not field.startswith(b'"'):
@@ -100,16 +104,18 @@ answers = {}
 
 
 def learn(texts):
-    """Asks the program what it says of texts, those with the end of a line one by one."""
+    """Asks the program what it says of texts, those with the end of a line as words."""
     new = sorted({text for text in texts if text not in answers})
     lines = [text for text in new if b"\n" not in text and not text.endswith(b"\r")]
     done = subprocess.run([PROGRAM, "canon", SAMPLE], input=b"".join(text + b"\n" for text in lines), capture_output=True)
     answers.update(zip(lines, done.stdout.split(b"\n")))
-    for text in new:
-        if text not in answers:
-            done = subprocess.run([PROGRAM, "extlang", SAMPLE, "--", text], capture_output=True)
-            assert done.stdout.startswith(b"! "), text
-            answers[text] = done.stdout[:-1]
+    words = [text for text in new if text not in answers]
+    for begin in range(0, len(words), 1000):
+        done = subprocess.run([PROGRAM, "show", "--json", SAMPLE, "--", *words[begin:begin + 1000]], capture_output=True)
+        for text, line in zip(words[begin:begin + 1000], done.stdout.splitlines(), strict=True):
+            said = json.loads(line)
+            assert said["tag"] is None, text
+            answers[text] = b"! " + said["fault"].encode()
 
 
 def text_of(field):
@@ -144,6 +150,7 @@ def learn_records(records):
     learn(text_of(fields[COLUMN - 1])[1] for fields in found if len(fields) >= COLUMN)
 
 
+@functools.cache
 def run(data, keep=False):
     """What the program makes of these bytes: its status, its output and its errors."""
     words = ["--keep"] if keep else []
@@ -329,6 +336,8 @@ def main():
     made = [made_file(chance) for _ in range(20000)]
     compare_all("", short, made)
     delimiter = b";"
+    for it in (cut, run):
+        it.cache_clear()
     swapped = [text.translate(SWAP) for text in short_texts(5)], [text.translate(SWAP) for text in made[:5000]]
     compare_all(", semicolons", *swapped)
     texts, files = len(short) + len(swapped[0]), len(made) + len(swapped[1])

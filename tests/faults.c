@@ -37,10 +37,15 @@ static int counts(int at) {
     return at >= 0 && ++devices[at].calls == devices[at].fails;
 }
 
+/* The device of a descriptor; -1 where it is none. */
+static int device_of(int fd) {
+    int at = OPEN - 1;
+    while (at >= 0 && devices[at].fd != fd) at--;
+    return at;
+}
+
 /* Whether a read or a write fails, and else the bytes that it may move. */
-static int fails(int fd, size_t *size) {
-    int at = COUNT - 1;
-    while (at >= 0 && (at >= OPEN || devices[at].fd != fd)) at--;
+static int fails(int at, size_t *size) {
     if (at < 0 || !*size) return 0;
     if (devices[at].most && *size > devices[at].most) *size = devices[at].most;
     if (!counts(at)) return 0;
@@ -50,16 +55,29 @@ static int fails(int fd, size_t *size) {
 
 ssize_t read(int fd, void *data, size_t size) {
     static ssize_t (*next)(int, void *, size_t);
+    static struct { char bytes[1 << 16]; size_t begin, end; } all[COUNT];
     if (!next) next = dlsym(RTLD_NEXT, "read");
-    if (fails(fd, &size)) return errno = EIO, -1;
-    return next(fd, data, size);
+    int at = device_of(fd);
+    if (fails(at, &size)) return errno = EIO, -1;
+    size_t most = at < 0 ? 0 : devices[at].most;
+    if (!size || !most || most > sizeof all->bytes) return next(fd, data, size);
+    /* many pieces are read at once: a call of the system for each byte would take most of a run */
+    if (all[at].begin == all[at].end) {
+        ssize_t got = next(fd, all[at].bytes, sizeof all->bytes / most * most);
+        if (got <= 0) return got;
+        all[at].begin = 0, all[at].end = (size_t)got;
+    }
+    if (size > all[at].end - all[at].begin) size = all[at].end - all[at].begin;
+    memcpy(data, all[at].bytes + all[at].begin, size);
+    all[at].begin += size;
+    return (ssize_t)size;
 }
 
 ssize_t write(int fd, const void *data, size_t size) {
     static ssize_t (*next)(int, const void *, size_t);
     if (!next) next = dlsym(RTLD_NEXT, "write");
     size_t wanted = size;
-    if (fails(fd, &size)) return errno = ENOSPC, -1;
+    if (fails(device_of(fd), &size)) return errno = ENOSPC, -1;
     if (wanted && !size) return 0;
     return next(fd, data, size);
 }

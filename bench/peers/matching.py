@@ -8,6 +8,8 @@ It needs the package of bindings/python, as `pip install` or PYTHONPATH gives it
 """
 
 import collections
+import functools
+import itertools
 import random
 import subprocess
 import sys
@@ -65,17 +67,16 @@ class Answers:
 
     def __init__(self, registry):
         self.registry = registry
-        self.texts = {}
 
+    @functools.cache
     def extlang(self, text):
         """The text of a tag's extlang form, or None where it is refused."""
-        if text not in self.texts:
-            try:
-                self.texts[text] = self.registry.extlang(text)
-            except bcp47.RefusedTag:
-                self.texts[text] = None
-        return self.texts[text]
+        try:
+            return self.registry.extlang(text)
+        except bcp47.RefusedTag:
+            return None
 
+    @functools.cache
     def is_range(self, text):
         """Whether a text is a language range that is not refused."""
         try:
@@ -97,7 +98,7 @@ class Answers:
 def java(cases, folder):
     """The answers of Java: lists of tags, or None where a range is refused."""
     lines = "".join(f"{scheme}\t{' '.join(ranges)}\t{' '.join(tags)}\n" for scheme, ranges, tags in cases)
-    said = subprocess.run(["java", "-cp", folder, "Matching"], input=lines, stdout=subprocess.PIPE, text=True, check=True)
+    said = subprocess.run(["java", "-XX:TieredStopAtLevel=1", "-XX:+UseSerialGC", "-cp", folder, "Matching"], input=lines, stdout=subprocess.PIPE, text=True, check=True)
     answers = said.stdout.split("\n")[:-1]
     assert len(answers) == len(cases)
     return [None if answer == "!" else answer.split() for answer in answers]
@@ -172,10 +173,8 @@ def main():
     ours = [answers.to(case) for case in asked]
     with tempfile.TemporaryDirectory() as folder:
         subprocess.run(["javac", "-d", folder, HERE / "Matching.java"], check=True)
-        of_cases = java(cases, folder)
-        theirs = java(asked, folder)
-        by_stars = java([mended(case, answers, False) for case in asked], folder)
-        by_both = java([mended(case, answers, True) for case in asked], folder)
+        said = iter(java(cases + asked + [mended(case, answers, it) for it in (False, True) for case in asked], folder))
+    of_cases, theirs, by_stars, by_both = (list(itertools.islice(said, len(it))) for it in (cases, asked, asked, asked))
     counts, unknown = collections.Counter(), []
     for case, found, *said in zip(asked, ours, theirs, by_stars, by_both):
         reason = why(case, found, answers, *said)

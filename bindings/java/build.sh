@@ -23,8 +23,11 @@ archive() {
     cp ../../LICENSE* "$target/$2/META-INF"
     (cd "$target/$2" && find . -type f | LC_ALL=C sort | sed 's#^\./##') > "$target/files"
     rm -f "$target/$1.jar"
-    (cd "$target/$2" && "$home/bin/jar" --create --date="$time" --manifest=../manifest --file="../$1.jar" @../files)
+    (cd "$target/$2" && "$home/bin/jar" "${once[@]}" --create --date="$time" --manifest=../manifest --file="../$1.jar" @../files)
 }
+
+# what runs once is not made faster as it runs
+once=(-J-XX:TieredStopAtLevel=1 -J-XX:+UseSerialGC)
 
 mkdir -p "$inside"
 ${CC:-cc} -std=c11 ${CFLAGS:--O2} -fPIC -shared -fvisibility=hidden -Wall -Wextra -Wno-unused-parameter -Werror -I../c -I"$home/include" \
@@ -33,13 +36,13 @@ ${CC:-cc} -std=c11 ${CFLAGS:--O2} -fPIC -shared -fvisibility=hidden -Wall -Wextr
 [ "${1:-}" = native ] && exit
 rm -rf "$target"/{classes,sources,documentation,registry}
 echo "Automatic-Module-Name: bcp47" > "$target/manifest"
-"$home/bin/javac" --release 17 -Xlint:all -Werror -d "$target/classes" src/main/java/bcp47/*.java
+"$home/bin/javac" "${once[@]}" --release 17 -Xlint:all -Werror -d "$target/classes" src/main/java/bcp47/*.java
 cp -r "$target/native/bcp47" "$target/classes"
 archive "bcp47-$version" classes
 mkdir "$target/sources"
 cp -r src/main/java/bcp47 "$target/sources"
 archive "bcp47-$version-sources" sources
-"$home/bin/javadoc" -quiet -notimestamp -Xdoclint:all -Werror -d "$target/documentation" src/main/java/bcp47/*.java
+"$home/bin/javadoc" "${once[@]}" -quiet -notimestamp -Xdoclint:all -Werror -d "$target/documentation" src/main/java/bcp47/*.java
 archive "bcp47-$version-javadoc" documentation
 cp pom.xml "$target/bcp47-$version.pom"
 echo "Automatic-Module-Name: bcp47.registry" > "$target/manifest"
