@@ -93,6 +93,11 @@ passes "the example with the archive's static library" gcc "$folder/example.c" -
     "$folder/unpacked/lib/libbcp47.a" -o "$folder/example-static"
 passes "it runs" "$folder/example-static" "$folder/unpacked/share/langtag/registry.txt" zh-yue I-KLINGON en_US
 is "it answers" "$answers" "$(cat "$folder/out")"
+# shellcheck disable=SC2046
+passes "the example with the archive's shared library, by pkg-config" gcc "$folder/example.c" \
+    $(PKG_CONFIG_PATH=$folder/unpacked/lib/pkgconfig pkg-config --define-prefix --cflags --libs bcp47) -o "$folder/example-shared"
+LD_LIBRARY_PATH=$folder/unpacked/lib passes "it runs too" "$folder/example-shared" "$folder/unpacked/share/langtag/registry.txt" zh-yue I-KLINGON en_US
+is "it answers too" "$answers" "$(cat "$folder/out")"
 # The wheel, and the sources over the library that is installed in a folder, by pip without a network.
 for made in "bcp47-$version-cp39-abi3-manylinux2014_x86_64.whl" "bcp47-$version.tar.gz"; do
     PKG_CONFIG_PATH=$folder/prefix/lib/pkgconfig passes "pip install $made" /usr/bin/python3 -m pip install -q --no-index \
