@@ -92,6 +92,7 @@ done
 printf 'yue\ntlh\nrefused: BadByte, place 1\n' > "$folder/example-answers"
 made example "$folder/examples/example.c" build/libbcp47.a
 writes "docs/C.md's example" "$folder/example-answers" "$folder/example" "$sample" zh-yue I-KLINGON en_US
+writes "docs/C.md's example, of a tag without a canonical form" <(echo 'refused: ReplacementRepeats, place 0') "$folder/example" "$registry" ja-heploc-alalc97
 made calls tests/bindings/calls.c build/libbcp47.a
 made calls-shared tests/bindings/calls.c -Lbuild -lbcp47
 made answers-shared tests/bindings/answers.c -Lbuild -lbcp47

@@ -93,6 +93,11 @@ passes "the example with the archive's static library" gcc "$folder/example.c" -
     "$folder/unpacked/lib/libbcp47.a" -o "$folder/example-static"
 passes "it runs" "$folder/example-static" "$folder/unpacked/share/langtag/registry.txt" zh-yue I-KLINGON en_US
 is "it answers" "$answers" "$(cat "$folder/out")"
+# shellcheck disable=SC2046
+passes "the example with the archive's shared library, by pkg-config" gcc "$folder/example.c" \
+    $(PKG_CONFIG_PATH=$folder/unpacked/lib/pkgconfig pkg-config --define-prefix --cflags --libs bcp47) -o "$folder/example-shared"
+LD_LIBRARY_PATH=$folder/unpacked/lib passes "it runs too" "$folder/example-shared" "$folder/unpacked/share/langtag/registry.txt" zh-yue I-KLINGON en_US
+is "it answers too" "$answers" "$(cat "$folder/out")"
 # The wheel, and the sources over the library that is installed in a folder, by pip without a network.
 for made in "bcp47-$version-cp39-abi3-manylinux2014_x86_64.whl" "bcp47-$version.tar.gz"; do
     PKG_CONFIG_PATH=$folder/prefix/lib/pkgconfig passes "pip install $made" /usr/bin/python3 -m pip install -q --no-index \
@@ -200,11 +205,9 @@ else
     echo "skipped: the library for aarch64, which make lib-aarch64 builds"
 fi
 
-# ---- Each package as docs/INSTALL.md uses it, in a folder with nothing but the release; by what is here, without a network
-export npm_config_offline=true PIP_NO_INDEX=1 PIP_ROOT_USER_ACTION=ignore GOPROXY=off GOFLAGS=-mod=mod GOCACHE=$folder/cache
-export CARGO_NET_OFFLINE=true CARGO_HOME=$folder/cargo
+# ---- Each package as docs/INSTALL.md uses it, in a folder with nothing but the release, and without a network; no setting tells the tools so
+export GOCACHE=$folder/cache CARGO_HOME=$folder/cargo
 mkdir -p "$CARGO_HOME"
-printf '[source.crates-io]\nreplace-with = "debian"\n[source.debian]\ndirectory = "/usr/share/cargo/registry"\n' > "$CARGO_HOME/config.toml"
 ran=0
 while IFS= read -r heading; do
     use=$folder/use/$heading
@@ -213,11 +216,17 @@ while IFS= read -r heading; do
     [ -s "$use/commands" ] || continue
     ran=$((ran + 1))
     cp "$folder"/dist/*.{crate,tgz,jar,whl,tar.gz} "$use"
-    passes "$heading, as INSTALL.md has it" env -C "$use" bash -e commands
+    passes "$heading, as INSTALL.md has it" unshare --net --map-root-user env -C "$use" bash -e commands
     is "$heading answers" yue "$(tail -n 1 "$folder/out")"
 done < <(sed -n 's/^## //p' docs/INSTALL.md)
 is "each package is used" 7 "$ran"
 is "INSTALL.md names files of this version" '' "$(grep -oE '[0-9]+\.[0-9]+\.[0-9]+' docs/INSTALL.md | grep -vxF "$version" | grep -vxE '2025\.0?5\.15|0\.0\.0|1\.0\.0' | sort -u)"
+while IFS= read -r page; do
+    passes "the page $page, to which INSTALL.md leads" test -e "$folder/unpacked/share/doc/langtag/docs/$page"
+done < <(grep -o '](\.*[A-Za-z/][^):#]*[)#]' docs/INSTALL.md | sed 's/^](//; s/.$//' | sort -u)
+# what the tools find without a network, where a package of another's is wanted
+export npm_config_offline=true GOPROXY=off GOFLAGS=-mod=mod CARGO_NET_OFFLINE=true
+printf '[source.crates-io]\nreplace-with = "debian"\n[source.debian]\ndirectory = "/usr/share/cargo/registry"\n' > "$CARGO_HOME/config.toml"
 passes "the module for Go, copied into its user's" env -C "$folder/use/Go/page" go mod vendor
 rm -r "$folder/use/Go"/bcp47-go-*
 passes "the copy's program" env -C "$folder/use/Go/page" GOFLAGS=-mod=vendor go run .

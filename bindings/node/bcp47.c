@@ -8,7 +8,7 @@
 #include <string.h>
 
 /* Room for the text of any tag, and for its canonical text; a longer one is no tag, which the library says of its front. A range
-   may have any length. A registry takes about BYTES_OF_ONE bytes for one of its file. */
+   may have any length. A registry takes about BYTES_OF_ONE bytes for one of its file, and its list keeps most of them. */
 enum { ROOM = 4096, BYTES_OF_ONE = 4 };
 
 /* A registry, or so many tags of which one is served, which a value holds until it is closed or collected, and how many bytes of it
@@ -273,7 +273,7 @@ static napi_value available(napi_env env, napi_callback_info info) {
     free(tags), free(lengths);
     if (outcome.status == BCP47_DONE) {
         made->count = count;
-        return value_of(env, made, 0);
+        return value_of(env, made, it->bytes);
     }
     free(made);
     outcome.text = 0;

@@ -268,16 +268,25 @@ test('a registry that is closed', () => {
   assert.throws(() => closing.canonicalMany(tags()), { name: 'TypeError', message: 'the registry is closed' });
 });
 
-test('registries that nobody holds are collected before they are many', async () => {
+test('what nobody holds is collected before it is much', async () => {
   const content = readFileSync(new URL('iana-2025-05-15.txt', sample));
-  let held = 0, most = 0;
-  const watch = new FinalizationRegistry(() => held--);
-  for (let i = 0; i < 200; i++) {
-    watch.register(new Registry(content));
-    most = Math.max(most, ++held);
-    await new Promise(setImmediate);
+  // a list has what its registry had, also where that is closed
+  const listed = () => {
+    const own = new Registry(content);
+    const available = own.available(['en']);
+    own.close();
+    return available;
+  };
+  for (const make of [() => new Registry(content), listed]) {
+    let held = 0, most = 0;
+    const watch = new FinalizationRegistry(() => held--);
+    for (let i = 0; i < 200; i++) {
+      watch.register(make());
+      most = Math.max(most, ++held);
+      await new Promise(setImmediate);
+    }
+    assert.ok(most < 100, `${most} at once`);
   }
-  assert.ok(most < 100, `${most} at once`);
 });
 
 test('memory that runs out is no answer', () => {
