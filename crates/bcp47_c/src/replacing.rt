@@ -200,8 +200,8 @@ fn parts_of_value(section: Section, parts: &[Part]) -> &[Part]
     }
 }
 
-/// Which part of a value, counted from 0, is in another section. None if none is. `parts` are those of the text by which the
-/// value is read.
+/// Which part of a value, counted from 0, is in another section. None if none is. `parts` are those of the text by
+/// which the value is read.
 fn foreign(section: Section, parts: &[Part]) -> Option<usize>
     ensures { result ≡ position (λ (part : Part). not (spec.has section part.kind)) (drop (spec.before_value section) parts.now) }
 {
@@ -210,8 +210,8 @@ fn foreign(section: Section, parts: &[Part]) -> Option<usize>
         .position(|part| !has(section, part.kind))
 }
 
-/// The langtag that has the value of a section and no other, or why the value has not its form. An empty value takes the
-/// section away, but is refused for a language.
+/// The langtag that has the value of a section and no other, or why the value has not its form. An empty value takes
+/// the section away, but is refused for a language.
 #[tactic(auto, using(crate::proofs::Replaced::no_value_memory))]
 fn read_value(alloc: Global, section: Section, value: &[u8]) -> Result<Langtag, Said>
     ensures value { IfOk result (λ langtag. ReadsValue section value.now (form langtag)) }
@@ -369,9 +369,10 @@ fn join(
     Ok(text)
 }
 
-/// The text of a tag with a section replaced by that of another, in conventional case (`made`). Both must have the
-/// form of a tag. Refused if the text has more than 1,024 bytes, `longest_text` (`short`, `long`), or where memory
-/// runs out.
+/// The text of a tag with a section replaced by that of another, in conventional case (`made`). Both must have the form
+/// of a tag. The joined subtags are read again, since only a tag that was read is written in conventional case. Refused
+/// if the text has more than 1,024 bytes, `longest_text`, or where memory runs out: by `long` a refusal is one of these
+/// two, and by `short` no longer text is given.
 fn write_replaced(
     alloc: Global,
     section: Section,
@@ -391,8 +392,8 @@ fn write_replaced(
     }
 }
 
-/// The text of the tag that a text is read as, with a section replaced by a value; an empty value takes the section away. Or
-/// why the text, the value or what they make is refused.
+/// The text of the tag that a text is read as, with a section replaced by a value; an empty value takes the section
+/// away. Or why the text, the value or what they make is refused.
 pub(crate) fn replace(
     alloc: Global,
     section: Section,
@@ -416,14 +417,15 @@ pub(crate) fn replace(
     }
 }
 
-/// Writes the text, in conventional case, of the tag that a text is read as, with one of its sections replaced by a value
-/// (RFC 5646, 2.1): `zh-Hant-TW` for `zh-TW` and the script `hant`. An empty value takes the section away: `zh` for `zh-TW`
-/// and no region. A section is told by the kind of part that begins it: 1, a language, with its extlangs; 3, a script; 4, a
-/// region; 5, all variants; 6, all extensions; 18, private use with its `x`. It asks no registry.
+/// Writes the text, in conventional case, of the tag that a text is read as, with one of its sections replaced by a
+/// value (RFC 5646, 2.1): `zh-Hant-TW` for `zh-TW` and the script `hant`. An empty value takes the section away: `zh`
+/// for `zh-TW` and no region. A section is told by the kind of part that begins it: 1, a language, with its extlangs;
+/// 3, a script; 4, a region; 5, all variants; 6, all extensions; 18, private use with its `x`. It asks no registry.
 ///
-/// Status 1 says that a text is refused, with the fault and its place. Either text 1 is no langtag, for example `i-klingon`
-/// (BadLanguage at 1); or text 2, the value, has not the form of the section; or, where the outcome names no text, what they
-/// make has more than 1,024 bytes. Status 4 says that memory ran out, and 14 that the number is that of no section.
+/// Status 1 says that a text is refused, with the fault and its place. Either text 1 is no langtag, for example
+/// `i-klingon` (BadLanguage at 1); or text 2, the value, has not the form of the section; or, where the outcome names
+/// no text, what they make has more than 1,024 bytes. Status 4 says that memory ran out, and 14 that the number is that
+/// of no section.
 #[unsafe(no_mangle)]
 pub extern "C" fn bcp47_write_with(
     alloc: Global,

@@ -58,15 +58,16 @@ impl<'a, L: Lookup> Lines for Selecting<'a, L> {
     }
 }
 
-/// Writes the lines of a reader that one of the ranges matches by the scheme, in their order and as they stand, each ended
-/// by a line feed, and tells how many there are. A line is matched as the tag that it is, by the subtags of its extlang
-/// form (RFC 5646, 4.5; RFC 4647, 3.3): the ranges of `zh` and `yue` select `yue-HK`. No range matches a line that is no valid
-/// tag, or a tag that has no extlang form.
+/// Writes the lines of a reader that one of the ranges matches by the scheme, in their order and as they stand, each
+/// ended by a line feed, and tells how many there are. A line is matched as the tag that it is, by the subtags of its
+/// extlang form (RFC 5646, 4.5; RFC 4647, 3.3): the ranges of `zh` and `yue` select `yue-HK`. No range matches a line
+/// that is no valid tag, or a tag that has no extlang form.
 ///
-/// A byte order mark of UTF-8 before the first line is passed over. A line feed ends a line, and bytes after the last line
-/// feed are a line too. A carriage return that ends a line is no part of the tag, and is written with the line. What is owed
-/// for the lines whose line feed was read is written before the next read. Of an unfinished line no more than 1,026 bytes are
-/// kept.
+/// A byte order mark of UTF-8 before the first line is passed over. A line feed ends a line, and bytes after the last
+/// line feed are a line too. A carriage return that ends a line is no part of the tag, and is written with the line.
+/// What is owed for the lines whose line feed was read is written before the next read. Of an unfinished line no more
+/// than 1,026 bytes are kept: those of the longest tag, 1,024, one that tells that the line is too long to be a tag,
+/// and a carriage return.
 ///
 /// - `Utf16`, if the bytes begin with a byte order mark of UTF-16: nothing has been written.
 /// - `Read`, if a read fails: what is owed for each line whose line feed was read has been written.

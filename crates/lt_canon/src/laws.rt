@@ -1,7 +1,8 @@
 //! The laws of canonical tags, for every registry that passes the check; the last three hold of every list of entries.
 //! Nothing is computed here: each contract is a law. The first, `confluence`, says them of one table at hand. The
 //! others take nothing, and say them of every list `R` of entries, or of each that passes the check (`IsChecked R`). A
-//! text of more than 1,024 bytes is not read as a tag.
+//! text of more than 1,024 bytes is not read as a tag. Two tags are *equivalent* if steps, taken forwards and
+//! backwards, lead from one to the other.
 ghost use Rattle.std.specs.Prelude.{List};
 ghost use Rattle.lt_registry.specs.Parts.{EntryParts};
 ghost use Rattle.lt_check.specs.Conditions.{IsChecked};

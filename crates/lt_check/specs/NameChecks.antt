@@ -58,7 +58,7 @@ IsMarked words e = (s : List ℕ) (n : ℕ) → e.name ≡ names.Single s → pl
 abbrev pub AreMarked : List EntryParts → EntryParts → List ℕ → Type 0
 AreMarked R e words = (f : EntryParts) → Contains R f → f.number < e.number → IsMarked words f
 
--- `new` has the flags that were set in `old`, and that of the subtag of the record `e`, if it has a place
+-- `new` has at least the flags that were set in `old`, and that of the subtag of the record `e`, if it has a place
 pub record MarksMore (e : EntryParts) (old new : List ℕ) : Type 0 where
   pub kept : (n : ℕ) → flag old n ≡ true → flag new n ≡ true
   pub own : IsMarked new e

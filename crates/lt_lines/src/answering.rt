@@ -28,8 +28,8 @@ use lt_tag::OutOfMemory;
 use std::alloc::{AllocError, Global};
 use std::io::Write;
 
-/// The most bytes that are kept of a line that is a tag. The longest tag has 1,024. A code may be a byte longer than the
-/// subtag that replaces it, one byte more tells that the line is too long, and a carriage return may end it.
+/// The most bytes that are kept of a line that is a tag. The longest tag has 1,024. A code may be a byte longer than
+/// the subtag that replaces it, one byte more tells that the line is too long, and a carriage return may end it.
 const LONGEST_KEPT: usize = 1027;
 
 /// The most bytes of a row or a record, which is kept whole: 16 MiB.
@@ -299,8 +299,8 @@ impl Answering {
         Ok(())
     }
 
-    /// Keeps `part`, the bytes before a line feed that is within quotes, and the line feed. The counts must have room for a
-    /// line more.
+    /// Keeps `part`, the bytes before a line feed that is within quotes, and the line feed. The counts must have room
+    /// for a line more.
     #[inline(never)]
     fn go_on(&mut self, form: LineForm, part: &[u8]) -> Result<(), OutOfMemory>
         requires { spec.HasRoom self.old 1 }
@@ -317,7 +317,8 @@ impl Answering {
     /// or the record that they end, or keeps them if the line feed is within quotes. What follows in `text` is for
     /// speed alone, as up to 64 bytes are taken at once. `lacks` must be true of the `count` bytes: it is what they are
     /// known to lack. The counts must have room for a line more. By `taken`, if these have no line feed (10) and don't
-    /// make the row too long, a state that was right for what was read and written so far is right with them too.
+    /// make the row too long, a state that was right for what was read and written so far is right with them too. By
+    /// `counted` one line feed was counted, and at most one line as answered.
     #[inline(never)]
     fn end_row<L: Lookup>(
         &mut self,
@@ -347,7 +348,8 @@ impl Answering {
     /// that they end, or keeps them if the line feed is within the quotes of a record. What follows in `text` is for
     /// speed alone, as up to 64 bytes are taken at once. `lacks` must be true of the `count` bytes: it is what they are
     /// known to lack. The counts must have room for a line more. By `taken`, if these have no line feed (10) and don't
-    /// make the line too long, a state that was right for what was read and written so far is right with them too.
+    /// make the line too long, a state that was right for what was read and written so far is right with them too. By
+    /// `counted` one line feed was counted, and at most one line as answered.
     #[inline(always)]
     fn end_line<L: Lookup>(
         &mut self,
@@ -374,7 +376,8 @@ impl Answering {
     }
 
     /// Writes the answers that wait, so that none do then. Refused if the write fails. By `writes` what was written and
-    /// what still waits is what waited; by `emptied` nothing waits.
+    /// what still waits is what waited, or, where the write fails, a front of what waited was written; by `emptied`
+    /// nothing waits unless it fails.
     fn write<W: Write>(&mut self, output: &mut Device<W>) -> Result<(), ToolFault>
         ensures writes { spec.WritesOwed W.contents self.old self.new output.old output.new result }
         ensures emptied { OnOk result (self.new.owed.items ≡ []) }
@@ -408,8 +411,8 @@ impl Answering {
         }
     }
 
-    /// The number of the line, counted from 1, in which the kept part of a row or a record begins. The counts must have room
-    /// for a line more.
+    /// The number of the line, counted from 1, in which the kept part of a row or a record begins. The counts must have
+    /// room for a line more.
     fn kept_from(&self) -> u64
         requires { spec.HasRoom self.now 1 }
         ensures { result ≡ spec.line_of self.now }
@@ -418,8 +421,8 @@ impl Answering {
         self.feeds.saturating_sub(within as u64) + 1
     }
 
-    /// Ends the run at a row or a record that is too long: writes the answers that wait, and gives the fault, which is that
-    /// of the write if it fails. The counts must have room for a line more.
+    /// Ends the run at a row or a record that is too long: writes the answers that wait, and gives the fault, which is
+    /// that of the write if it fails. The counts must have room for a line more.
     #[inline(never)]
     fn stop_long<W: Write>(&mut self, form: LineForm, output: &mut Device<W>) -> ToolFault
         requires { spec.HasRoom self.old 1 }
@@ -432,8 +435,9 @@ impl Answering {
     }
 
     /// Takes `piece`, the next bytes of the input, answers the lines that they end, and writes the answers. A last line
-    /// without a line feed is kept for the next piece. Refused at a row or a record that is too long, and where memory or a
-    /// write fails. The counts must have room for a line more than `piece` has bytes, each of which may be a line feed.
+    /// without a line feed is kept for the next piece. Refused at a row or a record that is too long, and where memory
+    /// or a write fails. The counts must have room for a line more than `piece` has bytes, each of which may be a line
+    /// feed.
     pub(crate) fn take_piece<L: Lookup, W: Write>(
         &mut self,
         alloc: Global,
@@ -483,8 +487,9 @@ impl Answering {
         self.answer_line(alloc, basis, form, &None, &[], 0)
     }
 
-    /// Answers a last line without a line feed, if there is one, writes the answers that wait, and gives the counts. Refused
-    /// where memory or a write fails. The text must not end within quotes, and the counts must have room for a line more.
+    /// Answers a last line without a line feed, if there is one, writes the answers that wait, and gives the counts.
+    /// Refused where memory or a write fails. The text must not end within quotes, and the counts must have room for a
+    /// line more.
     fn finish_closed<L: Lookup, W: Write>(
         &mut self,
         alloc: Global,
@@ -501,9 +506,9 @@ impl Answering {
         Ok(self.counts)
     }
 
-    /// Answers a last line without a line feed, if there is one, writes the answers that wait, and gives the counts. Refused
-    /// with `BadCsv` if the text ends within quotes, and where memory or a write fails. The counts must have room for a line
-    /// more.
+    /// Answers a last line without a line feed, if there is one, writes the answers that wait, and gives the counts.
+    /// Refused with `BadCsv` if the text ends within quotes, and where memory or a write fails. The counts must have
+    /// room for a line more.
     pub(crate) fn finish<L: Lookup, W: Write>(
         &mut self,
         alloc: Global,

@@ -45,7 +45,8 @@ abbrev pub HasProperParts : List EntryParts → TagForm → Type 0
 HasProperParts R (LangTag c es ps) = IsProperLangTag R c es
 HasProperParts R _ = Unit {0}
 
--- a proper tag: valid, except that variants may occur twice, in the core or in a source (RFC 5646, 2.2.9)
+-- a proper tag: valid, except that variants may occur twice, in the core or in the source of a `t` extension, which is
+-- the langtag in it (RFC 5646, 2.2.9; RFC 6497, 2.2)
 pub record IsProper (R : List EntryParts) (t : TagForm) : Type 0 where
   pub tag : IsTagValue t
   pub parts : HasProperParts R t

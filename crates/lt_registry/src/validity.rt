@@ -193,8 +193,9 @@ fn check_part<L: Lookup>(
 
 /// Checks the variants of a core, of which the first has the place `start`: each is registered and, unless
 /// `may_repeat`, none occurs twice. Refused with the first fault. If a sort shows first that many variants all differ,
-/// none is looked for among those before it. `start` must be at most 1,100,006, as they begin at most 6 places after
-/// the core's start, and there must be at most 1,024 variants.
+/// none is looked for among those before it. Here `start` is a place; it must be at most 1,100,006: before a core there
+/// are at most 1,100,000 subtags, and in it a language, one extlang (more are refused before), a script and a region
+/// come before the variants. There must be at most 1,024 variants.
 fn check_variants<L: Lookup>(
     table: &L,
     start: u32,
@@ -210,8 +211,8 @@ fn check_variants<L: Lookup>(
 }
 
 /// Checks one variant after another, of which the first has the place `start`. Unless `may_repeat`, each is looked for
-/// among those before it. Refused with the first fault. `start` must be at most 1,100,006, and there must be at most
-/// 1,024 variants.
+/// among those before it. Refused with the first fault. `start` must be at most 1,100,006, as in [`check_variants`],
+/// and there must be at most 1,024 variants.
 #[tactic(auto, using(crate::proofs::VariantFaultLemmas::variants_on, crate::proofs::VariantFaultLemmas::variants_stop, crate::proofs::VariantFaultLemmas::variants_end))]
 fn check_each_variant<L: Lookup>(
     table: &L,

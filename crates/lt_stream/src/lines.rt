@@ -86,7 +86,8 @@ impl<A: Lines> Lined<A> {
     }
 
     /// Writes the answers that wait, so that none waits then. Refused if a write fails. By `writes` what was written
-    /// and what still waits is what waited; by `emptied` nothing waits.
+    /// and what still waits is what waited, or, where the write fails, a front of what waited was written; by `emptied`
+    /// nothing waits unless it fails.
     fn write<W: Write>(&mut self, output: &mut Device<W>) -> Result<(), ToolFault>
         ensures writes { spec.WritesOwed W.contents self.old self.new output.old output.new result }
         ensures emptied { OnOk result (self.new.owed.items ≡ []) }

@@ -13,7 +13,8 @@ use Rattle.lt_upgrade.specs.UpgradeChecking.{some_covers}
 use Rattle.lt_upgrade.specs.declared.widest_ranges.RangeEnd.{RangeEnd}
 use Rattle.lt_upgrade.specs.declared.widest_ranges.RangeRow.{RangeRow}
 
--- the end of a range of subtags of a kind, by its subtag
+-- an end, the first or the last, of a range of subtags of a kind, by its subtag; ends are in the order of kinds,
+-- lengths and letters (`end_cmp`)
 abbrev pub range_end : Kind → List ℕ → RangeEnd
 range_end kind subtag = record { kind = kind_number kind; length = length subtag; subtag = subtag }
 

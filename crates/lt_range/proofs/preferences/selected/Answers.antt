@@ -5,7 +5,7 @@ use Rattle.lt_range.specs.Preferences.{SelectsAt}
 use borrow.Author.Count.{below_more}
 use Rattle.lt_range.proofs.preferences.selected.Goals as goal
 
--- after a turn none of the tags so far is selected: the turn passed over one that the range does not select
+-- after a pass of the loop none of the tags so far is selected: the pass went over one that the range does not select
 pub loop-place-preserved : goal.loop-place-preserved
 loop-place-preserved c =
     let all = c.args.all.now in
