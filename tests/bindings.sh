@@ -120,12 +120,14 @@ writes "C explains as the program" "$folder/explained" "$folder/answers-shared" 
 writes "C shows as the program" "$folder/shown" "$folder/answers-shared" "$registry" "$folder/shown-tags" 4 show
 
 # Under sanitizers. The proved calls have none, so that helgrind and drd, which see each instruction, look at them too.
-made calls-memory tests/bindings/calls.c $files $memory
-made growths-memory tests/bindings/growths.c $files $memory $wrapped
+# shellcheck disable=SC2086
+gcc $flags $memory -r -o "$folder/checked.o" $files
+made calls-memory tests/bindings/calls.c "$folder/checked.o" $memory
+made growths-memory tests/bindings/growths.c "$folder/checked.o" $memory $wrapped
 made nested tests/bindings/nested.c $files $memory -DBCP47_SLOTS=64 -DBCP47_WAIT=9 $within
 made nested-few tests/bindings/nested.c $files $memory -DBCP47_SLOTS=4 -DBCP47_WAIT=9 $within
-made threads-memory tests/bindings/threads.c $files $memory
-made answers-memory tests/bindings/answers.c $files $memory
+made threads-memory tests/bindings/threads.c "$folder/checked.o" $memory
+made answers-memory tests/bindings/answers.c "$folder/checked.o" $memory
 made threads-forks tests/bindings/threads.c $files -O1 -DBCP47_SLOTS=2
 made threads-races tests/bindings/threads.c $files -O1 -DBCP47_SLOTS=4 -fsanitize=thread
 made threads-helgrind tests/bindings/threads.c $files -O1 -DBCP47_SLOTS=4 -include tests/bindings/order.h

@@ -17,9 +17,9 @@ if command -v go > /dev/null; then
     passes "Go: format" test -z "$(gofmt -l bindings/go)"
     passes "Go: vet" env -C bindings/go go vet ./...
     passes "Go: tests and examples" env -C bindings/go go test ./...
-    passes "Go: tests with the race detector" env -C bindings/go go test -race . ./registry
+    passes "Go: tests with the race detector" env -C bindings/go go test -race "-gcflags=std=-N -l" . ./registry
     # without its habit of keeping what was freed
-    passes "Go: tests under the address sanitizer" env -C bindings/go ASAN_OPTIONS=quarantine_size_mb=1 go test -asan .
+    passes "Go: tests under the address sanitizer" env -C bindings/go ASAN_OPTIONS=quarantine_size_mb=1 go test -asan "-gcflags=std=-N -l" .
     passes "Go: a program" env -C bindings/go go build -o "$folder/canon" ./cmd/canon
     writes "Go answers as the program" "$shared/wanted" sh -c '"$1/canon" "$2" < "$3"' - "$folder" "$registry" "$shared/tags"
     writes "Go explains as the program" "$shared/explained" sh -c '"$1/canon" -explain "$2" < "$3"' - "$folder" "$registry" "$shared/explained-tags"

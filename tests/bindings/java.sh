@@ -15,11 +15,13 @@ says() {
 
 if command -v javac > /dev/null; then
     mkdir "$folder/tests" "$folder/page"
+    # what runs once, and is no test of the library, is not made faster as it runs
+    once=(-XX:TieredStopAtLevel=1 -XX:+UseSerialGC)
     passes "Java: build" env TARGET="$folder/target" bindings/java/build.sh
     cat "$folder/err"
     jar=$folder/target/bcp47-$(cat VERSION).jar
     bundled=$(ls "$folder"/target/bcp47-registry-*.jar)
-    passes "Java: compile the tests" javac --release 17 -Xlint:all -Werror -cp "$jar" -d "$folder/tests" bindings/java/src/test/java/bcp47/*.java
+    passes "Java: compile the tests" javac "${once[@]/#/-J}" --release 17 -Xlint:all -Werror -cp "$jar" -d "$folder/tests" bindings/java/src/test/java/bcp47/*.java
     printf 'ok\n' > "$folder/ok"
     writes "Java: calls" "$folder/ok" java -Xcheck:jni -cp "$jar:$folder/tests" bcp47.Calls "$sample"
     writes "Java: calls beside the registry of its jar" "$folder/ok" java -cp "$jar:$bundled:$folder/tests" bcp47.Calls "$sample" bundled
@@ -32,7 +34,7 @@ if command -v javac > /dev/null; then
     writes "Java answers as the program" "$shared/wanted" java -cp "$jar:$folder/tests" bcp47.Answers "$registry" "$shared/tags"
     writes "Java explains as the program" "$shared/explained" java -cp "$jar:$folder/tests" bcp47.Answers "$registry" "$shared/explained-tags" explain
     passes "Java: a filter answers browsers" tests/bindings/browsers.sh java -cp "$jar:$folder/tests" bcp47.Serve
-    passes "java.util.Locale serves alike but for known causes" java -cp "$jar" bench/peers/Best.java "$registry" 20000
+    passes "java.util.Locale serves alike but for known causes" java "${once[@]}" -cp "$jar" bench/peers/Best.java "$registry" 20000
     sed -n '/^```java$/,/^```$/{/^```/!p}' docs/JAVA.md > "$folder/page/Page.java"
     cp "$sample" "$folder/page/registry.txt"
     printf '%s\n' yue true true de 'BadByte 1 BAD_BYTE 1' '[he, ! BadByte 1]' 'zh-Hant-TW Hant' > "$folder/page/wanted"
@@ -85,7 +87,7 @@ for path in "groupId artifactId version name description url licenses/license/na
         cp -r bindings/java/pom.xml bindings/java/src "$maven"
         mkdir -p "$maven/src/main/resources"
         cp -r "$folder/target/native/bcp47" "$maven/src/main/resources"
-        passes "Java: Maven, offline" env -C "$maven" mvn -o -q -B -Dmaven.repo.local="$folder/repository" package
+        passes "Java: Maven, offline" env -C "$maven" MAVEN_OPTS="${once[*]}" mvn -o -q -B -Dmaven.repo.local="$folder/repository" package
         writes "Java: Maven's jar answers" "$folder/page/wanted" env -C "$folder/page" java -cp "$(ls "$maven"/target/bcp47-*.jar)" Page.java
     else
         echo "no Maven with Debian's plugins here: the package for Java is not built by it"

@@ -16,7 +16,7 @@ if command -v cargo > /dev/null; then
     passes "Rust: tests" cargo test --offline -q --all-features --manifest-path bindings/rust/Cargo.toml
     # what miri would see, as it sees no calls of C
     passes "Rust: tests under valgrind" env CARGO_TARGET_X86_64_UNKNOWN_LINUX_GNU_RUNNER="valgrind -q --error-exitcode=9 --leak-check=full --show-leak-kinds=definite --errors-for-leak-kinds=definite" \
-        cargo test --offline -q --tests --manifest-path bindings/rust/Cargo.toml
+        cargo test --offline -q --all-features --tests --manifest-path bindings/rust/Cargo.toml
     if cargo clippy --version > /dev/null 2>&1; then
         passes "Rust: clippy" cargo clippy --offline -q --all-targets --all-features --manifest-path bindings/rust/Cargo.toml -- -D warnings
     else

@@ -11,7 +11,7 @@ import unittest
 import zipfile
 from pathlib import Path
 
-os.environ["SOURCE_DATE_EPOCH"] = "1700000000"
+os.environ.update(SOURCE_DATE_EPOCH="1700000000", CFLAGS="-O0")
 sys.path.insert(0, str(Path(__file__).resolve().parent.parent))
 import wheel_of_package as package
 
