@@ -38,6 +38,12 @@ zipped() {
     (cd "$work" && TZ=UTC /usr/bin/python3 -m zipfile -c "$to/$1.zip" "$1")
 }
 
+# outward FILE..: pages that are packed alone lead to others where the repository has them.
+pages=$(sed -n 's/^repository = //p' "$root/packaging/PUBLISHER")/blob/HEAD/docs
+outward() {
+    sed -i -E "s#\]\(((\.\./)?[A-Za-z]+\.md)#](${pages}/\1#g" "$@"
+}
+
 # put NAME PART: a part, as it is installed below a folder of this name.
 put() {
     DESTDIR=$work/$1.root PREFIX=/usr/local LIBDIR=/usr/local/lib "$root/packaging/install.sh" install "$2"
@@ -60,6 +66,7 @@ name=libbcp47-$version-x86_64-linux
 put "$name" library
 strip --strip-unneeded "$work/$name/lib/libbcp47.so.1"
 cp "$root"/LICENSE* "$root/docs/C.md" "$work/$name"
+outward "$work/$name/C.md"
 archive "$name"
 
 if [ -e "$root/build/aarch64/libbcp47.so.1" ]; then
@@ -99,6 +106,7 @@ name=bcp47-go-$version
 mkdir -p "$work/$name/registry"
 cp "$root"/LICENSE* "$root/bindings/go/go.mod" "$work/$name"
 cp "$root/docs/GO.md" "$work/$name/README.md"
+outward "$work/$name/README.md"
 (cd "$root/bindings/go" && find . -name '*.go' ! -name '*_test.go' ! -path './cmd/*' -exec cp --parents {} "$work/$name" \;)
 # beside the sources, since `go mod vendor` takes no more than the folders of packages
 cp "$root/bindings/c/bcp47.h" "$work/$name"
@@ -107,6 +115,7 @@ archive "$name"
 # What npm and cargo pack has its files in its own folder, so they work in a copy.
 mkdir -p "$work/copy/build"
 cp -r "$root/bindings" "$root/docs" "$root/examples" "$root/VERSION" "$root"/LICENSE* "$work/copy"
+outward "$work"/copy/docs/*.md
 rm -rf "$work/copy/bindings/rust/target" "$work/copy/bindings/rust/Cargo.lock"
 ln -s "$root"/build/* "$work/copy/build"
 if command -v npm > /dev/null && [ -e "${NODE_HEADERS:-/usr/include/node}/node_api.h" ]; then

@@ -144,6 +144,8 @@ purges() {
     sh "$folder/postrm" remove && [ -d "$folder/var/langtag" ] && sh "$folder/postrm" purge && [ ! -e "$folder/var/langtag" ]
 }
 
+# a link to a page that would be in the same folder, or in the one above
+beside='\]\((\.\./)?[A-Za-z]+\.md'
 for package in "$folder"/dist/*.deb; do
     name=$(basename "$package" | sed 's/_.*//')
     dpkg-deb -c "$package" > "$folder/contents"
@@ -169,6 +171,8 @@ for package in "$folder"/dist/*.deb; do
     done < <(find "$folder/over" -type f \( -name langtag -path '*/bin/*' -o -name '*.so*' \))
     [ "$name" != python3-bcp47 ] || is "$name: what Python knows of it" "$version" "$(PYTHONPATH=$folder/over/usr/lib/python3/dist-packages \
         /usr/bin/python3 -c 'from importlib.metadata import version; print(version("bcp47"))')"
+    [ "$name" = langtag ] || is "$name: no page leads to one that is not there" '' \
+        "$(find "$folder/over/usr/share/doc/$name" -name '*.md' -exec grep -ohE "$beside" {} +)"
     rm -rf "$folder/over"
 done
 is "all packages" 'langtag libbcp47-1 libbcp47-dev postgresql-15-bcp47 python3-bcp47 sqlite3-bcp47' "$(cd "$folder/dist" && echo ./*.deb | sed 's#\./##g; s/_[^ ]*//g')"
@@ -234,6 +238,7 @@ is "the copy answers" yue "$(cat "$folder/out")"
 passes "the crates' tests, of what is packed" env -C "$folder/use/Rust/bcp47-$version" cargo test -q --config "patch.crates-io.bcp47-sys.path='../bcp47-sys-$version'" \
     --config "patch.crates-io.bcp47-registry.path='../bcp47-registry-2025.5.15'" --all-features
 for made in "$folder"/dist/*.{crate,tgz} "$folder/dist/bcp47-go-$version.tar.gz"; do
+    is "$(basename "$made"): no link to a page that is not there" '' "$(tar -xzOf "$made" --wildcards '*.md' | grep -oE "$beside")"
     is "$(basename "$made") has its licence and a page" 4 "$(tar -tzf "$made" | grep -cE '^[^/]*/(LICENSE(-MIT|-APACHE)?|README.md|RUST.md)$')"
 done
 

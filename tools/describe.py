@@ -26,6 +26,7 @@ LINES = [
     ("bindings/c/bcp47.h", "version", r'#define BCP47_VERSION "({})"'),
     ("bindings/c/bcp47.h", "fault_constants", r"/\* The faults.*\*/\nenum \{\n([^}]*)\n\};"),
     ("bindings/python/wheel_of_package.py", "version", r'NAME, VERSION = "bcp47", "({})"'),
+    ("bindings/python/wheel_of_package.py", "repository", r"Project-URL: Repository, (.*)"),
     ("bindings/python/pyproject.toml", "version", r'version = "({})"'),
     ("bindings/rust/Cargo.toml", "version", r'version = "({})"'),
     ("bindings/rust/Cargo.toml", "repository", r'repository = "(.*)"'),

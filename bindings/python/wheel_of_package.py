@@ -36,6 +36,7 @@ Name: {NAME}
 Version: {VERSION}
 Summary: BCP 47 language tags, read and made canonical by a registry of language subtags
 License: MIT OR Apache-2.0
+Project-URL: Repository, https://langtag.example/langtag
 Requires-Python: >=3.9
 Classifier: Programming Language :: Python :: 3
 Classifier: Operating System :: POSIX :: Linux
