@@ -26,18 +26,18 @@ pub record IsValidCoreAlone (R : List EntryParts) (t : TagForm) : Type 0 where
   pub valid : IsValid R t
 
 -- If a whole record has a value, this is a valid langtag and a core alone; and so is the record's tag, if it is
--- redundant (C9; this project's own).
+-- redundant (C9; no RFC asks for that: it is a rule of this project).
 abbrev pub HasValidWhole : List EntryParts → EntryParts → Type 0
 HasValidWhole R e = OfWhole e (λ t u. IsValidCoreAlone R u × (e.kind ≡ kinds.Redundant → IsValidCoreAlone R t))
 
 -- If a whole record has a value, no variant occurs twice in the core normal form of this value, and this form is not
--- the tag of a whole record with a value (C10; this project's own).
+-- the tag of a whole record with a value (C10; a rule of this project).
 abbrev pub HasRestingWhole : List EntryParts → EntryParts → Type 0
 HasRestingWhole R e = OfWhole e (λ t u. (c d : CoreParts) → u ≡ core_alone c → IsCoreNormalForm R c d →
     Distinct d.variants × All (λ (f : EntryParts). f.name ≡ names.Whole (core_alone d) → tag_of f.value ≡ None) R)
 
 -- Let a tag with a value have a core normal form that is another tag. Then the value has this core normal form too; or
--- this form has a value as a whole tag, and the two values have one core normal form (C11; this project's own).
+-- this form has a value as a whole tag, and the two values have one core normal form (C11; a rule of this project).
 abbrev pub HasAgreeingWhole : List EntryParts → EntryParts → Type 0
 HasAgreeingWhole R e = OfWhole e (λ t u. (c s p d : CoreParts) → t ≡ core_alone c → u ≡ core_alone p →
     IsCoreNormalForm R c s → s ≢ c → IsCoreNormalForm R p d →
@@ -73,7 +73,7 @@ rank_of conditions.RestingWhole = 10
 rank_of conditions.AgreeingWhole = 11
 rank_of conditions.NoRangeValue = 12
 
--- each record meets each of the twelve conditions, C1 to C12 (this project's own)
+-- each record meets each of the twelve conditions, C1 to C12 (no RFC asks for them: they are rules of this project)
 pub record Passes (R : List EntryParts) : Type 0 where
   pub core_conditions : MeetsCoreConditions R
   pub langtag_prefixes : All (HasLangtagPrefixes R) R

@@ -1,4 +1,5 @@
--- A flag for each subtag that has a place in a table: whether it stays as it is, so that many tags need no search.
+-- A flag for each subtag that has a place in a table: whether canonicalization leaves it as it is, so that many tags
+-- need no search.
 use Rattle.std.specs.Prelude.{ℕ, ◌≡◌, ◌/◌, ◌%◌, ◌==◌, ◌&&◌, if◌then◌else◌, Bool, not, List, Some, All, bytes_eq}
 use Rattle.std.specs.Prelude.{slice_index}
 use Rattle.std.specs.Int.{bit_at}

@@ -1,4 +1,4 @@
--- What a look at one record finds of its languages.
+-- What the conditions C4 and C6 ask of the languages that one record names.
 use Rattle.std.specs.Prelude.{ℕ, Bool, false, ◌&&◌, List, [], ◌∷◌, is_none}
 use Rattle.lt_registry.specs.Parts.{EntryParts}
 use Rattle.lt_registry.specs.Entries.{preferred_value, is_registered}

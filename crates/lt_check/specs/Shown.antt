@@ -16,7 +16,7 @@ lower b = bit_or b 32
 abbrev pub upper_byte : ℕ → ℕ
 upper_byte b = bit_and b 223
 
--- `bytes` as what is shown after the language, of which the first `count` count, if the test is true
+-- what is shown after the language: the first `count` of `bytes`; None if the test is false
 abbrev pub after_if : Bool → ℕ → List ℕ → Option AfterLanguage
 after_if holds count bytes = if holds then Some (record { count = count; bytes = bytes }) else None
 
@@ -25,8 +25,8 @@ abbrev pub script_before : ℕ → ℕ → ℕ → ℕ → List ℕ → List ℕ
 script_before a b c d rest =
     45 ∷ upper_byte a ∷ lower b ∷ lower c ∷ lower d ∷ rest
 
--- what is shown after the language where that is a script, or a script and a region, filled up with zeros to nine
--- bytes; `F` has the flags of subtags
+-- what is shown after the language if that is a script, or a script and a region, filled up with zeros to nine bytes;
+-- None if it is anything else, or a subtag has no flag in `F`
 abbrev pub from_script : List ℕ → List ℕ → Option AfterLanguage
 from_script F (h ∷ a ∷ b ∷ c ∷ d ∷ []) = after_if ((h == 45) && flag F (script_4 a b c d)) 5
     (script_before a b c d (0 ∷ 0 ∷ 0 ∷ 0 ∷ []))
@@ -38,8 +38,8 @@ from_script F (h ∷ a ∷ b ∷ c ∷ d ∷ i ∷ e ∷ f ∷ g ∷ []) =
     (script_before a b c d (45 ∷ e ∷ f ∷ g ∷ []))
 from_script F _ = None
 
--- what is shown after the language (nothing, a region, a script, or both), filled up with zeros to nine bytes; `F` has
--- the flags of subtags
+-- what is shown after the language (nothing, a region, a script, or both), filled up with zeros to nine bytes; None if
+-- it is anything else, or a subtag has no flag in `F`
 abbrev pub after_language : List ℕ → List ℕ → Option AfterLanguage
 after_language F [] = after_if true 0 (0 ∷ 0 ∷ 0 ∷ 0 ∷ 0 ∷ 0 ∷ 0 ∷ 0 ∷ 0 ∷ [])
 after_language F (h ∷ a ∷ b ∷ []) = after_if ((h == 45) && flag F (region_2 a b)) 3

@@ -1,4 +1,4 @@
--- Subtags that stay as they are, and texts of such subtags alone (RFC 5646, 4.5).
+-- Subtags that stay as they are in canonicalization, and texts of only such subtags (RFC 5646, 4.5).
 use Rattle.std.specs.Prelude.{ℕ, ◌≡◌, ◌≤◌, ◌==◌, ◌&&◌, Bool, true, false, not, List, [], length, find, bytes_eq}
 use Rattle.std.specs.Prelude.{is_none, is_some, IfSome}
 use Rattle.std.specs.List.{list_any}

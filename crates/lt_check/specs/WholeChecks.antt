@@ -18,7 +18,7 @@ MeetsBelow rank R = (other : Condition) → rank_of other < rank → All (Meets 
 abbrev pub HasNoValue : List EntryParts → TagForm → Type 0
 HasNoValue R t = All (λ (f : EntryParts). f.name ≡ names.Whole t → tag_of f.value ≡ None) R
 
--- a core has no variant twice, and as a whole tag no value
+-- no variant occurs twice in a core, and the core has no value as a whole tag
 abbrev pub RestsAlone : List EntryParts → CoreParts → Type 0
 RestsAlone R d = Distinct d.variants × HasNoValue R (core_alone d)
 

@@ -20,7 +20,7 @@ pub struct Checked<L: Lookup> {
     table: L,
     /// The ends of the table's chains of values.
     shortcuts: Shortcuts,
-    /// Which subtags stay as they are.
+    /// Flags of the subtags that stay as they are.
     usual: UsualSubtags,
 }
 
@@ -40,8 +40,7 @@ impl<L: Lookup + Drop> Drop for Checked<L> {
     }
 }
 
-// A contract sees it as its table, which passes the check, and whose the shortcuts and the flags are (this project's
-// own).
+// A contract sees it as its table. The table passes the check, and the shortcuts and the flags are those of this table.
 impl<L: Lookup> Model for Checked<L> {
     ghost use Rattle.lt_check.specs.Checking.{IsCheckedAlong};
 
@@ -53,8 +52,8 @@ impl<L: Lookup> Model for Checked<L> {
 }
 
 impl<L: Lookup> Checked<L> {
-    /// Checks that each record of a table meets each of the twelve [conditions](crate::Condition), which are this
-    /// project's own. They are judged in order, each only if all records meet those before it.
+    /// Checks that each record of a table meets each of the twelve [conditions](crate::Condition). They are judged in
+    /// order, each only if all records meet those before it.
     ///
     /// A table that does not pass is handed back with the cause: `Finding`, the first condition that some
     /// record does not meet and the lowest number of those records; or `OutOfMemory`.
@@ -114,7 +113,7 @@ impl<L: Lookup> Checked<L> {
         &self.shortcuts
     }
 
-    /// The usual subtags: flags of the table's languages, scripts and regions that stay as they are.
+    /// The usual subtags: flags of the table's languages, scripts and regions that canonicalization leaves as they are.
     pub fn usual(&self) -> &UsualSubtags
         ensures flags { AreFlags (L.listed self.now) result.now }
         ensures checked { IsChecked (L.listed self.now) }

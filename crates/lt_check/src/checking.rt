@@ -68,7 +68,7 @@ fn meets<L: Lookup>(
 }
 
 /// Whether a record is of a language, a script or a region that is one subtag, and has no value. Most records are so.
-/// They meet each condition that is decided by record, so the first pass spares the look.
+/// They meet each condition that is decided by record, so the first pass does not test them.
 #[inline(always)]
 fn is_bare(entry: &Entry) -> bool
     ensures { IsTrue result → IsBare entry.now }
@@ -90,7 +90,7 @@ fn has_fitting_value<L: Lookup>(table: &L, shortcuts: &Shortcuts, entry: &Entry)
 }
 
 /// Whether a record meets C6 (a variant whose value is a language has Prefixes, each of them one registered language)
-/// and C7 (each Prefix of a variant is a langtag and a core alone).
+/// and C7 (each Prefix of a variant is a langtag without extensions and private use).
 fn has_fitting_prefixes<L: Lookup>(table: &L, entry: &Entry) -> bool
     ensures { IsTrue result → HasFittingPrefixes (L.listed table.now) entry.now }
 {
@@ -163,7 +163,7 @@ fn first_misfit<L: Lookup>(table: &L) -> Option<Finding>
 
 /// What the check finds by the tenth and the eleventh condition, or None if all records meet both. The two are judged
 /// in one pass, as both need the same core normal forms. All records must meet C1 to C9, and the shortcuts must be the
-/// table's. So the answer is the verdict on C1 to C11.
+/// table's. So the answer is the verdict on C1 to C11. Refused only where memory runs out.
 #[inline(never)]
 fn first_whole_fault<L: Lookup>(
     alloc: Global,
@@ -193,7 +193,7 @@ fn first_whole_fault<L: Lookup>(
 /// What the check finds by a condition, or None if all records meet it. If the first pass found that all meet each
 /// condition that is decided by record (`all_meet`), such a condition needs no pass of its own. All records must meet
 /// the conditions of lower rank, so the answer is the verdict on this condition and those, and after C10 on C11 too
-/// (`next_of`). The shortcuts must be the table's.
+/// (`next_of`). The shortcuts must be the table's. Refused only where memory runs out.
 fn lowest_fault<L: Lookup>(
     alloc: Global,
     table: &L,
@@ -218,7 +218,7 @@ fn lowest_fault<L: Lookup>(
 }
 
 /// What the check finds: the first condition that some record fails, and the lowest of the records that fail it. None
-/// if each record meets each condition. The shortcuts must be the table's.
+/// if each record meets each condition. The shortcuts must be the table's. Refused only where memory runs out.
 #[inline(never)]
 pub(crate) fn find_fault<L: Lookup>(
     alloc: Global,

@@ -2,8 +2,9 @@
 ghost use Rattle.std.specs.Prelude.{◌≡◌};
 ghost use Rattle.lt_check.specs.Codes.{code_of};
 
-/// The conditions on a registry, in the order in which they are judged. Each speaks of one record among all,
-/// and a registry meets it if each record does. They are this project's own.
+/// The conditions on a registry, in the order in which they are judged. Each speaks of one record among all, and a
+/// registry meets it if each record does. No RFC asks for them: they are rules of this project. The crate's own page
+/// says what a *whole* record, a chain and a core normal form are.
 #[derive(Clone, Copy, Debug, PartialEq, Eq)]
 pub enum Condition {
     /// C1: no earlier record has the same kind and the same name, and no earlier whole record the same tag.
@@ -21,13 +22,13 @@ pub enum Condition {
     /// C6: a variant with a language as its value has Prefixes, each of one subtag, a registered language
     /// without a value.
     FinalPrefixes,
-    /// C7: whatever Prefix a variant names is a langtag and a core alone.
+    /// C7: each Prefix of a variant is a langtag without extensions and private use.
     LangtagPrefixes,
     /// C8: a grandfathered record names one of the 26 tags (RFC 5646, 2.2.8), and no record makes a regular one
     /// of them valid, read as a langtag: the entry of its second subtag would be at fault.
     FittingGrandfathered,
-    /// C9: if a whole record has a value, this is a valid langtag and a core alone; and so is the record's tag,
-    /// if it is redundant.
+    /// C9: if a whole record has a value, this is a valid langtag without extensions and private use; and so is the
+    /// record's tag, if it is redundant.
     ValidWhole,
     /// C10: in the core normal form of a whole record's value no variant occurs twice, and no whole record
     /// gives this form a value.

@@ -1,5 +1,5 @@
-//! The condition on grandfathered tags (RFC 5646, 2.2.8): the record of each names one of the 26, and
-//! no regular one is valid as a langtag.
+//! C8, the condition on grandfathered tags (RFC 5646, 2.2.8): a record of that type names one of the 26, and no regular
+//! one of them, such as `zh-min`, is valid when it is read as a langtag.
 ghost use Rattle.std.specs.Prelude.{◌≡◌, ◌↔◌, ℕ, [], ◌∷◌, Ok, IsTrue, Contains};
 ghost use Rattle.std.specs.List.{list_any};
 ghost use Rattle.lt_subtag.specs.Reading.{subtag_of};

@@ -26,11 +26,11 @@ fn is_entry(found: Option<&Entry>, entry: &Entry) -> bool
     }
 }
 
-/// Whether a record's name is new: a range if it is not in `seen`, a subtag if its flag was clear, and else a name by
-/// which a look-up finds the record itself. The flag of the record's subtag is then set (`flags`), or its range added
-/// to `seen` (`seen`). Numbers must rise, so that earlier records are those of lower numbers. The record must be one of
-/// the table's (`there`), and `flags` must have its 8,655 words ([`WORDS`]), in which the flags of the subtags of the
-/// records before are set.
+/// Whether a record's name is new. A range is if it is not in `seen`; a subtag is if its flag was clear; any other name
+/// is if a look-up by it finds the record itself, and so is a subtag. The flag of the record's subtag is then set
+/// (`flags`), or its range added to `seen` (`seen`). Numbers must rise, so that earlier records are those of lower
+/// numbers. The record must be one of the table's (`there`), and `flags` must have its 8,655 words ([`WORDS`]), in
+/// which the flags of the subtags of the records before are set. Refused only where memory runs out.
 fn is_new<L: Lookup>(
     table: &L,
     flags: &mut [u64],
@@ -55,7 +55,8 @@ fn is_new<L: Lookup>(
     }
 }
 
-/// The first record whose name an earlier record of its kind has, or whose tag an earlier record has; None if there is none.
+/// The first record whose name an earlier record of its kind has, or whose tag an earlier record has; None if there is
+/// none. Refused only where memory runs out.
 pub(crate) fn first_taken_name<L: Lookup>(
     alloc: Global,
     table: &L,

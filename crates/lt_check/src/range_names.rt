@@ -1,4 +1,5 @@
-//! The ranges that records name, such as `qaa..qtz`: C1 asks whether an earlier record of the same kind names the same.
+//! The ranges that records name, such as `qaa..qtz`: C1 asks whether an earlier record of the same kind names the same
+//! range.
 ghost use Rattle.std.specs.Prelude.{◌≡◌, ◌↔◌, ◌⊎◌, [], Contains, IsTrue, IfOk, OnOk};
 ghost use Rattle.lt_check.specs.NameChecks.{range_name};
 

@@ -38,8 +38,8 @@ fn is_final_prefix<L: Lookup>(table: &L, prefix: &Prefix) -> bool
     }
 }
 
-/// For C4: whether the preferred value of a language, then that of this value, and so on, ends at the same language for
-/// left and for right. False where one of the chains goes in a circle. The shortcuts must be the table's.
+/// For C4: whether the chains of values of the languages `left` and `right` have the same end. False if one of the
+/// chains goes in a circle. The shortcuts must be the table's.
 fn end_alike<L: Lookup>(table: &L, shortcuts: &Shortcuts, left: &Subtag, right: &Subtag) -> bool
     requires { AreShortcuts (L.listed table.now) shortcuts.now }
     ensures { IsTrue result ↔ EndAlike (L.listed table.now) left.now right.now }

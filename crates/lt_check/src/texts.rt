@@ -1,8 +1,8 @@
-//! Texts of subtags that stay, in conventional case. A text is *shown* if it is a language of 2 or 3 letters, alone or
-//! with a script, a region or both, and each of these has its flag: so it is canonical but for letter case. For speed
-//! all is inlined into the one call that a text takes, and tests are joined by `&`, so that one branch can do for all
-//! subtags of a text. The bytes that are shown are filled up with zeros to a fixed length, within which their count is
-//! (`few`).
+//! Texts of subtags that stay as they are in canonicalization, shown in conventional case. A text is *shown* if it is a
+//! language of 2 or 3 letters, alone or with a script, a region or both, and each of these has its flag: so the text is
+//! canonical but for letter case. For speed all is inlined into the one call that a text takes, and tests are joined by
+//! `&`, so that one branch can do for all subtags of a text. The bytes that are shown are filled up with zeros to a
+//! fixed length, and their count is at most this length (`few`).
 ghost use Rattle.std.specs.Prelude.{◌≡◌, ◌≤◌, IfSome};
 ghost use Rattle.lt_check.specs.Shown as shown;
 
@@ -55,8 +55,8 @@ fn upper(byte: u8) -> u8
 }
 
 impl UsualSubtags {
-    /// What follows the language, `rest`, in conventional case. None unless that is nothing, or a hyphen and a script,
-    /// a hyphen and a region, or both, each of which has its flag.
+    /// What follows the language, `rest`, in conventional case. None unless `rest` is nothing, or a hyphen and a
+    /// script, a hyphen and a region, or both, and each of these subtags has its flag.
     #[inline(always)]
     fn after_language(&self, rest: &[u8]) -> Option<AfterLanguage>
         ensures value { result ≡ shown.after_language self.now rest.now }
@@ -78,8 +78,8 @@ impl UsualSubtags {
         }
     }
 
-    /// What follows the language, `rest`, in conventional case. None unless that is a hyphen and a script, alone or with
-    /// a hyphen and a region after it, each of which has its flag.
+    /// What follows the language, `rest`, in conventional case. None unless `rest` is a hyphen and a script, alone or
+    /// with a hyphen and a region after it, and each of these subtags has its flag.
     #[inline(always)]
     #[tactic(auto, using(crate::proofs::TextLemmas::nine_reads))]
     fn from_script(&self, rest: &[u8]) -> Option<AfterLanguage>
@@ -119,7 +119,7 @@ impl UsualSubtags {
     }
 
     /// A text in conventional case that begins with the language `a`, `b` and goes on with `rest`. None unless all its
-    /// subtags have flags.
+    /// subtags have flags, and `rest` is as `after_language` asks.
     #[inline(always)]
     fn shown_two(&self, a: u8, b: u8, rest: &[u8]) -> Option<Shown>
         ensures value { result ≡ shown.shown_two self.now a b rest.now }
@@ -140,8 +140,8 @@ impl UsualSubtags {
         }
     }
 
-    /// A text in conventional case that begins with the language `a`, `b`, `c` and goes on with `rest`. None unless all its
-    /// subtags have flags.
+    /// A text in conventional case that begins with the language `a`, `b`, `c` and goes on with `rest`. None unless all
+    /// its subtags have flags, and `rest` is as `after_language` asks.
     #[inline(always)]
     fn shown_three(&self, a: u8, b: u8, c: u8, rest: &[u8]) -> Option<Shown>
         ensures value { result ≡ shown.shown_three self.now a b c rest.now }

@@ -1,5 +1,5 @@
-//! A table of flags, one bit for each place that a subtag can have, set where the subtag stays as it is. Flags *tell* a
-//! test if the flag of each subtag with a place is the test's answer (`Tell`).
+//! A table of flags, one bit for each place that a subtag can have. The flag is set if the subtag stays as it is in
+//! canonicalization. Flags *tell* a test if the flag of each subtag with a place is the test's answer (`Tell`).
 ghost use Rattle.std.specs.Prelude.{◌≡◌, ◌<◌, ◌++◌, ◌∷◌, [], ◌==◌, ◌↔◌, Bool, true, false, if◌then◌else◌, ℕ, List, All, IfOk, OnErr, IsTrue, IfSome, MatchOption, Some, length, bytes_eq};
 ghost use Rattle.lt_subtag.specs.Shapes.{is_language};
 ghost use Rattle.lt_tag.specs.Lists.{list_of};
@@ -141,9 +141,9 @@ fn put_subtag(words: &mut [u64], kind: Kind, subtag: &Subtag, set: bool)
     }
 }
 
-/// Sets the flag of the subtag of a record that is no range and no tag, if the record has no preferred value, and else
-/// clears it. There must be 8,655 words. If the flags told which subtags have a record without a value in `es`, they
-/// then tell so of `es` with this record in front.
+/// Sets the flag of the subtag of a record of one subtag if the record has no preferred value, and else clears it. Any
+/// other record is passed over. There must be 8,655 words. If the flags told which subtags have a record without a
+/// value in `es`, they then tell so of `es` with this record in front.
 fn put_single(words: &mut [u64], entry: &Entry)
     requires { length words.old ≡ 8655 }
     ensures { (es : List EntryParts) → TellSingles es words.old → TellSingles (entry.now ∷ es) words.new }
@@ -153,8 +153,8 @@ fn put_single(words: &mut [u64], entry: &Entry)
     }
 }
 
-/// Sets or clears the flag of the subtag of each record that is no range and no tag. Of several records of a subtag the
-/// first counts. There must be 8,655 words, and all flags must be clear.
+/// Sets the flag of the subtag of each record of one subtag if the record has no preferred value, and else clears it.
+/// Of several records of a subtag the first counts. There must be 8,655 words, and all flags must be clear.
 fn put_singles(words: &mut [u64], entries: &[Entry])
     requires room { length words.old ≡ 8655 }
     requires clear { TellSingles [] words.old }
@@ -168,8 +168,8 @@ fn put_singles(words: &mut [u64], entries: &[Entry])
 }
 
 /// The language of the tag that a record replaces as a whole. None if the record has no tag or no preferred value, or
-/// if the tag has no core, or has extlangs or variants. The clause says so of each language `s`: the record replaces
-/// such a tag of no `s`, or of that `s` alone which is given.
+/// if the tag has no core, or has extlangs or variants. By the clause, None says that the record replaces such a tag of
+/// no language `s`, and an answer that it does so of this language only.
 fn replaced_language(entry: &Entry) -> Option<&Subtag>
     ensures language { MatchOption result ((s : List ℕ) → replaces_plain_of s entry.now ≡ false) (λ language. (s : List ℕ) → replaces_plain_of s entry.now ≡ bytes_eq language.now s) }
     ensures form { IfSome result (λ language. is_language language.now ≡ true) }

@@ -34,8 +34,9 @@ fn is_valid_plain<L: Lookup>(alloc: Global, table: &L, tag: &Tag) -> bool
     }
 }
 
-/// Whether the value of a record that replaces a tag as a whole is a valid langtag without extensions and private use, and
-/// so is the tag if the record is a redundant one. True of a record that replaces no whole tag. It takes no memory.
+/// C9: whether the value of a record that replaces a tag as a whole is a valid langtag without extensions and private
+/// use, and so is the tag if the record is a redundant one. True of a record that replaces no whole tag. It takes no
+/// memory.
 pub(crate) fn has_valid_whole<L: Lookup>(alloc: Global, table: &L, entry: &Entry) -> bool
     ensures { IsTrue result ↔ Meets conditions.ValidWhole (L.listed table.now) entry.now }
 {
@@ -48,16 +49,16 @@ pub(crate) fn has_valid_whole<L: Lookup>(alloc: Global, table: &L, entry: &Entry
     }
 }
 
-/// Does nothing when it runs: by its clause the forms of the entries and the order of their numbers are known to the
-/// proof.
+/// Does nothing when it runs: by its clause a proof knows the forms of the entries and the order of their numbers.
 pub(crate) fn know_entries<L: Lookup>(table: &L)
     ensures { IsRegistry (L.listed table.now) }
 {
     let _ = table.entries();
 }
 
-/// The core normal form of a core, which must be proper. Its text is no grandfathered tag (`spelled`), as `value_of`
-/// asks. Refused only where memory runs out. All records must meet C1 to C9, and the shortcuts must be the table's.
+/// The core normal form of a core, which must be proper. The text of the form is no grandfathered tag (`spelled`), as
+/// `value_of` asks. Refused only where memory runs out. All records must meet C1 to C9, and the shortcuts must be the
+/// table's.
 #[inline(never)]
 fn settled<L: Lookup>(
     alloc: Global,
@@ -118,7 +119,7 @@ fn rests<L: Lookup>(alloc: Global, table: &L, core: Core) -> bool
 /// C11, asked of a record's tag, where `end` is the core normal form of its value: whether the tag comes to the core
 /// `end`. It does if its core normal form is its own core or `end`, or has a value as a whole whose core normal form is
 /// `end`. True of a tag that is not a core alone. If the tag is a core alone, the core must be proper. All records must
-/// meet C1 to C9, and the shortcuts must be the table's.
+/// meet C1 to C9, and the shortcuts must be the table's. Refused only where memory runs out.
 #[inline(never)]
 fn comes_to<L: Lookup>(
     alloc: Global,
@@ -145,19 +146,21 @@ fn comes_to<L: Lookup>(
     }
 }
 
-/// Which of two conditions a record meets.
+/// Which of the conditions C10 and C11 a record meets.
 #[derive(Clone, Copy)]
 pub(crate) struct Judged {
-    /// It is no whole record with a value; or no variant occurs twice in the core normal form of its value,
-    /// and this form is not the tag of a whole record with a value.
+    /// Whether it meets C10: it is no whole record with a value, or no variant occurs twice in the core normal form of
+    /// its value, and this form is not the tag of a whole record with a value.
     pub(crate) rests: bool,
-    /// It is no whole record with a value; or where its tag has a core normal form other than itself, that,
-    /// or the core normal form of that one's value, equals the core normal form of its value.
+    /// Whether it meets C11. It does if it is no whole record with a value, or if its tag is its own core normal form.
+    /// Else the core normal form of its value must be that of its tag, or that of the value of this form as a whole
+    /// tag.
     pub(crate) agrees: bool,
 }
 
-/// Whether a record meets the tenth and the eleventh condition, by the core normal forms of its tag and its value. The
-/// record must be one of the table's, all records must meet C1 to C9, and the shortcuts must be the table's.
+/// Whether a record meets C10, and whether it meets C11, by the core normal forms of its tag and its value. The record
+/// must be one of the table's, all records must meet C1 to C9, and the shortcuts must be the table's. Refused only
+/// where memory runs out.
 pub(crate) fn judge_whole<L: Lookup>(
     alloc: Global,
     table: &L,

@@ -32,7 +32,7 @@ greatest_count = 2 ^ 64 - 1
 abbrev pub one_more : ℕ → ℕ
 one_more count = min (count + 1) greatest_count
 
--- a count after one is added for each of these reads
+-- a count after so many reads, each of which adds one to it
 abbrev pub after_reads : ℕ → ℕ → ℕ
 after_reads count zero = count
 after_reads count (suc reads) = one_more (after_reads count reads)

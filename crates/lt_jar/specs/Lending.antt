@@ -68,7 +68,8 @@ pub record AreEnded (lines : List (List ℕ)) (records : List (List Field)) : Ty
   pub records_are : records ≡ map record_of (filter has_field groups)
 
 -- The text, which comes after `earlier` records, is whole lines without a fault and then the front of a line. This line
--- has this number, counted from 1, and is not too long so far.
+-- has this number, counted from 1, and is not too long so far. Unlike those of `IsCutShort`, the whole lines may end
+-- records.
 pub record BreaksOff (earlier : ℕ) (text : List ℕ) (number : ℕ) : Type 0 where
   pub ended : List (List ℕ)
   pub records : List (List Field)

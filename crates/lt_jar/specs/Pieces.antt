@@ -1,6 +1,6 @@
 -- What the engine that reads records does with a piece of a text, and with the text's end. `partial.items` are the
--- bytes that it keeps of a line. `steps` (Reading) computes what lines make of the fields that go on (`going_on`). By
--- `room` each line took a byte at least, so that the numbers of lines stay small.
+-- bytes that it keeps of a line. `steps` (Reading) computes what lines make of the fields that go on (`going_on`). The
+-- fields `room` say that each line took at least one byte, so that the numbers of lines stay small.
 use Rattle.std.specs.Prelude.{◌≡◌, ◌≢◌, ◌≤◌, ◌<◌, ◌+◌, ◌⊎◌, ℕ, Bool, true, false, List, [], ◌∷◌, ◌++◌, length, take}
 use Rattle.std.specs.Prelude.{Option, Some, None, Result, Ok, Err, MatchOption}
 use Rattle.std.specs.Borrow.{Bor}
@@ -69,8 +69,9 @@ pub record RefusesFirst (ended : ℕ) (fields : List Field) (text : List ℕ) (k
   pub cut : lines_of text ≡ line ∷ after
   pub said : IsSaid kind (take_line ended fields line)
 
--- a line of the kept bytes and the piece has this fault, whatever bytes follow, or memory ran out at it: the one
--- behind `lines`, which ended no record
+-- Reading stops at a line of the kept bytes and the piece: it has this fault, whatever bytes follow, or memory ran out
+-- at it. It comes after `lines`, none of which ends a record, and `tail` is what there is from it on. What the engine
+-- keeps after that has no line feed (`begun`). `old` is the engine before the piece, `new` after it.
 pub record StopsAt (old new : Engine) (piece : List ℕ) (kind : JarFaultKind) : Type 0 where
   pub lines : List (List ℕ)
   pub each : AllByRecursion IsOneLine lines
@@ -115,7 +116,8 @@ pub record Finishes (old new : Engine) (some : Bool) : Type 0 where
   pub ended : new.ended ≡ old.ended
   pub empty : new.partial.items ≡ []
 
--- the last line has this fault, or memory ran out at it
+-- the last line, which no line feed ends, has this fault, or memory ran out at it; `old` is the engine before it, `new`
+-- after it
 pub record StopsAtLast (old new : Engine) (kind : JarFaultKind) : Type 0 where
   pub some : old.partial.items ≢ []
   pub said : IsSaid kind (take_line old.ended (fields_in old) old.partial.items)

@@ -101,7 +101,8 @@ abbrev pub HasRoom : JarSource → Type 0
 HasRoom s = (going : Going) → steps (lent_by s) (going_on (record_in s)) (last_line s.engine.partial.items) ≡ Ok going
     → lent_by s + length (finished going) ≤ 100000
 
--- the end of the text was taken in, where a record ends if `some` is true, and none if it is false
+-- the end of the text was taken in, where a record ends if `some` is true, and none if it is false; `old` and `new` are
+-- the source before and after it
 pub record Finishes (old new : JarSource) (some : Bool) : Type 0 where
   pub going : Going
   pub ran : steps (lent_by old) (going_on (record_in old)) (last_line old.engine.partial.items) ≡ Ok going
@@ -131,8 +132,8 @@ pub record LendsEnded {R : Type 0} (old new : JarSource)
   pub last_gave : LastGave old before → LastGave new after
   pub status : new.status ≡ state.Open
 
--- the text ended, and its last lines are these records, one or none; `old` and `new` are the source, `after` is its
--- device at the end
+-- The text ended. The bytes that were kept and those that were read have no fault and are these records, one or none.
+-- `old` and `new` are the source, `after` is its device at the end, and `read` are the bytes that were read.
 pub record LendsLast {R : Type 0} (remaining : R → Option (List ℕ)) (old new : JarSource)
     (after : Device R) (read : List ℕ) (records : List (List Field)) : Type 0 where
   pub has : HasRecords (kept_in old ++ read) records

@@ -54,7 +54,7 @@ WriteFails writer = one_more writer.calls ≡ writer.fails_at
 abbrev pub take_count : Takes → ℕ → ℕ
 take_count writer count = if nat_eq (one_more writer.calls) writer.full_at then 0 else min count writer.piece
 
--- a writer that takes at most `piece` bytes in a call, was not written yet, and does not fail
+-- a writer that takes at most `piece` bytes in a call, has taken none yet, and does not fail
 pub record IsUnwritten (writer : Takes) (piece : ℕ) : Type 0 where
   pub taken : taken_by writer ≡ []
   pub piece_is : writer.piece ≡ piece

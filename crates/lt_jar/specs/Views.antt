@@ -22,7 +22,7 @@ line_in (kinds.Continuation text) = lines.Continuation text.now
 line_in (kinds.Start name body) = lines.Start name.now body.now
 line_in kinds.Bad = lines.Bad
 
--- the fault of the format that a kind of fault is, if it is one
+-- the fault of the format that a kind of fault stands for; None if it is no fault of the format
 abbrev pub fault_in : JarFaultKind → Option faults.Fault
 fault_in LineTooLong = Some faults.LineTooLong
 fault_in NotUtf8 = Some faults.NotUtf8

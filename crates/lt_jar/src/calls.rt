@@ -1,4 +1,4 @@
-//! Calls of readers and writers that a clause can name.
+//! Traits of readers and writers whose calls have names, so that a clause can speak of a single call.
 ghost use Rattle.std.specs.Prelude.{ℕ, List, Result};
 ghost use Rattle.std.specs.Io.{ReadsAtMost, WritesAtMost};
 ghost use Rattle.std.specs.Io.KnownBytes.{Keeps, ReadConsumes, WriteAppends};
@@ -9,8 +9,8 @@ use std::io::{self, Read, Write};
 /// A reader whose calls have a name in clauses. Each reader is one.
 pub trait Reads: Read {
     /// What a call gave: the reader and the slice before it, the answer, the reader and the slice after it. By this a
-    /// `Device` over a reader of unknown kind promises that its answer is that of one call. By `bytes` alone it might
-    /// call twice.
+    /// `Device` over a reader of unknown kind promises that its answer is that of one call. `bytes` could hold even if
+    /// it called the reader twice.
     ghost gives: { Self → List ℕ → Result ℕ Error → Self → List ℕ → Type 0 };
 
     /// Calls `read` once. `bound` and `bytes` are what each `Read` promises: at most the slice's bytes, and the next

@@ -7,10 +7,10 @@ ghost use Rattle.lt_jar.specs.Devices.{HasFailed, failures_after_read, failures_
 use crate::calls::{Reads, Writes};
 use std::io::{self, Read, Write};
 
-/// A reader or a writer that is read and written through this value alone, and how often it failed: of a slice
-/// of bytes `Device::new(bytes)`.
+/// A reader or a writer that is read and written only through this value, and how often it failed. `Device::new(bytes)`
+/// is one for a slice of bytes.
 ///
-/// A device failed in a call where its count of failures rose, or is at its greatest value, 2^64 - 1.
+/// A device failed in a call if its count of failures rose in it, or is at its greatest value, 2^64 - 1.
 #[derive(Drop)]
 pub struct Device<T> {
     /// The reader or the writer.
@@ -50,8 +50,8 @@ impl<R: Reads> Read for Device<R> {
     ghost remaining = { λ device. R.remaining (inner_of device) };
 
     /// Calls the reader once. The call, a failure, and the bytes of this call are counted. By `passes` the answer is
-    /// the reader's.
-    /// `counts` says all of the failures; `works` and `fails` follow from it, as a caller needs them.
+    /// the reader's. `counts` says exactly when the count of failures rises; `works` and `fails` follow from it, and
+    /// are what a caller needs.
     fn read(&mut self, buf: &mut [u8]) -> io::Result<usize>
         ensures bound { ReadsAtMost result buf.new }
         ensures bytes { ReadConsumes (R.remaining (inner_of self.old)) (R.remaining (inner_of self.new))
@@ -82,8 +82,8 @@ impl<W: Writes> Write for Device<W> {
     ghost contents = { λ device. W.contents (inner_of device) };
 
     /// Calls the writer once. A failure is counted: an error, or no byte taken of a slice that is not empty. By
-    /// `passes` the answer is the writer's. `counts` says all of the failures; `works`, `takes_none` and `fails` follow
-    /// from it.
+    /// `passes` the answer is the writer's. `counts` says exactly when the count of failures rises; `works`,
+    /// `takes_none` and `fails` follow from it.
     fn write(&mut self, buf: &[u8]) -> io::Result<usize>
         ensures bound { WritesAtMost result buf.now }
         ensures bytes { WriteAppends (W.contents (inner_of self.old)) (W.contents (inner_of self.new))

@@ -1,4 +1,5 @@
-//! The lines of a text, and what a line is, which a contract sees by `line_in`.
+//! How a text is cut into lines, and what a line is: blank, a separator, a continuation, the start of a field, or bad.
+//! A contract sees that by `line_in`.
 ghost use Rattle.std.specs.Prelude.{◌≡◌, ◌<◌, ◌≤◌, ◌∷◌, length, IfSome, MatchOption};
 ghost use Rattle.std.specs.List.{list_all};
 ghost use Rattle.lt_jar.specs.Lines.{content_of, lines_of};
@@ -34,11 +35,11 @@ pub(crate) fn split_text(text: &str) -> Option<(&str, &str)>
 /// What a line is.
 #[derive(Clone, Copy)]
 pub(crate) enum LineKind<'a> {
-    /// Nothing, or spaces and tabs alone.
+    /// Nothing, or only spaces and tabs.
     Blank,
     /// `%%`.
     Separator,
-    /// What it adds to the body of the field before it.
+    /// Begins with a space or a tab: what it adds to the body of the field before it.
     Continuation(&'a str),
     /// A field's name, and what its body begins with.
     Start(&'a str, &'a str),
@@ -160,8 +161,8 @@ fn split_name(text: &str) -> (&str, &str)
 ghost use Rattle.std.specs.Prelude.{drop};
 
 /// What the body begins with, if the line begins a field with just this name, which the field in its place had in the
-/// record before. So the name is compared, and not looked for. It must have only letters, digits and hyphens. None for
-/// any other line, and for some that write such a field in another way, for example with a space before the colon.
+/// record before. So the name is compared, and not looked for. `name` must have only letters, digits and hyphens. None
+/// for any other line, and for some that write such a field in another way, for example with a space before the colon.
 pub(crate) fn body_again<'l>(line: &'l str, name: &str) -> Option<&'l str>
     requires { lines.IsNamed name.now }
     ensures { IfSome result (λ body. lines.line_of line.now ≡ lines.Start name.now body.now) }

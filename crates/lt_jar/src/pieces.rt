@@ -78,8 +78,9 @@ impl<'a> Pieces<'a> {
 impl Read for Pieces<'_> {
     ghost remaining = { remaining_of };
 
-    /// Gives the next bytes, at most one piece; or fails, at the call that is to fail. `copied` and `moves` say what an
-    /// answer Ok leaves in the buffer and the reader, `unread` and `stays` the same of an error, which only counts.
+    /// Gives the next bytes, at most one piece; or fails, at the call that is to fail. After an answer Ok, `copied`
+    /// says what is in the buffer, and `moves` what the reader is; after an error, `unread` says that the buffer is as
+    /// it was, and `stays` that the reader only counted the call.
     fn read(&mut self, buf: &mut [u8]) -> io::Result<usize>
         ensures bound { ReadsAtMost result buf.new }
         ensures bytes { ReadConsumes (remaining_of self.old) (remaining_of self.new)
@@ -165,8 +166,9 @@ impl Takes {
 impl Write for Takes {
     ghost contents = { λ writer. Some (taken_by writer) };
 
-    /// Takes at most one piece of the bytes; at the calls that are to fail or to take none, it does so. By `bytes` they
-    /// come after those before, and by `same` nothing changes but them and the count of calls.
+    /// Takes at most one piece of the bytes, and keeps them after those that it had (`bytes`). A call that is to take
+    /// none takes none. It fails at the call that is to fail, or where memory runs out. By `same` only the bytes that
+    /// it keeps and the count of calls change.
     fn write(&mut self, buf: &[u8]) -> io::Result<usize>
         ensures bound { WritesAtMost result buf.now }
         ensures bytes { WriteAppends (Some (taken_by self.old)) (Some (taken_by self.new))

@@ -31,7 +31,7 @@ impl<'a> RecordRef<'a> {
     }
 
     /// The name of the field at an index, counted from 0, in the case in which the text has it. There must be a field
-    /// at the index, so `IfSome` always speaks.
+    /// at the index, so `IfSome` leaves no case open.
     pub fn name(&self, i: usize) -> &'a str
         requires { i < length self.now.fields.now }
         ensures { IfSome (slice_get self.now.fields.now i) (λ field. result.now ≡ field.0) }
@@ -40,7 +40,7 @@ impl<'a> RecordRef<'a> {
     }
 
     /// The body of the field at an index, counted from 0, with its continuation lines joined to it by single spaces.
-    /// There must be a field at the index, so `IfSome` always speaks.
+    /// There must be a field at the index, so `IfSome` leaves no case open.
     pub fn body(&self, i: usize) -> &'a str
         requires { i < length self.now.fields.now }
         ensures { IfSome (slice_get self.now.fields.now i) (λ field. result.now ≡ field.1) }
@@ -49,8 +49,8 @@ impl<'a> RecordRef<'a> {
     }
 }
 
-/// Reads a device record by record (RFC 5646, 3.1.1), each into the memory of those before it. What is kept grows to
-/// the most fields that a record had, and to the longest in each place.
+/// Reads a device record by record (RFC 5646, 3.1.1), each into the memory of those before it. This memory grows to the
+/// most fields that a record had, and to the longest field in each place.
 pub struct JarReader<'d, R, S = JarSource> {
     device: &'d mut Device<R>,
     source: S,

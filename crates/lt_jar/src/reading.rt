@@ -10,9 +10,9 @@ use crate::faults::{JarFault, JarFaultKind};
 use crate::jars::{Jar, Record};
 use std::alloc::Global;
 
-/// Puts the record that has ended at the end of `records`. What is begun of a line, and the line's number, stay as they are.
-/// The number must be at least 1, and fewer than 100,000 records, the most that a text may have, must have been counted.
-/// Refused where memory runs out, with the number of the line that ended the record, which is one below the engine's.
+/// Puts the record that has ended at the end of `records`. The begun line and its number stay as they are. The number
+/// must be at least 1, and fewer than 100,000 records, the most that a text may have, must have been counted. Refused
+/// only where memory runs out, with the number of the line that ended the record, one less than the engine's.
 fn push_record(
     alloc: Global,
     engine: &mut Engine,

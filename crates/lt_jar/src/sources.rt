@@ -1,5 +1,5 @@
 //! The records of a reader, one by one. A *source* reads into a buffer of 8,192 bytes, hands these on to the engine,
-//! and *lends* the record that this has. `turns` counts the reads.
+//! and *lends* the record that the engine has read. `turns` counts the reads.
 ghost use Rattle.std.specs.Prelude.{◌≡◌, ◌≤◌, ◌+◌, ◌-◌, ◌*◌, true, false, length, take, drop};
 ghost use Rattle.std.specs.Str.{is_utf8};
 ghost use Rattle.lt_jar.specs.Lines.{IsOneLine};
@@ -17,7 +17,7 @@ const MOST_READS: u32 = 10_000_000;
 /// The most bytes that a read is asked for.
 const PIECE: usize = 8_192;
 
-/// Whether there may be more.
+/// Whether there may be more records, or the text has ended, or there was a fault.
 #[derive(Clone, Copy)]
 pub(crate) enum Status {
     Open,
@@ -162,9 +162,9 @@ impl JarSource {
         }
     }
 
-    /// Takes the end of the text, and tells whether a record ends there. All bytes read must have been handed on.
-    /// Such a record must be the 100,000th at most. The number after that of the line must be within the bound that
-    /// the reads give, 65,536 bytes for each. Refused if the last line has a fault, or where memory runs out.
+    /// Takes the end of the text, and tells whether a record ends there. All bytes read must have been handed on. Such
+    /// a record must be at most the 100,000th (`few`). The number of the next line must be within the bound that the
+    /// reads give, 65,536 lines for each (`room`). Refused if the last line has a fault, or where memory runs out.
     fn finish(&mut self, alloc: Global) -> Result<bool, JarFaultKind>
         requires room { line_of_kept self.old + 1 ≤ 1 + 65536 * self.old.turns }
         requires few { HasRoom self.old }

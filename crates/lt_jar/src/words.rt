@@ -4,7 +4,8 @@ ghost use Rattle.std.specs.Int.{from_le_bytes, w32, w64};
 
 use memchr::arch::all::is_equal;
 
-/// The four bytes from the index `at` on, as one number, which `are_same` compares. There must be so many.
+/// The four bytes from the index `at` on, as one number, which `are_same` compares. The text must have four bytes
+/// there.
 #[inline(always)]
 fn four_at(bytes: &[u8], at: usize) -> u32
     requires { at + 4 ≤ length bytes.now }
@@ -13,7 +14,8 @@ fn four_at(bytes: &[u8], at: usize) -> u32
     u32::from_le_bytes([bytes[at], bytes[at + 1], bytes[at + 2], bytes[at + 3]])
 }
 
-/// The eight bytes from the index `at` on, as one number, which `are_same` compares. There must be so many.
+/// The eight bytes from the index `at` on, as one number, which `are_same` compares. The text must have eight bytes
+/// there.
 #[inline(always)]
 fn eight_at(bytes: &[u8], at: usize) -> u64
     requires { at + 8 ≤ length bytes.now }

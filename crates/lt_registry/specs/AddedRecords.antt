@@ -23,14 +23,14 @@ abbrev pub IsAdded : List Field → ℕ → List EntryParts → List EntryParts 
 IsAdded r number old new =
     ((is_header_at number r ≡ true) × (new ≡ old)) ⊎ ((is_header_at number r ≡ false) × IsPut r number old new)
 
--- the record with this number gives no entry, for this fault
+-- the record `r`, which has this number and is not the header, is refused with this fault
 pub record IsRefusedAt (r : List Field) (number : ℕ) (fault : RecordFault) : Type 0 where
   pub numbered : fault.number ≡ number
   pub judged : is_header_at number r ≡ false
   pub refused : IsRefused r fault.kind
 
 -- A draft without a fault takes the record's entry or its fault, and a draft with a fault keeps that. `old` and `new`
--- are its entries before and after, and the last two are its faults before and after.
+-- are its entries before and after, and the last two arguments are its faults before and after.
 abbrev pub TakesFrom : List Field → ℕ → List EntryParts
     → List EntryParts → Option RecordFault → Option RecordFault → Type 0
 TakesFrom r number old new None None = IsAdded r number old new

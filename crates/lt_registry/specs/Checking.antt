@@ -24,7 +24,7 @@ abbrev pub unless : Bool → ValidFaultKind → ℕ → Check
 unless true kind place = Ok tt
 unless false kind place = Err (record { kind = kind; place = place })
 
--- the first fault of one check, else that of the next
+-- the answer of the first check if that is a fault, else the answer of the next
 abbrev pub and_then : Check → Check → Check
 and_then (Ok done) next = next
 and_then (Err fault) next = Err fault
@@ -50,7 +50,7 @@ extlangs_check R start l [] = Ok tt
 extlangs_check R start l (x ∷ rest) =
     and_then (prefix_check start l (entry R kinds.Extlang x)) (second_check start rest)
 
--- the check of a script or a region, if there is one; `fault` is that of one that isn't registered, at this place
+-- the check of a script or a region, if there is one; one that isn't registered has the fault `fault`, at this place
 abbrev pub part_check : List EntryParts → Kind → ValidFaultKind → ℕ → Option (List ℕ) → Check
 part_check R kind fault place None = Ok tt
 part_check R kind fault place (Some s) = unless (is_registered R kind s) fault place
@@ -60,7 +60,7 @@ abbrev pub stands_in : List (List ℕ) → List ℕ → Bool
 stands_in before v = list_any (λ u. bytes_eq u v) before
 
 -- The check of a variant at this place that comes after those of `before`: it is registered and, unless variants may
--- repeat, isn't among them. They may in a tag that is asked to be proper and not to be valid.
+-- repeat, isn't among them. Variants may repeat in a tag that is only asked to be proper, not to be valid.
 abbrev pub variant_check : List EntryParts → Bool → ℕ → List (List ℕ) → List ℕ → Check
 variant_check R may_repeat place before v =
     and_then (unless (is_registered R kinds.Variant v) faults.UnknownVariant place)
@@ -115,7 +115,8 @@ abbrev pub Tells : (ValidFaultKind → ℕ → Type 0) → Check → Type 0
 Tells F (Ok done) = (kind : ValidFaultKind) (place : ℕ) → F kind place → ⊥
 Tells F (Err fault) = IsFirstOf F fault.kind fault.place
 
--- a check answers Ok if there is no fault of `F`, else the first of them; OutOfMemory it may answer only if `M` is true
+-- a check answers Ok if there is no fault of `F`, else the first of them; it may answer OutOfMemory instead only if `M`
+-- is true
 abbrev pub TellsOrLacks : (ValidFaultKind → ℕ → Type 0) → Type 0 → Result (Unit {0}) ValidRefusal → Type 0
 TellsOrLacks F M (Ok done) = (kind : ValidFaultKind) (place : ℕ) → F kind place → ⊥
 TellsOrLacks F M (Err (refusals.Fault fault)) = IsFirstOf F fault.kind fault.place

@@ -40,7 +40,7 @@ letters_le [] _ = true
 letters_le (x ∷ xs) [] = false
 letters_le (x ∷ xs) (y ∷ ys) = if x == y then letters_le xs ys else nat_lt x y
 
--- whether a subtag is shorter than any variant: as the value of a variant it is a language of 2 or 3 letters (RFC 5646,
+-- whether a subtag has at most 3 bytes, fewer than any variant: such a value of a variant is a language (RFC 5646,
 -- 2.2.1)
 abbrev pub is_short : List ℕ → Bool
 is_short s = nat_le (length s) 3
@@ -61,8 +61,8 @@ FitsName kind (names.Single s) = has_form kind s ≡ true
 FitsName kind (names.Range a b) = IsRange kind a b
 FitsName kind (names.Whole t) = (is_whole_kind kind ≡ true) × IsTagValue t
 
--- The value of an extlang is a language, and any other has the form of its kind (RFC 5646, 3.1.7); that a variant may
--- also have a language of 2 or 3 letters is this project's own.
+-- The value of an extlang is a language, and any other has the form of its kind (RFC 5646, 3.1.7). A variant may also
+-- have a language of 2 or 3 letters as its value (no RFC asks for that: it is a rule of this project).
 abbrev pub has_value_form : Kind → List ℕ → Bool
 has_value_form kinds.Extlang s = is_language s
 has_value_form kinds.Variant s = is_variant s || (is_language s && is_short s)
@@ -85,7 +85,8 @@ pub record IsEntry (e : EntryParts) : Type 0 where
   pub prefixes : AllByRecursion IsPrefix e.prefixes
   pub prefixed : (e.prefixes ≡ []) ⊎ ((e.kind ≡ kinds.Extlang) ⊎ (e.kind ≡ kinds.Variant))
 
--- each record's number is greater than those of the records before it (this project's own)
+-- each record's number is greater than those of the records before it (no RFC asks for that: it is a rule of this
+-- project)
 abbrev pub NumbersRise : List EntryParts → Type 0
 NumbersRise [] = Unit {0}
 NumbersRise (e ∷ es) = AllByRecursion (λ (f : EntryParts). e.number < f.number) es × NumbersRise es
@@ -117,7 +118,7 @@ entry R k s =
 abbrev pub is_registered : List EntryParts → Kind → List ℕ → Bool
 is_registered R k s = is_some (entry R k s)
 
--- the one subtag that a record gives as its value (RFC 5646, 3.1.7)
+-- the one subtag that a record gives as its value; None if it has no value, or a whole tag (RFC 5646, 3.1.7)
 abbrev pub one_of : Option EntryValue → Option (List ℕ)
 one_of (Some (values.One v)) = Some v
 one_of _ = None
@@ -143,7 +144,7 @@ has_prefix ps l = list_any (λ (p : List (List ℕ)). same_list p (l ∷ [])) ps
 abbrev pub variant_value : List EntryParts → List ℕ → Option (List ℕ)
 variant_value R v = option_and_then (λ w. if is_short w then None else Some w) (preferred_value R kinds.Variant v)
 
--- the value of a variant, if it is a language (this project's own)
+-- the value of a variant, if it is a language (no RFC has such values: they are a rule of this project)
 abbrev pub language_value : List EntryParts → List ℕ → Option (List ℕ)
 language_value R v = option_and_then (λ w. if is_short w then Some w else None) (preferred_value R kinds.Variant v)
 

@@ -81,7 +81,7 @@ pub record IsFaultOfExtension (R : List EntryParts) (c : CoreParts) (es : List E
   pub there : es ≡ before ++ extension ∷ after
   pub fault : HasExtensionFault R (length (spell_core c) + length (spell_extensions before) + 1) extension kind place
 
--- a singleton occurs a second time, and that is at this place (RFC 5646, 2.2.6)
+-- the singleton at this place is there for the second time (RFC 5646, 2.2.6)
 pub record IsSecondSingleton (c : CoreParts) (es : List ExtensionParts) (place : ℕ) : Type 0 where
   pub before : List ExtensionParts
   pub first : ExtensionParts
@@ -108,7 +108,8 @@ HasNoFault R t = (kind : ValidFaultKind) (place : ℕ) → HasFault R t kind pla
 abbrev pub RepeatsAtMost : List EntryParts → TagForm → Type 0
 RepeatsAtMost R t = (kind : ValidFaultKind) (place : ℕ) → HasFault R t kind place → kind ≡ faults.DuplicateVariant
 
--- the order of the faults at one place, of which the one with the least rank is answered (this project's own)
+-- the order of the faults at one place, of which the one with the least rank is answered (no RFC asks for that: it is a
+-- rule of this project)
 abbrev pub rank_of : ValidFaultKind → ℕ
 rank_of faults.UnknownLanguage = 0
 rank_of faults.UnknownExtlang = 1
@@ -121,14 +122,14 @@ rank_of faults.DuplicateVariant = 7
 rank_of faults.DuplicateSingleton = 8
 rank_of faults.BadTransform = 9
 
--- of the faults `F` the one with the least place, and of those at that place the one with the least rank (this
--- project's own)
+-- of the faults `F` the one with the least place, and of those at that place the one with the least rank (no RFC asks
+-- for that: it is a rule of this project)
 pub record IsFirstOf (F : ValidFaultKind → ℕ → Type 0) (kind : ValidFaultKind) (place : ℕ) : Type 0 where
   pub there : F kind place
   pub leftmost : (other : ValidFaultKind) (elsewhere : ℕ) → F other elsewhere → place ≤ elsewhere
   pub earliest : (other : ValidFaultKind) → F other place → rank_of kind ≤ rank_of other
 
--- the fault of a tag that is answered (RFC 5646, 2.2.9)
+-- the fault that is answered of a tag that is not valid: the first (RFC 5646, 2.2.9)
 abbrev pub IsFirstFault : List EntryParts → TagForm → ValidFaultKind → ℕ → Type 0
 IsFirstFault R t kind place = IsFirstOf (HasFault R t) kind place
 

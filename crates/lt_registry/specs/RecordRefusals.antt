@@ -1,4 +1,4 @@
--- Why records give no entries: the fault of the first record that has one, or OutOfMemory before that was found.
+-- Why records give no entries: the fault of the first record that has one, or OutOfMemory, if memory ran out before.
 use Rattle.std.specs.Prelude.{◌≡◌, ◌⊎◌, List}
 use Rattle.lt_jar.specs.Records.{Field}
 use Rattle.lt_registry.specs.Records.{IsFirstOfRecord, IsFirstRecordFault, IsRecordReached}

@@ -111,7 +111,7 @@ IsPrefixFault k r faults.BadSubtag = ⊥
 IsPrefixFault k r faults.BadTag = ⊥
 IsPrefixFault k r faults.BadPreferred = ⊥
 
--- a fault of the Prefixes of a record, one of which is no list of subtags, or OutOfMemory
+-- BadPrefix, if a Prefix of the record is no list of subtags; or OutOfMemory
 abbrev pub IsPrefixesFault : List Field → RecordFaultKind → Type 0
 IsPrefixesFault r faults.BadPrefix = prefixes_of (bodies prefix_name r) ≡ None
 IsPrefixesFault r faults.OutOfMemory = Unit {0}

@@ -55,7 +55,7 @@ is_called name field = str_eq_ignore_ascii_case field.0 name
 abbrev pub bodies : List ℕ → List Field → List (List ℕ)
 bodies name r = map (λ (f : Field). f.1) (filter (is_called name) r)
 
--- the body of the first field of a name
+-- the body of the first field of a name; None if no field has the name
 abbrev pub body : List ℕ → List Field → Option (List ℕ)
 body name r = option_map (λ (f : Field). f.1) (find (is_called name) r)
 
@@ -68,7 +68,7 @@ abbrev pub repeats_field : List Field → Bool
 repeats_field r =
     is_repeated type_name r || (is_repeated subtag_name r || (is_repeated tag_name r || is_repeated value_name r))
 
--- the kind that a type names
+-- the kind that a type names; None if it names none
 abbrev pub kind_of : List ℕ → Option Kind
 kind_of s =
     if str_eq_ignore_ascii_case s (codes "language") then Some kinds.Language

@@ -62,8 +62,8 @@ is_within rank row = nat_le row.start rank && nat_lt rank row.end
 abbrev pub first_within : List RangeRow → ℕ → Option ℕ
 first_within rows rank = option_map (λ (row : RangeRow). row.place) (find (is_within rank) rows)
 
--- What the stretch that a rank is in says, and `before` if the rank is before the first stretch. A stretch says the
--- place of an entry, or None for none.
+-- What the stretch that a rank is in says, and `before` if the rank is before the first stretch. A stretch reaches to
+-- the start of the next, and says the place of an entry, or None for no entry.
 abbrev pub place_in : Option ℕ → List Stretch → ℕ → Option ℕ
 place_in before [] rank = before
 place_in before (s ∷ ss) rank = if nat_le s.start rank then place_in s.place ss rank else before
@@ -84,7 +84,7 @@ pub record AreMerged (earlier later stretches : List Stretch) : Type 0 where
   pub places : (rank : ℕ) → place_in None stretches rank ≡ option_or
       (place_in None earlier rank) (place_in None later rank)
 
--- whether the first list has a stretch, which starts no later than that of the second
+-- whether the first list begins with a stretch that starts no later than the first of the second list, if that has one
 abbrev pub starts_first : List Stretch → List Stretch → Bool
 starts_first [] ts = false
 starts_first (s ∷ ss) [] = true
@@ -145,11 +145,11 @@ pub record IsIndex {W K : Type 0} (row : ℕ → EntryParts → Option W) (place
   pub complete : (p : ℕ) (e : EntryParts) (w : W) → slice_get R p ≡ Some e
       → row p e ≡ Some w → Any (λ v. (cmp (key v) (key w) ≡ Equal) × (place v ≤ p)) rows
 
--- the rows of the records of one subtag of a kind, in the order of the subtags; of equal subtags the first alone
+-- the rows of the records of one subtag of a kind, in the order of the subtags; of records of one subtag only the first
 abbrev pub IsSingles : List EntryParts → Kind → List Row → Type 0
 IsSingles R kind rows = IsIndex (single_row kind) (λ (w : Row). w.place) (λ (w : Row). w.number) nat_cmp R rows
 
--- the rows of whole tags, in the order of their languages and tags; of equal tags the first alone
+-- the rows of whole tags, in the order of their languages and tags; of records of one tag only the first
 abbrev pub IsWholes : List EntryParts → List Row → Type 0
 IsWholes R rows = IsIndex whole_row (λ (w : Row). w.place) (whole_key R) whole_key_cmp R rows
 
@@ -157,7 +157,7 @@ IsWholes R rows = IsIndex whole_row (λ (w : Row). w.place) (whole_key R) whole_
 abbrev pub RowsRise : List Row → Type 0
 RowsRise rows = AllPairs (λ (v w : Row). nat_cmp v.number w.number ≡ Less) rows
 
--- the place in the row with this number, if there is one
+-- the place in the row with this number; None if no row has it
 abbrev pub place_of : ℕ → List Row → Option ℕ
 place_of n rows = option_map (λ (w : Row). w.place) (find (λ (w : Row). w.number == n) rows)
 
@@ -178,7 +178,7 @@ pub record AreStarts (rows : List Row) (starts : List ℕ) : Type 0 where
   pub spans : (i : ℕ) (w : Row) → slice_get rows i ≡ Some w → IsInSpan starts (beginning w.number) i
   pub bounded : All (λ start. start ≤ length rows) starts
 
--- an index of the records of one kind, the one that it keeps: the rows of single subtags, where those of each beginning
+-- an index of the records in `R` of the kind that it keeps: the rows of single subtags, where those of each beginning
 -- start, and the stretches of the ranges
 pub record IsKindIndex (R : List EntryParts) (index : KindIndex) : Type 0 where
   pub singles : IsSingles R index.kind index.singles.items

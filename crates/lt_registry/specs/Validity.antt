@@ -28,8 +28,8 @@ abbrev pub Distinct : {A : Type 0} → List A → Type 0
 Distinct [] = Unit {0}
 Distinct (x ∷ xs) = AllByRecursion (λ y. y ≢ x) xs × Distinct xs
 
--- if the extension is a `t` extension, its subtags have the form of one (RFC 6497, 2.2), and its source is proper (this
--- project's own)
+-- if the extension is a `t` extension, its subtags have the form of one (RFC 6497, 2.2), and its source, if it has one,
+-- is proper (no RFC asks for that: it is a rule of this project)
 abbrev pub IsProperExtension : List EntryParts → ExtensionParts → Type 0
 IsProperExtension R e =
     e.singleton ≡ transform → (p : TForm) × IsTransform e.subtags p × IfSome p.source (IsProperCore R)

@@ -12,8 +12,9 @@ use lt_jar::{JarFault, JarField, JarReader};
 use std::alloc::Global;
 use std::io::Read;
 
-/// Puts the entry of a record after the others; a header has none. `number` is that of the record in the file, counted
-/// from 1. Refused with the record's number and its first fault, or where memory runs out.
+/// Puts the entry of a record after the others. The first record puts none if it is a header, with a File-Date and no
+/// Type. `number` is that of the record in the file, counted from 1. Refused with the record's number and its first
+/// fault, or where memory runs out.
 pub(crate) fn add_record(
     alloc: Global,
     entries: &mut Vec<Entry>,
@@ -48,7 +49,7 @@ fn add_entry(
     Ok(())
 }
 
-/// The entries of the records so far, how many records there were, and the first fault of a record.
+/// The entries of the records so far, how many records there were, and the fault of the first record that has one.
 #[derive(Drop)]
 pub(crate) struct Draft {
     entries: Vec<Entry>,
@@ -71,7 +72,7 @@ impl Draft {
     }
 
     /// Takes the fields of the next record. After a record at fault no more entries are made. The draft must have taken
-    /// fewer than 100,000 records, as many as a reader lends, so that their count is a `u32`.
+    /// fewer than 100,000 records, the most that a reader lends, so that their count is a `u32`.
     fn take(&mut self, alloc: Global, fields: &[JarField])
         requires { self.old.number < 100000 }
         ensures { Takes fields.now self.old self.new }
@@ -82,8 +83,9 @@ impl Draft {
         }
     }
 
-    /// Takes the next record of a reader: true, or false if there is none. Refused with the reader's fault. The draft
-    /// must have taken each record that the reader lent before, so that it gives the next one its number in the file.
+    /// Takes the next record of a reader: true, or false if there is none. Refused with the reader's fault; a fault of
+    /// the record is kept in the draft. The draft must have taken each record that the reader lent before, so that it
+    /// gives the next one its number in the file.
     pub(crate) fn take_next<R: Read>(
         &mut self,
         alloc: Global,
@@ -102,7 +104,7 @@ impl Draft {
         }
     }
 
-    /// The entries, or the fault of the lowest record at fault.
+    /// The entries, or the fault of the first record that has one.
     pub(crate) fn finish(self) -> Result<Vec<Entry>, RecordFault>
         ensures { result ≡ finished self.entries self.fault }
     {

@@ -189,8 +189,8 @@ impl Entry {
         self.prefixes.all()
     }
 
-    /// Whether a subtag alone is one of the record's Prefixes, as a language is one of the extlang's in `zh-yue`. It is
-    /// looked for among them by binary search.
+    /// Whether one of the record's Prefixes is just this subtag, as `zh` is a Prefix of the extlang `yue`. It is looked
+    /// for by binary search.
     pub fn has_prefix(&self, subtag: &Subtag) -> bool
         ensures { result ≡ has_prefix self.now.prefixes subtag.now }
     {

@@ -1,6 +1,6 @@
-//! The fields of a record that count: Type, Subtag, Tag, Preferred-Value, File-Date and Prefix. What was found of a
-//! record is where its first Type, Subtag, Tag and Preferred-Value are, whether one of these occurs twice, and whether
-//! there is a File-Date. Prefix may occur often.
+//! The fields of a record that are read: Type, Subtag, Tag, Preferred-Value, File-Date and Prefix. One pass over a
+//! record finds where its first Type, Subtag, Tag and Preferred-Value are, whether one of these occurs twice, and
+//! whether there is a File-Date (`Found`). A Prefix may occur often, so `read_all_prefixes` looks for Prefixes.
 ghost use Rattle.std.specs.Prelude.{◌≡◌, ◌++◌, ◌∷◌, [], ℕ, List, length, Some, None, MatchOption, IfOk, option_map};
 ghost use Rattle.std.specs.List.{slice_get};
 ghost use Rattle.std.specs.Option.{option_copied};
@@ -42,8 +42,8 @@ pub(crate) enum FieldName {
     Other,
 }
 
-/// Which field has this name, letter case aside. Most fields of a record are called Type or Subtag in just these
-/// letters. They are tried first, since comparing bytes is quicker than comparing letters of either case.
+/// Which of the fields has this name, letter case aside. Most fields of a record are called Type or Subtag in just
+/// these letters. These two are tried first, since comparing bytes is quicker than comparing letters of either case.
 fn field_name(text: &str) -> FieldName
     ensures { result ≡ steps.field_told text.now }
 {
@@ -73,7 +73,8 @@ fn field_name_in_any_case(text: &str) -> FieldName
     }
 }
 
-/// Where the first field of each name is, among fields that were looked at: a place is an index among these.
+/// Where the first field of each name is, among the fields that were looked at. A place is an index among these, and
+/// None says that no field has the name.
 #[derive(Clone, Copy)]
 pub(crate) struct Found {
     kind: Option<usize>,
@@ -103,7 +104,7 @@ impl Found {
 
     /// Notes a further field, which has this place and name, if it is one of those that are looked for. The first of a
     /// name gives its place, and another one is a repeat. The fields before it are no argument, so the clause speaks of
-    /// any `r` of which `self` was true, and of any field `f` of this name after them.
+    /// any fields `r` of which `self` was true, as many as `place`, and of any field `f` of this name after them.
     fn put(&mut self, place: usize, name: &str)
         ensures { (r : List Field) (f : Field) → length r ≡ place → f.0 ≡ name.now
             → steps.HasFound r self.old → steps.HasFound (r ++ f ∷ []) self.new }
@@ -157,7 +158,7 @@ fn body_at(fields: &[JarField], place: usize) -> Option<&str>
 pub(crate) struct RecordFields<'a> {
     all: &'a [JarField],
     found: Found,
-    /// That `found` is true of `all`, for proofs alone.
+    /// For proofs only: `found` is true of `all`.
     ghost found_there: { steps.HasFound all.now found },
 }
 
@@ -277,8 +278,8 @@ fn kind_in_any_case(text: &str) -> Option<Kind>
     }
 }
 
-/// The bytes before and after the first two full stops, which are between the ends of a range. None if the text has no
-/// two full stops one after the other.
+/// The bytes before and those after the first `..` of a text: the two ends, if the text is a range such as `qaa..qtz`.
+/// None if the text has no `..`.
 #[tactic(auto, using(crate::proofs::RecordTexts::ends_found, crate::proofs::RecordTexts::ends_stay, crate::proofs::RecordTexts::ends_none, std::proofs::lemmas::List::take_rest))]
 pub(crate) fn ends_of(text: &[u8]) -> Option<(&[u8], &[u8])>
     ensures { MatchOption result (record_words.ends_of text.now ≡ None) (λ ends. record_words.ends_of text.now ≡ Some (ends.0.now, ends.1.now)) }

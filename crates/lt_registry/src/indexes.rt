@@ -1,5 +1,5 @@
-//! The indexes beside a list of entries, by which a `SortedTable` finds one. A whole record is one of a whole tag,
-//! grandfathered or redundant.
+//! The indexes beside a list of entries, by which a `SortedTable` finds an entry. A whole record names a whole tag: it
+//! is grandfathered or redundant.
 ghost use Rattle.std.specs.Prelude.{◌≡◌, IfOk};
 ghost use Rattle.std.specs.List.{slice_get};
 ghost use Rattle.std.specs.Option.{option_copied};

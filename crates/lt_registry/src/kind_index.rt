@@ -1,6 +1,6 @@
 //! The records of one kind, sorted for a search. A row has a subtag's number, which is its bytes as one number of 64
-//! bits, and the place of its record among the entries. A stretch says of some subtags which range is the first that
-//! holds them.
+//! bits, and the place of its record among the entries. A stretch is some subtags in a row, for which it says which
+//! range is the first that holds them.
 ghost use Rattle.std.specs.Prelude.{◌≡◌, ◌&&◌, List, length, find, All, IfOk};
 ghost use Rattle.std.specs.Option.{option_copied};
 ghost use Rattle.lt_registry.specs.Parts.{EntryParts};
@@ -19,8 +19,9 @@ use crate::subtag_numbers::rank_of;
 use lt_subtag::Subtag;
 use std::alloc::{AllocError, Global};
 
-/// The records of one kind: those of one subtag in the order of the subtags, the first alone for each subtag; where
-/// those start whose subtags have each beginning; and the stretches of the ranges.
+/// The index of the records of one kind. `singles` has a row for each subtag that a record names alone: that of the
+/// first such record, in the order of the subtags. `starts` says where in `singles` the rows start whose subtags have
+/// the same `beginning`. `ranges` are the stretches of the ranges.
 #[derive(Debug, Drop)]
 pub(crate) struct KindIndex {
     kind: Kind,
@@ -52,9 +53,9 @@ impl KindIndex {
         })
     }
 
-    /// The entry of a subtag under the kind: the record of the subtag alone, or else that of a range. None if it has
-    /// none. The index must be that of these entries. These must have their forms, so that a name has at most the 8
-    /// bytes that a number holds.
+    /// The entry of a subtag under the kind of the index: the first record that names just this subtag, or else the
+    /// first range that holds it. None if there is neither. The index must be that of these entries. The entries must
+    /// have their forms, so that the subtags in their names have at most the 8 bytes that a number holds.
     pub(crate) fn find<'a>(&self, entries: &'a [Entry], subtag: &Subtag) -> Option<&'a Entry>
         requires index { sorted.IsKindIndex entries.now self.now }
         requires forms { All IsEntry entries.now }
@@ -66,7 +67,7 @@ impl KindIndex {
         }
     }
 
-    /// The first record of the kind that names a subtag alone, or None if there is none. The index must be that of
+    /// The first record of the kind that names just this subtag, or None if there is none. The index must be that of
     /// these entries, which must have their forms.
     fn single<'a>(&self, entries: &'a [Entry], subtag: &Subtag) -> Option<&'a Entry>
         requires index { sorted.IsKindIndex entries.now self.now }
@@ -78,8 +79,8 @@ impl KindIndex {
     }
 
     /// The place of the record of a subtag alone, by the number of the subtag; None if there is none. It is looked for
-    /// only among the subtags with the same beginning, which are few. The numbers of the single records must rise, and
-    /// the starts must be theirs.
+    /// only among the subtags with the same beginning, which are few. The numbers of the rows must rise, and the starts
+    /// must be theirs.
     #[tactic(auto, using(crate::proofs::SpanLemmas::none_listed, crate::proofs::SpanLemmas::none_alike, crate::proofs::SpanLemmas::part_rises, crate::proofs::SpanLemmas::place_alike))]
     fn place(&self, number: u64) -> Option<usize>
         requires rising { sorted.RowsRise self.now.singles.items }
@@ -93,8 +94,8 @@ impl KindIndex {
         place_of(alike, number)
     }
 
-    /// The first range of the kind that holds a subtag, or None if there is none. Ranges hold subtags of letters alone.
-    /// The index must be that of these entries, which must have their forms.
+    /// The first range of the kind that holds a subtag, or None if there is none. A range holds only subtags of
+    /// letters. The index must be that of these entries, which must have their forms.
     #[tactic(auto, using(crate::proofs::RangeLemmas::range_found, crate::proofs::RangeLemmas::none_holds, lt_subtag::proofs::NumberLemmas::subtag_few))]
     fn range<'a>(&self, entries: &'a [Entry], subtag: &Subtag) -> Option<&'a Entry>
         requires index { sorted.IsKindIndex entries.now self.now }
@@ -110,8 +111,8 @@ impl KindIndex {
 }
 
 /// The rows of the records of single subtags in the order of the subtags. Of several records of a subtag the first
-/// stays. They are refused only where memory runs out. The entries are no argument, so the clause speaks of any list
-/// `R` and any kind of which `rows` are the rows.
+/// stays. Refused only where memory runs out. The entries are no argument, so the clause speaks of any list `R` and any
+/// kind of which `rows` are the rows.
 fn sorted_rows(mut rows: Vec<Row>) -> Result<Vec<Row>, AllocError>
     ensures { IfOk result (λ singles. (R : List EntryParts) (kind : Kind) → sorted.AreRows (sorted.single_row kind) (λ (row : Row). row.place) R (length R) rows.items
         → sorted.IsSingles R kind singles.items) }
@@ -122,9 +123,10 @@ fn sorted_rows(mut rows: Vec<Row>) -> Result<Vec<Row>, AllocError>
     Ok(rows)
 }
 
-/// The beginning of a subtag, by its number: the first byte, times 32, and the place of the second among the letters,
-/// which is 0 for a digit. The two are the highest bytes of the number's eight, above 56 and 48 bits. 96 is the byte
-/// before `a`. 32 is more than there are letters, and 31 keeps what is added below 32, whatever the byte.
+/// The beginning of a subtag, by its number: its first byte times 32, and added to it the place of the second byte
+/// among the letters, 1 for `a`; a digit, or no second byte, adds 0. These two bytes are the highest of the number's
+/// eight, above 56 and 48 bits. 96 is the byte before `a`. There are fewer than 32 letters, and 31 is the most that is
+/// added, whatever the byte.
 fn beginning(number: u64) -> usize
     ensures { result ≡ sorted.beginning number }
 {

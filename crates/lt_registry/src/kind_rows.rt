@@ -12,16 +12,16 @@ use std::alloc::{AllocError, Global};
 /// The rows of a kind in the order of the file.
 #[derive(Drop)]
 pub(crate) struct KindRows {
-    /// Those of its single records.
+    /// The rows of its records of one subtag.
     pub(crate) singles: Vec<Row>,
-    /// Those of its ranges.
+    /// The rows of its ranges.
     pub(crate) ranges: Vec<RangeRow>,
 }
 
 impl KindRows {
-    /// The rows of the records of a kind. The single ones, which are sorted next, may be in any order by the clause.
-    /// The ranges are in the order of the file, where the first that holds a subtag counts; 0 is the place of the first
-    /// entry. They are refused only where memory runs out.
+    /// The rows of the records of a kind. The clause leaves the order of `singles` open, since they are sorted next.
+    /// `ranges` are in the order of the file, since the first that holds a subtag counts; 0 is the place of the first
+    /// entry. Refused only where memory runs out.
     pub(crate) fn of_entries(
         alloc: Global,
         entries: &[Entry],
@@ -41,7 +41,7 @@ impl KindRows {
     }
 
     /// Puts the row of an entry behind the others, if the entry is of the kind and not of a whole tag. `place` is the
-    /// entry's index.
+    /// entry's index. Refused only where memory runs out.
     fn put(&mut self, kind: Kind, place: usize, entry: &Entry) -> Result<(), AllocError>
         ensures singles { OnOk result (self.new.singles.items ≡ self.old.singles.items ++ cons_option (sorted.single_row kind place entry.now) []) }
         ensures ranges { OnOk result (self.new.ranges.items ≡ self.old.ranges.items ++ cons_option (sorted.range_row kind place entry.now) []) }

@@ -1,5 +1,5 @@
-//! The entries of a registry of language subtags, their look-up, and which tags are valid by them (RFC 5646,
-//! 2.2.9 and 3.1). A program begins with the crate `bcp47`, whose registry has passed the check too.
+//! The entries of a registry of language subtags, their look-up, and which tags are valid by them (RFC 5646, 2.2.9 and
+//! 3.1). A program begins with the crate `bcp47`, whose registry has also passed the check of the crate `lt_check`.
 #![tactic(auto)]
 
 pub mod comparing_laws;

@@ -60,7 +60,7 @@ impl Lookup for ListTable {
     }
 }
 
-/// The first record of a kind that names a subtag alone, or None if there is none.
+/// The first record of a kind that names just this subtag, or None if there is none.
 fn single<'a>(entries: &'a [Entry], kind: Kind, subtag: &Subtag) -> Option<&'a Entry>
     ensures { option_copied result ≡ find (λ (e : EntryParts). same.same_kind e.kind kind && forms.is_named subtag.now e.name) entries.now }
 {
@@ -74,7 +74,7 @@ fn range<'a>(entries: &'a [Entry], kind: Kind, subtag: &Subtag) -> Option<&'a En
     entries.iter().find(|entry| entry.kind() == kind && holds(entry.name(), subtag))
 }
 
-/// Whether a record of this name is that of the subtag alone.
+/// Whether a name is just this subtag.
 fn is_named(name: &EntryName, subtag: &Subtag) -> bool
     ensures { result ≡ forms.is_named subtag.now name.now }
 {
@@ -84,7 +84,7 @@ fn is_named(name: &EntryName, subtag: &Subtag) -> bool
     }
 }
 
-/// Whether a record of this name is that of the whole tag.
+/// Whether a name is this whole tag.
 #[tactic(auto, using(crate::proofs::SortedLemmas::tags_equal))]
 fn is_whole(name: &EntryName, tag: &Tag) -> bool
     ensures { result ≡ forms.is_whole tag.now name.now }

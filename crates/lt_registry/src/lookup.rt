@@ -1,5 +1,5 @@
-//! What every table of entries answers. Contracts of the crates above speak of a table by `listed` alone, so they hold
-//! of any table.
+//! The trait of tables of entries, by which subtags and whole tags are looked up. Contracts of the crates above speak
+//! of a table only by `listed`, so they hold of any table.
 ghost use Rattle.std.specs.Prelude.{◌≡◌, List, All};
 ghost use Rattle.std.specs.Option.{option_copied};
 ghost use Rattle.lt_registry.specs.Parts.{EntryParts};
@@ -21,8 +21,8 @@ pub trait Lookup {
         ensures forms { All IsEntry (listed self.now) };
 
     /// The entry of a subtag under a kind: the first record of the kind that names this subtag and no other; or,
-    /// without such a record, the first whose range holds it. None if there is neither. No subtag has an entry as a
-    /// grandfathered or redundant tag.
+    /// without such a record, the first whose range holds it. None if there is neither, and always for the kinds of
+    /// whole tags, Grandfathered and Redundant.
     fn entry(&self, kind: Kind, subtag: &Subtag) -> Option<&Entry>
         ensures { option_copied result ≡ entry (listed self.now) kind subtag.now };
 

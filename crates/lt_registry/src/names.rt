@@ -1,4 +1,4 @@
-//! Letters and their order, and the ranges that hold a subtag.
+//! Tests of letters and of their order, and whether a range such as `qaa..qtz` holds a subtag.
 ghost use Rattle.std.specs.Prelude.{◌≡◌};
 ghost use Rattle.lt_subtag.specs.Shapes as shapes;
 ghost use Rattle.lt_registry.specs.Entries as forms;
@@ -7,7 +7,7 @@ use crate::entries::EntryName;
 use lt_subtag::Subtag;
 use std::cmp::Ordering;
 
-/// Whether a subtag has letters alone.
+/// Whether a subtag has only letters.
 pub(crate) fn is_alphabetic(subtag: &Subtag) -> bool
     ensures { result ≡ shapes.is_alphabetic subtag.now }
 {
@@ -25,8 +25,8 @@ pub(crate) fn is_up_to(first: &Subtag, other: &Subtag) -> bool
     }
 }
 
-/// Whether a name is a range that holds a subtag: one of the same length, of letters alone, from its first to its last
-/// in letter order (RFC 5646, 3.1.4).
+/// Whether a name is a range that holds a subtag. It holds each subtag of only letters that is as long as its ends and
+/// is from the first to the last of them in letter order (RFC 5646, 3.1.4).
 pub(crate) fn holds(name: &EntryName, subtag: &Subtag) -> bool
     ensures { result ≡ forms.holds subtag.now name.now }
 {

@@ -77,7 +77,7 @@ impl Prefixes {
         self.all.as_slice()
     }
 
-    /// Whether a subtag alone is one of the Prefixes. Each Prefix must have at least one subtag.
+    /// Whether one of the Prefixes is just this subtag. Each Prefix must have at least one subtag.
     pub(crate) fn has(&self, subtag: &Subtag) -> bool
         requires { AllByRecursion IsPrefix self.now }
         ensures { result ≡ has_prefix self.now subtag.now }

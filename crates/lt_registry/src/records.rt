@@ -96,8 +96,9 @@ fn read_whole(alloc: Global, text: &[u8]) -> Result<Option<WholeTag>, OutOfMemor
     }
 }
 
-/// The subtag that a text names, or the range if the text has two full stops. Refused with `BadRange` or `BadSubtag` if
-/// it doesn't have the form of the kind. Most texts are a subtag, so that is tried first.
+/// The subtag that a text names, or the range if the text has two full stops. Refused with `BadRange` if the text has
+/// two full stops and is no range of the kind, and with `BadSubtag` if it has none and is no subtag of the kind. Most
+/// texts are a subtag, so that is tried first.
 fn read_subtags(kind: Kind, text: &[u8]) -> Result<EntryName, RecordFaultKind>
     ensures named { result ≡ record_words.subtags_named kind text.now }
     ensures fits { IfOk result (FitsName kind) }
@@ -152,7 +153,8 @@ fn read_range(kind: Kind, first: &[u8], last: &[u8]) -> Result<EntryName, Record
     }
 }
 
-/// Whether two subtags are the ends of a range of the kind: letters alone, of one length, and in order.
+/// Whether two subtags are the ends of a range of the kind: both have its form and only letters, they are equally long,
+/// and the first is not after the last.
 fn is_range(kind: Kind, first: &Subtag, last: &Subtag) -> bool
     ensures { result ≡ record_words.is_range kind first.now last.now }
 {
@@ -213,8 +215,8 @@ fn read_valued(kind: Kind, text: &[u8]) -> Option<Subtag>
     }
 }
 
-/// Whether a subtag has the form of the kind's values: a language for an extlang, a variant or a language of 2 or 3
-/// letters for a variant, and else the form of the kind. False of the kinds of whole tags.
+/// Whether a subtag has the form of the kind's values. The value of an extlang is a language, that of a variant is a
+/// variant or a language of 2 or 3 letters, and any other has the form of the kind. False of the kinds of whole tags.
 fn has_value_form(kind: Kind, subtag: &Subtag) -> bool
     ensures { result ≡ entry_words.has_value_form kind subtag.now }
 {

@@ -34,7 +34,7 @@ impl Model for Registry {
 
 impl Registry {
     /// The entries of a file's records, as the record-jar reader gives them. Each record but the header gives one (RFC
-    /// 5646, 3.1). There must be at most 100,000 records, as many as that reader gives. A refusal names the lowest
+    /// 5646, 3.1). There must be at most 100,000 records, the most that this reader gives. A refusal names the lowest
     /// record at fault and its first fault; where memory runs out, it names the record that was being read.
     #[tactic(auto, using(crate::proofs::EntryLaws::made_stops))]
     pub fn from_records(alloc: Global, records: &[Record]) -> Result<Registry, RecordFault>
@@ -51,8 +51,8 @@ impl Registry {
 
     /// The entries of a file's records, which are read one by one to the end of what the device gives.
     ///
-    /// - `Jar`: what is wrong with the text, or that the device failed, or that 10,000,000 reads did not come
-    ///   to its end, with the line. It is answered even if a record is at fault too.
+    /// - `Jar`: what is wrong with the text, or that the device failed, that 10,000,000 reads did not come to its end,
+    ///   or that memory ran out for a line, each with the line. It is answered even if a record is at fault too.
     /// - `Record`: else the lowest record at fault, as `from_records` names it.
     #[tactic(auto, using(crate::proofs::EntryLaws::draft_none, crate::proofs::EntryLaws::draft_next))]
     pub fn read<R: Read>(alloc: Global, device: &mut Device<R>) -> Result<Registry, RegistryFault>

@@ -10,7 +10,7 @@ pub(crate) struct Row {
     pub(crate) place: usize,
 }
 
-/// A range of subtags, by the rank of its first and the one after that of its last, and the place of its record
+/// A range of subtags: the rank of its first subtag, one more than the rank of its last, and the place of its record
 /// among the entries.
 #[derive(Clone, Copy, Debug)]
 pub(crate) struct RangeRow {
@@ -19,8 +19,8 @@ pub(crate) struct RangeRow {
     pub(crate) place: usize,
 }
 
-/// The ranks from a start up to that of the next stretch, which is not among them, and the place of the first range
-/// that they are within; None if they are within none.
+/// The ranks from `start` up to the start of the next stretch, which is not among them. `place` is that of the first
+/// range that holds these ranks, or None if no range does.
 #[derive(Clone, Copy, Debug)]
 pub(crate) struct Stretch {
     pub(crate) start: u128,

@@ -10,9 +10,9 @@ use lt_tag::Tag;
 use std::alloc::Global;
 use std::marker::Model;
 
-/// A table that finds entries by binary search: single records by their subtags, which are compared
-/// as numbers, and whole records by their tags. A subtag that none names is looked for among ranges,
-/// of which the first of the file counts.
+/// A table that finds entries by binary search: records of one subtag by this subtag, which is compared as a number,
+/// and whole records by their tags. A subtag that no record names alone is looked for among the ranges: the first of
+/// the file that holds it counts.
 #[derive(Debug)]
 pub struct SortedTable {
     registry: Registry,
@@ -43,8 +43,7 @@ impl Model for SortedTable {
 }
 
 impl SortedTable {
-    /// The table of a registry's entries. It is refused only where memory runs out, and the registry
-    /// handed back.
+    /// The table of a registry's entries. Refused only where memory runs out: then the registry is handed back.
     pub fn new(alloc: Global, registry: Registry) -> Result<SortedTable, Registry>
         ensures ok { IfOk result (λ table. table ≡ registry) }
         ensures err { IfErr result (λ back. back ≡ registry) }

@@ -26,7 +26,7 @@ pub(crate) fn rank_of(subtag: &Subtag) -> u128
     length * NUMBERS + subtag.number() as u128
 }
 
-/// The numbers of subtags, in an array of 256, so that nothing is allocated. There must be no more subtags.
+/// The numbers of subtags, in an array of 256, so that nothing is allocated. There must be at most 256.
 fn numbers_of(subtags: &[Subtag]) -> ArrayVec<u64, 256>
     requires { length subtags.now ≤ 256 }
     ensures { result.items ≡ map lanes.number subtags.now }
@@ -47,8 +47,9 @@ fn differ(numbers: &mut [u64]) -> bool
     numbers.is_sorted_by(|number, next| number < next)
 }
 
-/// True only if a sort of their numbers shows that subtags are all different. It is false without a sort of fewer than
-/// 16, which are quickly compared pair by pair, and of more than 256, whose numbers don't fit the array.
+/// True only if all subtags are different, as a sort of their numbers shows. Fewer than 16 subtags, which are quickly
+/// compared pair by pair, and more than 256, whose numbers don't fit the array, are not sorted: the answer is false,
+/// even if all of them are different.
 #[tactic(auto, using(crate::proofs::NumberLemmas::subtags_differ))]
 pub(crate) fn many_differ(subtags: &[Subtag]) -> bool
     ensures { result ≡ true → Distinct subtags.now }

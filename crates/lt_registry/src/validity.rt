@@ -5,8 +5,9 @@
 //! a region and 1,024 variants. So the first singleton is at most at 1,031. With 1,024 extensions of up to 1,025
 //! subtags a tag has at most 1,050,630 before its private use, and 1,100,000 is a round number above that.
 //!
-//! `TellsOrLacks F M` says that a check answers Ok if there is no fault of `F`, else the first of them, or OutOfMemory,
-//! but only if `M` is true. `Counted may_repeat F` leaves out DuplicateVariant if variants may repeat.
+//! `TellsOrLacks F M` says that a check answers Ok if there is no fault of `F`, else the first of them; it may answer
+//! OutOfMemory instead, but only if `M` is true. `Counted may_repeat F` leaves out DuplicateVariant if variants may
+//! repeat.
 ghost use Rattle.std.specs.Prelude.{◌≡◌, ◌≤◌, ◌+◌, ◌↔◌, [], ◌∷◌, length, IsTrue, OnOk, OnErr, IfOk, IfErr};
 ghost use Rattle.std.specs.Option.{option_copied};
 ghost use Rattle.lt_tag.specs.Spelling.{spell_core};
@@ -34,7 +35,7 @@ pub fn validate<L: Lookup>(alloc: Global, table: &L, tag: &Tag) -> Result<(), Va
     check_tag(alloc, table, tag, false)
 }
 
-/// Whether nothing keeps a tag from being valid but, at most, variants that repeat. The only refusal is running out of
+/// Whether a tag is proper, which is valid except that variants may occur twice. The only refusal is running out of
 /// memory, and only for a tag with a `t` extension.
 pub fn proper<L: Lookup>(alloc: Global, table: &L, tag: &Tag) -> Result<bool, OutOfMemory>
     ensures answer { IfOk result (λ proper. IsTrue proper ↔ RepeatsAtMost (L.listed table.now) tag.now) }
@@ -192,10 +193,10 @@ fn check_part<L: Lookup>(
 }
 
 /// Checks the variants of a core, of which the first has the place `start`: each is registered and, unless
-/// `may_repeat`, none occurs twice. Refused with the first fault. If a sort shows first that many variants all differ,
-/// none is looked for among those before it. Here `start` is a place; it must be at most 1,100,006: before a core there
-/// are at most 1,100,000 subtags, and in it a language, one extlang (more are refused before), a script and a region
-/// come before the variants. There must be at most 1,024 variants.
+/// `may_repeat`, none occurs twice. Refused with the first fault. Many variants are sorted first: if that shows that
+/// all differ, none is looked for among those before it. Here `start` is a place; it must be at most 1,100,006: before
+/// a core there are at most 1,100,000 subtags, and in it a language, one extlang (more are refused before), a script
+/// and a region come before the variants. There must be at most 1,024 variants.
 fn check_variants<L: Lookup>(
     table: &L,
     start: u32,

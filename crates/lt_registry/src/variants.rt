@@ -27,7 +27,7 @@ fn none_repeats(variants: &[Subtag]) -> bool
 }
 
 /// Whether no variant occurs twice (RFC 5646, 2.2.5). It takes no memory. Many are sorted first, which is quicker than
-/// to look for each among those before it.
+/// a search for each among those before it.
 pub fn are_distinct(variants: &[Subtag]) -> bool
     ensures { IsTrue result ↔ Distinct variants.now }
 {

@@ -14,16 +14,15 @@ use lt_tag::Tag;
 use std::alloc::{AllocError, Global};
 use std::cmp::Ordering;
 
-/// The rows of the whole records, sorted by the numbers of their languages and then by their tags; of equal tags the
-/// first alone.
+/// The rows of the whole records, sorted by the numbers of their languages and then by their tags. Of records of one
+/// tag only the first is there.
 #[derive(Debug, Drop)]
 pub(crate) struct WholeIndex {
     rows: Vec<Row>,
 }
 
 impl WholeIndex {
-    /// The index of the records of whole tags; of records of one tag only the first of the file is in it. It is refused
-    /// only where memory runs out.
+    /// The index of the records of whole tags. It is refused only where memory runs out.
     pub(crate) fn of_entries(alloc: Global, entries: &[Entry]) -> Result<WholeIndex, AllocError>
         ensures { IfOk result (λ index. sorted.IsWholes entries.now index.rows.items) }
     {
@@ -105,14 +104,14 @@ fn compare_keys(entries: &[Entry], one: Row, other: Row) -> Ordering
 }
 
 /// The order of two records by their languages and tags, and of equal tags by their places, so that the first of the
-/// file is the first of these.
+/// file comes first.
 fn compare_rows(entries: &[Entry], one: Row, other: Row) -> Ordering
     ensures { result ≡ sorted.whole_cmp entries.now one other }
 {
     compare_keys(entries, one, other).then(one.place.cmp(&other.place))
 }
 
-/// Whether two records are of the same tag. Of such, only the first stays in the index.
+/// Whether two records are of the same tag. Then only the first of them stays in the index.
 fn name_same_tag(entries: &[Entry], one: Row, other: Row) -> bool
     ensures { result ≡ is_eq (sorted.whole_key_cmp (sorted.whole_key entries.now one)
         (sorted.whole_key entries.now other)) }

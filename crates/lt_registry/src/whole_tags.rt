@@ -9,7 +9,7 @@ use lt_tag::{OutOfMemory, Tag};
 use std::alloc::Global;
 use std::marker::Model;
 
-/// A tag in memory of its own. Few records name one, so an entry has room for where the tag is and not for the tag.
+/// A tag in memory of its own. Few records name one, so an entry stays small: it holds only where the tag is.
 #[derive(Debug, Drop)]
 pub struct WholeTag {
     place: Box<Tag>,

@@ -38,7 +38,7 @@ pub record StaysRegistered (B : List EntryParts) (e : EntryParts) : Type 0 where
   pub single : (s : List ℕ) → e.name ≡ names.Single s → is_registered B e.kind s ≡ true
   pub range : (first last : List ℕ) → e.name ≡ names.Range first last → IsCovered B e.kind first last
 
--- the value `v` of a record of this kind is a subtag of the same kind, so that it goes on the same chain of values
+-- the value `v` of a record of this kind is a subtag of the same kind, so that a chain of values goes on with it
 abbrev pub KeepsKind : Kind → List ℕ → Type 0
 KeepsKind kinds.Language v = Unit {0}
 KeepsKind kinds.Extlang v = ⊥
@@ -83,7 +83,7 @@ KeepsVariantLanguage B e =
     IsSameVariantLanguage B e s v
 
 -- A variant of the newer registry whose value is a language has a language as its value in the older one too, if it is
--- registered there (U5). Ranges are not asked for, since they have no value in a registry that passes the check.
+-- registered there (U5). It asks nothing of ranges, since they have no value in a registry that passes the check.
 abbrev pub HadVariantLanguage : List EntryParts → EntryParts → Type 0
 HadVariantLanguage A e =
     (s v : List ℕ) → e.kind ≡ kinds.Variant → e.name ≡ names.Single s → one_of e.value ≡ Some v → is_short v ≡ true →

@@ -31,7 +31,7 @@ is_up_to a b = is_le (end_cmp a b)
 abbrev pub contains : RangeEnd → RangeEnd → RangeRow → Bool
 contains first last row = is_up_to row.first first && is_up_to last row.last
 
--- the range that a record of this kind names, if it names one
+-- the range that a record of this kind names; None if it names none
 abbrev pub range_row : Kind → EntryName → Option RangeRow
 range_row kind (names.Range first last) = Some (record { first = range_end kind first; last = range_end kind last })
 range_row kind _ = None

@@ -1,5 +1,6 @@
-//! The check of a newer registry beside an older one by six conditions, which are this project's own, and what
-//! follows for tags. A program begins with the crate `bcp47`: its `Registry::upgrade_check` is this call.
+//! The check of a newer registry beside an older one by six conditions, which no RFC asks for: they are rules of this
+//! project. And what follows for tags. A program begins with the crate `bcp47`: its `Registry::upgrade_check` is this
+//! call.
 //!
 //! In contracts `A` are the records of the older registry, and `B` those of the newer. The *chain* of a subtag goes to
 //! its Preferred-Value, to the value of that, and so on, to its *end*, which *shortcuts* find at once. A *whole* record

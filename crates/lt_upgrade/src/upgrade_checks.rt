@@ -24,8 +24,8 @@ use lt_subtag::Subtag;
 use lt_tag::{OutOfMemory, Tag};
 use std::alloc::Global;
 
-/// U1: whether the subtag or the range of a record is registered in the newer registry. True of a record of a whole
-/// tag. The ranges must be those of the newer registry.
+/// U1: whether the subtag of a record is registered in the newer registry, or the range of a record is within one range
+/// of its kind there. True of a record of a whole tag. The ranges must be those of the newer registry.
 pub(crate) fn stays_registered<L: Lookup>(newer: &L, ranges: &WidestRanges, entry: &Entry) -> bool
     requires { HoldRanges (L.listed newer.now) ranges.now }
     ensures { IsTrue result ↔ StaysRegistered (L.listed newer.now) entry.now }
@@ -37,9 +37,9 @@ pub(crate) fn stays_registered<L: Lookup>(newer: &L, ranges: &WidestRanges, entr
     }
 }
 
-/// Whether the preferred value of a subtag of the kind, then that of this value, and so on, ends at the same subtag for
-/// left and for right. False where one of the chains goes in a circle. The kind must not be that of extlangs, whose
-/// values are languages, and the shortcuts must be the table's.
+/// Whether the chains of `left` and of `right`, two subtags of the kind, have the same end in the table. False if one
+/// of the chains goes in a circle. The kind must not be that of extlangs, whose values are languages, and the shortcuts
+/// must be the table's.
 #[tactic(auto, using(crate::proofs::UpgradeChecks::endless_apart))]
 fn have_same_end<L: Lookup>(
     table: &L,
@@ -61,7 +61,7 @@ fn have_same_end<L: Lookup>(
     }
 }
 
-/// Whether the preferred value of a record of a kind is a subtag of the same kind, so that it follows in a chain of values.
+/// Whether the preferred value of a record of this kind is a subtag of the same kind, so that a chain goes on with it.
 fn keeps_kind(kind: Kind, value: &Subtag) -> bool
     ensures { IsTrue result ↔ KeepsKind kind value.now }
 {
@@ -73,7 +73,7 @@ fn keeps_kind(kind: Kind, value: &Subtag) -> bool
 }
 
 /// U2: whether the chains of a subtag and its older preferred value have the same end in the newer registry. True of a
-/// record without a value of its own kind. The shortcuts must be the newer registry's.
+/// record that is not of one subtag, or has no value of its own kind. The shortcuts must be the newer registry's.
 pub(crate) fn keeps_ends<L: Lookup>(newer: &L, shortcuts: &Shortcuts, entry: &Entry) -> bool
     requires { AreShortcuts (L.listed newer.now) shortcuts.now }
     ensures { IsTrue result ↔ KeepsEnds (L.listed newer.now) entry.now }
@@ -103,8 +103,8 @@ fn replacement<'a>(entry: &'a Entry, subtag: &'a Subtag) -> &'a Subtag
     }
 }
 
-/// Whether an extlang has, in the newer registry, the same Prefixes, and a replacement whose chain of values has the
-/// same end. `entry` is its older record. The shortcuts must be the newer registry's.
+/// Whether an extlang has, in the newer registry, the same Prefixes, and a replacement whose chain has the same end as
+/// that of the older replacement. `entry` is its older record. The shortcuts must be the newer registry's.
 fn is_same_extlang<L: Lookup>(
     newer: &L,
     shortcuts: &Shortcuts,
@@ -122,8 +122,8 @@ fn is_same_extlang<L: Lookup>(
         && have_same_end(newer, shortcuts, Kind::Language, old, new)
 }
 
-/// U3: whether an extlang keeps its Prefixes and the end of its replacement in the newer registry. True of any other
-/// record. The shortcuts must be the newer registry's.
+/// U3: whether an extlang keeps its Prefixes and the end of the chain of its replacement in the newer registry. True of
+/// any other record. The shortcuts must be the newer registry's.
 pub(crate) fn keeps_extlang<L: Lookup>(newer: &L, shortcuts: &Shortcuts, entry: &Entry) -> bool
     requires { AreShortcuts (L.listed newer.now) shortcuts.now }
     ensures { IsTrue result ↔ KeepsExtlang (L.listed newer.now) entry.now }
@@ -136,8 +136,8 @@ pub(crate) fn keeps_extlang<L: Lookup>(newer: &L, shortcuts: &Shortcuts, entry: 
     }
 }
 
-/// Whether a Prefix is among those of a record, if it is one subtag. True of a longer one, beside which no
-/// VariantLanguage step is made.
+/// Whether a Prefix of one subtag is among those of a record. True of a longer Prefix: a variant's value that is a
+/// language is used only beside a language that is itself a Prefix.
 fn is_among(prefix: &Prefix, entry: &Entry) -> bool
     ensures { result ≡ checks.is_among entry.now.prefixes prefix.now }
 {
@@ -154,7 +154,7 @@ fn are_among(prefixes: &[Prefix], entry: &Entry) -> bool
     prefixes.iter().all(|prefix| is_among(prefix, entry))
 }
 
-/// Whether the Prefixes of one subtag are the same for two records, in whatever order.
+/// Whether two records have the same Prefixes of one subtag, in whatever order.
 fn same_languages(left: &Entry, right: &Entry) -> bool
     ensures { IsTrue result ↔ ((l : List ℕ) → entries.has_prefix left.now.prefixes l ≡ entries.has_prefix right.now.prefixes l) }
 {
@@ -181,7 +181,7 @@ pub(crate) fn keeps_variant_language<L: Lookup>(
 }
 
 /// Whether a variant has, in the newer registry, a language of the same end as its value, and the same Prefixes of one
-/// subtag. VariantLanguage steps then lead to the same end beside the same languages. `entry` is its older record, and
+/// subtag. Then the variant, beside the same languages, leads to the same language. `entry` is its older record, and
 /// `value` its older value. The shortcuts must be the newer registry's.
 fn have_same_variant_language<L: Lookup>(
     newer: &L,
@@ -219,8 +219,8 @@ pub(crate) fn had_variant_language<L: Lookup>(older: &L, entry: &Entry) -> bool
     }
 }
 
-/// Whether two tags have the same canonical form. False if one of them has none. Neither tag may
-/// repeat a variant: `equivalent` refuses such a tag even where steps lead from it to a canonical one.
+/// Whether two tags have the same canonical form. False if one of them has none. Refused only where memory runs out.
+/// Neither tag may repeat a variant: `equivalent` refuses such a tag even where steps lead from it to a canonical one.
 #[tactic(auto, using(crate::proofs::UpgradeChecks::forms_compared, crate::proofs::UpgradeChecks::refused_apart))]
 fn meet_in_canonical<L: Lookup>(
     alloc: Global,
@@ -256,7 +256,8 @@ fn replaces<L: Lookup>(newer: &L, tag: &Tag, value: &Tag) -> bool
 
 /// U6: whether the tag and the preferred value of a record of the older registry have the same canonical form by the
 /// newer one. They do if the newer one has the same value for the tag. True of a record that replaces no whole tag. The
-/// record must be one of the older registry's: by its check neither tag repeats a variant.
+/// record must be one of the older registry's: by its check neither tag repeats a variant. Refused only where memory
+/// runs out.
 pub(crate) fn keeps_whole<A: Lookup, B: Lookup>(
     alloc: Global,
     older: &Checked<A>,

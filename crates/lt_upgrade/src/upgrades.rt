@@ -88,8 +88,8 @@ fn records_of<'a, A: Lookup, B: Lookup>(
     }
 }
 
-/// Whether a record meets a condition. The record must be one of those that the condition speaks of, and `ranges` must be
-/// those of the newer registry.
+/// Whether a record meets a condition. The record must be one of those that the condition speaks of, and `ranges` must
+/// be those of the newer registry. Refused only where memory runs out.
 fn meets<A: Lookup, B: Lookup>(
     alloc: Global,
     older: &Checked<A>,
@@ -116,8 +116,8 @@ fn meets<A: Lookup, B: Lookup>(
     }
 }
 
-/// The number of the first record that does not meet a condition, or None if each does. `ranges` must be those of the newer
-/// registry.
+/// The number of the first record that does not meet a condition, or None if each does. `ranges` must be those of the
+/// newer registry. Refused only where memory runs out.
 fn lowest_fault<A: Lookup, B: Lookup>(
     alloc: Global,
     older: &Checked<A>,
@@ -141,9 +141,9 @@ fn lowest_fault<A: Lookup, B: Lookup>(
 /// it. `Fails` names the first condition that some record does not meet, and the lowest of those records.
 /// `OutOfMemory` comes where memory runs out.
 ///
-/// A tag is then valid by the newer registry if it is so by the older one, and two tags are equivalent if they
-/// are so by the older. Of a tag with a canonical form by the older registry, the newer one makes what it makes
-/// of that form: one canonical form, or a refusal that names one variant.
+/// A tag is then valid by the newer registry if it is so by the older one, and two tags are equivalent if they are so
+/// by the older. Of a tag with a canonical form by the older registry, the newer one makes what it makes of that form:
+/// the same canonical form, or a refusal that names the same variant.
 pub fn upgrade_check<A: Lookup, B: Lookup>(
     alloc: Global,
     older: &Checked<A>,

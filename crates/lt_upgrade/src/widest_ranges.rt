@@ -1,5 +1,6 @@
-//! The ranges among entries, to tell for U1 whether one of them covers an older range. Only the *widest* are kept, in
-//! order, of which both ends rise, so that a binary search finds the one to ask.
+//! The ranges among the entries of the newer registry, to tell for U1 whether one of them covers an older range. Only
+//! the *widest* are kept, which no earlier one covers. Their first ends rise, and so do their last ones, so that a
+//! binary search finds the only one to ask.
 ghost use Rattle.std.specs.Prelude.{◌≡◌, List, All, IfOk, length};
 ghost use Rattle.std.specs.List.{list_any};
 ghost use Rattle.lt_registry.specs.Parts.{EntryParts};
@@ -92,8 +93,8 @@ impl WidestRanges {
     }
 
     /// Whether one of the ranges, of the same kind and length, goes from `first` or a subtag before it to `last` or one
-    /// after it. `first` and `last` must be equally long. The ranges don't keep the registry of which they are made, so
-    /// the clause holds of any `R` whose ranges they are.
+    /// after it. `first` and `last` must be equally long. The ranges don't keep the registry from which they were made,
+    /// so the clause holds of any `R` whose ranges they are.
     pub(crate) fn cover(&self, kind: Kind, first: &Subtag, last: &Subtag) -> bool
         requires { length first.now ≡ length last.now }
         ensures { (R : List EntryParts) → HoldRanges R self.now → result ≡ some_covers R kind first.now last.now }
@@ -101,8 +102,8 @@ impl WidestRanges {
         self.contain(&RangeEnd::new(kind, first), &RangeEnd::new(kind, last))
     }
 
-    /// Whether one of the ranges begins no later than `first` and ends no earlier than `last`. Of the ranges that begin no
-    /// later, the last one ends last.
+    /// Whether one of the ranges begins no later than `first` and ends no earlier than `last`. Of those that begin no
+    /// later, the last one ends last, so only that is asked.
     fn contain(&self, first: &RangeEnd, last: &RangeEnd) -> bool
         ensures { result ≡ list_any (contains first.now last.now) self.now }
     {
