@@ -62,9 +62,10 @@ impl UsualSubtags {
         has(&self.words, place)
     }
 
-    /// Appends `text` to `texts`, in conventional case, if it is read as a langtag of the usual form, each subtag of which
-    /// stays as it is by the registry of these flags. The usual form is a language of 2 or 3 letters, alone or with a
-    /// script, a region or both. Gives true exactly then; else it appends nothing. Refused only where memory runs out.
+    /// Appends `text` to `texts`, in conventional case, if it is read as a langtag of the usual form, each subtag of
+    /// which stays as it is by the registry of these flags. The usual form is a language of 2 or 3 letters, alone or
+    /// with a script, a region or both. Gives true exactly then; else it appends nothing. Refused only where memory
+    /// runs out.
     #[inline(always)]
     pub fn append_text(&self, text: &[u8], texts: &mut Vec<u8>) -> Result<bool, AllocError>
         // The flags don't keep the registry of which they are made: so `exact` and `appended` hold for any `R` of which
@@ -113,7 +114,8 @@ pub(crate) fn mark(words: &mut [u64], kind: Kind, subtag: &Subtag) -> bool
     !was_set
 }
 
-/// Sets the flag of a place if `set`, and else clears it. There must be 8,655 words, and the place must be below 553,913.
+/// Sets the flag of a place if `set`, and else clears it. There must be 8,655 words, and the place must be below
+/// 553,913.
 #[tactic(auto, using(crate::proofs::FlagLemmas::set_flag, crate::proofs::FlagLemmas::clear_flag))]
 fn put(words: &mut [u64], place: usize, set: bool)
     requires room { length words.old ≡ 8655 }
@@ -195,8 +197,9 @@ fn drop_language(words: &mut [u64], entry: &Entry)
     }
 }
 
-/// Clears the flag of each language of which a record replaces a tag as a whole, with no more than a script and a region
-/// beside it. There must be 8,655 words, and the flags must be those that [`put_singles`] leaves for these entries.
+/// Clears the flag of each language of which a record replaces a tag as a whole, with no more than a script and a
+/// region beside it. There must be 8,655 words, and the flags must be those that [`put_singles`] leaves for these
+/// entries.
 fn drop_replaced(words: &mut [u64], entries: &[Entry])
     requires room { length words.old ≡ 8655 }
     requires singles { TellSingles entries.now words.old }

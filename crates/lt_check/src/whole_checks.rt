@@ -23,8 +23,8 @@ use lt_rewrite::values::{tag_and_value, whole_value};
 use lt_tag::{Core, OutOfMemory, Tag};
 use std::alloc::Global;
 
-/// Whether a tag is a valid langtag without extensions and private use. It takes no memory, since `validate` takes some only
-/// for a `t` extension: so no refusal is for memory.
+/// Whether a tag is a valid langtag without extensions and private use. It takes no memory, since `validate` takes some
+/// only for a `t` extension: so no refusal is for memory.
 fn is_valid_plain<L: Lookup>(alloc: Global, table: &L, tag: &Tag) -> bool
     ensures { IsTrue result ↔ IsValidCoreAlone (L.listed table.now) tag.now }
 {
@@ -79,8 +79,8 @@ fn settled<L: Lookup>(
     Ok(form)
 }
 
-/// The preferred value of the whole record of this core as a tag. None if there is no such record, or it has no value. The
-/// text of the core must be no grandfathered tag.
+/// The preferred value of the whole record of this core as a tag. None if there is no such record, or it has no value.
+/// The text of the core must be no grandfathered tag.
 fn value_of<L: Lookup>(alloc: Global, table: &L, core: Core) -> Option<&Tag>
     requires { IsNotGrandfathered (spell_core core) }
     ensures { option_copied result ≡ whole_value (L.listed table.now) (core_alone core) }
@@ -89,8 +89,8 @@ fn value_of<L: Lookup>(alloc: Global, table: &L, core: Core) -> Option<&Tag>
     whole_value(table, &tag)
 }
 
-/// The core of the preferred value of the whole record of this core as a tag. None if there is no such value, or if it is not
-/// a langtag without extensions and private use. The text of the core must be no grandfathered tag.
+/// The core of the preferred value of the whole record of this core as a tag. None if there is no such value, or if it
+/// is not a langtag without extensions and private use. The text of the core must be no grandfathered tag.
 fn plain_value_of<L: Lookup>(alloc: Global, table: &L, core: Core) -> Option<&Core>
     requires { IsNotGrandfathered (spell_core core) }
     ensures { MatchOption result
@@ -152,9 +152,9 @@ pub(crate) struct Judged {
     /// Whether it meets C10: it is no whole record with a value, or no variant occurs twice in the core normal form of
     /// its value, and this form is not the tag of a whole record with a value.
     pub(crate) rests: bool,
-    /// Whether it meets C11. It does if it is no whole record with a value, or if its tag is its own core normal form.
-    /// Else the core normal form of its value must be that of its tag, or that of the value of this form as a whole
-    /// tag.
+    /// Whether it meets C11. It does if it is no whole record with a value, or if its tag has no core normal form other
+    /// than itself. Else the core normal form of its value must be that of its tag, or that of the value which the
+    /// tag's form has as a whole tag.
     pub(crate) agrees: bool,
 }
 
