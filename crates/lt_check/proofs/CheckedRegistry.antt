@@ -1,4 +1,5 @@
--- What a registry that passes the check says of the whole record behind a value.
+-- In a registry that passes the check, a value that is found for a whole tag is that of a record with this tag as its
+-- name, and it is a valid langtag and a core alone, without extensions and private use.
 use Rattle.std.proofs.Common.{◌≡◌, ℕ, ◌⊎◌, inl, inr, true, List, Some, None, refl, sym, ap, ◌∙◌, subst, All, arith}
 use Rattle.std.proofs.lemmas.Option.{option_and_then_some}
 use Rattle.lt_tag.specs.Parts.{TagForm, Grandfathered}

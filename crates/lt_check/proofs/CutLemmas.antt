@@ -1,4 +1,6 @@
--- A text that is cut into subtags that stay is read as their langtag, and shown in conventional case.
+-- What `append_text` needs: something is shown of a text exactly if it is read as a langtag of subtags that stay, and
+-- what is shown is the text in conventional case. A subtag *stays* if canonicalization leaves it as it is, which its
+-- flag says.
 use Rattle.std.proofs.Common.{◌≡◌, ◌≤◌, ℕ, ◌==◌, ◌++◌, ◌&&◌, Bool, true, false, List, [], ◌∷◌, length, map, take}
 use Rattle.std.proofs.Common.{Option, Some, None, option_map, inl, inr, refl, sym, ap, ◌∙◌, arith, ◌-◌, eqb, ◌||◌, not}
 use Rattle.std.proofs.Common.{find, is_none, IfSome, subst, All}

@@ -1,4 +1,5 @@
--- The first record that fails a test is the lowest at fault.
+-- What the passes of the check need: since numbers rise, the first record that fails a condition has the lowest number
+-- of those that fail it.
 use Rattle.std.proofs.Common.{◌≡◌, ℕ, zero, suc, ◌+◌, ◌<◌, ◌≤◌, ◌⊎◌, All, inl, inr, Option, Some, None, List, [], ◌∷◌}
 use Rattle.std.proofs.Common.{length, refl, sym, ap, ◌∙◌, subst, arith}
 use Rattle.std.specs.Prelude.{Contains, slice_index_or}

@@ -1,5 +1,5 @@
--- Two subtags of one kind have one place exactly if they are the same, letter case aside. How writing one flag changes
--- what the flags tell.
+-- Two subtags of one kind have one place exactly if they are the same, letter case aside. So writing the flag of one
+-- subtag changes what the flags tell of this subtag only, as `put_subtag` needs.
 use Rattle.std.proofs.Common.{◌≡◌, ◌≤◌, ◌<◌, ℕ, ◌+◌, ◌-◌, ◌*◌, ◌/◌, ◌%◌, ◌==◌, ◌&&◌, eqb, Bool, true, false, cond, List}
 use Rattle.std.proofs.Common.{[], ◌∷◌, length, map, get_or, Option, Some, None, IfSome, inl, inr, refl, sym, subst, ap}
 use Rattle.std.proofs.Common.{◌∙◌, arith, bytes_eq, ◌^◌, not, set, replicate, bit_and, bit_or, w64, is_some}

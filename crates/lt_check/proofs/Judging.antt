@@ -1,5 +1,5 @@
--- The conditions in their order, and which of them are decided by record, that is by a look at one record after
--- another.
+-- What `find_fault` needs: the conditions are judged in the order of `IN_ORDER`, and if each is met, the registry
+-- passes. A condition is decided *by record* if a look at one record after another decides it.
 use Rattle.std.proofs.Common.{◌≡◌, ℕ, zero, suc, ◌≤◌, ◌<◌, ◌+◌, eqb, true, List, Option, Some, None, Result, Ok, Err}
 use Rattle.std.proofs.Common.{IfOk, All, ap, inl, inr, refl, sym, subst, ◌∙◌, false, arith, rules}
 use Rattle.std.specs.Prelude.{slice_index_or}

@@ -1,10 +1,10 @@
--- What the crates above may use.
+-- Lemmas that the crates above use too.
 pub mod CheckedRegistry
 pub mod Deciding
 pub mod RecordChecks
 pub mod FirstFaults
 pub mod OwnNames
--- What this crate alone uses.
+-- Lemmas that only this crate uses.
 mod WholeRecords
 mod RegularLists
 mod SeenRanges

@@ -1,4 +1,5 @@
--- What decides the conditions that speak of one subtag after another.
+-- What the tests of C4, C6 and C7 on one record compare, and that this decides the condition. A language is *final* if
+-- it is registered and has no value.
 use Rattle.std.proofs.Common.{◌≡◌, ◌↔◌, ℕ, ◌<◌, ◌==◌, Bool, true, false, List, [], ◌∷◌, length, Option, Some, refl, sym}
 use Rattle.std.proofs.Common.{ap, ◌∙◌, subst, arith, IsTrue, All, bytes_eq}
 use Rattle.std.specs.Prelude.{slice_index_or}

@@ -1,4 +1,5 @@
--- The regular grandfathered tags of two subtags are the only grandfathered tags that can be valid as cores.
+-- What C8 needs: the regular grandfathered tags of two subtags are the only grandfathered tags that can be valid as
+-- cores. So the numbers of the records that make these valid decide C8.
 use Rattle.std.proofs.Common.{◌≡◌, ℕ, ◌-◌, inl, inr, Bool, true, false, ◌||◌, List, [], ◌∷◌, Some, refl, sym, ap, ◌∙◌}
 use Rattle.std.proofs.Common.{codes, arith, ◌==◌, not, Option, None, subst}
 use Rattle.std.specs.Prelude.{slice_index_or, Contains}

@@ -1,4 +1,5 @@
--- Sets of ranges that are ordered: what is there, and what an added one changes.
+-- What `RangeNames` needs: in a set of ranges that is in order, a look-up tells whether a range is there, and an added
+-- range changes only the answer to this range.
 use Rattle.std.proofs.Common.{◌≡◌, ◌↔◌, ◌⊎◌, inl, inr, true, not, cond, ℕ, Bool, List, ap, subst, arith, IsTrue, Contains}
 use Rattle.std.specs.Bool.{Decides}
 use Rattle.std.specs.List.{list_any}

@@ -1,5 +1,6 @@
--- A text that is a language, alone or with a script, a region or both, each with a flag in the table F: so it stays as
--- it is. What is shown of it is its text in conventional case: a count of bytes, and these with zeros after them.
+-- What `UsualSubtags::shown` needs: something is shown of a text exactly if it is a language, alone or with a script, a
+-- region or both, each with a flag in the table F. A flag says that canonicalization leaves the subtag as it is. What
+-- is shown of it is its text in conventional case: a count of bytes, and these with zeros after them.
 use Rattle.std.proofs.Common.{◌≡◌, ◌≤◌, ℕ, ◌+◌, ◌==◌, ◌++◌, ◌&&◌, Bool, true, false, cond, List, [], ◌∷◌, length, map}
 use Rattle.std.proofs.Common.{take, Option, Some, None, option_map, is_some, inl, inr, refl, sym, ap, ◌∙◌, arith}
 use Rattle.std.specs.Option.{option_map_or}

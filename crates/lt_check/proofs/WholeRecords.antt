@@ -1,4 +1,5 @@
--- What holds of whole records where the conditions that are judged before hold of all records.
+-- What the tests of C9 to C11 need: what holds of whole records if all records meet the conditions that are judged
+-- before, and that what the tests compute decides the condition.
 use Rattle.std.proofs.Common.{◌≡◌, ◌<◌, inl, inr, List, Some, None, refl, sym, ap, ◌∙◌, subst, arith, ◌≢◌, Bool, true}
 use Rattle.std.proofs.Common.{false, not, Bor, is_some, [], ◌∷◌, Option, Result, Ok, Err, is_ok, OnOk, IfErr, length}
 use Rattle.std.specs.Prelude.{Contains, slice_index_or}

@@ -1,4 +1,4 @@
--- Where a line ends: how the first line feed (10) cuts a text.
+-- What `split_line` and the engine need: how the first line feed (10) cuts a text, and which lines the text then has.
 use Rattle.std.proofs.Common.{◌≡◌, ◌≢◌, ◌<◌, ◌≤◌, ◌+◌, ◌-◌, ◌++◌, ◌∷◌, ◌∙◌, ℕ, List, [], take, drop, length, sym, ap}
 use Rattle.std.proofs.Common.{arith, add-one, if◌then◌else◌, get_or, length-drop, suc, subst, refl}
 use Rattle.std.proofs.Math.Seq.{drop-cons, take-length}

@@ -1,5 +1,5 @@
--- A group is the fields between two separators. Lines are groups in one way. How a field of a group grows, what records
--- groups make, and how many begin with them.
+-- A group is the fields between two separators. Lines are groups in only one way, so a text has one list of records at
+-- most. And what one more line makes of groups, which records groups make, and how many records begin in their lines.
 use Rattle.std.proofs.Common.{◌≡◌, ◌∙◌, ◌++◌, ◌∷◌, ℕ, List, [], true, refl, sym, ap, append_assoc, append-nil, map}
 use Rattle.std.proofs.Common.{Bool, false, Result, Ok, nat_lt, ◌+◌, ◌&&◌, arith, length, length-append, MatchResult}
 use Rattle.std.specs.List.{filter, flat_map}

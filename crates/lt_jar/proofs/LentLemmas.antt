@@ -1,4 +1,6 @@
--- What is wrong with a text after whole lines, and what was lent (given as records) or read of it so far.
+-- A text is whole lines, the records of which were lent or read, and a rest (`Behind`). So the records, the fault and
+-- the numbers of lines of the whole text follow from those of the rest: `JarReader` and `read_jar` need this after each
+-- record.
 use Rattle.std.proofs.Common.{◌≡◌, ◌∙◌, ◌++◌, ◌∷◌, ◌⊎◌, inl, inr, ℕ, List, [], false, refl, sym, ap, subst}
 use Rattle.std.proofs.Common.{append_assoc, append-nil, length, ◌+◌, ◌≤◌, arith, length-append, Option}
 use Rattle.std.specs.List.{AllByRecursion, filter, flat_map}

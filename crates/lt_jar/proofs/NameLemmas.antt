@@ -1,4 +1,5 @@
--- The names of fields, and lines that begin with a name that is known.
+-- What `kind_of` and `body_again` need: a line that begins a field has a name of only *name bytes*, which are letters,
+-- digits and hyphens. And a line that begins with a known name and a colon begins a field of this name.
 use Rattle.std.proofs.Common.{◌≡◌, ◌≢◌, Bool, true, false, ◌&&◌, ◌==◌, if◌then◌else◌, ◌∙◌, ◌<◌, ◌+◌, ◌∷◌, ◌++◌, ℕ, suc}
 use Rattle.std.proofs.Common.{List, [], refl, sym, ap, length, get_or, take, drop, arith, add-one}
 use Rattle.std.specs.List.{list_all}

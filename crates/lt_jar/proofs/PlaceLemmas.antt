@@ -1,4 +1,5 @@
--- Where a byte is first in a text.
+-- What `first_place` needs: the bits of a mask of the first 32 bytes, or else the list of all places of a byte, tell
+-- where it is first in a text.
 use Rattle.std.proofs.Common.{◌≡◌, ◌≤◌, ◌<◌, ◌+◌, ◌-◌, ◌==◌, ◌∷◌, ◌∙◌, [], ℕ, zero, suc, true, false, not, List, Option}
 use Rattle.std.proofs.Common.{Some, None, eqb, length, map, take, get_or, ap, sym, subst, arith, inl, inr}
 use Rattle.std.proofs.lemmas.Bool.{cases_Bool, cases_eq}

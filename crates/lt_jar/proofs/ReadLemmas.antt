@@ -1,5 +1,6 @@
--- What is computed of a line is right. What is known once the first lines of a text are read. A text has records or a
--- fault, and not both.
+-- What `take_line` computes of a line is right: no fault, or the first of its faults. So a text has records and keeps
+-- the limits, or it has one fault, and never both. `HasRead` says what is known once the first lines of a text are
+-- read.
 use Rattle.std.proofs.Common.{◌≡◌, ◌∙◌, ◌++◌, ◌∷◌, ◌⊎◌, inl, inr, ℕ, List, [], Bool, true, false, Result, Ok, Err, refl}
 use Rattle.std.proofs.Common.{sym, ap, subst, append_assoc, append-nil, map, nat_lt, length, get_or, ◌+◌, ◌<◌, ◌≤◌}
 use Rattle.std.proofs.Common.{arith, MatchResult, length-append}

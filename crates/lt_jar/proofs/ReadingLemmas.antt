@@ -1,5 +1,5 @@
--- Lines *ran* if reading them one by one came to no fault. What they make of a text, and that nothing is wrong with
--- them.
+-- What is known of a text after each answer of the engine: that it took a piece, ended a record, refused a line, or
+-- came to the end. Lines *ran* if reading them one by one came to no fault; then nothing is wrong with them.
 use Rattle.std.proofs.Common.{◌≡◌, ◌≢◌, ◌∙◌, ◌≤◌, ◌+◌, ◌∷◌, ℕ, List, [], Result, Ok, Err, refl, sym, ap, length, arith}
 use Rattle.std.proofs.Common.{MatchResult, inl, inr, ◌++◌, subst, append_assoc, append-nil, add-zero, length-append}
 use Rattle.std.proofs.Common.{Option, Some, None, zero-add}

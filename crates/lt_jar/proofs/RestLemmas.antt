@@ -1,4 +1,5 @@
--- The turns of `read_jar`, each of which reads one record: what they leave of the text, and its end.
+-- The loop of `read_jar`, each turn of which reads one record: what is known of the text at each turn, when a turn is
+-- refused, and at the end.
 use Rattle.std.proofs.Common.{if◌then◌else◌, ◌≡◌, ◌∙◌, ◌++◌, ◌∷◌, inl, inr, ℕ, List, [], Bool, refl, sym, ap, subst}
 use Rattle.std.proofs.Common.{length, ◌+◌, ◌≤◌, arith, length-append}
 use Rattle.lt_jar.specs.Lines.{lines_of, whole_lines}

@@ -1,4 +1,5 @@
--- What the turns of the loop in one call of `read_record` keep, and how the call ends: each turn reads once.
+-- The loop in one call of `read_record`, each turn of which reads once: what is known at each turn, and how the call
+-- ends.
 use Rattle.std.proofs.Common.{Bor, MatchResult, is_ok, ◌≡◌, ◌≤◌, ◌+◌, ◌-◌, ◌++◌, ◌∷◌, ◌∙◌, inl, inr, ℕ, Bool, true}
 use Rattle.std.proofs.Common.{false, List, [], Option, Result, Ok, Err, length, take, drop, sym, ap, refl, subst, arith}
 use Rattle.std.proofs.Common.{zero, suc, add-zero, append_assoc, append-nil, length-append, length-drop}

@@ -1,5 +1,5 @@
--- A read of the reader for tests gives a front of what remains of it. Where there is room for bytes, it gives none only
--- if nothing remains.
+-- A read of `Pieces`, the reader for tests, gives a front of what remains of it. Where there is room for bytes, it
+-- gives none only if nothing remains.
 use Rattle.std.proofs.Common.{◌≡◌, ℕ, zero, suc, ◌+◌, ◌-◌, ◌<◌, ◌≤◌, ◌⊎◌, inl, inr, min, Bool, true, false, ◌&&◌, List}
 use Rattle.std.proofs.Common.{[], ◌++◌, length, take, drop, Option, Some, None, refl, sym, ap, ◌∙◌, arith, take_at}
 use Rattle.std.proofs.Common.{length-take-le, take-append-drop, drop-drop, drop_of_length-le}

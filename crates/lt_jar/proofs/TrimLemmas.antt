@@ -1,4 +1,5 @@
--- A text that has one space at its front, and no other space or tab at an end.
+-- What the quick case of `trim` needs: only one space is trimmed from a text that has it at its front, and no other
+-- space or tab at either end.
 use Rattle.std.proofs.Common.{◌≡◌, ◌<◌, ◌-◌, ◌∙◌, ◌∷◌, ℕ, suc, false, List, [], length, get_or, drop, reverse, refl, sym, ap, arith}
 use Rattle.std.proofs.lemmas.List.{get_or-reverse, length-reverse, reverse-reverse}
 use Rattle.lt_jar.specs.LineKinds.{is_blank, trim, trim_end, trim_start}

@@ -1,4 +1,5 @@
--- Texts that have the same first and last bytes, and no others, are the same: `are_same` compares them so, as numbers.
+-- What `are_same` needs: two texts of one length are the same if their first bytes and their last bytes are, where
+-- these cover the texts. They are compared as numbers.
 use Rattle.std.proofs.Common.{◌≡◌, ◌<◌, ◌≤◌, ◌+◌, ◌-◌, ◌∙◌, ◌++◌, ◌∷◌, ℕ, zero, suc, List, [], length, get_or, take}
 use Rattle.std.proofs.Common.{drop, refl, sym, ap, ap₂, subst, arith}
 use Rattle.std.specs.Int.{from_le_bytes, to_le_bytes, w32, w64}

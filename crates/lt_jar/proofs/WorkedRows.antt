@@ -1,4 +1,4 @@
--- The definitions on small texts, each shown by computing it: so a slip in a definition would be seen.
+-- The definitions of the format on small texts, each shown by computing it: so a slip in a definition would be seen.
 use Rattle.std.proofs.Common.{◌≡◌, ℕ, List, [], ◌∷◌, ◌++◌, refl, codes, false}
 use Rattle.lt_jar.specs.Lines.{lines_of}
 use Rattle.lt_jar.specs.LineKinds.{Bad, Continuation, Separator, Start, line_of}

@@ -1,5 +1,7 @@
--- What is shown: `core_check` answers the first fault of a core, and `source_check` the first of a `t` extension. Each
--- part has its own places, so the first part with a fault decides.
+-- `core_check` answers the first fault of a core, and `source_check` the first of a `t` extension, as `validate` needs.
+-- Each part of a core has its own places, so the first part with a fault decides. A check *tells* the first of some
+-- faults if it answers it, or Ok if there is none (`Tells`). A fault *counts* unless it is DuplicateVariant and
+-- variants may repeat (`Counted`).
 use Rattle.std.proofs.Common.{◌≡◌, ◌≢◌, ℕ, ◌+◌, ◌<◌, ◌≤◌, Bool, true, false, ◌⊎◌, inl, inr, List, [], ◌∷◌, ◌++◌, length}
 use Rattle.std.proofs.Common.{Option, Some, None, is_some, refl, sym, ap, ◌∙◌, subst, arith, length-append}
 use Rattle.std.proofs.Common.{append_assoc}

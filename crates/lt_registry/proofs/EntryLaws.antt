@@ -1,4 +1,5 @@
--- The entries of records, one record after another, and a registry that is read record by record.
+-- What the loops of `Registry::from_records` and `Registry::read` make of the records so far: their entries, or the
+-- first fault. And records have at most one list of entries, and none if one of them has a fault.
 use Rattle.std.proofs.Common.{◌≡◌, ℕ, ◌+◌, ◌<◌, ◌≤◌, true, false, List, [], ◌∷◌, ◌++◌, length, take, drop, get_or}
 use Rattle.std.proofs.Common.{Option, Some, None, refl, sym, ap, ◌∙◌, arith, append_assoc, ◌⊎◌, inl, inr, subst}
 use Rattle.std.proofs.Common.{length-append, Result, Ok, Err, append-nil}

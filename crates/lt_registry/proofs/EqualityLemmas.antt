@@ -1,4 +1,5 @@
--- Equality of entries and their parts is that of what a contract sees of them.
+-- `==` on entries and their parts is true exactly if what a contract sees of both is equal. `Decides b P` says that the
+-- Boolean `b` is true exactly if `P` is.
 use denote.Enum.Bare.{same_true, true_same}
 use Rattle.std.proofs.Common.{◌≡◌, ℕ, List, Option, Some, None, refl, ap}
 use Rattle.std.specs.Bool.{Decides}

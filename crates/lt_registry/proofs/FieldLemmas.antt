@@ -1,5 +1,5 @@
--- What `Found` notes of a record: which of five names a field has, and what one field more changes: the first place,
--- the body and the repeats of its name.
+-- What `Found::put` needs: which of five names a field has, and what one more field changes of a name: the place of its
+-- first field, its body, and whether it occurs twice.
 use Rattle.std.proofs.Common.{◌≡◌, ◌≢◌, ℕ, suc, ◌+◌, ◌-◌, ◌≤◌, Bool, true, false, ◌||◌, List, [], ◌∷◌, ◌++◌, length}
 use Rattle.std.proofs.Common.{Option, Some, None, refl, sym, ap, ◌∙◌, arith}
 use Rattle.std.specs.Prelude.{find, is_some, nat_lt, cond, count_by, option_map, if◌then◌else◌}

@@ -1,4 +1,5 @@
--- What `Found::put` notes stays true with a field more (`HasFound`), by each name that the field may have.
+-- What was found of some fields (`HasFound`) is still true after `Found::put` has noted one more field. There is a
+-- lemma for each name that this field may have.
 use Rattle.std.proofs.Common.{get_or, ◌≡◌, ℕ, Bool, true, false, ◌||◌, List, [], ◌∷◌, ◌++◌, length, Some, refl, sym, ap, ◌∙◌, arith}
 use Rattle.std.specs.Prelude.{is_some}
 use Rattle.std.specs.Option.{option_or}

@@ -1,5 +1,5 @@
--- How the rows of indexes are gathered, and what the indexes of a sorted table find: the same as a search through all
--- entries from the first on.
+-- How the rows of the indexes are gathered, entry by entry. And what a look-up in an index of a `SortedTable` finds:
+-- the entry that a search through all entries, from the first on, would find.
 use Rattle.std.proofs.Common.{◌≡◌, ℕ, ◌+◌, ◌<◌, ◌≤◌, Bool, true, false, cond, eqb, List, [], ◌∷◌, ◌++◌, length, get_or}
 use Rattle.std.proofs.Common.{refl, sym, ap, ◌∙◌, arith, inl, inr, ◌&&◌, Option, Some, None, subst}
 use Rattle.std.specs.List.{All, Contains, find, slice_get, HoldsAt, cons_option}

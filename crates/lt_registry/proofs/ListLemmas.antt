@@ -1,4 +1,4 @@
--- Lists that are read from the left: what a turn of a loop does at an index.
+-- How a list is cut at an index: what a turn of a loop needs that reads the list from the left.
 use Rattle.std.proofs.Common.{◌≡◌, ℕ, ◌+◌, ◌<◌, List, [], ◌∷◌, ◌++◌, length, take, drop, get_or, refl, ap, ◌∙◌, add-one, sym}
 use Rattle.std.proofs.Math.Seq.{drop-cons}
 use Rattle.std.proofs.lemmas.List.{take_more, take-append-drop}

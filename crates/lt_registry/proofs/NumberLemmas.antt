@@ -1,5 +1,5 @@
--- The numbers of subtags, by which they are ordered and found: they are in the letter order of the subtags, and only
--- equal subtags have equal numbers.
+-- The numbers of subtags, by which indexes and Prefixes are searched: they are in the letter order of the subtags, and
+-- only equal subtags have equal numbers. `IsFew` is said of at most 8 bytes that a subtag may have.
 use Rattle.std.proofs.Common.{Ordering, ◌≡◌, ◌≢◌, ℕ, ◌+◌, ◌*◌, ◌^◌, ◌<◌, ◌≤◌, Bool, true, false, ◌||◌, eqb, ltb, leb}
 use Rattle.std.proofs.Common.{List, [], ◌∷◌, length, map, get_or, true≢false, refl, sym, ap, ◌∙◌, arith, inl, inr, ◌&&◌}
 use Rattle.std.proofs.Common.{Result, Ok, Err}

@@ -1,4 +1,5 @@
--- Letter order, as the definitions have it, is the order of lists of bytes, as the code computes it.
+-- What `is_up_to` needs: letter order, as the definitions have it, is the order of lists of bytes, by which the code
+-- compares.
 use Rattle.std.proofs.Common.{◌≡◌, ℕ, Bool, true, false, List, [], ◌∷◌, refl, arith}
 use Rattle.std.specs.Ordering.{nat_cmp}
 use Rattle.std.specs.Cmp.Lexicographic.{slice_cmp}

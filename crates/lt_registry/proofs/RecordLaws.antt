@@ -1,4 +1,5 @@
--- A record gives one entry or has one first fault, and not both.
+-- A record gives at most one entry, and none if it has a fault. And each refusal of `read_entry` is the first fault of
+-- the record, or memory ran out.
 use Rattle.std.proofs.Common.{◌≡◌, ℕ, ◌≤◌, true, false, eqb, List, [], Option, Some, None, refl, sym, ap, ◌∙◌, arith}
 use Rattle.std.proofs.Common.{zero, suc, ◌⊎◌, inl, inr, subst, ◌≢◌, if◌then◌else◌, Result, Ok, Err}
 use Rattle.std.specs.Prelude.{Ok, Err, Result, IfOk, IfErr}

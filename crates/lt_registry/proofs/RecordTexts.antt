@@ -1,5 +1,6 @@
--- What is read of the texts of a record: subtags, Prefixes and names. A loop that reads a text from the left gives what
--- the recursive definition gives: `front` is what was read so far.
+-- What the texts of a record's fields are read as: subtags, ranges and Prefixes. The loops of `ends_of`, `read_prefix`
+-- and `read_all_prefixes`, which read from the left, give what the recursive definitions give: `front` is what was read
+-- so far.
 use Rattle.std.proofs.Common.{◌≡◌, ℕ, Bool, ◌==◌, ◌+◌, ◌<◌, ◌≤◌, true, false, List, [], ◌∷◌, ◌++◌, length, take, drop}
 use Rattle.std.proofs.Common.{get_or, Option, Some, None, refl, sym, ap, ◌∙◌, arith, add-one, append_assoc, suc, ◌⊎◌}
 use Rattle.std.proofs.Common.{inl, inr, subst, Result, Ok, Err, append-nil}

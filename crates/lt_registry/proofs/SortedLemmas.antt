@@ -1,5 +1,5 @@
--- The sorted rows of a table, and what a search in them finds: the first entry that a search through all entries would
--- find.
+-- A search in the sorted rows of an index finds the first entry that a search through all entries would find. That is
+-- shown of rows with any keys, for the indexes of subtags and of whole tags.
 use Rattle.std.proofs.Common.{◌≡◌, ℕ, zero, suc, ◌+◌, ◌<◌, ◌≤◌, Bool, true, false, eqb, List, [], ◌∷◌, length, get_or}
 use Rattle.std.proofs.Common.{refl, sym, ap, ◌∙◌, arith, inl, inr, ◌&&◌, Option, Some, None, ◌⊎◌, subst}
 use Rattle.std.specs.Prelude.{bytes_eq}

@@ -1,5 +1,6 @@
--- Where rows of one beginning start, and what a search among them finds: the same as a search in all rows. A span is
--- the part of the rows that have one beginning.
+-- What `KindIndex::place` needs: a search among the rows of one beginning, as `starts` gives them, finds what a search
+-- in all rows does. A beginning is a number of the first two bytes of a subtag, and a span is the part of the rows that
+-- have one beginning.
 use Rattle.std.proofs.Common.{◌≡◌, ℕ, ◌+◌, ◌-◌, ◌<◌, ◌≤◌, Bool, true, eqb, List, [], ◌∷◌, ◌++◌, length, length-append}
 use Rattle.std.proofs.Common.{replicate, get_or, refl, sym, ap, ◌∙◌, arith, inl, inr, Option, Some, None, ◌⊎◌, subst}
 use Rattle.std.proofs.Common.{take, drop}

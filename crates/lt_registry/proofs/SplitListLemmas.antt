@@ -1,4 +1,5 @@
--- Facts on each element of a list, and on each pair, by the places where they are.
+-- What is true of each element of a list, or of each two, shown for all ways to split the list around them: so
+-- `ValidityLaws` goes from the records of a fault, which split lists, to properties of whole lists, and back.
 use Rattle.std.proofs.Common.{◌≡◌, ◌≢◌, List, [], ◌∷◌, ◌++◌, refl, sym, ap, ◌∙◌, subst}
 use Rattle.std.specs.Prelude.{map}
 use Rattle.std.specs.List.{AllByRecursion}

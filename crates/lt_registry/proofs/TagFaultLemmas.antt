@@ -1,5 +1,6 @@
--- The faults of a tag and of its extensions: the check, which goes from left to right, answers the first of those that
--- `HasFault` states.
+-- What `validate` and `proper` need: the check of a tag, which goes over the core and the extensions from left to
+-- right, answers the first of the faults that `HasFault` states. A fault *counts* unless it is DuplicateVariant and
+-- variants may repeat.
 use Rattle.std.proofs.Common.{◌≡◌, ℕ, ◌+◌, ◌<◌, ◌≤◌, Bool, true, false, inl, inr, List, [], ◌∷◌, ◌++◌, length, take}
 use Rattle.std.proofs.Common.{drop, get_or, refl, sym, subst, arith, ◌||◌, eqb, ◌⊎◌, ap, ◌∙◌, length-append}
 use Rattle.std.proofs.Common.{append_assoc}

@@ -1,4 +1,5 @@
--- A tag is valid exactly if it has no fault, and proper exactly if it has none but that variants repeat.
+-- A tag is valid exactly if it has no fault, and proper exactly if it has none but that variants repeat, which means
+-- that a variant occurs twice. And a tag has at most one first fault.
 use Rattle.std.proofs.Common.{◌≡◌, ℕ, ◌+◌, ◌≤◌, true, if◌then◌else◌, eqb, inl, inr, List, [], ◌∷◌, ◌++◌, length, Option}
 use Rattle.std.proofs.Common.{Some, None, refl, sym, ap, ◌∙◌, subst, arith}
 use Rattle.std.specs.Prelude.{◌↔◌, IfSome}

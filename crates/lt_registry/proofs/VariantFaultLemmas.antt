@@ -1,5 +1,5 @@
--- The first of several faults, and the faults of variants: which fault is the first where checks follow one another,
--- and that the check of variants answers the first of theirs.
+-- Which fault is the first of several where checks follow one another; and that the check of variants answers the first
+-- of their faults. A check *tells* the first of some faults if it answers it, or Ok if there is none (`Tells`).
 use Rattle.std.proofs.Common.{◌≡◌, ℕ, ◌≤◌, ◌<◌, Bool, true, false, ◌⊎◌, inl, inr, refl, sym, subst, ◌∙◌, arith, ◌+◌}
 use Rattle.std.proofs.Common.{◌||◌, not, List, [], ◌∷◌, ◌++◌, length, ap, append_assoc, bytes_eq, ◌≢◌, take, drop}
 use Rattle.std.proofs.Common.{get_or}

@@ -1,4 +1,4 @@
--- What this crate alone uses.
+-- Lemmas that only this crate uses.
 mod RangeCoverage
 mod UpgradeChecks
 mod UpgradeLaws

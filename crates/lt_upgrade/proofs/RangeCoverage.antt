@@ -1,4 +1,5 @@
--- Sorted ranges, and that what they cover decides the conditions on an upgrade that speak of ranges.
+-- What U1 needs for ranges: of the sorted ranges of a registry only the widest are kept, and a binary search among them
+-- tells whether some range holds a given one. A record *covers* the ranges of its kind that lie within its own.
 use Rattle.std.proofs.Common.{◌≡◌, ◌↔◌, ℕ, Bool, true, false, ◌&&◌, List, [], ◌∷◌, length, refl, sym, ap, ◌∙◌, ◌==◌}
 use Rattle.std.proofs.Common.{◌<◌, IsTrue, inl, inr, All, arith, ◌||◌, zero, suc, ◌≤◌, get_or, eqb, not, Contains}
 use Rattle.std.proofs.Common.{Ordering, Less, Equal, Greater}

@@ -1,5 +1,5 @@
--- What decides the conditions on an upgrade that speak of one record after another. The first record that does not
--- meet one is the lowest at fault.
+-- What the tests of U2 to U6 on one record compare, and that this decides the condition; and that the first record that
+-- fails one is the lowest at fault. `A` is the older registry, `B` the newer.
 use Rattle.std.proofs.Common.{◌≡◌, ◌↔◌, ℕ, Bool, true, false, ◌&&◌, cond, List, [], ◌∷◌, length, Option, Some, None}
 use Rattle.std.proofs.Common.{refl, sym, ap, ◌∙◌, subst, ◌<◌, IsTrue, is_some, bytes_eq, inl, inr, ◌+◌, ◌-◌, All, arith}
 use Rattle.std.proofs.Common.{Contains, slice_index_or}

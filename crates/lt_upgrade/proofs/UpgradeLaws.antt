@@ -1,4 +1,7 @@
--- What follows for tags from an upgrade.
+-- After an upgrade from a registry `A` to a newer one `B`, valid tags stay valid and equivalent tags equivalent, and an
+-- older canonical form comes to what its tag comes to (`upgrade_keeps`). For this, each step by the older registry is
+-- shown to keep the *end form* by the newer, which is where steps lead when no more can be made. A VariantLanguage step
+-- drops a variant and puts its value, a language, in place of the tag's language.
 use Rattle.std.proofs.Common.{◌≡◌, ℕ, Bool, true, false, ◌&&◌, cond, List, [], ◌∷◌, length, Option, Some, None, refl}
 use Rattle.std.proofs.Common.{sym, ap, ◌∙◌, subst, ◌==◌, is_some, inl, inr, ◌+◌, All, arith, ◌⊎◌, find, ◌++◌, map, zero}
 use Rattle.std.proofs.Common.{suc, take, drop, Contains, option_map}
