@@ -25,7 +25,7 @@ pub record ValuedWhole (R : List EntryParts) (t u : TagForm) : Type 0 where
   pub named : at.name ≡ names.Whole t
   pub gives : tag_of at.value ≡ Some u
 
--- a name that the test takes for the tag `t` is `t`
+-- if the test `is_whole` takes a name for the tag `t`, it is the name of `t`
 pub whole_name : (t : TagForm) (n : EntryName) → is_whole t n ≡ true → n ≡ names.Whole t
 whole_name t (names.Single s) h = cc
 whole_name t (names.Range a b) h = cc

@@ -77,7 +77,8 @@ pub all_met : (xs R : List EntryParts) (condition : Condition) (i : ℕ) → xs 
     → AllBefore R condition i → All (Meets condition R) R
 all_met xs R condition i same n before k d m = let l : length xs ≡ length R = ap length same in before k d (omega (arith, n, m, l))
 
--- where each before index `i` meets the condition and the record `e` there does not, `e` is the lowest at fault
+-- where each record before the index `i` meets the condition and the record `e` there does not, `e` is the lowest at
+-- fault
 pub found_fault : (R : List EntryParts) → NumbersRise R → (condition : Condition) (i : ℕ) (e : EntryParts) (number : ℕ)
     → IsAt R i e → number ≡ e.number → AllBefore R condition i → (Meets condition R e → ⊥)
     → IsLowestFault R condition (Some (record { condition = condition; number = number }))

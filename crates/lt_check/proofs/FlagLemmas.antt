@@ -44,12 +44,12 @@ letter_folded b = grind (arith, nat_tests)
 digit_folded : (b : ℕ) → digit (to_ascii_lowercase b) ≡ digit b
 digit_folded b = grind (arith, nat_tests)
 
--- the number of a letter, if `true`, or of a digit, by which it is known
+-- the number of a byte: its number as a letter if the Boolean is true, else as a digit
 number : Bool → ℕ → ℕ
 number true = letter
 number false = digit
 
--- whether a byte is a letter in lower case, if `true`, or a digit
+-- whether a byte is a letter in lower case, if the Boolean is true, else whether it is a digit
 is_numbered : Bool → ℕ → Bool
 is_numbered true = is_ascii_lowercase
 is_numbered false = is_ascii_digit
@@ -125,7 +125,7 @@ is_place kinds.Region (a ∷ b ∷ c ∷ []) =
     known false (grind (arith, nat_tests)) (region_shaped _) (grind (arith, digit_folded))
 is_place _ _ = tt
 
--- what is known of a subtag whose place is `n`
+-- what `IsPlace` says is true of a subtag whose place is `n`
 placed : (k : Kind) (s : List ℕ) (n : ℕ) → place k s ≡ Some n → IsPlace k s n
 placed k s n h = subst (λ o. IfSome o (IsPlace k s)) h (is_place k s)
 
@@ -204,7 +204,7 @@ first_unnamed e es h k s = grind arith
 
 -- ---- a record is put after those that replace tags
 
--- whether two kinds are one does not depend on their order, where one is the language
+-- the test whether two kinds are the same, of which one is Language, gives the same answer in either order
 pub language_first : (k : Kind) → same_kind kinds.Language k ≡ same_kind k kinds.Language
 language_first kinds.Language = refl
 language_first _ = refl

@@ -54,7 +54,8 @@ all_below R i m l h =
       no_range_value = each conditions.NoRangeValue;
     }
 
--- where the conditions with ranks below that of `k` are met, and `k` is, those with ranks below the next are met
+-- where the conditions with ranks below that of `k` are met, and `k` is too, those with ranks below `n`, the next rank,
+-- are met
 pub below_more : (R : List EntryParts) (k : Condition) (n : ℕ) → n ≡ rank_of k + 1 → MeetsBelow (rank_of k) R
     → All (Meets k R) R → MeetsBelow n R
 below_more R _ n e M a _ l = search (rules, arith)

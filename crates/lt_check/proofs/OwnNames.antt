@@ -102,7 +102,7 @@ whole_own R rising e c t n =
 
 -- ---- names that are ranges
 
--- the kind of a number
+-- the kind that has this number
 abbrev kind_of : ℕ → Kind
 kind_of n = slice_index_or
     (kinds.Language ∷ kinds.Extlang ∷ kinds.Script ∷ kinds.Region ∷ kinds.Variant ∷ kinds.Grandfathered ∷ []) n
@@ -113,7 +113,7 @@ kind_back : (k : Kind) → kind_of (kind_number k) ≡ k
 kind_back kinds.Language = refl
 kind_back _ = refl
 
--- kinds with one number are one
+-- two kinds with one number are the same
 pub kinds_same : (k l : Kind) → kind_number k ≡ kind_number l → k ≡ l
 kinds_same k l h = sym (kind_back k) ∙ ap kind_of h ∙ kind_back l
 
@@ -146,7 +146,7 @@ module _ (R : List EntryParts) (seen : List RangeName) (e : EntryParts) where
       → IfOk a (λ new. IsTrue new ↔ (Contains seen r → ⊥)) → IfOk a (λ new. IsTrue new ↔ IsNew R seen e)
   range_new r n a h = rw n h
 
-  -- after the record's range `r` was added to those seen, they are `new`
+  -- after the record's range `r` was added to those seen, `new` are these and `r` (`SeesRange`)
   pub range_sees : {E : Type 0} (r : RangeName) → range_of e ≡ Some r → (new : List RangeName) (a : Result Bool E)
       → OnOk a ((name : RangeName) → Contains new name ↔ (Contains seen name ⊎ (r ≡ name)))
       → IfOk a (λ _. SeesRange e seen new)

@@ -38,7 +38,7 @@ pub record SpellsGrandfathered (c : CoreParts) : Type 0 where
   pub number : ℕ
   pub spelled : IsGrandfathered (spell_core c) number
 
--- a core that its own text is read as is well-formed
+-- a core that its own text is read as is well-formed, and spells the grandfathered tag that the text is
 spells : (c : CoreParts) → core_of_list (spell_core c) ≡ Some c → (number : ℕ) → IsGrandfathered (spell_core c) number
     → SpellsGrandfathered c
 spells c e n g = record { shaped = ((core_decided (spell_core c) c).0 e).0; number = n; spelled = g }
@@ -93,7 +93,7 @@ spelling_known c number S g =
     let all = list_all-at known_text grandfathered_texts (number - 1) all_known (omega (arith, g.first, g.last, table_length)) in
     ap (λ o. option_map_or known o true) (sym ((core_decided (pieces text) c).1 (S, g.same))) ∙ all
 
--- an entry `e` that makes no regular core valid makes no core valid that spells a grandfathered tag
+-- if the entry `e` makes no regular core valid, it makes no core valid that spells a grandfathered tag
 pub validates_none : (R : List EntryParts) (e : EntryParts)
     → AllByRecursion (λ (c : CoreParts). Validates R c e → ⊥) regular_cores → (c : CoreParts) (number : ℕ) → IsCore c
     → IsGrandfathered (spell_core c) number → IsProperCore R c → Distinct c.variants
@@ -108,8 +108,8 @@ validates_none R e all c number S g P distinct two =
           (record { proper = P; distinct = distinct; second = two }))
     ]
 
--- an entry `e` that makes no core valid that spells a grandfathered tag makes none of the cores `cs` valid, which spell
--- one
+-- if the entry `e` makes no core valid that spells a grandfathered tag, it makes none of the cores `cs` valid, each of
+-- which spells one
 pub none_validated : (R : List EntryParts) (e : EntryParts)
     → ((c : CoreParts) (number : ℕ) → IsCore c → IsGrandfathered (spell_core c) number → IsProperCore R c
     → Distinct c.variants → second_entry R c.extlangs c.variants ≡ Some e → ⊥) → (cs : List CoreParts)

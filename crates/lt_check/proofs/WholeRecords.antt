@@ -39,7 +39,7 @@ use Rattle.lt_registry.specs.declared.faults.ValidRefusal.{ValidRefusal}
 use Rattle.lt_registry.specs.declared.faults.ValidRefusal.TheVariants as refusals
 use Rattle.lt_registry.proofs.ValidityLaws.{valid_law}
 
--- where the conditions before the tenth are met, the first six are, on which core steps rest
+-- where C1 to C9 are met, C1 to C6 are, on which core steps rest
 pub core_below : (R : List EntryParts) → MeetsBelow 10 R → MeetsCoreConditions R
 core_below R M = record {
   names = M conditions.OwnName (omega arith);
@@ -50,7 +50,7 @@ core_below R M = record {
   variant_languages = M conditions.FinalPrefixes (omega arith);
 }
 
--- where the conditions before the tenth are met, a core has one core normal form
+-- where C1 to C9 are met, a core has at most one core normal form
 pub one_form : (R : List EntryParts) → MeetsBelow 10 R → (c a b : CoreParts) → IsCoreNormalForm R c a → IsCoreNormalForm R c b → a ≡ b
 one_form R M c a b x y = let o = one_normal_form R (core_below R M) c in o.1.alone a x ∙ sym (o.1.alone b y)
 
@@ -130,7 +130,7 @@ pub invalid_whole : (R : List EntryParts) (e : EntryParts) (t u : TagForm) → e
 invalid_whole R e t u n v b d f = ((λ h. absurd (let k : true ≡ false = sym h ∙ f in cc)), (λ w. d.1 (w t u n v).0))
 
 -- `o` is the value that is found for a core that repeats no variant, and `b` whether there is none: it tells whether
--- the core rests
+-- the core rests (`RestsAlone`)
 pub rest_verdict : (R : List EntryParts) → MeetsBelow 10 R → IsRegistry R → (c : CoreParts) → Distinct c.variants
     → (o : Option (Bor TagForm)) → option_copied o ≡ whole_value R (core_alone c) → (b : Bool) → is_some o ≡ not b
     → Decides b (RestsAlone R c)

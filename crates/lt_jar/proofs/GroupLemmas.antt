@@ -93,7 +93,7 @@ pub record Leaves (lines : List Line) (going : Going) : Type 0 where
   pub lines_are : lines ≡ lines_of_groups ended last
   pub going_is : going ≡ going_of ended last
 
--- the records of two lists of groups, one list after the other
+-- two lists of groups, one after the other, give the records of the first and then those of the second
 pub records_of-append : (groups more : List (List Written)) → records_of (groups ++ more) ≡ records_of groups ++ records_of more
 records_of-append groups more = simp (filter-append, map-append)
 
@@ -127,7 +127,7 @@ lines-separated : (ended : List (List Written)) (last : List Written) → lines_
 lines-separated ended last = simp (append_assoc, append-nil, flat_map-append)
 
 -- a line of any kind, after the lines of groups, leaves what `take_kind` answers; n, how many records ended before it,
--- matters for its fault alone
+-- matters only for its fault
 after_kind : (n : ℕ) (ended : List (List Written)) (last : List Written) (kind : Line)
     → Makes (lines_of_groups ended last ++ filter is_nonblank (kind ∷ [])) (going_of ended last) (take_kind n
     (map field_of last) kind)
@@ -162,8 +162,8 @@ after_kind n ended [] (Start name body) = cond_both (nat_lt n most_records) _ _
 after_kind n ended (field ∷ last) (Start name body) = starts ended (field ∷ last) name body
 after_kind n ended last Bad = tt
 
--- one line more, after lines that leave a reading: they leave what `take_kind` answers; n, how many records ended
--- before the line, matters for its fault alone
+-- one line more, after lines that leave a reading: all of them leave what `take_kind` answers; n, how many records
+-- ended before the line, matters only for its fault
 pub leaves_more : (lines : List Line) (going : Going) (kind : Line) (n : ℕ) → Leaves lines going
     → Makes (lines ++ filter is_nonblank (kind ∷ [])) going (take_kind n going.fields kind)
 leaves_more lines going kind n before = rw (before.lines_are, before.going_is) (after_kind n before.ended before.last kind)

@@ -141,7 +141,7 @@ reached_on {lines} {rest = rest} front bytes is count = record {
       omega (arith, there.1, count, is.clean other there.0 there.2);
 }
 
--- the records of ended groups in two lists of lines, one list after the other
+-- two lists of lines whose records are ended have, one after the other, the records of both
 ended-append : (xs ys : List (List ℕ)) (first second : List (List Field)) → AreEnded xs first → AreEnded ys second
     → AreEnded (xs ++ ys) (first ++ second)
 ended-append xs ys first second ended more = record {
@@ -150,7 +150,7 @@ ended-append xs ys first second ended more = record {
   records_are = cc (records_of-append ended.groups more.groups);
 }
 
--- separators alone are the lines of groups without a field
+-- lines that are all separators are the lines of groups without a field
 empty_groups : (skipped : List Line) → AllByRecursion (λ line. line ≡ Separator) skipped
     → (groups : List (List Written)) × (skipped ≡ flat_map lines_of_ended groups) × (records_of groups ≡ [])
 empty_groups [] each = ([], refl, refl)

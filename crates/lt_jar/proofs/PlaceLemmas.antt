@@ -66,7 +66,8 @@ module _ (byte : ℕ) (text : List ℕ) where
     | inr not ↦ not_here i (i + suc n) not (λ j low high. none_from (i + 1) n (rw not at e) j low (omega (arith, high)))
   ]
 
-  -- the first item of the list of all places of the byte is its first place; where the list is empty, it has none
+  -- the first item of the list of all places of the byte is its first place; where the list is empty, the text does not
+  -- have the byte
   pub first_byte : (r : Option ℕ) (rest : List ℕ) → TakesFirst (places (is_byte byte) text) r rest → IsFirstByte (is_byte byte) text r
   first_byte None rest h = subst (Nowhere has 0) (omega arith) (none_from 0 (length text - 0) h.0)
   first_byte (Some k) rest h = subst (λ n. NoneBefore has 0 n k × has k) (omega arith) (first_from 0 (length text - 0) k rest h)

@@ -22,7 +22,7 @@ use Rattle.lt_jar.specs.Lending.{IsSound}
 use Rattle.lt_jar.proofs.GroupLemmas.{Leaves, Makes, begun-append, begun-groups, finished-going_of, fits, fits-behind}
 use Rattle.lt_jar.proofs.GroupLemmas.{leaves_more, one_list, past_ended, past_last, records_of}
 
--- the lines that are not blank, of two lists of lines, one after the other
+-- two lists of lines, one after the other, have the nonblank lines of the first and then those of the second
 pub nonblank-append : (xs ys : List (List ℕ)) → nonblank (xs ++ ys) ≡ nonblank xs ++ nonblank ys
 nonblank-append xs ys = ap (filter is_nonblank) (map-append line_of xs ys) ∙ filter-append is_nonblank (map line_of xs) (map line_of ys)
 
@@ -171,7 +171,7 @@ wrong_there earlier text before line after other at all wrong here =
     let first : wrong.line ≡ line = cc in
     subst (λ l. IsWrong earlier other before l) first (subst (λ b. IsWrong earlier other b wrong.line) same wrong.wrong)
 
--- proof by the two cases of a result
+-- a proof of X from a result of which P or Q is true: it is proved both if the result is Ok and if it is Err
 pub by_result : {A E X : Type 0} {P : A → Type 0} {Q : E → Type 0} (r : Result A E) → MatchResult r P Q
     → ((x : A) → r ≡ Ok x → P x → X) → ((e : E) → r ≡ Err e → Q e → X) → X
 by_result (Ok x) found ok err = ok x refl found

@@ -103,13 +103,13 @@ turn_taken new turn none takes same = record {
   status = same.1 ∙ turn.status;
 }
 
--- a count after m reads and then n reads more
+-- a count after m reads, and then n reads more, is the count after m + n reads
 after_more : (count m n : ℕ) → after_reads (after_reads count m) n ≡ after_reads count (m + n)
 after_more count m zero = ap (after_reads count) (sym (add-zero m))
 after_more count m (suc n) = let next : suc (m + n) ≡ m + suc n = omega arith in ap one_more (after_more count m n)
     ∙ ap (after_reads count) next
 
--- reads that gave the bytes `read`, and then others, which gave `more`
+-- reads that gave the bytes `read`, and then others, which gave `more`, are together reads that gave both
 pub more_read : {R : Type 0} (remaining : R → Option (List ℕ)) (old now new : JarSource)
     (before between after : Device R) (read more : List ℕ) (reads others : ℕ)
     → IsRead remaining old now before between read reads → IsRead remaining now new between after more others

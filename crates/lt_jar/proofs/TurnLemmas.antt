@@ -82,26 +82,28 @@ pub steps-err : (earlier : ℕ) (fault : Fault) (lines : List (List ℕ)) → st
 steps-err earlier fault [] = refl
 steps-err earlier fault (line ∷ lines) = steps-err earlier fault lines
 
--- a further line, where no record has ended since the `earlier` ones
+-- where no record has ended since the `earlier` ones, the reading after one more line is what this line makes of the
+-- fields (`said`)
 pub step_first : (earlier : ℕ) (fields : List Field) (line : List ℕ) (said : Result Taken Fault) → take_line earlier fields line ≡ said
     → on_going earlier (going_on fields) line ≡ on_taken (record { records = []; fields = fields }) said
 step_first earlier fields line said is = rw (add-zero earlier, is) refl
 
--- the text of two lists of lines, one list after the other
+-- the text of two lists of lines, one after the other, is the text of the first and then that of the second
 pub whole-append : (xs ys : List (List ℕ)) → whole_lines (xs ++ ys) ≡ whole_lines xs ++ whole_lines ys
 whole-append xs ys = flat_map-append (λ (line : List ℕ). line ++ 10 ∷ []) xs ys
 
--- whole lines and the bytes kept after them, of which more lines are whole: all of those lines, and the rest
+-- if the bytes kept after whole lines are more whole lines and a rest, then all the bytes are the lines of both and
+-- this rest
 pub whole_joined : (all kept rest : List ℕ) (lines more : List (List ℕ)) → all ≡ whole_lines lines ++ kept
     → kept ≡ whole_lines more ++ rest → all ≡ whole_lines (lines ++ more) ++ rest
 whole_joined all kept rest lines more is next = rw (is, next) (simp (whole-append, append_assoc))
 
--- no line has a line feed, of two lists of lines
+-- if no line of two lists has a line feed, none of both together has one
 pub each-append : (xs ys : List (List ℕ)) → AllByRecursion IsOneLine xs → AllByRecursion IsOneLine ys → AllByRecursion IsOneLine (xs ++ ys)
 each-append [] ys each more = more
 each-append (x ∷ xs) ys each more = (each.0, each-append xs ys each.1 more)
 
--- the lines of a text of whole lines and a rest: those lines, and those of the rest
+-- a text of whole lines and a rest has these lines, and then those of the rest
 pub lines_of-whole : (lines : List (List ℕ)) (rest : List ℕ) → AllByRecursion IsOneLine lines
     → lines_of (whole_lines lines ++ rest) ≡ lines ++ lines_of rest
 lines_of-whole [] rest each = refl
@@ -109,7 +111,7 @@ lines_of-whole (line ∷ lines) rest each =
     ap lines_of (append_assoc (line ++ 10 ∷ []) (whole_lines lines) rest ∙ append_assoc line (10 ∷ []) (whole_lines lines ++ rest))
     ∙ lines_of-ended line (whole_lines lines ++ rest) each.0 ∙ ap (λ l. line ∷ l) (lines_of-whole lines rest each.1)
 
--- the lines of a text of whole lines alone
+-- a text of only whole lines has just these lines
 pub lines_of-whole_lines : (lines : List (List ℕ)) → AllByRecursion IsOneLine lines → lines_of (whole_lines lines) ≡ lines
 lines_of-whole_lines lines each = ap lines_of (sym (append-nil (whole_lines lines))) ∙ lines_of-whole lines [] each ∙ append-nil lines
 
@@ -118,12 +120,12 @@ pub lines_of-last_line : (line : List ℕ) → IsOneLine line → lines_of line 
 lines_of-last_line [] one = refl
 lines_of-last_line (byte ∷ line) one = lines_of-last (byte ∷ line) one (omega arith)
 
--- bytes kept at the end of a text are its last line
+-- bytes kept at the end of a text, if there are any, are its last line
 pub last_some : (line : List ℕ) → line ≢ [] → last_line line ≡ line ∷ []
 last_some [] some = absurd (some refl)
 last_some (byte ∷ line) some = refl
 
--- reading lines that end no record, and then more lines: the answer to these is the answer to both
+-- after lines that end no record, the answer to more lines is the answer to all of them
 pub ran_on : (earlier : ℕ) (from : Result Going Fault) (lines more : List (List ℕ)) (fields : List Field) (said : Result
     Going Fault) → steps earlier from lines ≡ going_on fields
     → steps earlier (going_on fields) more ≡ said → steps earlier from (lines ++ more) ≡ said

@@ -35,15 +35,15 @@ folded_records = record {
 empty_records : HasRecords [] []
 empty_records = record { ended = []; last = []; lines = refl; all = refl }
 
--- `%%`, an empty line, `%%`
+-- `%%`, an empty line and `%%` are no record
 no_records : HasRecords (codes "%%" ++ 10 ∷ 10 ∷ (codes "%%" ++ 10 ∷ [])) []
 no_records = record { ended = [] ∷ [] ∷ []; last = []; lines = refl; all = refl }
 
--- `A : b:c`, then `%%` with a tab after it
+-- `A : b:c`, and `%%` with a tab after it, are one record, with the field `A` of the body `b:c`
 with_gap : HasRecords (codes "A : b:c" ++ 10 ∷ (codes "%%" ++ 9 ∷ [])) (((codes "A", codes "b:c") ∷ []) ∷ [])
 with_gap = record { ended = (record { name = codes "A"; first = codes "b:c"; more = [] } ∷ []) ∷ []; last = []; lines = refl; all = refl }
 
--- a line of one space, `A: b`, a line of one space, ` c`
+-- a line of one space, `A: b`, a line of one space and ` c` are one record, with the field `A` of the body `b c`
 with_blanks : HasRecords (codes " " ++ 10 ∷ (codes "A: b" ++ 10 ∷ (codes " " ++ 10 ∷ codes " c"))) (((codes "A", codes "b c") ∷ []) ∷ [])
 with_blanks = record {
   ended = [];
@@ -68,7 +68,7 @@ bad_name = refl
 separator_returned : line_of (codes "%% " ++ 13 ∷ []) ≡ Separator
 separator_returned = refl
 
--- one carriage return is dropped
+-- one carriage return at the end of a line is dropped
 returned : line_of (codes "Type: a" ++ 13 ∷ []) ≡ Start (codes "Type") (codes "a")
 returned = refl
 

@@ -43,7 +43,8 @@ FirstPart start l o =
     (Single faults.ExtlangPrefix (start + 2) (has_prefix (option_map_or (λ (e : EntryParts). e.prefixes) o []) l
     ≡ false))
 
--- that it has no entry is reported before that the language is none of its Prefixes
+-- the fault that the first extlang has no entry is reported before the fault that the language `l` is none of its
+-- Prefixes; `o` is its entry
 first_precede : (start : ℕ) (l : List ℕ) (o : Option EntryParts)
     → Precede (Single faults.UnknownExtlang (start + 2) (is_some o ≡ false)) (Single faults.ExtlangPrefix (start + 2)
     (has_prefix (option_map_or (λ (e : EntryParts). e.prefixes) o []) l ≡ false))
@@ -73,7 +74,7 @@ HasMore rest = (y : List ℕ) × (ys : List (List ℕ)) × (rest ≡ y ∷ ys)
 abbrev pub SecondPart : ℕ → List (List ℕ) → ValidFaultKind → ℕ → Type 0
 SecondPart start rest = Single faults.TooManyExtlangs (start + 3) (HasMore rest)
 
--- the check that there is no second extlang tells that fault
+-- the check that there is no second extlang tells the fault that there is one
 second_tells : (start : ℕ) (rest : List (List ℕ)) → Tells (SecondPart start rest) (second_check start rest)
 second_tells start [] = λ k p f. let bad : [] ≡ f.cause.0 ∷ f.cause.1 = f.cause.2 in cc
 second_tells start (y ∷ ys) = single_first faults.TooManyExtlangs (start + 3) (HasMore (y ∷ ys)) (y, ys, refl)
@@ -83,7 +84,7 @@ abbrev pub ExtlangsPart : List EntryParts → ℕ → List ℕ → List (List �
 ExtlangsPart R start l [] k p = ⊥
 ExtlangsPart R start l (x ∷ rest) k p = FirstPart start l (entry R kinds.Extlang x) k p ⊎ SecondPart start rest k p
 
--- the check of the extlangs tells the first of their faults, which are at the places of extlangs
+-- the check of the extlangs tells the first of their faults, each of which is at the place of an extlang
 extlangs_part : (R : List EntryParts) (start : ℕ) (l : List ℕ) (xs : List (List ℕ))
     → Part (start + 1) (start + 1 + length xs) (ExtlangsPart R start l xs) (extlangs_check R start l xs)
 extlangs_part R start l [] = part_none (start + 1) (start + 1 + 0) (ExtlangsPart R start l []) (λ k p f. f)
@@ -126,7 +127,7 @@ registered_part R kind fault m o = record {
   tells = part_tells R kind fault (m + 1) o;
 }
 
--- all the faults of the core `c`, which begins after `start` subtags, part by part; `r`: variants may repeat
+-- all the faults of the core `c`, which begins after `start` subtags, part by part; `r` is whether variants may repeat
 module _ (R : List EntryParts) (r : Bool) (start : ℕ) (c : CoreParts) where
   -- the fault that the script may have
   abbrev pub ScriptPart : ValidFaultKind → ℕ → Type 0
@@ -251,11 +252,11 @@ module _ (R : List EntryParts) (r : Bool) (start : ℕ) (c : CoreParts) where
   pub core_tells : Tells CoreFault (core_check R r start c)
   core_tells = tells_same CorePart CoreFault (core_check R r start c) (record { there = part_shown; back = part_hidden }) parts.tells
 
-  -- the faults of the core are at places after `start`
+  -- each fault of the core is at a place after `start`
   pub core_past : Past start CoreFault
   core_past k p f = parts.past k p (part_hidden k p f)
 
-  -- the faults of the core are not past its last subtag
+  -- no fault of the core is past its last subtag
   pub core_upto : Upto (start + before_variants c + length c.variants) CoreFault
   core_upto k p f = parts.upto k p (part_hidden k p f)
 
@@ -269,7 +270,7 @@ length_core c =
     let d = length-append (option_to_list c.region) c.variants in
     omega (arith, a, b, d)
 
--- the extension `e`, whose singleton is at the place `here`; `r`: variants may repeat
+-- the extension `e`, whose singleton is at the place `here`; `r` is whether variants may repeat
 module _ (R : List EntryParts) (r : Bool) (here : ℕ) (e : ExtensionParts) where
   -- the faults of the extension that count; DuplicateVariant does only if variants may not repeat
   abbrev pub ExtensionFault : ValidFaultKind → ℕ → Type 0
@@ -305,7 +306,8 @@ module _ (R : List EntryParts) (r : Bool) (here : ℕ) (e : ExtensionParts) wher
       tells_same (CoreFault R r here source) ExtensionFault (core_check R r here source)
       (same_source parts source t formed there) (core_tells R r here source)
 
--- a fault at the singleton is that of the form; the places of the others are those of the extension's subtags
+-- a fault of an extension whose singleton is at `here` is BadTransform at this place, or is at the place of one of its
+-- subtags
 pub fault_at : (R : List EntryParts) (here : ℕ) (e : ExtensionParts) (k : ValidFaultKind) (p : ℕ)
     → HasExtensionFault R here e k p → ((k ≡ faults.BadTransform) × (p ≡ here))
     ⊎ ((here < p) × (p ≤ here + length e.subtags))

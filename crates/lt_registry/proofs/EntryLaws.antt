@@ -184,9 +184,9 @@ made_stops records i r es fault l is refused made = by refused.refused
           (subst (λ z. HasRecordFault z k) (same_record records i r k fault.number h refused.numbered is) h.fault);
     })
 
--- records give one list of entries or have one first fault, and not both
+-- records give at most one list of entries, and none if one of them has a fault
 
--- records numbered from `n` give one list of entries
+-- records numbered from `n` give at most one list of entries
 entries_same : (n : ℕ) (rs : List (List Field)) (es fs : List EntryParts) → EntriesFrom n rs es → EntriesFrom n rs fs → es ≡ fs
 unfolding EntriesFrom
 entries_same n [] es fs h g = h ∙ sym g
@@ -200,7 +200,7 @@ entries_same n (r ∷ rs) es fs (inr h) (inr g) =
     let rest = entries_same (n + 1) rs x.1 y.1 x.4 y.4 in
     x.2 ∙ ap (λ z. z ∷ x.1) first ∙ ap (λ zs. y.0 ∷ zs) rest ∙ sym y.2
 
--- the records of a file give one list of entries
+-- the records of a file give at most one list of entries
 pub one_list : (records : List (List Field)) (es fs : List EntryParts) → HasEntries records es → HasEntries records fs → es ≡ fs
 one_list records es fs h g = entries_same 1 records es fs h g
 
@@ -238,7 +238,7 @@ one_record_fault records k l m n a b =
 
 -- The draft of a registry, one record after another.
 
--- a record `here` before the last one, `r`, is among the records `rs` without that
+-- if `here` is one of `rs` and `r`, but not the last, it is one of `rs`, after the same records `before`
 record_back : (before : List (List Field)) (here : List Field) (after rs : List (List Field)) (r : List Field)
     → rs ++ r ∷ [] ≡ before ++ here ∷ after → length before < length rs → (rest : List (List Field))
     × (rs ≡ before ++ here ∷ rest)
@@ -250,7 +250,7 @@ record_back (b ∷ before) here after (x ∷ rs) r e l =
     let found = record_back before here after rs r tail (omega (arith, l)) in
     (found.0, ap (λ z. z ∷ rs) same ∙ ap (λ zs. b ∷ zs) found.1)
 
--- a fault of a record before the last one, `r`, is one of the records `rs` without that
+-- a fault of `rs` and `r` that is not at `r` is one of `rs`
 fault_back : (rs : List (List Field)) (r : List Field) (k : RecordFaultKind) (m : ℕ) → HasFaultAt (rs ++ r ∷ []) k m
     → m ≤ length rs → HasFaultAt rs k m
 fault_back rs r k m h l =
@@ -267,7 +267,7 @@ clean_on rs r n l clean k m h = by_order (cases_lt m n)
     by_order (inl low) = clean k m (fault_back rs r k m h (omega (arith, low, l)))
     by_order (inr high) = high
 
--- what records are refused for stays so with a record more after them
+-- a refusal of the records `rs` is one of `rs` and one more record `r` too
 refusal_on : (rs : List (List Field)) (r : List Field) (fault : RecordFault) → IsRecordRefusal rs fault
     → IsRecordRefusal (rs ++ r ∷ []) fault
 refusal_on rs r fault (inl memory) =
@@ -308,7 +308,7 @@ refusal_on rs r fault (inr first) =
       earliest = λ k h. first.earliest k (fault_back rs r k fault.number h low);
     })
 
--- what is made of all records `rs` is made of as many of `rs` and `r`
+-- the entries that are made of all records `rs` are made of as many records of `rs` and `r`
 made_on : (rs : List (List Field)) (r : List Field) (es : List EntryParts) → Made rs (length rs) es → Made (rs ++ r ∷ []) (length rs) es
 made_on rs r es made = record {
   entries = subst (λ zs. EntriesFrom 1 zs es) (take_all (length rs) rs (omega arith) ∙ sym (take-append_seam rs (r ∷ []))) made.entries;
@@ -319,18 +319,18 @@ made_on rs r es made = record {
       omega (arith, past)) k m h in omega (arith, above);
 }
 
--- a draft has the entries of the records so far; or, if it has a fault, the records are refused for that
+-- a draft has the entries of the records so far; or, if it has a fault, this is a refusal of the records
 abbrev pub HasDrafted : List (List Field) → List EntryParts → Option RecordFault → Type 0
 HasDrafted records es None = Made records (length records) es
 HasDrafted records es (Some fault) = IsRecordRefusal records fault
 
--- the draft has counted these records, and has their entries or what they are refused for
+-- the draft has counted these records, and has their entries or a refusal of them
 pub record IsDraftOf (d : Draft) (records : List (List Field)) : Type 0 where
   pub numbered : d.number ≡ length records
   pub drafted : HasDrafted records d.entries.items d.fault
 
--- a draft that takes the record `r` has then what belongs to all records; `old` and `had` are its entries and its fault
--- before, `new` and `has` after
+-- a draft of the records `rs` that takes the record `r` is then one of `rs` and `r`; `old` and `had` are its entries
+-- and its fault before, `new` and `has` after
 drafted_more : (rs : List (List Field)) (r : List Field) (number : ℕ) (old new : List EntryParts) (had has : Option
     RecordFault) → number ≡ length rs + 1 → TakesFrom r number old new had has → HasDrafted rs old had
     → HasDrafted (rs ++ r ∷ []) new has

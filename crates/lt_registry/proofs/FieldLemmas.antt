@@ -93,7 +93,7 @@ by_none false false false false false h = (refl, refl, refl, refl, refl)
 
 -- One field more.
 
--- mapping the first of two options that has a value is mapping both
+-- to map the first of two options that has a value is to map both, and then take the first that has one
 map_or : {A B : Type 0} (g : A → B) (o p : Option A) → option_map g (option_or o p) ≡ option_or (option_map g o) (option_map g p)
 map_or g None p = refl
 map_or g (Some a) p = refl
@@ -103,7 +103,7 @@ or_none : {A : Type 0} (o : Option A) → option_or o None ≡ o
 or_none None = refl
 or_none (Some a) = refl
 
--- the first of two options that has a value has one, if the second does
+-- the first of two options that has a value is there, if the second has one
 or_some : {A : Type 0} (o : Option A) (a : A) → is_some (option_or o (Some a)) ≡ true
 or_some None a = refl
 or_some (Some b) a = refl
@@ -132,7 +132,7 @@ module _ {A : Type 0} (p : A → Bool) where
       by true rest = refl
       by false rest = rest ∙ ap (λ n. option_or (position_from p (i + 1) xs) (cond (p y) (Some n) None)) same
 
-  -- an element more that fails doesn't change the place of the first that passes
+  -- one more element that fails doesn't change the place of the first that passes
   pub place_same : (xs : List A) (y : A) → p y ≡ false → position_from p 0 xs ≡ position_from p 0 (xs ++ y ∷ [])
   place_same xs y h = sym (place_next 0 xs y
       ∙ ap (λ b. option_or (position_from p 0 xs) (cond b (Some (0 + length xs)) None)) h
@@ -184,7 +184,7 @@ module _ {A : Type 0} (p : A → Bool) where
       by true rest = refl
       by false rest = rest
 
-  -- a place is found exactly if some element that passes is counted
+  -- a place is found exactly if the count of the elements that pass is not 0
   some_counted : (i : ℕ) (xs : List A) → is_some (position_from p i xs) ≡ nat_lt 0 (count_by p xs)
   some_counted i [] = refl
   some_counted i (x ∷ xs) = by (p x) (some_counted (i + 1) xs) ∙ ap (nat_lt 0) (sym (sum_by-cons (λ y. cond (p y) 1 0) x xs))
@@ -221,23 +221,23 @@ module _ (name : List ℕ) (r : List Field) where
         ap (option_map (λ (g : Field). g.1)) (find-append (is_called name) r (f ∷ []))
         ∙ map_or (λ (g : Field). g.1) (find (is_called name) r) (cond (is_called name f) (Some f) None)
 
-    -- with a field more of another name, whether the name has a body stays
+    -- one more field of another name doesn't change whether the name has a body
     pub some_same : is_called name f ≡ false → is_some (body name (r ++ f ∷ [])) ≡ is_some (body name r)
     some_same h = ap is_some
         (body_next ∙ ap (λ b. option_or (body name r) (option_map (λ (g : Field). g.1) (cond b (Some f) None))) h
         ∙ or_none (body name r))
 
-    -- with a field more of the name, the name has a body
+    -- after one more field of the name, the name has a body
     pub some_more : is_called name f ≡ true → is_some (body name (r ++ f ∷ [])) ≡ true
     some_more h = ap is_some (body_next
         ∙ ap (λ b. option_or (body name r) (option_map (λ (g : Field). g.1) (cond b (Some f) None))) h)
         ∙ or_some (body name r) f.1
 
-    -- with a field more of another name, whether the name is repeated stays
+    -- one more field of another name doesn't change whether the name is repeated
     pub repeated_same : is_called name f ≡ false → is_repeated name (r ++ f ∷ []) ≡ is_repeated name r
     repeated_same h = ap (nat_lt 1) (counted_next (is_called name) r f ∙ ap (λ b. count_by (is_called name) r + cond b 1 0) h ∙ omega arith)
 
-    -- with a field more of the name, the name is repeated if it was, or if it had a place
+    -- after one more field of the name, the name is repeated if it was, or if it had a place
     pub repeated_more : (place : Option ℕ) → IsPlace name r place → is_called name f ≡ true
         → is_repeated name (r ++ f ∷ []) ≡ (is_repeated name r || is_some place)
     repeated_more place l h =

@@ -172,8 +172,8 @@ module _ (r : List Field) (f : Field) (place : ℕ) (old : Found) (l : length r 
             (repeated_more value_name r f old.value h.value yes);
       }
 
-  -- after a field that is no Type, Subtag, Tag or Preferred-Value: at most whether there is a File-Date (`dated`)
-  -- changes
+  -- after a field that is no Type, Subtag, Tag or Preferred-Value: what is found changes at most in whether there is a
+  -- File-Date (`dated`)
   passed : is_called type_name f ≡ false → is_called subtag_name f ≡ false → is_called tag_name f ≡ false
       → is_called value_name f ≡ false → (dated : Bool) → dated ≡ is_some (body date_name (r ++ f ∷ []))
       → HasFound (r ++ f ∷ []) (record old { is_dated = dated })
@@ -189,7 +189,7 @@ module _ (r : List Field) (f : Field) (place : ℕ) (old : Found) (l : length r 
         (repeated_same type_name r f a) (repeated_same subtag_name r f b) (repeated_same tag_name r f c) (repeated_same value_name r f d);
   }
 
-  -- after a field File-Date: what is found has that there is one
+  -- after a field File-Date: what is found says that there is one
   pub found_date : field_told f.0 ≡ told.FileDate → HasFound (r ++ f ∷ []) (record old { is_dated = true })
   found_date t =
       let yes : is_called date_name f ≡ true = by_date (is_called type_name f) (is_called subtag_name f)

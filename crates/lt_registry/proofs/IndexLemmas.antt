@@ -87,7 +87,7 @@ module _ {W : Type 0} (row : ℕ → EntryParts → Option W) (place : W → ℕ
   rows_turned i e None rows new placed l is none same g = rows_skipped i e rows new l is none (same ∙ append-nil rows) g
   rows_turned i e (Some v) rows new placed l is some same g = rows_more i e v rows new l is some (placed v some) same g
 
--- if `make` gives rows of the place `p`, a row that it gives has that place; it gives one if `b`, and if `o` has a
+-- if each row that `make` gives has the place `p`, then so has the row `w`; there is one if `b` is true and `o` has a
 -- value
 pub placed_at : {A W : Type 0} (place : W → ℕ) (make : A → W) (p : ℕ) → ((a : A) → place (make a) ≡ p)
     → (b : Bool) (o : Option A) (w : W) → cond b (option_map make o) None ≡ Some w → place w ≡ p
@@ -112,14 +112,15 @@ pub single_placed : (kind : Kind) (p : ℕ) (e : EntryParts) (w : Row) → singl
 single_placed kind p e w h = placed_at (λ (r : Row). r.place) (λ (n : ℕ). record { number = n; place = p }) p
     (λ n. refl) (same_kind e.kind kind) (single_number e.name) w h
 
--- what a search in the rows of single records finds of the subtag `s`
+-- what a search in the rows of single records finds for the subtag `s`
 module _ (R : List EntryParts) (kind : Kind) (rows : List Row) (s : List ℕ) (ix : IsSingles R kind rows)
     (forms : All IsEntry R) (few : IsFew s) where
   -- whether an entry is of the kind and names the subtag alone
   abbrev is_it : EntryParts → Bool
   is_it e = same_kind e.kind kind && is_named s e.name
 
-  -- an entry names the subtag alone exactly if its row has the subtag's number; `b`: it is of the kind, `p`: its place
+  -- an entry names the subtag alone exactly if its row has the subtag's number; `b` is whether the entry is of the
+  -- kind, and `p` is its place
   name_agrees : (p : ℕ) (k : Kind) (b : Bool) (name : EntryName) → FitsName k name
       → (b && is_named s name)
       ≡ matches nat_cmp (λ (w : Row). w.number) (number s) (cond b
@@ -177,7 +178,7 @@ keys_equal u t =
     subst (λ z. is_eq (whole_key_cmp (language_number u, Some u) (language_number z, Some z)) ≡ true) same
     (ap is_eq (tied_itself key_total (language_number u, Some u))))
 
--- what a search in the rows of whole tags finds of the tag `t`
+-- what a search in the rows of whole tags finds for the tag `t`
 module _ (R : List EntryParts) (rows : List Row) (t : TagForm) (ix : IsWholes R rows) where
   -- whether an entry names the tag
   abbrev is_that : EntryParts → Bool
@@ -216,7 +217,7 @@ module _ (R : List EntryParts) (rows : List Row) (t : TagForm) (ix : IsWholes R 
       (λ p e there. tag_agrees p e e.name refl there) i
       (point (rises key_total (whole_key R) (λ (v : Row). v.place) whole_row whole_placed R rows ix sought))
 
--- if a subtag has the form of the kind `k`, that is no kind of whole tags
+-- if a subtag has the form of the kind `k`, then `k` is not `kind`, a kind of whole tags
 pub apart : (s : List ℕ) (k kind : Kind) → is_whole_kind kind ≡ true → has_form k s ≡ true → same_kind k kind ≡ false
 apart s kinds.Grandfathered kind w f = cc
 apart s kinds.Redundant kind w f = cc

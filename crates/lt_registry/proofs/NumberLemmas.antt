@@ -34,7 +34,7 @@ use Rattle.lt_registry.specs.declared.entries.Kind.{Kind}
 use Rattle.lt_registry.specs.Prefixes.{single_of, AreSingles}
 use Rattle.lt_registry.specs.declared.entries.Kind.TheVariants as kinds
 
--- at most 8 small letters are `IsFew`: bytes that a subtag has, and few enough for its number
+-- at most 8 lower-case letters are `IsFew`
 letters_few : (s : List ℕ) → list_all is_ascii_lowercase s ≡ true → length s ≤ 8 → IsFew s
 letters_few s h l = record { bytes = all_weaker is_ascii_lowercase is_subtag_byte (λ b k. rw k refl) s h; few = l }
 
@@ -61,7 +61,7 @@ same_test true c f g = sym (f refl)
 same_test false true f g = g refl
 same_test false false f g = refl
 
--- letter order is the order of lists of bytes, by which `o` compares `s` and `t`
+-- `s` is not after `t` in letter order exactly if `o`, by which lists of bytes are compared, says Less or Equal
 is_letters_le : (s t : List ℕ) (o : Ordering) → o ≡ slice_cmp nat_cmp s t → is_le o ≡ letters_le s t
 is_letters_le = same_from_slice_cmp nat_cmp is_le letters_le refl (λ _ _. refl) (λ _ _. refl) (λ x y s t o h. grind (arith, nat_tests))
 
@@ -153,7 +153,7 @@ number_found ns n (Err i) s h =
           | inr w ↦ ne_eqb (get_or ns k d) n (λ e. omega (arith, at.2 k w l, get_or_default_zero ns k d l, e))
         ]
 
--- a search among the sorted numbers tells whether a subtag alone is a Prefix
+-- a search among the sorted numbers tells whether one of the Prefixes is just the subtag `l`
 pub lists_found : (ps : List (List (List ℕ))) (ns : List ℕ) (l : List ℕ) (r : Result ℕ ℕ) → AreSingles ps ns
     → AllByRecursion IsPrefix ps → is_subtag l ≡ true → IsBinarySearchResult (λ m. nat_cmp m (number l)) ns r
     → is_ok r ≡ has_prefix ps l

@@ -27,7 +27,7 @@ use Rattle.lt_registry.specs.declared.entries.Kind.TheVariants as kinds
 use Rattle.lt_registry.specs.declared.entries.EntryValue.TheVariants as values
 use Rattle.lt_registry.proofs.RecordTexts.{IsSubtagsResult, name_fits, prefixes_are}
 
--- a record has one kind
+-- a record has at most one kind
 pub one_kind : (r : List Field) (k l : Kind) → HasKind r k → HasKind r l → k ≡ l
 one_kind r k l h g =
     let same : h.0 ≡ g.0 = cc (h.1, g.1) in
@@ -89,7 +89,7 @@ no_bad_tag r k (names.Whole t) h (s, there, is) f =
     f.5 t (subst (λ z. HasTag z t) same is.1)
 no_bad_tag r k _ h (s, there, is) f = cc (ap is_whole_kind (one_kind r k f.0 h f.2) ∙ f.3, is.0)
 
--- where the text `s` of a Preferred-Value gives `v`, there is a value
+-- if a record has the text `s` as its Preferred-Value, `v`, which this gives, is a value and not None
 value_there : (k : Kind) (s : List ℕ) (v : Option EntryValue) → IsValueOf k (Some s) v → (w : EntryValue) × IsValue k s w
 value_there k s None is = absurd is
 value_there k s (Some v) is = (v, is)
@@ -148,7 +148,7 @@ module _ (r : List Field) where
         | inr ne ↦ let le = past n c.0 other f in omega (arith, le, ne)
       ]
 
-  -- the kind is known
+  -- the record has the kind `k`, and repeats no field
   module _ (k : Kind) (once : repeats_field r ≡ false) (kind : HasKind r k) where
     -- a record that has a kind and repeats no field has no fault with a rank below 3, that of MissingName
     kind_clear : ClearTo 3
@@ -185,7 +185,7 @@ module _ (r : List Field) where
     name_refused faults.OutOfMemory f = inl refl
     name_refused _ f = absurd f
 
-    -- the name is known
+    -- the record has the name `name`
     module _ (name : EntryName) (named : IsNameIn k r name) where
       -- a record that has a kind and a name has no fault with a rank below 7, that of BadPreferred
       name_clear : ClearTo 7

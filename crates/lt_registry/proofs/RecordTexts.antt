@@ -152,29 +152,29 @@ no_field name r i front l = ap (λ z. after front (prefixes_of (bodies name z)))
 
 -- What the texts of a record's fields give.
 
--- a name of subtags, or one of two faults
+-- a name of one subtag or of a range, or else the fault BadRange or BadSubtag
 abbrev pub IsSubtagsResult : Result EntryName RecordFaultKind → Type 0
 IsSubtagsResult (Ok (names.Whole t)) = ⊥
 IsSubtagsResult (Err fault) = (fault ≡ faults.BadRange) ⊎ (fault ≡ faults.BadSubtag)
 IsSubtagsResult _ = Unit {0}
 
--- what is read as a subtag alone is a name of subtags or has a fault of such a name
+-- what is read as a subtag alone is a name or a fault as in `IsSubtagsResult`
 single_fits : (o : Option (List ℕ)) → IsSubtagsResult (single_of o)
 single_fits None = inr refl
 single_fits (Some n) = tt
 
--- what is read as a range is a name of subtags or has a fault of such a name
+-- what is read as a range is a name or a fault as in `IsSubtagsResult`
 range_fits : (k : Kind) (a b : Result (List ℕ) SubtagFault) → IsSubtagsResult (range_of k a b)
 range_fits k (Ok a) (Ok b) = elim (cases_Bool (is_range k a b)) [ inl e ↦ rw e tt | inr e ↦ rw e (inl refl) ]
 range_fits k _ _ = inl refl
 
--- what a text of the field Subtag is read as is a name of subtags or has a fault of such a name; `o` are the texts
--- around two full stops, if it has such
+-- what a text of the field Subtag is read as is a name or a fault as in `IsSubtagsResult`; `o` are the texts around two
+-- full stops, if it has such
 pub name_fits : (k : Kind) (s : List ℕ) (o : Option (List ℕ × List ℕ)) → IsSubtagsResult (name_by k s o)
 name_fits k s None = single_fits (formed (has_form k) (subtag_of s))
 name_fits k s (Some ends) = range_fits k (subtag_of ends.0) (subtag_of ends.1)
 
--- a text that is read as a subtag names it, since it has no full stop
+-- a text that is read as a subtag names this subtag, since it has no full stop
 
 -- letters and digits have no two full stops among them
 no_dots : (s : List ℕ) → list_all is_ascii_alphanumeric s ≡ true → ends_of s ≡ None
@@ -186,7 +186,7 @@ no_dots (b ∷ s) h =
     let other : (b == 46) ≡ false = grind (arith, nat_tests) in
     rw (other, no_dots s parts.1) refl
 
--- a piece that is read as a subtag has letters and digits alone
+-- a piece that is read as a subtag has only letters and digits
 letters : (piece n : List ℕ) → subtag_of piece ≡ Ok n → list_all is_ascii_alphanumeric piece ≡ true
 letters piece n h = grind (arith, nat_tests)
 

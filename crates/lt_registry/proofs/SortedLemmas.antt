@@ -28,7 +28,7 @@ use Rattle.lt_registry.specs.Sorted.{IsRowAt, AreRows, IsIndex}
 use Rattle.lt_registry.specs.Same.{same_list, same_extension, same_tag}
 use Rattle.lt_registry.specs.Parts.{EntryParts}
 
--- Tags are equal by their order where they are the same.
+-- The order of tags says Equal exactly if two tags are the same.
 
 -- a first order and then a second one say Equal exactly if both do
 pub then_equal : (a b : Ordering) → is_eq (ordering_then a b) ≡ (is_eq a && is_eq b)
@@ -90,7 +90,7 @@ abbrev Has : {X : Type 0} → (X → Type 0) → List X → Type 0
 Has P [] = ⊥
 Has P (x ∷ xs) = P x ⊎ Has P xs
 
--- what follows from `P`, an element has if one has `P`
+-- if an element has `P`, and `Q` follows from `P`, then an element has `Q`
 has_more : {X : Type 0} (P Q : X → Type 0) → ((x : X) → P x → Q x) → (xs : List X) → Has P xs → Has Q xs
 has_more P Q f [] h = absurd h
 has_more P Q f (x ∷ xs) (inl p) = inl (f x p)

@@ -53,7 +53,7 @@ module _ (rows : List Row) (i : ℕ) (w : Row) (starts more : List ℕ) (l : i <
   pub here : slice_get rows i ≡ Some w
   here = slice_get_read rows (length rows) i w refl l is
 
-  -- the starts go no further than that beginning
+  -- the starts go no further than the beginning of the row `w`
   starts_fit : length starts ≤ beginning w.number + 1
   starts_fit = g.short i w (omega arith) here
 
@@ -264,7 +264,7 @@ part_rises rows part a b up order within is i j d l m =
 
 -- what a binary search for a number finds
 
--- by how their numbers compare with `n`, rows don't fall, which a binary search requires
+-- compared with `n`, the numbers of the rows don't fall, as a binary search requires
 pub searchable : (rows : List Row) (n : ℕ) → RowsRise rows → IsNonDecreasingBy (λ (w : Row). ordering_index (nat_cmp w.number n)) rows
 searchable rows n up =
     searchable_from_sorted nat_cmp_total (λ (w : Row). w.number) rows n

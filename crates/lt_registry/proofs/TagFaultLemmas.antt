@@ -102,7 +102,8 @@ ext_first R r here before e G k p past new first =
     (λ l q f. (head_from R here before e l q f.0).1) (λ l q f. past l q f.0))
     (first_same (ExtensionFault R r here e) (Counted r (HeadFault R here before e)) k p (same_head R r here before e new) first))
 
--- the loop over the extensions `es`, the first of which has its singleton at `first`; `r`: variants may repeat
+-- the loop over the extensions `es`, the first of which has its singleton at `first`; `r` is whether variants may
+-- repeat
 module _ (R : List EntryParts) (r : Bool) (first : ℕ) (es : List ExtensionParts) where
   -- the faults of all extensions that count
   abbrev pub Whole : ValidFaultKind → ℕ → Type 0
@@ -319,7 +320,7 @@ module _ (R : List EntryParts) (c : CoreParts) (es : List ExtensionParts) where
     back = λ k p f. elim f [ inl h ↦ inl h | inr h ↦ inr (list_hidden k p h) ];
   }
 
-  -- the faults that count; `r`: variants may repeat
+  -- the faults that count; `r` is whether variants may repeat
   module _ (r : Bool) where
     -- the faults that count of the core, and of the extensions as `ListFault` computes them from left to right
     abbrev CoreList : ValidFaultKind → ℕ → Type 0
@@ -347,7 +348,8 @@ module _ (R : List EntryParts) (c : CoreParts) (es : List ExtensionParts) where
         (λ k p f. let l = list_from R first [] es k p f.0 in omega (arith, l)))
         (subst (Tells (CoreFault R r 0 c)) told (core_tells R r 0 c)))
 
-    -- if the core passes, what the check of the extensions tells is so of the tag; `M`: memory may run out
+    -- if the core passes, what the check of the extensions answers (`a`) is right for the tag; `M` says when memory may
+    -- run out
     extensions_told : (M : Type 0) (a : Result (Unit {0}) ValidRefusal) → core_check R r 0 c ≡ Ok tt
         → TellsOrLacks (Counted r (ListFault R first [] es)) M a → TellsOrLacks TagFault M a
     extensions_told M a told t =
@@ -365,7 +367,8 @@ tag_core_first R r (LangTag d es ps) c fault is told =
     core_first R d es r fault (ap (core_check R r 0) (sym same) ∙ told)
 tag_core_first R r _ c fault is told = cc
 
--- if the core passes, what the check of the extensions tells is so of the tag `t`; `M`: memory may run out
+-- if the core passes, what the check of the extensions answers (`a`) is right for the tag `t`; `M` says when memory may
+-- run out
 pub tag_extensions_told : (R : List EntryParts) (r : Bool) (t : TagForm) (c : CoreParts) (M : Type 0) (a : Result
     (Unit {0}) ValidRefusal) → Some c ≡ core_of t → core_check R r 0 c ≡ Ok tt
     → TellsOrLacks (Counted r (ListFault R (length (spell_core c) + 1) [] (extensions_of t))) M a

@@ -21,7 +21,7 @@ use Rattle.lt_registry.specs.declared.faults.ValidFaultKind.{ValidFaultKind}
 use Rattle.lt_registry.specs.declared.faults.ValidFaultKind.TheVariants as faults
 use Rattle.lt_registry.proofs.SplitListLemmas.{all_from, all_at, distinct_from, distinct_at, distinct_map_from, distinct_map_at}
 
--- an option's value, if there is one, has the property `P` if each value that it can be has it
+-- `P` is true of the value of an option, if it has one, if `P` is true of each value that it can have
 if_some : {A : Type 0} (P : A → Type 0) (o : Option A) → ((s : A) → o ≡ Some s → P s) → IfSome o P
 if_some P None f = tt
 if_some P (Some s) f = f s refl
@@ -62,7 +62,7 @@ module _ (R : List EntryParts) (start : ℕ) (c : CoreParts) where
         cc));
   }
 
-  -- extlangs that fit are one, which is registered and has the language as one of its Prefixes
+  -- extlangs that fit, if there are any, are only one, which is registered and has the language as one of its Prefixes
   one_extlang : (x : List ℕ) (rest : List (List ℕ)) → ExtlangsFit R c.language (x ∷ rest) → (rest ≡ [])
       × (is_registered R kinds.Extlang x ≡ true) × (has_prefix (prefixes R kinds.Extlang x) c.language ≡ true)
   one_extlang x [] h = (refl, h.0, h.1)
@@ -192,7 +192,7 @@ proper_parts_has R (LangTag c es ps) h k p (inr (inr f)) =
     f.1.after f.1.there h.singletons f.1.alike)
 proper_parts_has R _ h k p f = absurd f
 
--- proper exactly if no fault but a repeated variant
+-- a tag is proper exactly if it has no fault but that variants repeat
 pub proper_law : (R : List EntryParts) (t : TagForm) → IsTagValue t → IsProper R t ↔ RepeatsAtMost R t
 proper_law R t v = (λ h. proper_parts_has R t h.parts, λ f. record { tag = v; parts = proper_parts_from R t f })
 
@@ -216,7 +216,7 @@ no_repeat_has R (LangTag c es ps) h k p dup (inr (inr f)) = let no : faults.Dupl
     ≡ faults.DuplicateSingleton = sym dup ∙ f.0 in cc
 no_repeat_has R _ h k p dup f = f
 
--- valid exactly if there is no fault
+-- a tag is valid exactly if it has no fault
 pub valid_law : (R : List EntryParts) (t : TagForm) → IsTagValue t → IsValid R t ↔ HasNoFault R t
 valid_law R t v = (
   λ h k p f. no_repeat_has R t h.distinct k p (proper_parts_has R t h.proper.parts k p f) f,

@@ -72,8 +72,8 @@ pub tells_same : (F G : Faults) (a : Check) → SameFaults F G → Tells F a →
 tells_same F G (Ok done) s t = λ k p g. t k p (s.back k p g)
 tells_same F G (Err fault) s t = first_same F G fault.kind fault.place s t
 
--- a check that tells the first fault of `F`, or, only if `M` is true, that memory ran out, tells so of `G`, if they are
--- the same faults
+-- a check that tells the first fault of `F`, or that memory ran out, which it may only if `M` is true, tells the same
+-- of `G`, if they are the same faults
 pub tells_or_lacks_same : (F G : Faults) (M : Type 0) (a : Result (Unit {0}) ValidRefusal) → SameFaults F G
     → TellsOrLacks F M a → TellsOrLacks G M a
 tells_or_lacks_same F G M (Ok done) s t = λ k p g. t k p (s.back k p g)
@@ -167,7 +167,7 @@ same_trans F G H s t = record { there = λ k p f. t.there k p (s.there k p f); b
 pub same_back : (F G : Faults) → SameFaults F G → SameFaults G F
 same_back F G s = record { there = s.back; back = s.there }
 
--- if faults are the same, those of them that count are; `r`: variants may repeat
+-- if faults are the same, those of them that count are the same too; `r` is whether variants may repeat
 pub same_counted : (r : Bool) (F G : Faults) → SameFaults F G → SameFaults (Counted r F) (Counted r G)
 same_counted r F G s = record { there = λ k p f. (s.there k p f.0, f.1); back = λ k p g. (s.back k p g.0, g.1) }
 
@@ -293,12 +293,14 @@ variants_hidden R r here before (u ∷ front) v after k p h =
     inr (variants_hidden R r (here + 1) (before ++ u ∷ []) front v after k p
     (moved R r v k p same (sym (append_assoc before (u ∷ []) front)) h))
 
--- the test that a variant doesn't repeat fails only if variants may not repeat (`r`) and this one does (`b`)
+-- the test that a variant doesn't repeat fails only if variants may not repeat (`r` is false) and this one does (`b` is
+-- true)
 pub repeats : (r b : Bool) → (r || not b) ≡ false → (r ≡ false) × (b ≡ true)
 repeats false true h = (refl, refl)
 repeats _ _ h = cc
 
--- the test that a variant doesn't repeat fails if variants may not repeat (`r`) and this one does (`b`)
+-- the test that a variant doesn't repeat fails if variants may not repeat (`r` is false) and this one does (`b` is
+-- true)
 pub repeated : (r b : Bool) → r ≡ false → b ≡ true → (r || not b) ≡ false
 repeated false true h e = refl
 repeated _ _ h e = cc
@@ -360,7 +362,8 @@ differing_after R p before (v ∷ after) d n =
     ∙ ap (λ b. and_then (and_then (unless (is_registered R kinds.Variant v) faults.UnknownVariant p)
     (unless (not b) faults.DuplicateVariant p)) (variants_check R false (p + 1) (before ++ v ∷ []) after)) (sym n.0)
 
--- distinct variants may be checked as if variants could repeat; `d`: they are known to be distinct
+-- distinct variants may be checked as if variants could repeat: `d`, which is true only of distinct ones, may then be
+-- true
 pub differing_pass : (R : List EntryParts) (r : Bool) (p : ℕ) (vs : List (List ℕ)) (d : Bool) → (d ≡ true → Distinct vs)
     → variants_check R (r || d) p [] vs ≡ variants_check R r p [] vs
 differing_pass R true p vs d h = refl

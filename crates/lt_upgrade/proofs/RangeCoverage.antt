@@ -47,7 +47,7 @@ pub further : {K : Type 0} {R : K → K → Ordering} → IsTotalOrder R → (a 
 further {R = R} total a b c h k = not-false (is_le (R a c)) (sym (gt_is (R a c))
     ∙ upto total a b c (gt_is (R a b) ∙ ap not h) (gt_is (R b c) ∙ ap not k))
 
--- of two ends, one is up to the other
+-- if an end is not up to another, that one is up to it
 other_way : (a b : RangeEnd) → is_up_to a b ≡ false → is_up_to b a ≡ true
 other_way a b h = ap is_le (end_total.antisymm b a)
     ∙ (elim (end_cmp a b) as (λ o. is_le o ≡ false → is_le (ordering_reverse o) ≡ true)
@@ -69,7 +69,7 @@ Precedes v w = is_up_to v.first w.first ≡ true
 abbrev pub ends_by : RangeRow → RangeRow → Bool
 ends_by later kept = is_up_to later.last kept.last
 
--- where `y` implies `x`, leaving `y` out of a disjunction with `x` changes nothing
+-- where `y` implies `x`, a disjunction with `x` is the same with `y` or without it
 absorbed : (x y z : Bool) → (y ≡ true → x ≡ true) → (x || z) ≡ (x || (y || z))
 absorbed false true z h = absurd (true≢false (sym (h refl)))
 absorbed _ _ z h = refl
@@ -83,7 +83,7 @@ contained a b v w first last h =
     and_from (is_up_to v.first a) (is_up_to b v.last) (further end_total v.first w.first a first p.0)
     (further end_total b w.last v.last p.1 last)
 
--- `v` neither begins after `w` begins nor ends after `w` ends
+-- `v` begins no later than `w`, and ends no later
 abbrev IsBefore : RangeRow → RangeRow → Type 0
 IsBefore v w = (is_up_to v.first w.first ≡ true) × (is_up_to v.last w.last ≡ true)
 
@@ -196,22 +196,22 @@ search_finds a b rows found i d up same l point =
 
 -- a range contains what it covers
 
--- `o` is compared first, once as it is and once reversed, and `p` and `q` after it: both allow exactly if `o` ties,
--- `t`, and the rest allows, `r`
+-- `o` comes first, once as it is and once reversed, and then `p` and `q`: neither comparison says Greater exactly if
+-- `o` says Equal (`t`) and neither `p` nor `q` says Greater (`r`)
 first_equal : (o p q : Ordering) (t r : Bool) → t ≡ is_eq o → (is_le p && is_le q) ≡ r
     → (is_le (ordering_then o p) && is_le (ordering_then (ordering_reverse o) q)) ≡ (t && r)
 first_equal Equal p q t r e h = rw e h
 first_equal _ p q t r e h = rw e refl
 
--- where the numbers `m` and `n` are compared first, once up and once reversed, both allow exactly if these are equal,
--- `t`, and the rest allows, `r`
+-- two numbers come first, once `m` before `n` and once reversed, and then `p` and `q`: neither comparison says Greater
+-- exactly if the numbers are equal (`t`) and neither `p` nor `q` says Greater (`r`)
 layer : (m n : ℕ) (t : Bool) (p q : Ordering) (r : Bool) → t ≡ eqb m n → (is_le p && is_le q) ≡ r
     → (is_le (ordering_then (nat_cmp m n) p) && is_le (ordering_then (nat_cmp n m) q)) ≡ (t && r)
 layer m n t p q r test rest =
     ap (λ o. is_le (ordering_then (nat_cmp m n) p) && is_le (ordering_then o q)) (nat_cmp_total.antisymm n m)
     ∙ first_equal (nat_cmp m n) p q t r (test ∙ unsigned_ties m n) rest
 
--- kinds are one exactly if their numbers are
+-- two kinds are the same exactly if their numbers are
 kinds_compared : (k l : Kind) → same_kind k l ≡ eqb (kind_number k) (kind_number l)
 kinds_compared k l =
     both_ways (same_kind k l) (eqb (kind_number k) (kind_number l))
@@ -224,7 +224,7 @@ letters_compared a b = sym (letters_le_is a b
     ∙ elim (slice_cmp nat_cmp a b) as (λ o. at_most o ≡ is_le o) [ Less ↦ refl | Equal ↦ refl | Greater ↦ refl ])
 
 -- the range from `c` to `d` of kind `k` contains, by its ends, that from `a` to `b` of kind `l` exactly if the kinds
--- are one and it covers that by its letters
+-- are the same and the first range covers the second by its letters
 range_agrees : (k l : Kind) (c d a b : List ℕ) → length c ≡ length d → length a ≡ length b
     → contains (range_end l a) (range_end l b) (record { first = range_end k c; last = range_end k d })
     ≡ (same_kind k l && covers (names.Range c d) a b)
@@ -261,7 +261,8 @@ rows_hold R forms kind first last one = rows_agree kind first last one R (recurs
 
 -- a range is covered
 
--- where the record `f` covers the range from `a` to `b`, the newer registry `B` covers it
+-- where the record `f` of the newer registry `B`, of the kind `k`, covers the range from `a` to `b`, `B` has a range
+-- that does (`IsCovered`)
 covered_at : (B : List EntryParts) (k : Kind) (a b : List ℕ) (f : EntryParts) → Contains B f → f.kind ≡ k
     → (n : EntryName) → f.name ≡ n → covers n a b ≡ true → IsCovered B k a b
 covered_at B k a b f c e (names.Range x y) m h =

@@ -47,7 +47,7 @@ use Rattle.lt_upgrade.specs.declared.conditions.UpgradeCondition.TheVariants as 
 use Rattle.lt_upgrade.specs.declared.upgrades.TheConstants.{IN_ORDER}
 
 -- `d` and `e` are the ends of the chains from `s` and `t`, and `b` is whether they are equal: it tells whether the
--- chains end in one subtag
+-- chains end in one subtag; `k` is not Extlang, whose values are languages
 pub ends_compared : (R : List EntryParts) (k : Kind) → (k ≡ kinds.Extlang → ⊥) → (s t d e : List ℕ) (b : Bool)
     → ChainEndsIn R k s d → ChainEndsIn R k t e → b ≡ bytes_eq d e → IsTrue b ↔ SameEnd (next_value R k) s t
 ends_compared R kinds.Extlang n s t d e b h i same = absurd (n refl)
@@ -58,7 +58,8 @@ ends_compared R k n s t d e b h i same = (
       ∙ sym (one_end (next_value R k) t e a.end i a.right))),
 )
 
--- where the chain from `t` has no end, the chains from `s` and `t` do not end in one subtag
+-- where the chain from `t` has no end, the chains from `s` and `t` do not end in one subtag; `k` is not Extlang, whose
+-- values are languages
 pub endless_apart : (R : List EntryParts) (k : Kind) → (k ≡ kinds.Extlang → ⊥) → (s t : List ℕ) → (ChainEnds R k t → ⊥)
     → IsTrue false ↔ SameEnd (next_value R k) s t
 endless_apart R kinds.Extlang n s t endless = absurd (n refl)
@@ -67,8 +68,8 @@ endless_apart R k n s t endless = (
   (λ (a : SameEnd (next_value R k) s t). absurd (endless (a.right.0, ap (next_value R k) a.right.1 ∙ a.right.2))),
 )
 
--- `b` tells whether the chains from the subtag `s` of a record and from its older value `v` end in one: so whether it
--- meets U2
+-- `b` tells whether the chains from the subtag `s` of the older record `e` and from its value `v` of the same kind end
+-- in one: so it tells whether `e` meets U2
 pub ends_kept : (B : List EntryParts) (e : EntryParts) (s v : List ℕ) (b : Bool) → e.name ≡ names.Single s
     → Some v ≡ one_of e.value → KeepsKind e.kind v → IsTrue b ↔ SameEnd (next_value B e.kind) s v → IsTrue b
     ↔ KeepsEnds B e
@@ -257,7 +258,8 @@ module _ (R : List EntryParts) (C : IsChecked R) where
 abbrev pub EachBefore : List EntryParts → List EntryParts → UpgradeCondition → ℕ → Type 0
 EachBefore A B condition i = (k : ℕ) (d : EntryParts) → k < i → MeetsUpgrade condition A B (slice_index_or (records_of condition A B) k d)
 
--- where each before index `i` meets the condition `k` and the record `e` there does not, `e` is the lowest at fault
+-- where each record before the index `i` meets the condition `k` and the record `e` there does not, `e` is the lowest
+-- at fault
 pub lowest_of : (A B : List EntryParts) (k : UpgradeCondition) (i : ℕ) (e : EntryParts) (number : ℕ)
     → NumbersRise (records_of k A B) → IsAt (records_of k A B) i e → number ≡ e.number
     → EachBefore A B k i → (MeetsUpgrade k A B e → ⊥) → IsFirstAtUpgradeFault A B k number
@@ -280,7 +282,8 @@ place_of : (k : UpgradeCondition) → slice_index_or IN_ORDER (upgrade_rank_of k
 place_of upgrades.StaysRegistered = refl
 place_of _ = refl
 
--- where the first `i` conditions are met, and the next one is, those with ranks below the next after it are met
+-- if all conditions with ranks up to `i` are met, and so is the one at the index `i` of the order, then all with ranks
+-- up to `i + 1` are met
 pub one_more : (A B : List EntryParts) (i : ℕ) → MeetsUpgradeBelow (i + 1) A B
     → All (MeetsUpgrade (slice_index_or IN_ORDER i upgrades.StaysRegistered) A B) (records_of
     (slice_index_or IN_ORDER i upgrades.StaysRegistered) A B) → MeetsUpgradeBelow (i + 1 + 1) A B

@@ -166,7 +166,7 @@ module _ (A B : List EntryParts) (CA : IsChecked A) (CB : IsChecked B) (U : Upgr
 
   -- ---- an old core step keeps the new core normal form
 
-  -- an entry with a value is a single
+  -- an entry with a value names one subtag
 
   -- an entry of the subtag `s` that names no range names `s` alone
   has_name : (s : List ℕ) (n : EntryName) → ((a b : List ℕ) → n ≡ names.Range a b → ⊥) → (is_named s n ≡ true)
@@ -183,8 +183,8 @@ module _ (A B : List EntryParts) (CA : IsChecked A) (CB : IsChecked B) (U : Upgr
       cc (ap one_of (valued_has R k s v HasNoRangeValue (C.passes.no_range_value) n a b e), n.gives))
       (entry_of R k s n.at n.found).names
 
-  -- where the chains from `s` and `t` end in one, the cores that differ in that subtag, `at s` and `at t`, have one
-  -- core normal form; a step `f` on the subtag is a step on the core
+  -- where the chains from `s` and `t` end in one subtag, the cores that differ in that subtag, `at s` and `at t`, have
+  -- one core normal form; a step `f` on the subtag must be a step on the core
   one_form : (f : List ℕ → Option (List ℕ)) (at : List ℕ → CoreParts)
       → ((s t : List ℕ) → f s ≡ Some t → CoreStep B (at s) (at t)) → (s t : List ℕ) → SameEnd f s t
       → core_end B CB (at s) ≡ core_end B CB (at t)
@@ -342,7 +342,7 @@ module _ (A B : List EntryParts) (CA : IsChecked A) (CB : IsChecked B) (U : Upgr
 
   -- ---- the variant that a refusal of a newer registry names is one for a tag and for its old canonical form
 
-  -- a list of extensions in which two changed places still contains each of them
+  -- after two extensions of a list change places, it still contains each of them
   swap_keeps : (es fs : List ExtensionParts) → ListStep false singleton_cmp es fs → All (Contains fs) es
   swap_keeps es fs (by_swap before a b after s) =
       All-from_recursion (Contains fs) es
@@ -433,7 +433,7 @@ module _ (A B : List EntryParts) (CA : IsChecked A) (CB : IsChecked B) (U : Upgr
           (all_middle (IsProperExtension A) before e after (subst (AllByRecursion (IsProperExtension A)) there P)) t
           result r.extension (Contains-append_cases before (e ∷ after) r.extension (rw there at m)) c
 
-  -- a core `d` alone, with the value `o`, if it has one: if the end form repeats no variant, nor does the core
+  -- `o` is the value of the core `d` alone, if it has one: if the end form repeats no variant, neither does the core
   end_distinct : (d : CoreParts) → (o : Option TagForm) → whole_value B (core_alone d) ≡ o
       → RepeatsNoVariant (or_value (core_alone d) (value_end B CB) o) → Distinct d.variants
   end_distinct d None e h = h.0
