@@ -151,7 +151,7 @@ same_place j k t s n (Some m) form e h = elim (cases_eq n m) [
 
 -- ---- one bit
 
--- the word of 64 bits in which the bit of place `m` alone is set
+-- the word of 64 bits in which only the bit of place `m` is set
 abbrev mask : ℕ → ℕ
 mask m = 1 * 2 ^ (m % 64) % 2 ^ 64
 

@@ -21,7 +21,7 @@ folded = codes "A:" ++ 10 ∷ (codes "  b " ++ 10 ∷ 9 ∷ codes "c")
 folded_lines : nonblank (lines_of folded) ≡ Start (codes "A") [] ∷ Continuation (codes "b") ∷ Continuation (codes "c") ∷ []
 folded_lines = refl
 
--- one record with the one field `A`, body `b c`
+-- its one record has the one field `A` with the body `b c`
 folded_records : HasRecords folded (((codes "A", codes "b c") ∷ []) ∷ [])
 folded_records = record {
   ended = [];
@@ -35,15 +35,15 @@ folded_records = record {
 empty_records : HasRecords [] []
 empty_records = record { ended = []; last = []; lines = refl; all = refl }
 
--- `%%`, an empty line and `%%` are no record
+-- a text of `%%`, an empty line and `%%` has no records
 no_records : HasRecords (codes "%%" ++ 10 ∷ 10 ∷ (codes "%%" ++ 10 ∷ [])) []
 no_records = record { ended = [] ∷ [] ∷ []; last = []; lines = refl; all = refl }
 
--- `A : b:c`, and `%%` with a tab after it, are one record, with the field `A` of the body `b:c`
+-- a text of `A : b:c`, and `%%` with a tab after it, has one record: the field `A` with the body `b:c`
 with_gap : HasRecords (codes "A : b:c" ++ 10 ∷ (codes "%%" ++ 9 ∷ [])) (((codes "A", codes "b:c") ∷ []) ∷ [])
 with_gap = record { ended = (record { name = codes "A"; first = codes "b:c"; more = [] } ∷ []) ∷ []; last = []; lines = refl; all = refl }
 
--- a line of one space, `A: b`, a line of one space and ` c` are one record, with the field `A` of the body `b c`
+-- a text of a line of one space, `A: b`, a line of one space and ` c` has one record: the field `A` with the body `b c`
 with_blanks : HasRecords (codes " " ++ 10 ∷ (codes "A: b" ++ 10 ∷ (codes " " ++ 10 ∷ codes " c"))) (((codes "A", codes "b c") ∷ []) ∷ [])
 with_blanks = record {
   ended = [];

@@ -33,7 +33,7 @@ name_at_front (byte ∷ rest) = if is_name_byte byte then byte ∷ name_at_front
 
 -- what a line can be (RFC 5646, 3.1.1)
 pub data Line : Type 0 where
-  -- nothing, or spaces and tabs alone: skipped
+  -- nothing, or only spaces and tabs: skipped
   Blank : Line
   -- `%%`: ends a record
   Separator : Line

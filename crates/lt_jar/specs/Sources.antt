@@ -1,5 +1,5 @@
--- What a reader of records keeps from one call to the next, and what each call does. No read of this project gives more
--- than 65,536 bytes.
+-- What a reader of records keeps from one call to the next, and what each call does. No read gives more than 65,536
+-- bytes, since the buffer has 8,192.
 use Rattle.std.specs.Prelude.{◌≡◌, ◌≢◌, ◌<◌, ◌≤◌, ◌+◌, ◌-◌, ◌*◌, ◌⊎◌, ℕ, Bool, true, false, List, [], ◌∷◌, ◌++◌, length}
 use Rattle.std.specs.Prelude.{take, drop, Option, Some, Result, Ok, Err}
 use Rattle.std.specs.Io.KnownBytes.{Consumes, IsAtEnd}

@@ -1,5 +1,5 @@
-//! What follows from the definitions alone: together with the contract of `read_jar`, that it
-//! answers exactly the records of a text, or exactly its fault.
+//! What follows from just the definitions: together with the contract of `read_jar`, that it answers exactly the
+//! records of a text, or exactly its fault.
 ghost use Rattle.std.specs.Prelude.{◌≡◌, ◌⊎◌, ℕ, List};
 ghost use Rattle.lt_jar.specs.Records.{Field, HasRecords, IsWithin};
 ghost use Rattle.lt_jar.specs.Faults.{Fault, IsTheFault, IsWrongAt};

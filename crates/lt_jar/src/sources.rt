@@ -39,8 +39,8 @@ pub struct JarSource {
     /// How many reads were made.
     turns: u32,
     status: Status,
-    // No read of this project gives more than 65,536 bytes. So after as many reads as there may be, the numbers of
-    // lines fit in 64 bits (`bounded`). The other bounds are those of the buffer and of the records.
+    // No read gives more than 65,536 bytes, since the buffer has 8,192. So after the most reads the numbers of lines
+    // still fit in 64 bits (`bounded`). The other bounds are those of the buffer and of the records.
     ghost placed: { (start ≤ end) × (end ≤ 8192) },
     ghost bounded: { (turns ≤ 10000000) × (engine.line + (end - start) ≤ 1 + 65536 * turns) },
     ghost begun: { IsOneLine engine.partial.items },

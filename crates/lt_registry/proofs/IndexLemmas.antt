@@ -87,8 +87,7 @@ module _ {W : Type 0} (row : ℕ → EntryParts → Option W) (place : W → ℕ
   rows_turned i e None rows new placed l is none same g = rows_skipped i e rows new l is none (same ∙ append-nil rows) g
   rows_turned i e (Some v) rows new placed l is some same g = rows_more i e v rows new l is some (placed v some) same g
 
--- if each row that `make` gives has the place `p`, then so has the row `w`; there is one if `b` is true and `o` has a
--- value
+-- if each row that `make` gives has the place `p`, so has `w`, which it gives of the value of `o` if `b` is true
 pub placed_at : {A W : Type 0} (place : W → ℕ) (make : A → W) (p : ℕ) → ((a : A) → place (make a) ≡ p)
     → (b : Bool) (o : Option A) (w : W) → cond b (option_map make o) None ≡ Some w → place w ≡ p
 placed_at place make p at true (Some a) w h = let same : make a ≡ w = cc in ap place (sym same) ∙ at a
@@ -115,12 +114,12 @@ single_placed kind p e w h = placed_at (λ (r : Row). r.place) (λ (n : ℕ). re
 -- what a search in the rows of single records finds for the subtag `s`
 module _ (R : List EntryParts) (kind : Kind) (rows : List Row) (s : List ℕ) (ix : IsSingles R kind rows)
     (forms : All IsEntry R) (few : IsFew s) where
-  -- whether an entry is of the kind and names the subtag alone
+  -- whether an entry is of the kind and names just the subtag
   abbrev is_it : EntryParts → Bool
   is_it e = same_kind e.kind kind && is_named s e.name
 
-  -- an entry names the subtag alone exactly if its row has the subtag's number; `b` is whether the entry is of the
-  -- kind, and `p` is its place
+  -- an entry names just the subtag exactly if its row has the subtag's number; `b` is whether the entry is of the kind,
+  -- and `p` is its place
   name_agrees : (p : ℕ) (k : Kind) (b : Bool) (name : EntryName) → FitsName k name
       → (b && is_named s name)
       ≡ matches nat_cmp (λ (w : Row). w.number) (number s) (cond b
@@ -128,13 +127,13 @@ module _ (R : List EntryParts) (kind : Kind) (rows : List Row) (s : List ℕ) (i
   name_agrees p k true (names.Single n) fits = sym (nats_equal (number n) (number s) ∙ numbers_equal n s (form_few k n fits) few)
   name_agrees p k _ _ fits = refl
 
-  -- the entry at a place of the registry names the subtag alone exactly if its row has the subtag's number
+  -- the entry at a place of the registry names just the subtag exactly if its row has the subtag's number
   agrees : (p : ℕ) (e : EntryParts) → slice_get R p ≡ Some e
       → is_it e ≡ matches nat_cmp (λ (w : Row). w.number) (number s) (single_row kind p e)
   agrees p e there = name_agrees p e.kind (same_kind e.kind kind) e.name (entry_at R forms p e there).name
 
-  -- the place that the rows give for the subtag's number `n` (`o`) is that of the first record that names the subtag
-  -- alone
+  -- the place that the rows give for the subtag's number `n` (`o`) is that of the first record that names just the
+  -- subtag
   pub single_at : (n : ℕ) (o : Option ℕ) → n ≡ number s → o ≡ place_of n rows → option_and_then (slice_get R) o ≡ find is_it R
   single_at n o is said =
       ap (option_and_then (slice_get R)) (said ∙ ap (λ m. place_of m rows) is)

@@ -158,7 +158,7 @@ IsSubtagsResult (Ok (names.Whole t)) = ⊥
 IsSubtagsResult (Err fault) = (fault ≡ faults.BadRange) ⊎ (fault ≡ faults.BadSubtag)
 IsSubtagsResult _ = Unit {0}
 
--- what is read as a subtag alone is a name or a fault as in `IsSubtagsResult`
+-- what is read as one subtag is a name or a fault as in `IsSubtagsResult`
 single_fits : (o : Option (List ℕ)) → IsSubtagsResult (single_of o)
 single_fits None = inr refl
 single_fits (Some n) = tt

@@ -259,7 +259,7 @@ module _ {W K : Type 0} {cmp : K → K → Ordering} (total : IsTotalOrder cmp) 
   -- `row` gives the row that an entry at a place has, if any
   module _ (row : ℕ → EntryParts → Option W) (placed : (p : ℕ) (e : EntryParts) (w : W) → row p e ≡ Some w
       → place w ≡ p) (R : List EntryParts) where
-    -- the rows of all entries (`raw`), sorted by key and place (`sorted`), of each key the first alone (`rows`), are an
+    -- the rows of all entries (`raw`), sorted by key and place (`sorted`), of each key only the first (`rows`), are an
     -- index
     pub indexed : (raw sorted rows : List W) → AreRows row place R (length R) raw → IsPermutation raw sorted
         → IsSorted row_cmp sorted → rows ≡ dedup same_key sorted → IsIndex row place key cmp R rows

@@ -101,14 +101,14 @@ abbrev pub is_named : List ℕ → EntryName → Bool
 is_named s (names.Single n) = bytes_eq n s
 is_named s _ = false
 
--- whether a record's name is a range that holds a subtag: one of the same length, of letters alone, from its first to
--- its last in letter order (RFC 5646, 3.1.4)
+-- whether a record's name is a range that holds a subtag. It holds each subtag of only letters that is as long as its
+-- ends and is from the first to the last of them in letter order (RFC 5646, 3.1.4).
 abbrev pub holds : List ℕ → EntryName → Bool
 holds s (names.Range a b) = (length s == length a) && (is_alphabetic s && (letters_le a s && letters_le s b))
 holds s _ = false
 
--- the entry of a subtag under a kind: the first record of the kind that names it alone, or, without such a record, the
--- first of the kind whose range holds it (RFC 5646, 3.1.4)
+-- the entry of a subtag under a kind: the first record of the kind that names just this subtag, or, without such a
+-- record, the first of the kind whose range holds it (RFC 5646, 3.1.4)
 abbrev pub entry : List EntryParts → Kind → List ℕ → Option EntryParts
 entry R k s =
     option_or (find (λ (e : EntryParts). same_kind e.kind k && is_named s e.name) R)

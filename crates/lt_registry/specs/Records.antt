@@ -129,7 +129,7 @@ range_of k (Ok a) (Ok b) = if is_range k a b then Ok (names.Range a b) else Err 
 range_of k (Ok a) (Err fault) = Err faults.BadRange
 range_of k (Err fault) other = Err faults.BadRange
 
--- the name that is this subtag alone, or BadSubtag if there is no subtag
+-- the name that is this one subtag, or BadSubtag if there is none
 abbrev pub single_of : Option (List ℕ) → Result EntryName RecordFaultKind
 single_of (Some s) = Ok (names.Single s)
 single_of None = Err faults.BadSubtag

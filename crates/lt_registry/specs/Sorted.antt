@@ -29,7 +29,7 @@ use Rattle.lt_registry.specs.declared.indexes.Indexes.{Indexes}
 abbrev pub rank : List ℕ → ℕ
 rank s = length s * 2 ^ 64 + number s
 
--- the number of the subtag that a name is, if it is one alone
+-- the number of the subtag that a name is; None if the name is not one subtag
 abbrev pub single_number : EntryName → Option ℕ
 single_number (names.Single s) = Some (number s)
 single_number _ = None
@@ -78,7 +78,7 @@ pub record AreStretches (rows : List RangeRow) (stretches : List Stretch) : Type
   pub rising : StartsRise stretches
   pub places : (rank : ℕ) → place_in None stretches rank ≡ first_within rows rank
 
--- the stretches say of each rank what the earlier ones say, or, where those say nothing, the later ones
+-- the stretches say of each rank what `earlier` says, or, if that says None, what `later` says
 pub record AreMerged (earlier later stretches : List Stretch) : Type 0 where
   pub rising : StartsRise stretches
   pub places : (rank : ℕ) → place_in None stretches rank ≡ option_or

@@ -19,9 +19,9 @@ use crate::subtag_numbers::rank_of;
 use lt_subtag::Subtag;
 use std::alloc::{AllocError, Global};
 
-/// The index of the records of one kind. `singles` has a row for each subtag that a record names alone: that of the
-/// first such record, in the order of the subtags. `starts` says where in `singles` the rows start whose subtags have
-/// the same `beginning`. `ranges` are the stretches of the ranges.
+/// The index of the records of one kind. `singles` has a row for each subtag that a record names by itself, in the
+/// order of the subtags; of several such records of a subtag the first counts. `starts` says where in `singles` the
+/// rows start whose subtags have the same `beginning`. `ranges` are the stretches of the ranges.
 #[derive(Debug, Drop)]
 pub(crate) struct KindIndex {
     kind: Kind,
@@ -78,9 +78,9 @@ impl KindIndex {
         entry_at(entries, place)
     }
 
-    /// The place of the record of a subtag alone, by the number of the subtag; None if there is none. It is looked for
-    /// only among the subtags with the same beginning, which are few. The numbers of the rows must rise, and the starts
-    /// must be theirs.
+    /// The place of the record that names just one subtag, by the number of this subtag; None if there is none. It is
+    /// looked for only among the subtags with the same beginning, which are few. The numbers of the rows must rise, and
+    /// the starts must be theirs.
     #[tactic(auto, using(crate::proofs::SpanLemmas::none_listed, crate::proofs::SpanLemmas::none_alike, crate::proofs::SpanLemmas::part_rises, crate::proofs::SpanLemmas::place_alike))]
     fn place(&self, number: u64) -> Option<usize>
         requires rising { sorted.RowsRise self.now.singles.items }

@@ -1,4 +1,4 @@
-//! Laws: what follows from the definitions alone. A law computes nothing and has no arguments; its clause speaks of
+//! Laws: what follows from just the definitions. A law computes nothing and has no arguments; its clause speaks of
 //! every list of entries `R` and every tag `t`, or of all the records of a file. A proper tag is valid, except that
 //! variants may occur twice in it.
 ghost use Rattle.std.specs.Prelude.{ℕ, ◌≡◌, ◌↔◌, List};

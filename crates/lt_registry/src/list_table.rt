@@ -45,7 +45,8 @@ impl Lookup for ListTable {
         self.registry.entries()
     }
 
-    /// The record of the subtag alone, or else that of a range, or None. Each entry is looked at in turn.
+    /// The first record that names just this subtag, or else the first range that holds it, or None. Each entry is
+    /// looked at in turn.
     fn entry(&self, kind: Kind, subtag: &Subtag) -> Option<&Entry> {
         let entries = self.registry.entries();
         single(entries, kind, subtag).or(range(entries, kind, subtag))

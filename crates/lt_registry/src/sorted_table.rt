@@ -11,8 +11,8 @@ use std::alloc::Global;
 use std::marker::Model;
 
 /// A table that finds entries by binary search: records of one subtag by this subtag, which is compared as a number,
-/// and whole records by their tags. A subtag that no record names alone is looked for among the ranges: the first of
-/// the file that holds it counts.
+/// and whole records by their tags. A subtag that no record names by itself is looked for among the ranges: the first
+/// of the file that holds it counts.
 #[derive(Debug)]
 pub struct SortedTable {
     registry: Registry,

@@ -168,7 +168,7 @@ module _ (A B : List EntryParts) (CA : IsChecked A) (CB : IsChecked B) (U : Upgr
 
   -- an entry with a value names one subtag
 
-  -- an entry of the subtag `s` that names no range names `s` alone
+  -- an entry of the subtag `s` that names no range names just `s`
   has_name : (s : List ℕ) (n : EntryName) → ((a b : List ℕ) → n ≡ names.Range a b → ⊥) → (is_named s n ≡ true)
       ⊎ (holds s n ≡ true) → n ≡ names.Single s
   has_name s (names.Single t) h (inl e) = ap names.Single ((bytes_eq-Decides t s).0 e)
@@ -342,7 +342,7 @@ module _ (A B : List EntryParts) (CA : IsChecked A) (CB : IsChecked B) (U : Upgr
 
   -- ---- the variant that a refusal of a newer registry names is one for a tag and for its old canonical form
 
-  -- after two extensions of a list change places, it still contains each of them
+  -- after two extensions of a list change places, the list still has each of its extensions
   swap_keeps : (es fs : List ExtensionParts) → ListStep false singleton_cmp es fs → All (Contains fs) es
   swap_keeps es fs (by_swap before a b after s) =
       All-from_recursion (Contains fs) es
