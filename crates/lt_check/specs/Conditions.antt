@@ -1,5 +1,6 @@
 -- The conditions C9 to C11, each on a record among all; and the check of the twelve, which a registry passes if each of
--- its records meets each condition.
+-- its records meets each condition. A whole record names a whole tag. A core is alone in a langtag that has no
+-- extensions and no private use. Its core normal form is where steps on it lead when no more can be made.
 use Rattle.std.specs.Prelude.{ℕ, ◌≡◌, ◌≢◌, ◌<◌, ◌≤◌, ◌⊎◌, List, Some, None, All, Contains}
 use Rattle.lt_tag.specs.Parts.{CoreParts, TagForm}
 use Rattle.lt_registry.specs.Parts.{EntryParts}

@@ -26,11 +26,11 @@ fn is_entry(found: Option<&Entry>, entry: &Entry) -> bool
     }
 }
 
-/// Whether a record's name is new. A range is if it is not in `seen`; a subtag is if its flag was clear; any other name
-/// is if a look-up by it finds the record itself, and so is a subtag. The flag of the record's subtag is then set
-/// (`flags`), or its range added to `seen` (`seen`). Numbers must rise, so that earlier records are those of lower
-/// numbers. The record must be one of the table's (`there`), and `flags` must have its 8,655 words ([`WORDS`]), in
-/// which the flags of the subtags of the records before are set. Refused only where memory runs out.
+/// Whether a record's name is new. A range is new if it is not in `seen`. Any other name is new if a look-up of it
+/// finds the record itself; of a subtag whose flag was clear no look-up is made. The flag of the record's subtag is
+/// then set (`flags`), or its range added to `seen` (`seen`). Numbers must rise, so that earlier records are those of
+/// lower numbers. The record must be one of the table's (`there`), and `flags` must have its 8,655 words ([`WORDS`]),
+/// in which the flags of the subtags of the records before are set. Refused only where memory runs out.
 fn is_new<L: Lookup>(
     table: &L,
     flags: &mut [u64],

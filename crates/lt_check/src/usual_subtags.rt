@@ -97,8 +97,8 @@ fn has(words: &[u64], place: usize) -> bool
 }
 
 /// Sets the flag of a subtag, for C1, and tells whether it was clear before. False of a subtag without a place. There
-/// must be 8,655 words. The flags that were set stay so (`kept`), and that of the subtag is set (`marked`): so at each
-/// record the flags of those before are.
+/// must be 8,655 words. The flags that were set stay so (`kept`), and that of the subtag is set (`marked`), so that at
+/// each record the flags of the records before it are set.
 #[tactic(auto, using(crate::proofs::OwnNames::flag_kept, crate::proofs::OwnNames::flag_set))]
 pub(crate) fn mark(words: &mut [u64], kind: Kind, subtag: &Subtag) -> bool
     requires { length words.old ≡ 8655 }

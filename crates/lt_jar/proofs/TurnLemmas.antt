@@ -1,5 +1,5 @@
--- What a line does to the record that goes on; and what is known at each turn of the loop of `Engine::take`, which
--- takes one line of a piece.
+-- What a line does to the record that goes on; and what is known at each turn of the loop of `Engine::take`, where a
+-- turn takes one line of the piece.
 use Rattle.std.proofs.Common.{◌≡◌, ◌≢◌, Bool, true, false, if◌then◌else◌, ◌∙◌, ◌≤◌, ◌<◌, ◌+◌, ◌∷◌, ℕ, zero, suc, List}
 use Rattle.std.proofs.Common.{[], Result, Ok, Err, refl, sym, ap, length, get_or, arith, nat_lt, MatchResult, ◌⊎◌, inl}
 use Rattle.std.proofs.Common.{inr, ◌++◌, subst, append_assoc, append-nil, add-zero, length-append}

@@ -202,8 +202,9 @@ impl JarSource {
         }
     }
 
-    /// Moves to the next record, and tells whether there is one; if there is none, the text has ended. After a fault
-    /// the answer is `Failed`, with that fault's line.
+    /// Moves to the next record, and tells whether there is one; if there is none, the text has ended. Refused as
+    /// `read_record` is, with the number of the line that was being read. After a fault the answer is `Failed`, with
+    /// that fault's line.
     pub(crate) fn advance<R: Read>(
         &mut self,
         alloc: Global,

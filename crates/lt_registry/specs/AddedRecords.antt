@@ -1,4 +1,5 @@
--- What each further record adds to the entries of those before it. No public contract cites this.
+-- What each further record adds to the entries of those before it, and to the draft, which is the registry that is
+-- being read. No public contract cites this.
 use Rattle.std.specs.Prelude.{ℕ, ◌≡◌, ◌+◌, ◌⊎◌, Bool, true, false, List, [], ◌∷◌, ◌++◌, Option, Some, None, Result, Ok}
 use Rattle.std.specs.Prelude.{Err}
 use Rattle.lt_jar.specs.Records.{Field}

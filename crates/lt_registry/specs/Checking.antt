@@ -73,7 +73,7 @@ variants_check R may_repeat place before (v ∷ after) =
     and_then (variant_check R may_repeat place before v)
     (variants_check R may_repeat (place + 1) (before ++ v ∷ []) after)
 
--- the check of a core that begins after `start` subtags, where variants may repeat or may not
+-- the check of a core that begins after `start` subtags; variants that repeat are no fault if `may_repeat` is true
 unfoldable pub core_check : List EntryParts → Bool → ℕ → CoreParts → Check
 core_check R may_repeat start c =
     and_then (language_check R start c.language)

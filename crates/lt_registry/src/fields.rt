@@ -24,7 +24,7 @@ fn same_text(left: &str, right: &str) -> bool
     left.eq_ignore_ascii_case(right)
 }
 
-/// Whether a field has a name, letter case aside.
+/// Whether a field has this name, letter case aside.
 pub(crate) fn is_called(field: &JarField, name: &str) -> bool
     ensures { result ≡ record_words.is_called name.now field.now }
 {

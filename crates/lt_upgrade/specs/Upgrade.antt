@@ -1,5 +1,6 @@
 -- The six conditions on an upgrade from an older registry A to a newer one B: the fifth on each record of B, the others
--- on each record of A.
+-- on each record of A. The chain of a subtag goes to its value, to the value of that, and so on, to its end. The
+-- replacement of an extlang is its value, or else the extlang.
 use Rattle.std.specs.Prelude.{ℕ, ◌≡◌, ◌<◌, ◌≤◌, true, false, List, Option, Some, All, Contains, length, unwrap_or}
 use Rattle.lt_tag.specs.Parts.{TagForm}
 use Rattle.lt_registry.specs.Parts.{EntryParts}
