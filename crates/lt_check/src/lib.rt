@@ -2,8 +2,8 @@
 //! 2.2.8 and 3.1). And the *usual* subtags of a registry: the languages of 2 or 3 letters, the scripts and the regions
 //! that *stay*, which means that canonicalization leaves them as they are. A langtag of only such subtags is shown
 //! without a look into the registry (RFC 5646, 4.5). A usual subtag has its *flag* set, at the place that its bytes
-//! tell. A subtag that only a range names has none, and neither has a language if a record gives a value to a tag of
-//! this language without extlangs and variants, so that nothing need be looked up. A program begins with the crate
+//! tell. The flag is clear for a subtag that only a range names, and for a language if a record gives a value to a tag
+//! of this language without extlangs and variants, so that nothing need be looked up. A program begins with the crate
 //! `bcp47`, whose `Registry` has passed the check. The flags take 8,655 words of 64 bits, for 553,913 places.
 //!
 //! Words of this crate: a *record* is an entry of the table, `L.listed table.now` are all of them, and its *value* is

@@ -25,7 +25,7 @@ pub(crate) struct Shown {
     pub(crate) bytes: [u8; 12],
 }
 
-/// `bytes`, of which the first `count` are shown, as what follows the language, if the test `holds`; else None.
+/// What follows the language: `bytes`, of which the first `count` are shown. None if the test `holds` is false.
 #[inline(always)]
 fn after_if(holds: bool, count: usize, bytes: [u8; 9]) -> Option<AfterLanguage>
     ensures { result ≡ shown.after_if holds count bytes }

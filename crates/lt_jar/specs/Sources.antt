@@ -132,7 +132,7 @@ pub record LendsEnded {R : Type 0} (old new : JarSource)
   pub last_gave : LastGave old before → LastGave new after
   pub status : new.status ≡ state.Open
 
--- The text ended. The bytes that were kept and those that were read have no fault and are these records, one or none.
+-- The text ended. The bytes that were kept and those that were read have no fault and have these records, one or none.
 -- `old` and `new` are the source, `after` is its device at the end, and `read` are the bytes that were read.
 pub record LendsLast {R : Type 0} (remaining : R → Option (List ℕ)) (old new : JarSource)
     (after : Device R) (read : List ℕ) (records : List (List Field)) : Type 0 where

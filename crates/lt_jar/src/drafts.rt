@@ -1,5 +1,5 @@
 //! The record that is being read. A field is written over one of the record before, so that a registry is read without
-//! an allocation for each. What a reader keeps grows to the longest bodies that came.
+//! an allocation for each field. What a reader keeps grows to the longest bodies that came.
 //!
 //! A contract speaks of the fields of the record so far, `take count fields.items`. `IsTaken result said fields` says
 //! that the answer is what the definition computes (`said`), after which the record has these fields; or it is
@@ -156,8 +156,8 @@ impl Draft {
     }
 
     /// What the body begins with, if the line begins a field with the name that the field in its place had in the
-    /// record before: it is there already, and not written again. None for any other line, and for some that write such
-    /// a field in another way, for example with a space before the colon.
+    /// record before. The name is there already then, and is not written again. None for any other line, and for some
+    /// that write such a field in another way, for example with a space before the colon.
     #[inline(always)]
     fn body_again<'l>(&self, line: &'l str) -> Option<&'l str>
         ensures { IfSome result (λ body. reading.BeginsAgain self.now.count self.now.fields.items line.now body.now) }

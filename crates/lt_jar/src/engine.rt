@@ -1,5 +1,5 @@
 //! The engine that reads records from pieces of a text. A contract speaks of the fields of the record so far as
-//! `fields_in` it, and of the bytes that are kept of a line as `partial`.
+//! `fields_in` the engine, and of the bytes that are kept of a line as `partial`.
 ghost use Rattle.std.specs.Prelude.{◌≤◌, vec_len};
 
 use crate::drafts::{Draft, LONGEST_LINE, Progress};

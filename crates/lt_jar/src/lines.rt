@@ -1,5 +1,5 @@
 //! How a text is cut into lines, and what a line is: blank, a separator, a continuation, the start of a field, or bad.
-//! A contract sees that by `line_in`.
+//! A contract sees the kind of a line by `line_in`.
 ghost use Rattle.std.specs.Prelude.{◌≡◌, ◌<◌, ◌≤◌, ◌∷◌, length, IfSome, MatchOption};
 ghost use Rattle.std.specs.List.{list_all};
 ghost use Rattle.lt_jar.specs.Lines.{content_of, lines_of};

@@ -78,9 +78,9 @@ impl KindIndex {
         entry_at(entries, place)
     }
 
-    /// The place of the record that names just one subtag, by the number of this subtag; None if there is none. It is
-    /// looked for only among the subtags with the same beginning, which are few. The numbers of the rows must rise, and
-    /// the starts must be theirs.
+    /// The place of the first record that names just the subtag of this number; None if there is none. It is looked for
+    /// only among the subtags with the same beginning, which are few. The numbers of the rows must rise, and the starts
+    /// must be theirs.
     #[tactic(auto, using(crate::proofs::SpanLemmas::none_listed, crate::proofs::SpanLemmas::none_alike, crate::proofs::SpanLemmas::part_rises, crate::proofs::SpanLemmas::place_alike))]
     fn place(&self, number: u64) -> Option<usize>
         requires rising { sorted.RowsRise self.now.singles.items }

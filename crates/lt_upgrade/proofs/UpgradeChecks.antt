@@ -235,7 +235,7 @@ module _ (R : List EntryParts) (C : IsChecked R) where
   whole_distinct e c t u n o =
       ((whole_replaced e c t u n o).0.distinct, (All-contains (HasValidWhole R) R e C.passes.valid_whole c t u n o).0.valid.distinct)
 
-  -- a tag that is replaced whole by a value and that value reach one canonical tag
+  -- a tag that has a value as a whole, and this value, reach one canonical tag
   pub value_meets : (t u : TagForm) → whole_value R t ≡ Some u → MeetInCanonical R t u
   value_meets t u e =
       let w = valued_whole R t u e in

@@ -7,8 +7,8 @@ use Rattle.lt_rewrite.specs.TagSteps.{AreEquivalent, CanRepeat}
 use Rattle.lt_canon.specs.Answers.{IsCanonicalFormOf, IsNamedRepeat}
 
 -- After an upgrade from A to B, valid tags are valid and equivalent tags equivalent. A tag and its old canonical form
--- have the same new canonical form, or both can repeat a variant, and a refusal names the same one. `t` and `u` are
--- tags, `c` is the old canonical form of `t`, `d` a new one, and `v` a variant.
+-- have the same new canonical form; or steps lead from both to a tag in which a variant occurs twice, and a refusal
+-- names the same variant. `t` and `u` are tags, `c` is the old canonical form of `t`, `d` a new one, and `v` a variant.
 pub record UpgradeKeepsTags (A B : List EntryParts) : Type 0 where
   pub valid : (t : TagForm) → IsValid A t → IsValid B t
   pub equivalent : (t u : TagForm) → IsProper A t → IsProper A u → AreEquivalent A t u → AreEquivalent B t u
