@@ -1,5 +1,6 @@
--- `Decides b P` says that the Boolean `b` is true exactly if `P` is. Tests that decide so: of each element of a list,
--- and whether two lists are equal. And tests of equality that are true of an extension or a tag and itself.
+-- `Decides b P` says that the Boolean `b` is true exactly if `P` is. Tests that decide whether a property is true of
+-- each element of a list, and whether two lists of subtags are equal. And tests of equality that give true for an
+-- extension or a tag and itself.
 use Rattle.std.proofs.Common.{◌≡◌, ℕ, Bool, true, List, [], ◌∷◌, refl, bytes_eq, All}
 use Rattle.std.specs.Bool.{Decides}
 use Rattle.std.specs.List.{AllByRecursion, list_all}

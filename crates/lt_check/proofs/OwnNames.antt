@@ -1,6 +1,6 @@
--- What C1 needs. A record has its name alone if no earlier record *clashes* with it: has the same kind and name, or the
--- same whole tag. So it is if a look-up of the name finds the record itself, if its range is not among those of the
--- records before it, or if the flag of its subtag was not yet set.
+-- What C1 needs. Two records *clash* if they have the same kind and name, or the same whole tag, and a record has its
+-- name alone if no earlier record clashes with it. It does if a look-up of the name finds the record itself, if its
+-- range is not among those of the records before it, or if the flag of its subtag was not yet set.
 use Rattle.std.proofs.Common.{◌≡◌, ◌↔◌, ◌⊎◌, inl, inr, ℕ, zero, suc, ◌+◌, ◌<◌, ◌≤◌, Bool, true, false, ◌==◌}
 use Rattle.std.proofs.Common.{if◌then◌else◌, cond, ◌&&◌, List, [], ◌∷◌, length, Option, Some, None, refl, sym, ap, ◌∙◌}
 use Rattle.std.proofs.Common.{subst, arith, IsTrue, Contains, Result, Ok, Err, IfOk, OnOk, find}

@@ -1,7 +1,7 @@
 -- What a loop that takes one record of a reader after another knows at each turn and at its end, whatever it makes of
--- the records: `IsMade` says that. `remaining` is what a device has left to read; `first` is the reader at the start,
--- `old` and `new` are it before and after a call; `before` is the device at the start, `now` and `after` are it before
--- and after that call.
+-- the records: `IsMade` says what this is. `remaining` is what a device has left to read; `first` is the reader at the
+-- start, `old` and `new` are it before and after a call; `before` is the device at the start, `now` and `after` are it
+-- before and after that call.
 use Rattle.std.proofs.Common.{◌≡◌, ℕ, ◌+◌, ◌<◌, ◌≤◌, true, false, List, [], ◌∷◌, ◌++◌, length, Option, refl, sym, ◌∙◌}
 use Rattle.std.proofs.Common.{arith, ◌⊎◌, inl, inr, subst, length-append, Ok, Err, append-nil}
 use Rattle.std.specs.Io.KnownBytes.{IsAtEnd}

@@ -89,7 +89,7 @@ no_bad_tag r k (names.Whole t) h (s, there, is) f =
     f.5 t (subst (λ z. HasTag z t) same is.1)
 no_bad_tag r k _ h (s, there, is) f = cc (ap is_whole_kind (one_kind r k f.0 h f.2) ∙ f.3, is.0)
 
--- if a record has the text `s` as its Preferred-Value, `v`, which this gives, is a value and not None
+-- if `v` is what a Preferred-Value of the text `s` gives, then this text gives a value
 value_there : (k : Kind) (s : List ℕ) (v : Option EntryValue) → IsValueOf k (Some s) v → (w : EntryValue) × IsValue k s w
 value_there k s None is = absurd is
 value_there k s (Some v) is = (v, is)

@@ -1,5 +1,5 @@
--- What is true of each element of a list, or of each two, shown for all ways to split the list around them: so
--- `ValidityLaws` goes from the records of a fault, which split lists, to properties of whole lists, and back.
+-- What is true of each element of a list, or of each pair of its elements, shown by all ways to split the list around
+-- them. Faults are stated by such splits, and validity by properties of whole lists, so `ValidityLaws` needs both.
 use Rattle.std.proofs.Common.{◌≡◌, ◌≢◌, List, [], ◌∷◌, ◌++◌, refl, sym, ap, ◌∙◌, subst}
 use Rattle.std.specs.Prelude.{map}
 use Rattle.std.specs.List.{AllByRecursion}

@@ -21,7 +21,7 @@ use Rattle.lt_registry.specs.declared.faults.ValidFaultKind.{ValidFaultKind}
 use Rattle.lt_registry.specs.declared.faults.ValidFaultKind.TheVariants as faults
 use Rattle.lt_registry.proofs.SplitListLemmas.{all_from, all_at, distinct_from, distinct_at, distinct_map_from, distinct_map_at}
 
--- `P` is true of the value of an option, if it has one, if `P` is true of each value that it can have
+-- if `P` is true of each value that an option can have, it is true of its value, if there is one
 if_some : {A : Type 0} (P : A → Type 0) (o : Option A) → ((s : A) → o ≡ Some s → P s) → IfSome o P
 if_some P None f = tt
 if_some P (Some s) f = f s refl

@@ -362,8 +362,7 @@ differing_after R p before (v ∷ after) d n =
     ∙ ap (λ b. and_then (and_then (unless (is_registered R kinds.Variant v) faults.UnknownVariant p)
     (unless (not b) faults.DuplicateVariant p)) (variants_check R false (p + 1) (before ++ v ∷ []) after)) (sym n.0)
 
--- distinct variants may be checked as if variants could repeat: `d`, which is true only of distinct ones, may then be
--- true
+-- the check answers the same if variants may repeat also where `d` is true, since `d` is true only of distinct variants
 pub differing_pass : (R : List EntryParts) (r : Bool) (p : ℕ) (vs : List (List ℕ)) (d : Bool) → (d ≡ true → Distinct vs)
     → variants_check R (r || d) p [] vs ≡ variants_check R r p [] vs
 differing_pass R true p vs d h = refl
