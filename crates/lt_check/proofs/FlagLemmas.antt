@@ -129,13 +129,13 @@ is_place _ _ = tt
 placed : (k : Kind) (s : List ℕ) (n : ℕ) → place k s ≡ Some n → IsPlace k s n
 placed k s n h = subst (λ o. IfSome o (IsPlace k s)) h (is_place k s)
 
--- `t` of kind `j` has the form of its kind and the place of `s` of kind `k`: the kinds are one, and `s` in lower case
--- is `t`
+-- if `t` of kind `j` has the form of its kind and the place of `s` of kind `k`, then the kinds are the same, and `s` in
+-- lower case is `t`
 alike : (j k : Kind) (t s : List ℕ) (n : ℕ) → has_form j t ≡ true → place j t ≡ Some n → place k s ≡ Some n
     → (same_kind j k && bytes_eq t (folded s)) ≡ true
 alike j k t s n form g h = let p = placed j t n g in let q = placed k s n h in grind (arith, same_bytes, same_kind_itself, bytes_eq-Decides)
 
--- `s` in lower case is `t`, and the kinds are one: then `t` has the place of `s`
+-- if `s` in lower case is `t`, and the kinds are the same, then `t` has the place of `s`
 kept : (j k : Kind) (t s : List ℕ) (n : ℕ) → place k s ≡ Some n → (same_kind j k && bytes_eq t (folded s)) ≡ true → place j t ≡ Some n
 kept j k t s n h y = let p = placed k s n h in grind (arith, same_kind_is, bytes_eq-Decides)
 

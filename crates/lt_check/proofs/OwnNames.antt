@@ -217,7 +217,8 @@ flag_kept words old place n put set = put n ∙ either (n == place)
     either true = refl
     either false = set
 
--- the subtags of the records before it are marked, and a record's own flag was clear: so it has its name alone
+-- if the subtags of the records before the record `e` are marked, and the flag of its own subtag was clear, then `e`
+-- has its name alone
 pub clear_own : (R : List EntryParts) (e : EntryParts) (s words : List ℕ) → e.name ≡ names.Single s
     → AreMarked R e words → WasClear words e.kind s → HasOwnName R e
 clear_own R e s words single marked w f there low clash = elim clash [

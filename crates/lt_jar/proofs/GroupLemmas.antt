@@ -288,7 +288,8 @@ parsed-texts [] lines groups e = e
 parsed-texts (text ∷ texts) lines groups e = ap (λ (p : Parsed). let q : Parsed = (text ∷ p.0, p.1) in q)
     (parsed-texts texts lines groups e)
 
--- the lines of a group in front of others: its fields come in front of the first group of those
+-- the lines of a group, in front of lines that are parsed to groups, put its fields in front of the first of these
+-- groups
 parsed-group : (group : List Written) (lines : List Line) (next : List Written) (groups : List (List Written))
     → parsed lines ≡ (let p : Parsed = ([], next ∷ groups) in p)
     → parsed (lines_of_group group ++ lines) ≡ (let p : Parsed = ([], (group ++ next) ∷ groups) in p)

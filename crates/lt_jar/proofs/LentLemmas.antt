@@ -41,7 +41,7 @@ pub record Behind (lines : List (List ℕ)) (records : List (List Field)) (earli
   pub counted : earlier ≡ length records
   pub line_is : line ≡ length lines + 1
 
--- no lines, no records, and the next line is line 1
+-- at the start there are no lines and no records, and the next line is line 1
 pub behind_none : Behind [] [] 0 1
 behind_none = record {
   each = tt;
@@ -51,7 +51,7 @@ behind_none = record {
   line_is = refl;
 }
 
--- the lines of a text that begins with lines as in `Behind`: they, and those of the rest
+-- a text that begins with lines as in `Behind` has these lines, and then those of the rest
 pub lines_behind : {lines : List (List ℕ)} {records : List (List Field)} {earlier line : ℕ} {text : List ℕ} (rest : List
     ℕ) → Behind lines records earlier line → text ≡ whole_lines lines ++ rest → lines_of text ≡ lines ++ lines_of rest
 lines_behind {lines} rest front bytes = ap lines_of bytes ∙ lines_of-whole lines rest front.each

@@ -21,7 +21,7 @@ front_bytes (suc k) (x ∷ xs) h (suc i) = front_bytes k xs (λ m. h (suc m)) i
 part_bytes : (k i : ℕ) (xs : List ℕ) → AreBytes xs → AreBytes (take k (drop i xs))
 part_bytes k i xs h = front_bytes k (drop i xs) (λ j. subst (λ b. b < 256) (sym (get_or-drop i xs j 0)) (h (i + j)))
 
--- k elements from the index i on are k where the list has so many
+-- a list of at least i + k elements has k from the index i on
 part_long : (k i : ℕ) (xs : List ℕ) → i + k ≤ length xs → length (take k (drop i xs)) ≡ k
 part_long k i xs room = length-take-le k (drop i xs) (omega (arith, length-drop i xs))
 

@@ -3,11 +3,11 @@ use Rattle.std.proofs.Common.{◌≡◌, ℕ, ◌+◌, ◌<◌, List, [], ◌∷
 use Rattle.std.proofs.Math.Seq.{drop-cons}
 use Rattle.std.proofs.lemmas.List.{take_more, take-append-drop}
 
--- the element at an index is first in what is left there
+-- from an index on, a list is the element there and what comes after it
 pub drop_turn : {A : Type 0} (xs : List A) (i : ℕ) (x : A) → i < length xs → x ≡ get_or xs i x → drop i xs ≡ x ∷ drop (i + 1) xs
 drop_turn xs i x l e = drop-cons xs i x l ∙ rw (add-one i, ← e) refl
 
--- a list around the element at an index
+-- a list is the elements before an index, the element there, and what comes after it
 pub whole_turn : {A : Type 0} (xs : List A) (i : ℕ) (x : A) → i < length xs → x ≡ get_or xs i x → xs ≡ take i xs ++ x ∷ drop (i + 1) xs
 whole_turn xs i x l e = sym (ap (λ zs. take i xs ++ zs) (sym (drop_turn xs i x l e)) ∙ take-append-drop i xs)
 

@@ -180,7 +180,7 @@ in_front rows n j w there =
           ∙ ap Some (sym (get_or-take n rows j w bound) ∙ get_or_from_slice_get (take n rows) j w w there),
     )
 
--- a row after the first `n` is `n` further among all
+-- the row at the index `j` after the first `n` rows is at the index `n + j` among all
 behind : (rows : List Row) (n j : ℕ) (w : Row) → slice_get (drop n rows) j ≡ Some w → slice_get rows (n + j) ≡ Some w
 behind rows n j w there =
     let within : j < length (drop n rows) = slice_get_within (drop n rows) j w there in

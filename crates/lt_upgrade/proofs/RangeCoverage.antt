@@ -87,8 +87,8 @@ contained a b v w first last h =
 abbrev IsBefore : RangeRow → RangeRow → Type 0
 IsBefore v w = (is_up_to v.first w.first ≡ true) × (is_up_to v.last w.last ≡ true)
 
--- what is kept of `v` and the ranges after it, `v` first: they hold what all hold, come after what is before `v`, and
--- rise
+-- `kept` is what stays of the range `v` and of `rows` after it: it holds what all of them hold (`held`), comes after
+-- what is before `v` (`after`), and rises (`rise`)
 record AreWidest (v : RangeRow) (rows kept : List RangeRow) : Type 0 where
   held : (a b : RangeEnd) → list_any (contains a b) kept ≡ list_any (contains a b) (v ∷ rows)
   after : (u : RangeRow) → IsBefore u v → AllByRecursion (IsBefore u) kept
