@@ -13,8 +13,8 @@ pub enum Condition {
     RegisteredValue,
     /// C3: the chain of values that begins with the value of a language, script, region or variant ends.
     EndingChain,
-    /// C4: an extlang is one subtag with one Prefix of one subtag, a registered language without a value;
-    /// itself and its replacement are registered languages whose chains end alike.
+    /// C4: an extlang is one subtag with one Prefix of one subtag, a registered language without a value; it and its
+    /// replacement, which is its value or else itself, are registered languages whose chains have the same end.
     FittingExtlang,
     /// C5: the value of a variant is registered: one of 2 or 3 letters as a language, a longer one as a
     /// variant, whose own value, if any, is no language.
@@ -24,8 +24,8 @@ pub enum Condition {
     FinalPrefixes,
     /// C7: each Prefix of a variant is a langtag without extensions and private use.
     LangtagPrefixes,
-    /// C8: a grandfathered record names one of the 26 tags (RFC 5646, 2.2.8), and no record makes a regular one
-    /// of them valid, read as a langtag: the entry of its second subtag would be at fault.
+    /// C8: a grandfathered record names one of the 26 tags (RFC 5646, 2.2.8), and no record makes a regular one of
+    /// them, such as `zh-min`, valid when it is read as a langtag: the entry of its second subtag would be at fault.
     FittingGrandfathered,
     /// C9: if a whole record has a value, this is a valid langtag without extensions and private use; and so is the
     /// record's tag, if it is redundant.
