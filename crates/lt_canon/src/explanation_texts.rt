@@ -39,7 +39,7 @@ fn append_step(
 
 /// The lines of an explanation, each of which is made when it is asked for (RFC 5646, 4.5), so that they are not all in
 /// memory at once. A contract sees what is *left* of the explanation: the tag `here`, the steps from there, and the
-/// last tag. Each value keeps that these steps lead from `here`, which is proper, to that tag.
+/// last tag. It always holds that these steps lead from `here`, which is proper, to that last tag.
 pub struct ExplanationLines<'t, L: Lookup> {
     table: &'t L,
     /// The tag to which the steps led that were taken.
@@ -50,7 +50,7 @@ pub struct ExplanationLines<'t, L: Lookup> {
     taken: usize,
 }
 
-// Written by hand: the proof of a function that drops these lines then has this one call to go through, and not the drop
+// Written by hand: the proof of a function that drops these lines goes through this one call, and not through the drop
 // of each vector.
 impl<L: Lookup> Drop for ExplanationLines<'_, L> {
     fn drop(self) {
@@ -101,8 +101,8 @@ impl<'t, L: Lookup> ExplanationLines<'t, L> {
     /// may have been appended.
     #[tactic(auto, using(crate::proofs::LinesLeft::step_leads))]
     pub fn append_line(&mut self, alloc: Global, lines: &mut Vec<u8>) -> Result<bool, OutOfMemory>
-        // `line`: that of the first step that was left, or the last line. `kept` is only on `self`, since a part of the
-        // line may be in `lines`.
+        // `line`: the line is that of the first step that was left, or the last line. `kept` speaks only of `self`,
+        // since `lines` may have a part of the line.
         ensures line { IfOk result (λ more. AppendsLine self.old self.new lines.old.items lines.new.items more) }
         ensures kept { OnErr result (self.new ≡ self.old) }
     {

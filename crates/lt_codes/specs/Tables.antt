@@ -45,7 +45,7 @@ AddLines before [] codes = codes ≡ before
 AddLines before (line ∷ lines) codes =
     (more : List Code) × AddsLine before (content_of line) (Ok more) × AddLines (before ++ more) lines codes
 
--- the most bytes of a table: 1 MiB (this project's own)
+-- the most bytes of a table: 1 MiB (a rule of this project)
 abbrev pub longest_table : ℕ
 longest_table = 1048576
 
