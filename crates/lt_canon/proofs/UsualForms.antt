@@ -1,4 +1,6 @@
--- Langtags whose subtags stay as they are, which are their own canonical forms.
+-- For a core without extlangs and variants the short test `core_valued` finds the first fault of the tag, or whether a
+-- subtag has a value: `canonical` needs this. A langtag whose subtags *stay* as they are is its own canonical form:
+-- `append_usual_text` needs this. At the end are the laws of traces.
 use Rattle.std.proofs.Common.{◌≡◌, ℕ, inr, List, [], ◌∷◌, ◌++◌, Some, None, refl, sym, ap, ◌∙◌, subst, false, arith}
 use Rattle.std.proofs.Common.{Bool, Err, Ok, All, rules}
 use Rattle.std.specs.Prelude.{MatchResult, Result}
@@ -42,7 +44,7 @@ use Rattle.lt_canon.specs.TraceLaws.{TracesReachTheirEnd, TracesHaveOneEnd}
 use Rattle.lt_canon.proofs.CanonicalForms.{settled_canonical}
 
 -- on a core without extlangs and variants the short test `core_valued` finds the fault that `core_check` finds, or none
--- as that does
+-- if that finds none
 usual_told : (R : List EntryParts) (c : CoreParts) → IsUsual c → (r : Result Bool ValidFault) → core_valued R c ≡ r
     → MatchResult r (λ _. core_check R false 0 c ≡ Ok tt) (λ fault. core_check R false 0 c ≡ Err fault)
 unfolding core_valued core_check variants_check
@@ -117,7 +119,8 @@ module _ (R : List EntryParts) (text : List ℕ) (c : CoreParts) (stay : StaysAs
       (usual_settled R (core_alone c) c usual refl value valued)
       (inr (record { none = λ _. grind (arith, no_value); same = refl }))
 
--- the text of the canonical form of the tag that `text` is read as was appended to `old`, so its canonical text was
+-- if the text of the canonical form of the tag that `text` is read as was appended to `old`, the canonical text of
+-- `text` was appended
 pub appended : (R : List EntryParts) (text : List ℕ) (tag form : TagForm) (old new : List ℕ) → HasTag text tag
     → IsCanonicalFormOf R tag form
     → new ≡ old ++ conventional (spell form) → AppendsCanonicalText R text old new

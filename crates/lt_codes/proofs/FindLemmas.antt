@@ -1,4 +1,5 @@
--- What is found in a list of codes.
+-- Lemmas on `find`, which gives the first element that passes a test, and on the places of elements in a list with one
+-- more at its end. The index of a table (IndexLemmas) needs them.
 use Rattle.std.proofs.Common.{◌≡◌, ◌++◌, ◌∙◌, ℕ, Bool, true, List, [], ◌∷◌, inl, inr, refl, sym, ap, length, Some}
 use Rattle.std.specs.Prelude.{find, slice_get, zero, suc}
 use Rattle.std.specs.List.{All}

@@ -1,4 +1,5 @@
--- The places of the codes of a table: at the number of each three letters, the place of the first such code, from 1.
+-- A table has, at the number of each three letters, the place of the first code that they are, counted from 1 (or 0).
+-- `CodeTable::push` keeps this when it adds a code, and so `registered` finds the first code that is a text.
 use Rattle.std.proofs.Common.{◌≡◌, ◌≢◌, ◌<◌, ◌-◌, ◌++◌, ◌∙◌, ◌⊎◌, ℕ, true, false, List, [], ◌∷◌, inl, inr, refl, sym}
 use Rattle.std.proofs.Common.{ap, arith, subst, length, Some, None, get_or, set, replicate, length-set}
 use Rattle.std.specs.Prelude.{Option, slice_get, zero, suc, bytes_eq, IsSome}

@@ -1,4 +1,5 @@
--- The numbers of texts of three letters.
+-- Texts of three letters have the same number exactly if they differ only in letter case: so a code can be looked up by
+-- the number of a text.
 use Rattle.std.proofs.Common.{◌≡◌, ◌≤◌, ◌<◌, ◌+◌, ◌-◌, ◌*◌, ◌∙◌, ℕ, true, List, [], ◌∷◌, inl, inr, refl, sym, arith, Some, None}
 use Rattle.std.specs.Prelude.{Option}
 use Rattle.std.specs.Char.{is_ascii_alphabetic, to_ascii_lowercase}

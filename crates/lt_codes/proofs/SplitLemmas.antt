@@ -1,4 +1,5 @@
--- What is before the first of some byte in a text, and after it.
+-- A text is cut at the first of some byte, as `split_first` does: at hyphens for ranges and first subtags, at vertical
+-- bars for the fields of a line, and at line feeds for the lines of a text.
 use Rattle.std.proofs.Common.{◌≡◌, ◌≢◌, ◌<◌, ◌+◌, ◌++◌, ◌==◌, ◌&&◌, ◌∙◌, ℕ, false, List, [], ◌∷◌, refl, sym, ap, arith}
 use Rattle.std.proofs.Common.{length, take, drop, length-append, suc}
 use Rattle.std.specs.Prelude.{is_some}

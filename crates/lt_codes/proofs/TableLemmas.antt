@@ -1,4 +1,5 @@
--- Reading the lines of a table.
+-- The loop of `CodeTable::from_bytes` over the lines of a text: the codes of the lines so far are in the table, until
+-- all lines are read or one is refused. A line adds the codes of its row, or has the fault that is answered.
 use Rattle.std.proofs.Common.{◌≡◌, ◌≤◌, ◌<◌, ◌+◌, ◌++◌, ◌&&◌, ◌∙◌, ℕ, Bool, true, false, List, [], ◌∷◌, refl, sym, ap}
 use Rattle.std.proofs.Common.{arith, subst, length, append_assoc, append-nil, length-append, Some, None}
 use Rattle.std.specs.Prelude.{Option, Result, Ok, Err}

@@ -1,5 +1,5 @@
--- The tags of which a service serves one: what the loop over their texts adds and refuses, and that the spelling does
--- not matter.
+-- The loop of `Available::of_texts` adds the list of subtags of each text, or is refused at the first text that has
+-- none. Texts of equivalent tags have equal lists, so it doesn't matter how the tags are spelled.
 use Rattle.std.proofs.Common.{◌≡◌, ◌<◌, ◌+◌, ◌++◌, ◌∷◌, ◌∙◌, Bor, ℕ, inl, List, [], get_or, length, map, sym, ap, subst, arith}
 use Rattle.std.proofs.lemmas.List.{get_or_append_left, get_or_default, get_or_push, get_or-map, length-append, length-map, same_lists}
 use borrow.Author.Count.{below_more}

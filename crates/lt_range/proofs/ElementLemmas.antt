@@ -1,4 +1,5 @@
--- Lemmas on the fault of a range, and on the element that it makes.
+-- The fault of the range of a header's element, as `check_range` finds it, and the element or the fault that
+-- `read_element` makes of a range and the weight after it.
 use Rattle.std.proofs.Common.{◌≡◌, ℕ, Bool, true, false, List, [], ◌∷◌, length, refl, ap}
 use Rattle.std.specs.Prelude.{◌==◌, Option, Some, None, Result, Ok, Err, IsOk}
 use Rattle.lt_range.specs.Ranges.{RangeParts}

@@ -1,4 +1,4 @@
--- Lemmas on a list that begins with another.
+-- Whether a list begins with another, `front`, is found subtag by subtag: `after_front` needs this.
 use Rattle.std.proofs.Common.{◌≡◌, ℕ, ◌<◌, ◌+◌, List, [], ◌∷◌, ◌++◌, length, get_or, take, drop, sym, ap, ◌∙◌}
 use Rattle.std.proofs.lemmas.List.{append_assoc, append_cancel_left, take-append-drop, drop_more}
 use Rattle.lt_range.specs.Matching.{BeginsWith}

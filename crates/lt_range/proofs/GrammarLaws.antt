@@ -1,4 +1,6 @@
--- A text is read as a range exactly if it is one by the grammar.
+-- A text is read as a range exactly if it is that range by the grammar (RFC 4647, 2.2): the law
+-- `ranges_are_read_by_their_grammar`. A piece is a *written form* of a subtag or of `*` if it is that, letter case
+-- aside.
 use Rattle.std.proofs.Common.{◌≡◌, ℕ, Bool, true, false, List, [], ◌∷◌, ◌++◌, map, cond, refl, sym, ap, ◌∙◌, subst, arith}
 use Rattle.std.specs.Prelude.{◌↔◌, Option, Some, None, option_to_list, Result, Ok, Err}
 use Rattle.std.specs.List.{list_all}

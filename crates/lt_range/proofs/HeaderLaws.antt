@@ -1,5 +1,5 @@
--- What is read of a header is in the grammar of Accept-Language, and what is in the grammar is read: element by
--- element.
+-- A header is read exactly if it is in the grammar of Accept-Language, and with the same elements: the law
+-- `headers_are_read_by_their_grammar`. It is shown for each piece between commas, and then for all.
 use Rattle.std.proofs.Common.{◌≡◌, ℕ, ◌+◌, Bool, true, false, List, [], ◌∷◌, ◌++◌, refl, sym, ap, ◌∙◌, subst}
 use Rattle.std.specs.Prelude.{◌↔◌, Option, Some, None, option_to_list, Result, Ok, Err, IsOk}
 use Rattle.std.specs.List.{list_all}

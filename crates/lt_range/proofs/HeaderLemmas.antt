@@ -1,4 +1,6 @@
--- Lemmas on the elements of a header, one after another.
+-- The loop of `read_elements` over the pieces of an Accept-Language header: the elements that were read (`front`), and
+-- the reading of the pieces that are left, still give the answer for the whole header. So the loop ends with that
+-- answer, or with the fault of the first piece that has one.
 use Rattle.std.proofs.Common.{◌≡◌, ℕ, ◌<◌, ◌≤◌, ◌+◌, List, [], ◌∷◌, ◌++◌, length, map, get_or, drop, Bor, refl, sym, ap, ◌∙◌, subst}
 use Rattle.std.specs.Prelude.{Option, option_to_list, Result, Ok, Err}
 use Rattle.std.proofs.lemmas.List.{append_assoc, append-nil, drop_more}

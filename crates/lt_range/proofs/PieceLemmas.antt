@@ -1,4 +1,5 @@
--- Lemmas on the pieces of a text between hyphens, which are read as subtags one after another.
+-- The loops of `TagSubtags::of_text` and `append_pieces` over the pieces of a text between hyphens: what was read, and
+-- the reading of the pieces that are left, still give what all pieces are read as.
 use Rattle.std.proofs.Common.{◌≡◌, ℕ, ◌<◌, suc, List, [], ◌∷◌, ◌++◌, length, map, refl, sym, ap, ◌∙◌, arith}
 use Rattle.std.specs.Prelude.{Option, option_to_list, Result, Ok, Err, IsOk, slice_index_or}
 use Rattle.std.specs.List.{AllByRecursion}

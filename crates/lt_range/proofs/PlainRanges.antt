@@ -1,4 +1,6 @@
--- Texts that are no valid tags, and the ranges by which they match.
+-- A text that is no valid tag matches by the range that it is, with its first subtag in its extlang form, if this by
+-- itself is a tag that has one. `extlang_range` and `known_subtags` need this: when a text is no valid tag, and which
+-- range or refusal follows.
 use Rattle.std.proofs.Common.{◌≡◌, ◌∙◌, ◌∷◌, ◌++◌, false, ℕ, inl, inr, List, Ok, Err, IfOk, IfErr, refl, sym, subst}
 use Rattle.std.specs.Prelude.{Result}
 use Rattle.lt_tag.specs.Parts.{TagForm}
@@ -43,8 +45,8 @@ module _ (R : List EntryParts) (text : List ℕ) where
       h.holds.is_form.canonical_form.repeats_none (subst (λ (t : TagForm). CanRepeat R t) (one_tag_of_text text a.0 h.tag a.1 h.read) a.3)
   refused_none texts.OutOfMemory owed other = absurd (other refl)
 
-  -- a text that is refused, but not for lack of memory, is no tag that has an extlang form; `kind` is the refusal as the
-  -- program tells it apart
+  -- a text that is refused, but not for lack of memory, is no tag that has an extlang form; `kind` is the refusal as
+  -- the program tells it apart
   pub none_of : (refusal kind : TextRefusal) → refusal ≡ kind → IsTextRefusal R text refusal
       → (kind ≡ texts.OutOfMemory → ⊥) → HasNoSubtags R text
   none_of refusal kind is owed other = refused_none refusal owed (λ e. other (sym is ∙ e))

@@ -1,4 +1,4 @@
--- Of given preferences and tags one answer to which tag is served is right.
+-- Preferences and tags determine which of the tags is served, or that none is: the law `best_is_determined`.
 use Rattle.std.proofs.Common.{◌≡◌, ◌<◌, ◌∙◌, Bool, true, false, ℕ, List, Option, Some, None, inl, inr, length, sym, ap, refl, subst, arith}
 use Rattle.std.proofs.lemmas.Bool.Decides.{leb_tells}
 use Rattle.lt_range.specs.Ranges.{RangeParts}

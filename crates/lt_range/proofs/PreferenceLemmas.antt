@@ -1,4 +1,5 @@
--- The weight of a tag, and the tags that are accepted.
+-- The loops that look for the longest range that matches a tag, which decides its weight, or for the longest tag, and
+-- the loop of `filter_accepted` over the ranges: what they found so far is right of the places so far.
 use Rattle.std.proofs.Common.{false, ◌≡◌, ◌<◌, ◌≤◌, ◌+◌, ◌++◌, ◌∷◌, ◌∙◌, ℕ, List, [], Option, Some, None, inl, inr}
 use Rattle.std.proofs.Common.{length, drop, sym, ap, refl, subst, arith}
 use Rattle.std.proofs.lemmas.List.{append_assoc, append-nil, drop_more}

@@ -1,4 +1,5 @@
--- A stable sort by falling weights gives a priority list.
+-- The elements of a header whose weight is not 0, sorted by falling weights with a stable sort, are its priority list:
+-- `by_priority` needs this.
 use Rattle.std.proofs.Common.{◌≡◌, ℕ, ◌<◌, Bool, List, [], ◌∷◌, length, refl, sym, ap, ◌∙◌, arith}
 use Rattle.std.specs.Prelude.{◌==◌, not, filter, IsPermutation}
 use Rattle.std.specs.Ordering.{is_lt, nat_cmp}

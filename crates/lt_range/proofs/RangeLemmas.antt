@@ -1,4 +1,5 @@
--- The bytes of a language range are those of a word: so an element of a header is cut just after its range.
+-- The bytes of a language range are those of a *word*, neither white space nor a semicolon: so an element of a header
+-- is cut just after its range. HeaderLaws needs this.
 use Rattle.std.proofs.Common.{◌≡◌, ℕ, Bool, true, false, List, [], ◌∷◌, length, cond, refl, subst, arith}
 use Rattle.std.specs.Prelude.{◌==◌, nat_le, Option, Some, None, Result, Ok, Err, IsOk}
 use Rattle.std.specs.List.{list_all, AllByRecursion, join_with_byte}

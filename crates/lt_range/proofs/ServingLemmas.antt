@@ -1,4 +1,5 @@
--- The first range that serves a tag, and the ranges that decide.
+-- The loop of `first_serving` over the tags finds the first range that serves one in a turn, and what this range serves
+-- is served in the turn. The loop of `all_deciding` finds for each tag the range that decides its weight.
 use Rattle.std.proofs.Common.{◌≡◌, ◌<◌, ◌+◌, ◌++◌, ◌∷◌, ◌∙◌, Bool, true, false, ℕ, List, [], Option, Some, None}
 use Rattle.std.proofs.Common.{inl, inr, length, refl, sym, ap, subst, arith}
 use Rattle.std.specs.Prelude.{◌⊎◌, slice_index_or}

@@ -1,4 +1,5 @@
--- The subtags by which a text that stays as it is is matched.
+-- A text whose subtags *stay* as they are, and whose language is no extlang too, is matched by its own subtags:
+-- `staying_subtags` needs this.
 use Rattle.std.proofs.Common.{◌≡◌, [], ◌∷◌, ℕ, false, List, Option, None, Some, is_some, refl, sym, subst}
 use Rattle.std.specs.Option.{option_map_or}
 use Rattle.lt_tag.specs.Conventional.{conventional}

@@ -1,5 +1,5 @@
--- Lemmas on subtags that are in a list, one after another, with no singleton passed over, as extended filtering asks:
--- to take each at its first place is enough.
+-- Subtags are *in turn* in a list if they are there one after another, with no singleton passed over, as extended
+-- filtering asks. To look for each only at its first place is enough: `are_in_turn` does so.
 use Rattle.std.proofs.Common.{◌≡◌, ℕ, ◌⊎◌, inl, inr, true, false, List, [], ◌∷◌, ◌++◌, sym, ap, ◌∙◌, arith, subst}
 use Rattle.std.specs.List.{list_all, AllByRecursion}
 use Rattle.std.proofs.lemmas.Bool.Decides.{nat_tests}

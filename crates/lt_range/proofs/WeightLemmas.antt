@@ -1,4 +1,5 @@
--- Lemmas on weights, and what a text that is one is made of.
+-- What follows a range in a header is read as a weight exactly if it is a weight or nothing by the grammar (RFC 9110,
+-- 12.4.2), and then white space. HeaderLaws needs this.
 use Rattle.std.proofs.Common.{◌≡◌, ℕ, Bool, true, false, List, [], ◌∷◌, ◌++◌, length, cond, refl, sym, ap, ◌∙◌, arith, inl, inr, subst}
 use Rattle.std.specs.Prelude.{◌==◌, ◌&&◌, nat_le, Some, None}
 use Rattle.std.specs.List.{list_all}

@@ -1,4 +1,5 @@
--- Lemmas on the front of a text that is made of some bytes, and what follows it.
+-- `front` and `rest` cut a text at the first byte that fails a test; together they are the text. Elements of a header
+-- are cut so, after white space and at the end of a word.
 use Rattle.std.proofs.Common.{◌≡◌, ℕ, Bool, true, false, List, [], ◌∷◌, ◌++◌, length, refl, ◌∙◌, arith}
 use Rattle.std.specs.List.{list_all}
 use Rattle.std.proofs.lemmas.Bool.Decides.{nat_tests}

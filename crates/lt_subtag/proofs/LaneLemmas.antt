@@ -1,5 +1,6 @@
--- A load is bytes of a text in a vector, a lane for each, and a mask has a bit for each lane. From the mask of a load
--- to the bytes that pass a test, and the choice between two vectors, lane by lane.
+-- A *load* is bytes of a text in a vector, a lane for each, and a mask has a bit for each lane. These lemmas are for
+-- `run_of_8` and `fold_8`: the lowest bit set in the mask of a load tells how many bytes at its front pass a test, and
+-- a choice between two vectors, lane by lane, is a choice for each byte.
 use Rattle.std.proofs.Common.{◌≡◌, ℕ, ◌+◌, ◌%◌, ◌^◌, ◌<◌, ◌≤◌, eqb, Bool, true, not, List, [], ◌∷◌, map, length, get_or}
 use Rattle.std.proofs.Common.{cond, Fits, w8, refl, ap, ap₂, ◌∙◌, arith}
 use Rattle.std.proofs.lemmas.Bool.{agree_below, agree_below_at, eqb-true}

@@ -1,4 +1,5 @@
--- The numbers of subtags are in their order.
+-- The numbers of subtags (`Subtag::number`) have the order of the subtags, and are equal exactly if the subtags are: so
+-- `==` and `cmp` of `Subtag` compare numbers in place of bytes.
 use Rattle.std.proofs.Common.{◌≡◌, ℕ, zero, suc, ◌+◌, ◌-◌, ◌*◌, ◌^◌, ◌<◌, ◌≤◌, eqb, true, List, [], ◌∷◌, ◌++◌, length}
 use Rattle.std.proofs.Common.{replicate, get_or, refl, sym, ap, ◌∙◌, arith, inl, inr}
 use Rattle.std.specs.Prelude.{nat_eq}

@@ -1,4 +1,6 @@
--- What the run of letters and digits at the front says of a piece.
+-- The *run* of a piece is how many letters and digits are at its front, once it is padded with zeros to eight bytes.
+-- All bytes of the piece are letters or digits exactly if the run is at least as long as the piece: `fold` tests this.
+-- Then the padded bytes in lower case are what `Subtag` keeps.
 use Rattle.std.proofs.Common.{◌≡◌, ℕ, zero, suc, ◌∷◌, ◌++◌, ◌<◌, ◌≤◌, ◌-◌, Bool, true, false, List, length, take}
 use Rattle.std.proofs.Common.{get_or, replicate, refl, sym, ap, ◌∙◌, subst, arith}
 use Rattle.std.specs.List.{list_all, prefix_len}
