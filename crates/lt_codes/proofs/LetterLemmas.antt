@@ -8,7 +8,7 @@ use Rattle.std.proofs.lemmas.Grind.{common_steps}
 use Rattle.lt_subtag.specs.Bytes.{folded}
 use Rattle.lt_codes.specs.Index.{letter_of, number_from, number_of}
 
--- a byte in lower case is a letter exactly where the byte is one
+-- a byte in lower case is a letter exactly if the byte is one
 lower-alphabetic : (b : ℕ) → is_ascii_alphabetic (to_ascii_lowercase b) ≡ is_ascii_alphabetic b
 lower-alphabetic b = grind (arith, common_steps)
 
@@ -73,7 +73,7 @@ has_letters (a ∷ b ∷ []) n h = cc
 has_letters (a ∷ b ∷ c ∷ []) n h = by_letters a b c n (letter_of a) (letter_of b) (letter_of c) refl refl refl h
 has_letters (a ∷ b ∷ c ∷ d ∷ text) n h = cc
 
--- texts of one number differ in letter case alone
+-- texts of the same number differ only in letter case
 pub one_number : (text other : List ℕ) (n : ℕ) → number_of text ≡ Some n → number_of other ≡ Some n → folded text ≡ folded other
 one_number text other n h k =
     let x = has_letters text n h in

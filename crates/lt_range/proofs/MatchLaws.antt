@@ -50,7 +50,8 @@ module _ (R : List EntryParts) (C : IsChecked R) where
   pub list_of_text : (text : List ℕ) (t : TagForm) (list : List (List ℕ)) → HasTag text t → HasSubtags R text list → HasExtlangList R t list
   list_of_text text t list read h = subst (λ (x : TagForm). HasExtlangList R x list) (one_tag_of_text text h.tag t h.read read) h.holds
 
-  -- the texts `a` and `b` are read as equivalent valid tags: they match by one range
+  -- if the texts `a` and `b` are read as equivalent valid tags, the range by which `a` matches is that by which `b`
+  -- does
   same_range : (a b : List ℕ) (t u : TagForm) (range : RangeParts) → HasTag a t → HasTag b u → IsValid R t → IsValid R u
       → AreEquivalent R t u
       → IsExtlangRange R a range → IsExtlangRange R b range

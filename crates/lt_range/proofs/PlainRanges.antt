@@ -51,13 +51,13 @@ module _ (R : List EntryParts) (text : List ℕ) where
       → (kind ≡ texts.OutOfMemory → ⊥) → HasNoSubtags R text
   none_of refusal kind is owed other = refused_none refusal owed (λ e. other (sym is ∙ e))
 
-  -- `r` is what a text that is no valid tag matches by: where it is a range, the text matches by it
+  -- if `r` is the range of a text that is no valid tag, the text matches by it
   pub plain_ok : (r : Result RangeParts RangeRefusal) → IsNoValidTag R text
       → IfOk r (λ range. IsRangeOfText R text range) → IfOk r (λ range. IsExtlangRange R text range)
   plain_ok (Ok range) n h = inr (n, h)
   plain_ok (Err refusal) n h = tt
 
-  -- `r` is what a text that is no valid tag matches by: where it is a refusal, the text is refused so
+  -- if `r` is why a text that is no valid tag is no range, the text is refused so
   pub plain_err : (r : Result RangeParts RangeRefusal) → IsNoValidTag R text → IfErr r (IsPlainRefusal text)
       → IfErr r (λ refusal. IsRangeRefusal R text refusal)
   plain_err (Ok range) n h = tt
@@ -65,7 +65,8 @@ module _ (R : List EntryParts) (text : List ℕ) where
   plain_err (Err (refusals.ReplacementRepeats v)) n h = absurd h
   plain_err (Err refusals.OutOfMemory) n h = tt
 
--- where the first subtag of a range has the subtags `list`, the range with these in its place matches
+-- if the first subtag of a range by itself is a tag that is matched by the subtags `list`, the range with these in its
+-- place is the one that matches
 pub some_as : (R : List EntryParts) (written : RangeParts) (s : List ℕ) (ss list : List (List ℕ)) (r : Result RangeParts
     OutOfMemory) → written.wild ≡ false → written.named ≡ s ∷ ss
     → HasSubtags R s list → IfOk r (λ range. range ≡ range_of_tag (list ++ ss))
@@ -75,7 +76,7 @@ some_as R written s ss list (Ok range) w n has is =
     rw (w, n) here
 some_as R written s ss list (Err e) w n has is = tt
 
--- where the first subtag of a range has none, the range matches as it is
+-- if the first subtag of a range by itself is no such tag, the range matches as it is
 pub none_as : (R : List EntryParts) (written : RangeParts) (s : List ℕ) (ss : List (List ℕ)) → written.wild ≡ false
     → written.named ≡ s ∷ ss → HasNoSubtags R s
     → MatchesAs R written.wild written.named written

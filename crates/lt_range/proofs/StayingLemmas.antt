@@ -17,7 +17,7 @@ use Rattle.lt_canon.proofs.CanonicalForms.{extlang_answer, prefixless_extlang}
 use Rattle.lt_canon.proofs.StayingTags.{stays_canonical}
 use Rattle.lt_range.specs.Matched.{HasSubtags}
 
--- without an entry there is no Prefix
+-- a language without an entry as an extlang has no Prefix
 no_prefix : (found : Option EntryParts) → is_some found ≡ false
     → None ≡ prefix_of (option_map_or (λ (e : EntryParts). e.prefixes) found [])
 no_prefix None none = refl

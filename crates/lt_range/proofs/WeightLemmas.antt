@@ -132,7 +132,7 @@ weight_is_ending text n h =
     let e = ending_at (front is_blank text) (rest is_blank text) n (all_front is_blank text) h in
     subst (λ (l : List ℕ). IsEnding l n) (sym (front_rest is_blank text)) e
 
--- a `q` ends white space
+-- white space ends before a `q`
 q_stops : (q : ℕ) (text : List ℕ) → is_q q ≡ true → Stops is_blank (q ∷ text)
 q_stops q text h = grind (arith, nat_tests)
 
@@ -146,7 +146,7 @@ parameter_read q value after n letter blank is_value =
     let none = rest_of_all is_blank after blank in
     rw (letter, value_is, after_is, none) is_value
 
--- the text, which follows a range, is read as the weight `n`, and its first byte, if it has one, ends the range
+-- the text is read as the weight `n` of the range that it follows, and its first byte, if it has one, ends the range
 pub record IsRead (text : List ℕ) (n : ℕ) : Type 0 where
   pub read : weight_of text ≡ Some n
   pub stops : Stops is_word_byte text
