@@ -181,7 +181,7 @@ module _ (R : List EntryParts) (C : IsChecked R) where
       → IsCoreNormalForm R c d → IsNormalForm (ExtensionsStep R) es fs → length fs ≤ longest_text
   form_count c d es fs ps P n m = (star_proper (end_form R C) (parts_reached R C n.reached m.reached ps P) P).tag.counts.1
 
-  -- where there are extensions or private use, there are some when the extensions are in normal form, `fs`
+  -- a langtag with extensions or private use still has some once its extensions are in their normal form, `fs`
   pub form_some : (es fs : List ExtensionParts) (ps : List (List ℕ)) → IsNormalForm (ExtensionsStep R) es fs
       → 0 < length es + length ps → 0 < length fs + length ps
   form_some es fs ps m h = star_keeps (λ l. 0 < length l + length ps)

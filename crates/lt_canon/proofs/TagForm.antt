@@ -109,7 +109,7 @@ module _ (R : List EntryParts) (C : IsChecked R) where
   pub extensions_end_formed : IsFormOf (ExtensionsStep R) extensions_end
   extensions_end_formed = extensions_formed R C.registry C.passes.core_conditions
 
-  -- a value, which is a core alone, with its core in core normal form
+  -- a value with its core in core normal form; a value is a *core alone*: a langtag without extensions and private use
   abbrev pub value_end : TagForm → TagForm
   value_end (LangTag c es ps) = LangTag (core_end c) es ps
   value_end t = t
@@ -130,8 +130,8 @@ module _ (R : List EntryParts) (C : IsChecked R) where
   tag_end (PrivateUse ps) = PrivateUse ps
   tag_end (Grandfathered n) = whole_end (Grandfathered n)
 
-  -- the end form of a langtag with extensions: its core `d`, which is in core normal form, and its extensions in normal
-  -- form
+  -- the end form of a langtag with extensions has its core `d`, which is in core normal form, and its extensions in
+  -- their normal form
   pub lang_end_some : (d : CoreParts) (es : List ExtensionParts) (ps : List (List ℕ)) → es ≢ []
       → lang_end d es ps ≡ LangTag d (extensions_end es) ps
   lang_end_some d es ps h = grind arith
@@ -222,8 +222,8 @@ module _ (R : List EntryParts) (C : IsChecked R) where
     pub at_rest : ((CanBeReplacedWhole s → whole_value R s ≡ None) → NoChange R s) → NoChange R r
     pub distinct : RepeatsNoVariant s → RepeatsNoVariant r
 
-  -- where `r` is `s` with its value taken, `r` is reached from `s`, is at rest if `s` is but for its value, and repeats
-  -- no variant if `s` repeats none
+  -- if `r` is `s` with its value taken, steps from `s` reach `r`, no step leads from `r` if only the one to its value
+  -- leads from `s`, and `r` repeats no variant if `s` repeats none
   pub replaced : (s r : TagForm) → IsReplacedWhole R s r → Replaced s r
   replaced s r (inl v) =
       let u = v.settled in
@@ -301,7 +301,7 @@ module _ (R : List EntryParts) (C : IsChecked R) where
   pub tag_reached : (t : TagForm) → IsProper R t → IsReached R t (tag_end t)
   tag_reached t P = settled_reached t (tag_end t) (end_replaced t) P
 
-  -- `tag_end` is an end form: each step keeps it, and steps reach it from each proper tag
+  -- `tag_end` gives end forms: each step leads to a tag of the same end form, and steps reach it from each proper tag
   pub end_form : IsEndForm (IsProper R) (TagStep R) tag_end
   end_form = record { to = λ a b s. s.to; kept = λ a b s. change_kept a b s.change; reached = tag_reached }
 

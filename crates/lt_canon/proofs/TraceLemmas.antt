@@ -160,14 +160,14 @@ module _ (R : List EntryParts) (c : CoreParts) (es : List ExtensionParts) (ps : 
   abbrev here : TagForm
   here = LangTag c es ps
 
-  -- the rank in the tag of a step on its core: that of its kind, at most 6
+  -- the rank in the tag of a step on its core is that of its kind, at most 6
   core_leads_rank : (step : Step) (d : CoreParts) → CoreLeads R 0 c step d → (rank_in here step ≡ kind_rank step) × (kind_rank step ≤ 6)
   core_leads_rank step d l =
       let low : step.place ≤ length (spell_core c) = subst (λ (x : Step). x.place ≤ length (spell_core c)) l.1
       (omega (arith, core_high R 0 c d l.0)) in
       (grind (arith, nat_tests), subst (λ (x : Step). kind_rank x ≤ 6) l.1 (core_rank R 0 c d l.0).most)
 
-  -- the rank in the tag of a step on its extensions: at least 8, so that it comes after Whole (7)
+  -- the rank in the tag of a step on its extensions is at least 8, so that it comes after Whole (7)
   extensions_lead_rank : (step : Step) (fs : List ExtensionParts) → ExtensionsLeads R (length (spell_core c)) es step fs
       → (rank_in here step ≡ extension_rank step) × (8 ≤ extension_rank step)
   extensions_lead_rank step fs l =
@@ -207,7 +207,7 @@ module _ (R : List EntryParts) (c : CoreParts) (es : List ExtensionParts) (ps : 
           },
         )
 
-    -- where no step on the core is left, the first on the extensions is the first of all
+    -- if no step on the core leads on, the first on the extensions is the first of all steps on the tag
     pub extensions_is_first : (step : Step) (fs : List ExtensionParts) → IsProper R here → NoneLeads (CoreLeads R 0 c)
         → IsFirst (ExtensionsLeads R (length (spell_core c)) es) extension_rank step fs → IsProper R (LangTag c fs ps)
         × IsFirst (LeadsBy R here) (rank_in here) step (LangTag c fs ps)
@@ -260,13 +260,13 @@ one_explanation R t a b xs ys h k = one_run R t a b xs ys h.is_run k.is_run h.fo
 pub few_in_tag : (t : TagForm) (es : List ExtensionParts) → IsTagValue t → es ≡ extensions_of t → length (spell_extensions es) ≤ 1049600
 few_in_tag t es v e = let f = fits t v.counts in rw e (omega (arith, f.0, few_subtags (extensions_of t) f.1))
 
--- a langtag that is no core alone has extensions or private use
+-- a langtag that is no core alone, as `core_alone` tells, has extensions or private use
 more_than_core : (core : CoreParts) (es : List ExtensionParts) (ps : List (List ℕ))
     → ((k : CoreParts) → LangTag core es ps ≡ core_alone k → ⊥) → 0 < length es + length ps
 more_than_core core [] [] h = absurd (h core refl)
 more_than_core core _ _ h = omega arith
 
--- a run of steps, each of which is a move, is a chain of moves
+-- if each step that leads on is a `Move`, a run of steps is a chain of such moves
 run_star : {A : Type 0} (Leads : A → Step → A → Type 0) (rank : A → Step → ℕ) (Move : A → A → Type 0)
     → ((a : A) (step : Step) (b : A) → Leads a step b → Move a b) → (run : List Step) (a b : A)
     → IsRun Leads rank a run b → Star Move a b

@@ -52,7 +52,8 @@ usual_told R c u (Ok b) h = grind arith
 usual_told R c u (Err fault) h = grind arith
 
 module _ (R : List EntryParts) (t : TagForm) (c : CoreParts) (u : IsUsual c) (k : t ≡ core_alone c) where
-  -- a fault of the short test is the first fault of the tag `t`, which is the core `c` alone
+  -- a fault of the short test is the first fault of the tag `t`, which is the core `c` alone: without extensions and
+  -- private use
   pub usual_refused : (fault : ValidFault) → core_valued R c ≡ Err fault → IsFirstFault R t fault.kind fault.place
   usual_refused fault h =
       first_same (Counted false (HasFault R t)) (HasFault R t) fault.kind fault.place
@@ -108,7 +109,7 @@ module _ (R : List EntryParts) (text : List ℕ) (c : CoreParts) (stay : StaysAs
       let name = found_name R (core_alone c) e h in
       grind (arith, bytes_eq-Decides)
 
-  -- the core alone that a text which stays is read as is its own canonical form
+  -- if a text that stays is read as the core `c` alone, this is its own canonical form
   pub stays_canonical : IsChecked R → IsCanonicalFormOf R (core_alone c) (core_alone c)
   stays_canonical C =
       let usual : IsUsual c = record { extlangs = stay.extlangs; variants = stay.variants } in

@@ -27,8 +27,8 @@ pub(crate) fn usual_core(tag: &Tag) -> Option<&Core>
     }
 }
 
-/// Whether the entry of a subtag has a preferred value. If there is no entry, it is refused with a fault of this kind
-/// at this place.
+/// Whether the entry of a subtag has a preferred value. Refused with a fault of this kind, at this place, if there is
+/// no entry.
 fn is_valued(entry: Option<&Entry>, kind: ValidFaultKind, place: u32) -> Result<bool, ValidFault>
     ensures { result ≡ one_valued kind place (option_copied entry.entry) }
 {
@@ -38,8 +38,8 @@ fn is_valued(entry: Option<&Entry>, kind: ValidFaultKind, place: u32) -> Result<
     }
 }
 
-/// Whether a script or a region has a preferred value. False if the tag has no such subtag. If the subtag is not
-/// registered, it is refused with `fault` at this place.
+/// Whether a script or a region has a preferred value. False if `part` is None. Refused with `fault`, at this place, if
+/// the subtag is not registered.
 fn is_part_valued<L: Lookup>(
     table: &L,
     kind: Kind,

@@ -1,4 +1,4 @@
-//! Canonical texts of langtags whose subtags *stay* as they are, which are told without a look-up.
+//! Canonical texts of langtags whose subtags *stay* as they are: no look-up is needed for them.
 ghost use Rattle.std.specs.Prelude.{◌≡◌, ◌↔◌, false, IsTrue, IfOk, OnErr};
 ghost use Rattle.lt_check.specs.Staying.{IsStaying};
 ghost use Rattle.lt_canon.specs.Texts.{AppendsCanonicalText};

@@ -52,7 +52,8 @@ pub record HasLetters (text : List ℕ) (n : ℕ) : Type 0 where
   pub number : n ≡ (a * 26 + b) * 26 + c
   pub folds : folded text ≡ (97 + a) ∷ (97 + b) ∷ (97 + c) ∷ []
 
--- three bytes whose letters have a number n have letters of these numbers; x, y and z are what is found for each
+-- three bytes that have the number n as a text are letters whose numbers make n; x, y and z are the numbers that are
+-- found for them
 by_letters : (a b c n : ℕ) (x y z : Option ℕ) → letter_of a ≡ x → letter_of b ≡ y → letter_of c ≡ z
     → number_from x y z ≡ Some n → HasLetters (a ∷ b ∷ c ∷ []) n
 by_letters a b c n (Some x) (Some y) (Some z) ax by cz h =

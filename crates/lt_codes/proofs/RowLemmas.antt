@@ -1,5 +1,5 @@
--- The row of a line's fields is *sound*: each of its codes has its form. So its codes are such that a table may have
--- (`IsCode`), as `add_row` requires.
+-- The row of a line's fields is *sound*: each of its codes has its form. So its codes can be in a table (`IsCode`), as
+-- `add_row` requires.
 use Rattle.std.proofs.Common.{◌≡◌, ◌≤◌, ◌==◌, ◌&&◌, ◌∙◌, ℕ, true, List, [], ◌∷◌, inl, inr, refl, sym, ap, arith, subst, length, Some, None}
 use Rattle.std.specs.Prelude.{IsSome, Option, Result, Ok, Err}
 use Rattle.std.specs.List.{All}

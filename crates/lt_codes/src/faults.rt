@@ -11,7 +11,7 @@ use std::alloc::AllocError;
 pub enum TableFaultKind {
     /// The line is no UTF-8.
     NotUtf8,
-    /// The line has not five fields, with four vertical bars between them.
+    /// The line doesn't have five fields, with four vertical bars between them.
     BadRow,
     /// One of the first three fields lacks its form: three letters, but two in the third. The second and the third may
     /// be empty.

@@ -1,5 +1,6 @@
 -- The loops that look for the longest range that matches a tag, which decides its weight, or for the longest tag, and
--- the loop of `filter_accepted` over the ranges: what they found so far is right of the places so far.
+-- the loop of `filter_accepted` over the ranges: if what they found is right up to a place, it is with the next one
+-- too.
 use Rattle.std.proofs.Common.{false, ◌≡◌, ◌<◌, ◌≤◌, ◌+◌, ◌++◌, ◌∷◌, ◌∙◌, ℕ, List, [], Option, Some, None, inl, inr}
 use Rattle.std.proofs.Common.{length, drop, sym, ap, refl, subst, arith}
 use Rattle.std.proofs.lemmas.List.{append_assoc, append-nil, drop_more}

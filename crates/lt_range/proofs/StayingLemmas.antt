@@ -24,7 +24,7 @@ no_prefix None none = refl
 no_prefix (Some e) none = cc
 
 module _ (R : List EntryParts) (text : List ℕ) (stay : IsStaying R text) where
-  -- the pieces of the text in conventional case are its subtags
+  -- the text in conventional case has the same list of subtags as the text
   pub shown_listed : TextOfTagHasItsList → HasList (conventional (list_of text)) × (list_of (conventional (list_of text)) ≡ list_of text)
   shown_listed law =
       subst (λ (ss : List (List ℕ)). HasList (conventional ss) × (list_of (conventional ss) ≡ ss)) stay.1.read.spelled

@@ -65,7 +65,7 @@ pub read_front : (s letters : List ℕ) → letters ≡ padded (folded s) → ta
 read_front s letters is =
     ap (take (length s)) is ∙ take_at (folded s) (replicate (8 - length (folded s)) 0) (length s) (length-map s to_ascii_lowercase)
 
--- the invariant of `Subtag` for a piece s of 1 to 8 letters and digits: `letters`, its padded lower case, has the
+-- the invariant of `Subtag` holds for a piece s of 1 to 8 letters and digits: `letters`, its padded lower case, has the
 -- subtag at its front and zeros after it
 pub read_holds : (s letters : List ℕ) → letters ≡ padded (folded s) → list_all is_ascii_alphanumeric s ≡ true → 0 < length s → length s ≤ 8
     → (length s ≤ 8) × (is_subtag (take (length s) letters) ≡ true) × (letters ≡ padded (take (length s) letters))

@@ -147,7 +147,8 @@ sum-onto_first : (b : ℕ) (ps : List (List ℕ)) → 0 < length ps
 sum-onto_first b [] n = absurd (omega arith)
 sum-onto_first b (p ∷ ps) n = omega (arith, sum_by-cons (λ (x : List ℕ). length x) (b ∷ p) ps, sum_by-cons (λ (x : List ℕ). length x) p ps)
 
--- the bytes of the pieces and the number of pieces: one more than the text has bytes, since a hyphen is between any two
+-- the bytes of the pieces and the number of pieces are together one more than the text has bytes, since a hyphen is
+-- between any two
 pub sum-pieces : (text : List ℕ) → sum_by length (pieces text) + length (pieces text) ≡ length text + 1
 sum-pieces [] = refl
 sum-pieces (b ∷ bs) =
@@ -160,7 +161,7 @@ sum-pieces (b ∷ bs) =
       some_pieces bs,
     )
 
--- the bytes and the number of the subtags of a grandfathered list: one more than its text has bytes
+-- the bytes and the number of the subtags of a grandfathered list are together one more than its text has bytes
 pub list_length : (list : List (List ℕ)) (number : ℕ) → IsGrandfathered list number
     → sum_by length list + length list ≡ length (known number) + 1
 unfolding grandfathered_list
