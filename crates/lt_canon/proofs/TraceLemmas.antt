@@ -1,6 +1,6 @@
 -- A *trace* is steps that lead from a tag to another, and a *run* is a trace of which each step is the first that leads
--- on. These lemmas show that `verify` finds what is wrong with a trace, and that the runs on the core of a tag, Whole,
--- and the runs on its extensions make the one explanation that `explain` answers.
+-- on. These lemmas show that `verify` finds what is wrong with a trace, and that a run on the core of a tag, and then
+-- the step Whole or a run on its extensions, make the one explanation that `explain` answers.
 use Rattle.std.proofs.Common.{◌≡◌, ℕ, ◌+◌, ◌<◌, inl, inr, List, [], ◌∷◌, ◌++◌, Some, None, refl, sym, ap, ◌∙◌, subst}
 use Rattle.std.proofs.Common.{length, take, drop, get_or, false, Ordering, arith, Bool, ◌≤◌, ◌≢◌, rules}
 use Rattle.std.specs.Prelude.{if◌then◌else◌}

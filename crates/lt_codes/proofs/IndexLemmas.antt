@@ -1,5 +1,5 @@
--- A table has, at the number of each three letters, the place of the first code that they are, counted from 1 (or 0).
--- `CodeTable::push` keeps this when it adds a code, and so `registered` finds the first code that is a text.
+-- A table has, at the number of each three letters, the place of the first code that they are, counted from 1, or 0 if
+-- they are none. `CodeTable::push` keeps this when it adds a code, and so `registered` finds the first code of a text.
 use Rattle.std.proofs.Common.{◌≡◌, ◌≢◌, ◌<◌, ◌-◌, ◌++◌, ◌∙◌, ◌⊎◌, ℕ, true, false, List, [], ◌∷◌, inl, inr, refl, sym}
 use Rattle.std.proofs.Common.{ap, arith, subst, length, Some, None, get_or, set, replicate, length-set}
 use Rattle.std.specs.Prelude.{Option, slice_get, zero, suc, bytes_eq, IsSome}

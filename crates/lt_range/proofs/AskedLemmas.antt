@@ -1,5 +1,5 @@
--- `preferences_of` gives for each element of a header its preference, or refuses the range of one. These lemmas show
--- that `header_preferences` so answers what the header asks for, or why it gives no preferences.
+-- `preferences_of` gives for each element of a header its preference, or refuses the range of one. By these lemmas
+-- `header_preferences` answers what the header asks for, or why it gives no preferences.
 use Rattle.std.proofs.Common.{◌≡◌, ◌<◌, ◌+◌, ◌++◌, ◌∷◌, ◌∙◌, false, ℕ, List, [], length, get_or, map, refl, sym, ap, subst, arith}
 use Rattle.std.proofs.lemmas.List.{get_or_append_left, get_or_push, get_or-map, length-append, length-map}
 use borrow.Author.Count.{below_more}

@@ -1,6 +1,6 @@
 -- The laws of matching by extlang forms, for a registry that passes the check: equivalent tags match the same ranges,
--- equivalent ranges match the same tags, each match is one of equivalent tags as they are spelled, and a tag or a text
--- matches by one list of subtags or one range.
+-- equivalent ranges match the same tags, a range that is a valid tag matches only if equivalent tags match as they are
+-- spelled, and a tag is matched by one list of subtags, and a text matches by one range.
 use Rattle.std.proofs.Common.{◌≡◌, ℕ, Bool, true, false, inl, inr, List, [], ◌∷◌, ◌++◌, Ok, sym, ap, ◌∙◌, subst}
 use Rattle.lt_tag.specs.Parts.{TagForm}
 use Rattle.lt_tag.specs.WellFormed.{spell}

@@ -1,5 +1,6 @@
 -- Each text has a tag or a fault, never both, and one fault at most, running out of memory aside: the laws of
--- `reading_laws`. A *cause* is such a fault, by the three groups of reasons.
+-- `reading_laws`. A *cause* is such a fault with its reason: too many bytes, a piece that is no subtag, or a list that
+-- no tag spells.
 use Rattle.std.proofs.Common.{◌≡◌, ℕ, ◌≤◌, ◌<◌, ◌+◌, ◌-◌, List, [], length, refl, sym, ap, subst, ◌∙◌, arith, inl, inr}
 use Rattle.std.proofs.Common.{◌⊎◌, zero, suc, ◌∷◌, ◌++◌}
 use Rattle.std.specs.Prelude.{Result, Ok, Err, Option, Some, None}
