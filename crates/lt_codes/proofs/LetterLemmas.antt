@@ -43,7 +43,7 @@ letter_is b n h = elim (cases_Bool (is_ascii_alphabetic b)) [
   | inr not ↦ let none : None ≡ Some n = rw not at h in cc
 ]
 
--- the numbers of the three letters of a text, whose own number is n
+-- the text is three letters, in some letter case, whose numbers are a, b and c, and its own number is n
 pub record HasLetters (text : List ℕ) (n : ℕ) : Type 0 where
   pub a : ℕ
   pub b : ℕ

@@ -50,7 +50,8 @@ add_more start [] line codes more is adds =
 add_more start (first ∷ before) line codes more lines adds =
     (lines.0, lines.1, add_more (start ++ lines.0) before line codes more lines.2 adds)
 
--- the lines of a text before `rest` are read, and their codes are in `table`; `line` is the number of the next line
+-- The lines of a text before `rest` are read, and their codes are in `table`. `line` is the number of the next line; by
+-- `room` it is at most one more than the bytes before `rest`.
 pub record IsRead (text : List ℕ) (table : List Code) (rest : List ℕ) (line : ℕ) : Type 0 where
   pub short : length text ≤ longest_table
   pub mark : List ℕ

@@ -45,7 +45,7 @@ qvalue_word (whole ∷ point ∷ decimals) n h = go (point == 46) refl h
     go true e k = let w = number_word whole decimals n k in grind (arith, nat_tests, w.0, w.1)
     go false e k = cc
 
--- what follows a range: the text of its weight, `n` in thousandths, or none, and then white space
+-- the text, which follows a range, is the text of the weight `n`, in thousandths, or of none, and then white space
 pub record IsEnding (text : List ℕ) (n : ℕ) : Type 0 where
   pub weight : List ℕ
   pub after : List ℕ
@@ -53,7 +53,7 @@ pub record IsEnding (text : List ℕ) (n : ℕ) : Type 0 where
   pub blank : IsWhiteSpace after
   pub is_weight : HasWeight weight n
 
--- `q=` (61 is the `=`), a qvalue of `n` thousandths, and then white space
+-- the text is `q=` (61 is the `=`), a qvalue of `n` thousandths, and then white space
 record IsParameter (text : List ℕ) (n : ℕ) : Type 0 where
   q : ℕ
   value : List ℕ

@@ -17,12 +17,12 @@ use Rattle.lt_tag.proofs.ShapeLemmas.{all_weaker, length_no_separator}
 
 -- a mark is a subtag of which `mark` is true: a key or a separator
 module _ (mark : List ℕ → Bool) where
-  -- as many subtags as the index of the first mark, or the length if there is none, are those before the first mark
+  -- to take as many subtags as the index of the first mark says, or all if there is none, gives those before it
   pub before_is : (ss : List (List ℕ)) → take (position_or_len mark ss) ss ≡ before mark ss
   before_is [] = refl
   before_is (s ∷ ss) = grind (arith, nat_tests, before_is ss, one-add (position_or_len mark ss))
 
-  -- the subtags after as many as that are those from the first mark on
+  -- to leave out as many subtags gives the first mark and all after it
   pub onward_is : (ss : List (List ℕ)) → drop (position_or_len mark ss) ss ≡ onward mark ss
   onward_is [] = refl
   onward_is (s ∷ ss) = grind (arith, nat_tests, onward_is ss, one-add (position_or_len mark ss))
