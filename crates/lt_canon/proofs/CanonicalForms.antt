@@ -1,6 +1,6 @@
 -- The canonical form of a tag is the tag with its parts in their normal forms, and then its value as a whole tag, if it
--- has one: so `canonical` and the calls over it answer right. The extlang form of a canonical tag is valid, and steps
--- lead back from it.
+-- has one: so the answers of `canonical` and of the calls over it are right. The extlang form of a canonical tag is
+-- valid, and steps lead back from it.
 use Rattle.std.proofs.Common.{◌≡◌, ℕ, ◌+◌, ◌<◌, inl, inr, List, [], ◌∷◌, Option, Some, None, refl, sym, ap, ◌∙◌, subst}
 use Rattle.std.proofs.Common.{length, arith, Bool, ◌↔◌, IsTrue, ◌≤◌, Err, IfErr, true}
 use Rattle.std.specs.Prelude.{Result, unwrap_or}

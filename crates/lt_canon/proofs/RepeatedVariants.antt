@@ -1,7 +1,7 @@
 -- If a variant occurs twice in the core normal form of the core of a valid tag, or of a source in it, steps can repeat
--- a variant of the tag, and it has no canonical form. Any other valid tag has one: its end form (TagForm). The laws of
--- that are here: which variant a refusal names, and that tags are equivalent exactly if their canonical forms are
--- equal.
+-- a variant of the tag, and it has no canonical form. Any other valid tag has one: its end form (TagForm). This file
+-- proves the laws of both: which variant a refusal names, and that tags are equivalent exactly if their canonical forms
+-- are equal.
 use Rattle.std.proofs.Common.{◌≡◌, ℕ, ◌+◌, ◌<◌, ◌⊎◌, inl, inr, List, [], ◌∷◌, ◌++◌, Option, Some, None, refl, sym, ap}
 use Rattle.std.proofs.Common.{◌∙◌, subst, map, append_assoc, length, take, drop, get_or, IfSome, false, Ordering, arith}
 use Rattle.std.proofs.Common.{◌↔◌}
