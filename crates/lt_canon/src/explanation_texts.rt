@@ -13,7 +13,7 @@ use lt_tag::{OutOfMemory, Tag, append_tag, read_tag};
 use std::alloc::Global;
 use std::marker::Model;
 
-/// Appends the text of a tag in conventional case, ended by a line feed.
+/// Appends the text of a tag in conventional case, and a line feed. The only refusal is running out of memory.
 fn append_tag_line(lines: &mut Vec<u8>, tag: &Tag) -> Result<(), OutOfMemory>
     ensures { OnOk result (lines.new.items ≡ lines.old.items ++ tag_line tag.now) }
 {
@@ -23,6 +23,7 @@ fn append_tag_line(lines: &mut Vec<u8>, tag: &Tag) -> Result<(), OutOfMemory>
 }
 
 /// Appends the line of a step: its kind, its place, the number of its record, and the tag `after`, to which it leads.
+/// The only refusal is running out of memory.
 fn append_step(
     lines: &mut Vec<u8>,
     alloc: Global,
@@ -77,7 +78,7 @@ impl<'t, L: Lookup> Model for ExplanationLines<'t, L> {
 }
 
 impl<'t, L: Lookup> ExplanationLines<'t, L> {
-    /// The lines that [`explanation_text`] gives for a text, or why there are none.
+    /// The lines that [`explanation_text`] gives for a text, none of which is given yet. It is refused as that is.
     pub fn new(
         alloc: Global,
         checked: &'t Checked<L>,

@@ -168,8 +168,8 @@ pub record ServesAt (wild : Bool) (all : List Preference) (tags : List (List (Li
   pub reached : ReachesAt wild all (tag_at tags place) index
   pub allowed : IsRefused all (tag_at tags place) → ⊥
 
--- in the turn the range at `first` is the first that serves one of the first `count` tags; `first` is past the last
--- range where none does
+-- in the turn the range at `first` is the first that serves one of the first `count` tags; if none does, `first` is the
+-- number of all ranges
 pub record IsFirstServing (wild : Bool) (all : List Preference) (tags : List (List (List ℕ))) (count first : ℕ)
     : Type 0 where
   pub within : first ≤ length all
