@@ -1,5 +1,6 @@
--- Why the answers of `canonical` and the calls over it are right, by parts in their normal forms; and the extlang form
--- of a canonical tag.
+-- The canonical form of a tag is the tag with its parts in their normal forms, and then its value as a whole tag, if it
+-- has one: so the answers of `canonical` and of the calls over it are right. The extlang form of a canonical tag is
+-- valid, and steps lead back from it.
 use Rattle.std.proofs.Common.{◌≡◌, ℕ, ◌+◌, ◌<◌, inl, inr, List, [], ◌∷◌, Option, Some, None, refl, sym, ap, ◌∙◌, subst}
 use Rattle.std.proofs.Common.{length, arith, Bool, ◌↔◌, IsTrue, ◌≤◌, Err, IfErr, true}
 use Rattle.std.specs.Prelude.{Result, unwrap_or}
@@ -59,7 +60,8 @@ use Rattle.lt_tag.specs.Texts.{text_of}
 use Rattle.lt_canon.proofs.RepeatedVariants.{core_repeats, end_canonical, equivalence_is_equality, form_is_end}
 use Rattle.lt_canon.proofs.RepeatedVariants.{reached_canonical, same_form_text}
 
--- where equivalence of tags is equality of canonical forms, it is equality of the forms' texts
+-- if tags are equivalent exactly if their canonical forms are equal, they are so exactly if the texts of these forms
+-- are equal
 pub text_equality : (R : List EntryParts) → EquivalenceIsEquality R → EquivalenceIsEqualText R
 text_equality R E t u c d h k = (
   (λ e. ap text_of (E.equal t u c d h k e)),
@@ -121,13 +123,13 @@ langtag_of t c h = grind arith
 pub coreless_settled : (R : List EntryParts) (t s : TagForm) → core_of t ≡ None → s ≡ t → IsSettledTag R t s
 coreless_settled R t s h e = grind arith
 
--- the three contracts of a refusal are one: an invalid tag has this first fault, and of a valid one the named variant
--- is repeated
+-- the three clauses on a refusal of `canonical` make one: the refusal names the first fault of an invalid tag, or the
+-- variant of a valid one that steps can repeat
 pub refused : (R : List EntryParts) (t : TagForm) (refusal : Refusal) → NamesFault R t refusal
     → RefusesOnlyRepeats R t refusal → NamesRepeat R t refusal → IsRefusedWith R t refusal
 refused R t refusal h k n = grind arith
 
--- the first tag `t` has a canonical form `c`, and the second, `u`, is refused: that is the refusal of the pair
+-- if the first tag `t` has a canonical form `c`, and the second, `u`, is refused, that is the refusal of the pair
 pub second_refused : (R : List EntryParts) (t u c : TagForm) (refusal : Refusal) → IsCanonicalFormOf R t c
     → IsRefusedWith R u refusal → IsSecondRefusal R t u refusal
 second_refused R t u c refusal h k = record { first = c; first_form = h; refused = k }
@@ -179,22 +181,22 @@ module _ (R : List EntryParts) (C : IsChecked R) where
       → IsCoreNormalForm R c d → IsNormalForm (ExtensionsStep R) es fs → length fs ≤ longest_text
   form_count c d es fs ps P n m = (star_proper (end_form R C) (parts_reached R C n.reached m.reached ps P) P).tag.counts.1
 
-  -- where there are extensions or private use, there are some when the extensions are in normal form, `fs`
+  -- a langtag with extensions or private use still has some once its extensions are in their normal form, `fs`
   pub form_some : (es fs : List ExtensionParts) (ps : List (List ℕ)) → IsNormalForm (ExtensionsStep R) es fs
       → 0 < length es + length ps → 0 < length fs + length ps
   form_some es fs ps m h = star_keeps (λ l. 0 < length l + length ps)
       (λ a b s _. omega (arith, some_long b (extensions_step_to R a b s))) m.reached h
 
-  -- the value `u` of a valid tag that can be replaced whole: `r`, which is `u` with its core in core normal form, is
-  -- the canonical form of the tag
+  -- if `u` is the value of a valid tag that can be replaced whole, then `r`, which is `u` with its core in core normal
+  -- form, is the canonical form of the tag
   pub value_canonical : (t u r : TagForm) → CanBeReplacedWhole t → IsValid R t → whole_value R t ≡ Some u
       → IsSettledValue R u r → IsCanonicalFormOf R t r
   value_canonical t u r h V e s =
       let w = replaced R C t r (inl (record { value = u; plain = h; has = e; settled = s })) in
       reached_canonical R C t r V (w.reached V.proper) (λ a b. w.at_rest (λ n. let none = n h in cc) a b.change) (w.distinct V.distinct)
 
-  -- `s` is the tag `t` with its parts in their normal forms, without repeats: it is `parts_end` of `t`, and repeats no
-  -- variant
+  -- if `s` is the tag `t` with its parts in their normal forms, without repeats, it is `parts_end` of `t`, and repeats
+  -- no variant
   settled_end : (t s : TagForm) → IsSettledTag R t s → (s ≡ parts_end R C t) × RepeatsNoVariant s
   settled_end (LangTag c es ps) s k = (
     rw (
@@ -206,12 +208,13 @@ module _ (R : List EntryParts) (C : IsChecked R) where
   )
   settled_end _ s k = (k, rw k tt)
 
-  -- `s` is the tag `t` with its parts in their normal forms, and `r` is `s` with its value taken, if it has one: `r` is
-  -- the canonical form of `t`
+  -- if `s` is the tag `t` with its parts in their normal forms, and `r` is `s` with its value taken, if it has one,
+  -- then `r` is the canonical form of `t`
   pub settled_canonical : (t s r : TagForm) → IsValid R t → IsSettledTag R t s → IsReplacedWhole R s r → IsCanonicalFormOf R t r
   settled_canonical t s r V k w = let e = settled_end t s k in end_canonical R C t r V (rw e.0 at e.1) (rw e.0 at w)
 
-  -- the canonical form of a langtag with extensions or private use: its core and its extensions in normal form
+  -- the canonical form of a langtag with extensions or private use is that with its core and its extensions in their
+  -- normal forms, `d` and `fs`, if these repeat no variant
   pub langtag_canonical : (c d : CoreParts) (es fs : List ExtensionParts) (ps : List (List ℕ))
       → IsValid R (LangTag c es ps) → IsDistinctForm R c d → IsNormalForm (ExtensionsStep R) es fs
       → AllByRecursion HasDistinctSource fs → 0 < length es + length ps
@@ -221,7 +224,7 @@ module _ (R : List EntryParts) (C : IsChecked R) where
       (record { core = d; extensions = fs; is = refl; form = n; normal = m; distinct = k })
       (inr (record { none = λ p. absurd (omega (arith, form_some es fs ps m h, ap length p.0, ap length p.1)); same = refl }))
 
--- the core of a language, extlangs, a script, a region and variants
+-- a core of these parts: language, extlangs, script, region, variants
 abbrev pub core : List ℕ → List (List ℕ) → Option (List ℕ) → Option (List ℕ) → List (List ℕ) → CoreParts
 core l xs sc re vs = record { language = l; extlangs = xs; script = sc; region = re; variants = vs }
 
@@ -287,8 +290,8 @@ module _ (R : List EntryParts) (C : IsChecked R) where
       (replacement R l) l x.fits.end (subst Q back x.fits.replacement_ends) (subst Q x.same x.fits.ends)
       ∙ ap (λ xs. core_end R C (core l xs d.script d.region d.variants)) (sym none)
 
-  -- with the Prefix `o` that is found, if there is one, in front, a canonical langtag is valid, and steps lead back
-  -- from it
+  -- a canonical langtag with the Prefix `o` that is found for its language, if one is, in front is valid, and steps
+  -- lead back from that
   lead_back_at : (d : CoreParts) (es : List ExtensionParts) (ps : List (List ℕ)) → IsCanonical R (LangTag d es ps)
       → (o : Option (List ℕ)) → prefix_of (prefixes R kinds.Extlang d.language) ≡ o
       → IsValid R (LangTag (behind o d) es ps) × IsReached R (LangTag (behind o d) es ps) (LangTag d es ps)
@@ -310,7 +313,7 @@ module _ (R : List EntryParts) (C : IsChecked R) where
 pub coreless_extlang : (R : List EntryParts) (c : TagForm) → core_of c ≡ None → c ≡ extlang_form R c
 coreless_extlang R c h = grind arith
 
--- the extlang form of a langtag, by the Prefix `o` that is found for its language
+-- the extlang form of a langtag is that with the Prefix `o` that is found for its language, if one is, in front
 pub extlang_form_is : (R : List EntryParts) (c : TagForm) (d : CoreParts) (o : Option (List ℕ)) → core_of c ≡ Some d
     → prefix_of (prefixes R kinds.Extlang d.language) ≡ o
     → extlang_form R c ≡ LangTag (behind o d) (extensions_of c) (private_of c)

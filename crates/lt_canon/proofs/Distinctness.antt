@@ -1,4 +1,5 @@
--- The leftmost variant that occurs a second time: if variants are not distinct, there is one, and only one.
+-- If variants are not distinct, there is a leftmost one that occurs a second time, and only one. A refusal
+-- `ReplacementRepeats` names it.
 use Rattle.std.proofs.Common.{◌≡◌, ℕ, zero, suc, ◌+◌, ◌<◌, ◌⊎◌, inl, inr, true, List, [], ◌∷◌, ◌++◌, length, take, drop}
 use Rattle.std.proofs.Common.{get_or, sym, ap, ◌∙◌, subst, append_assoc, arith}
 use Rattle.std.proofs.lemmas.Bool.{cases_Bool}
@@ -12,7 +13,7 @@ use Rattle.lt_registry.proofs.VariantFaultLemmas.{stands_at}
 use Rattle.lt_registry.proofs.DistinctTests.{distinct_further}
 use Rattle.lt_canon.specs.Answers.{IsSecondOccurrence}
 
--- the variant `v` at index `i` is among those before it, which are distinct: it is the first to occur again
+-- if the variant `v` at index `i` is among those before it, and these are distinct, `v` is the first to occur again
 pub second_here : (vs : List (List ℕ)) (i : ℕ) (v : List ℕ) → i < length vs → v ≡ get_or vs i v
     → stands_in (take i vs) v ≡ true → Distinct (take i vs) → IsSecondOccurrence vs v
 second_here vs i v l e h d =
@@ -25,8 +26,8 @@ second_here vs i v l e h d =
       first = subst Distinct s.2 d;
     }
 
--- where the variants before index `i` are distinct, all are, or one is the first to occur again; `n` are still to be
--- compared
+-- if the variants before index `i` are distinct, all are, or one is the first to occur again; the `n` from there on are
+-- still to be compared
 second_from : (vs : List (List ℕ)) (n i : ℕ) → i + n ≡ length vs → Distinct (take i vs) → Distinct vs
     ⊎ ((v : List ℕ) × IsSecondOccurrence vs v)
 second_from vs zero i e d = inl (subst Distinct (ap (λ k. take k vs) (omega arith) ∙ take-length vs) d)
@@ -43,8 +44,8 @@ second_from vs (suc n) i e d =
 pub distinct_or_second : (vs : List (List ℕ)) → Distinct vs ⊎ ((v : List ℕ) × IsSecondOccurrence vs v)
 distinct_or_second vs = second_from vs (length vs) 0 (omega arith) tt
 
--- `a` and `b` are fronts of one list, followed there by `v` and `w`; `P` is true of both fronts, and of no list that
--- begins with a front and what follows it: then `v` is `w`
+-- If one list begins with `a` and then `v`, and with `b` and then `w`, and `P` is true of `a` and of `b`, but of no
+-- list that begins with `a` and `v`, or with `b` and `w`, then `v` is `w`.
 one_next : {A : Type 0} (P : List A → Type 0) (a : List A) (v : A) (r b : List A) (w : A) (s : List A) → P a → P b
     → ((t : List A) → P (a ++ v ∷ t) → ⊥) → ((t : List A) → P (b ++ w ∷ t) → ⊥) → a ++ v ∷ r ≡ b ++ w ∷ s → v ≡ w
 one_next P [] v r [] w s p q f g e = cc
@@ -66,6 +67,6 @@ one_second vs v w h k =
     (append_assoc h.before (v ∷ h.between) (v ∷ h.after) ∙ sym h.there ∙ k.there
     ∙ sym (append_assoc k.before (w ∷ k.between) (w ∷ k.after)))
 
--- where a variant occurs again, the variants are not distinct
+-- if a variant occurs again, the variants are not distinct
 pub second_repeats : (vs : List (List ℕ)) (v : List ℕ) → IsSecondOccurrence vs v → Distinct vs → ⊥
 second_repeats vs v h = distinct_at vs h.before v h.between h.after h.there

@@ -1,11 +1,12 @@
--- Where a function `end_form` names an end that each step keeps and that steps reach, the steps are confluent. It is
--- used of steps on tags, where `P` is that a tag is proper.
+-- A function `end_form` gives *end forms* if each step leads to something of the same end form, and steps reach the end
+-- form. Then steps are confluent, and what is equivalent has one end form. TagForm uses this for steps on tags, where
+-- `P` says that a tag is proper.
 use Rattle.std.proofs.Common.{◌≡◌, refl, sym, ◌∙◌, subst}
 use Rattle.lt_rewrite.specs.Rewriting.{Star, done, then, Equivalent, same, forth, back, IsConfluent, Rests}
 use Rattle.lt_rewrite.proofs.NormalForms.{star_keeps, star_rests}
 
--- each step keeps `end_form` and leads to something of which `P` is true, and from each `a` of which `P` is true steps
--- reach its `end_form`
+-- each step leads to something of which `P` is true and that has the same `end_form`, and from each `a` of which `P` is
+-- true steps reach its `end_form`
 pub record IsEndForm {A : Type 0} (P : A → Type 0) (Step : A → A → Type 0) (end_form : A → A) : Type 0 where
   pub to : (a b : A) → Step a b → P b
   pub kept : (a b : A) → Step a b → end_form a ≡ end_form b

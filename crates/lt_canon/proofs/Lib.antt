@@ -1,4 +1,4 @@
--- What the crates above may use.
+-- Lemmas on canonical tags; `pub` are those that crates above may use.
 pub mod EndForms
 pub mod TagForm
 pub mod Distinctness

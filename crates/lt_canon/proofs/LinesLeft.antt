@@ -1,4 +1,5 @@
--- The lines of an explanation that were given, and those that are left.
+-- The lines that were given of an explanation, and those of what is left of it, are always together all of its lines:
+-- `append_line` keeps this, and so `explanation_text` gives the whole text.
 use Rattle.std.proofs.Common.{◌≡◌, ◌∙◌, ℕ, ◌<◌, ◌+◌, List, [], ◌∷◌, ◌++◌, refl, sym, ap, subst, append_assoc, length, drop, get_or}
 use Rattle.std.specs.Prelude.{codes}
 use Rattle.std.proofs.lemmas.List.{drop_more}
@@ -27,7 +28,7 @@ pub step_at : (steps : List Step) (i : ℕ) (step : Step) → i < length steps �
     → drop i steps ≡ step ∷ drop (i + 1) steps
 step_at steps i step h e = drop_more steps i step h ∙ ap (λ s. s ∷ drop (i + 1) steps) (sym e)
 
--- the steps of a trace have lines: those that `AreStepLines` describes
+-- the steps of a trace have lines, as `AreStepLines` says
 step_lines : (R : List EntryParts) (steps : List Step) (t end : TagForm) → IsTrace R t steps end → (lines : List ℕ)
     × AreStepLines R steps end t lines
 step_lines R [] t end h = ([], (h, refl))
@@ -51,8 +52,8 @@ pub trace_behind : (R : List EntryParts) (t to end : TagForm) (step : Step) (ste
 trace_behind R t to end step steps trace leads =
     let same : trace.0 ≡ to = (steps_determined R t trace.0 to step step trace.1 leads refl refl).result in rw same at trace.2
 
--- `first` is what was left before any line was given, and `left` what is left after these bytes were given: the bytes
--- and the lines of `left` are the lines of `first`
+-- `first` is what was left before any line was given, and `left` is what is left now that the bytes `given` were given:
+-- these bytes and the lines of `left` together are the lines of `first`
 pub record HasGiven (first left : StepsLeft) (given : List ℕ) : Type 0 where
   pub trace : IsTrace left.entries left.here left.steps left.end
   pub completes : (lines : List ℕ) → AreLinesLeft left lines → AreLinesLeft first (given ++ lines)
@@ -61,7 +62,7 @@ pub record HasGiven (first left : StepsLeft) (given : List ℕ) : Type 0 where
 pub given_none : (first : StepsLeft) → IsTrace first.entries first.here first.steps first.end → HasGiven first first []
 given_none first h = record { trace = h; completes = λ lines are. are }
 
--- `before` and `old` were given, and the line of a step makes `new` of `old`: then `before` and `new` were given
+-- if `before` and `old` were given, and the line of a step makes `new` of `old`, then `before` and `new` are given
 pub given_step : (first left next : StepsLeft) (before old new : List ℕ) → HasGiven first left (before ++ old)
     → AppendsStep left next old new → HasGiven first next (before ++ new)
 given_step first left next before old new given on =
@@ -75,7 +76,7 @@ given_step first left next before old new given on =
           subst (AreLinesLeft first) joined (given.completes (line ++ lines) more);
     })
 
--- `before` and `old` were given, and the last line makes `new` of `old`: then `before` and `new` are all the lines
+-- if `before` and `old` were given, and the last line makes `new` of `old`, then `before` and `new` are all the lines
 pub given_all : (first left next : StepsLeft) (before old new : List ℕ) → HasGiven first left (before ++ old)
     → AppendsEnd left next old new → AreLinesLeft first (before ++ new)
 given_all first left next before old new given on =
@@ -86,7 +87,7 @@ given_all first left next before old new given on =
     (record { of_steps = []; are_steps = (stays, refl); all = refl }) in
     rw on.grown (subst (AreLinesLeft first) joined (given.completes line last))
 
--- what was given is a front of all the lines, of which `rest` is to come
+-- what was given is a front of all the lines; `rest` are those still to come
 pub given_front : (first left : StepsLeft) (given : List ℕ) → HasGiven first left given → (lines : List ℕ)
     × AreLinesLeft first lines × ((rest : List ℕ) × (lines ≡ given ++ rest))
 given_front first left given h =
@@ -94,7 +95,7 @@ given_front first left given h =
     let rest = steps.0 ++ codes "= " ++ tag_line left.end in
     (given ++ rest, h.completes rest (record { of_steps = steps.0; are_steps = steps.1; all = refl }), (rest, refl))
 
--- the lines of all that was left at first are the text of the explanation
+-- if `first` is the whole explanation of a text, its lines are the text of that explanation
 pub whole_text : (R : List EntryParts) (text lines : List ℕ) (first : StepsLeft) → IsWholeLeft R text first
     → AreLinesLeft first lines → IsExplanationTextOf R text lines
 whole_text R text lines first whole are = record {

@@ -1,4 +1,7 @@
--- Variants that occur twice in sources and in whole tags.
+-- If a variant occurs twice in the core normal form of the core of a valid tag, or of a source in it, steps can repeat
+-- a variant of the tag, and it has no canonical form. Any other valid tag has one: its end form (TagForm). This file
+-- proves the laws of both: which variant a refusal names, and that tags are equivalent exactly if their canonical forms
+-- are equal.
 use Rattle.std.proofs.Common.{◌≡◌, ℕ, ◌+◌, ◌<◌, ◌⊎◌, inl, inr, List, [], ◌∷◌, ◌++◌, Option, Some, None, refl, sym, ap}
 use Rattle.std.proofs.Common.{◌∙◌, subst, map, append_assoc, length, take, drop, get_or, IfSome, false, Ordering, arith}
 use Rattle.std.proofs.Common.{◌↔◌}
@@ -52,16 +55,16 @@ HasDistinctVariants c = Distinct c.variants
 abbrev pub OfSource : (CoreParts → Type 0) → ExtensionParts → Type 0
 OfSource P e = (c : CoreParts) → HasSource e c → P c
 
--- where an extension repeats no variant in its source, no variant occurs twice in that source
+-- if an extension repeats no variant in its source, and has a source, no variant occurs twice in that
 pub source_told : (e : ExtensionParts) → HasDistinctSource e → OfSource HasDistinctVariants e
 source_told e d c h = if_some_is HasDistinctVariants h.parts.source c h.there (d h.transforms h.parts h.formed)
 
--- `P` is true of the source of a `t` extension, so of that of its parts `p`, if they have one
+-- if `P` is true of the source of a `t` extension, it is true of the source in its parts `p`, if they have one
 told_source : (P : CoreParts → Type 0) (e : ExtensionParts) → OfSource P e → e.singleton ≡ transform → (p : TForm)
     → IsTransform e.subtags p → IfSome p.source P
 told_source P e h s p k = grind arith
 
--- an extension has one source
+-- an extension has one source at most
 pub one_source : (e : ExtensionParts) (c d : CoreParts) → HasSource e c → HasSource e d → c ≡ d
 one_source e c d h k = grind (arith, one_transform)
 
@@ -80,8 +83,8 @@ distinct_subtags e d = told_source HasDistinctVariants e (λ c h.
     c.variants (flat_map spell_field h.parts.fields)
     (rw (← h.formed.spelled, h.there) (simp append_assoc)) d)
 
--- an extension whose source has the variants `vs`: the variant `o` that is the first to occur again there, or None, is
--- the one that the extension repeats
+-- if the source of an extension has the variants `vs`, then the variant `o` that is the first to occur again there, or
+-- None, is the one that the extension repeats, or None
 pub of_source : (e : ExtensionParts) (p : TForm) (source : CoreParts) (vs : List (List ℕ)) (o : Option (List ℕ))
     → e.singleton ≡ transform → IsTransform e.subtags p → p.source ≡ Some source → vs ≡ source.variants
     → MatchOption o (Distinct vs) (IsSecondOccurrence vs) → MatchOption o (HasDistinctSource e) (IsSecondInSource e)
@@ -93,19 +96,19 @@ of_source e p source vs (Some v) s k h same d =
       second = subst (λ l. IsSecondOccurrence l v) same d;
     }
 
--- the extension at index `i` repeats the variant `v` in its source, so one of the extensions does
+-- if the extension at index `i` repeats the variant `v` in its source, one of the extensions does
 pub sources_here : (es : List ExtensionParts) (i : ℕ) (e : ExtensionParts) (v : List ℕ) → i < length es
     → e ≡ get_or es i e → IsSecondInSource e v → IsSecondInSources es v
 sources_here es i e v l h k = record { before = take i es; extension = e; after = drop (i + 1) es; there = whole_turn es i e l h; own = k }
 
--- where neither the extensions before index `i` nor the one there repeat a variant in their sources, none before the
--- next index does
+-- if neither the extensions before index `i` nor the one there repeats a variant in its source, none before the next
+-- index does
 pub sources_more : (es : List ExtensionParts) (i : ℕ) (e : ExtensionParts) → i < length es → e ≡ get_or es i e
     → HasDistinctSource e → AllByRecursion HasDistinctSource (take i es)
     → AllByRecursion HasDistinctSource (take (i + 1) es)
 sources_more es i e l h d all = rw (take_turn es i e l h) (all_more HasDistinctSource (take i es) e all d)
 
--- where a source repeats a variant, it is not so that none does
+-- it can't be that a source repeats a variant and that none does
 pub source_repeats : (es : List ExtensionParts) (v : List ℕ) → IsSecondInSources es v → AllByRecursion HasDistinctSource es → ⊥
 source_repeats es v h d =
     second_repeats h.own.source.variants v h.own.second
@@ -292,15 +295,15 @@ module _ (R : List EntryParts) (C : IsChecked R) where
     repeats_none = λ k. repeats_at_end t V k (rw (reached_is_end (end_form R C) t r V.proper to h) d);
   }
 
-  -- `r` is the tag `t` with its parts in their normal forms, which repeat no variant, and then its value taken: it is
-  -- the canonical form of `t`
+  -- if the parts of a tag `t` in their normal forms repeat no variant, then `r`, the tag of these with its value taken,
+  -- is the canonical form of `t`
   pub end_canonical : (t r : TagForm) → IsValid R t → RepeatsNoVariant (parts_end R C t)
       → IsReplacedWhole R (parts_end R C t) r → IsCanonicalFormOf R t r
   end_canonical t r V d w =
       reached_canonical t r V (settled_reached R C t r w V.proper) (settled_rests R C t r w)
       ((replaced R C (parts_end R C t) r w).distinct d)
 
-  -- a core whose core normal form repeats `v`: steps can repeat `v`, and the refusal names it
+  -- if the core normal form of a core repeats `v`, steps can repeat a variant of the langtag, and the refusal names `v`
   pub core_repeats : (c : CoreParts) (es : List ExtensionParts) (ps : List (List ℕ)) (v : List ℕ)
       → IsValid R (LangTag c es ps) → IsRepeatOfCore R c v → IsRepeatOf R (LangTag c es ps) v
   core_repeats c es ps v V h = record {
@@ -313,8 +316,8 @@ module _ (R : List EntryParts) (C : IsChecked R) where
     named = inl h;
   }
 
-  -- the core in normal form, `d`, repeats no variant, but a source of the extensions in normal form, `fs`, repeats `v`:
-  -- steps can repeat it, and a refusal names it
+  -- if the core in normal form, `d`, repeats no variant, but a source of the extensions in normal form, `fs`, repeats
+  -- `v`, steps can repeat a variant of the langtag, and a refusal names `v`
   pub source_refused : (c d : CoreParts) (es fs : List ExtensionParts) (ps : List (List ℕ)) (v : List ℕ)
       → IsValid R (LangTag c es ps) → IsDistinctForm R c d → IsNormalForm (ExtensionsStep R) es fs
       → IsSecondInSources fs v → IsRepeatOf R (LangTag c es ps) v
@@ -374,7 +377,7 @@ module _ (R : List EntryParts) (C : IsChecked R) where
             (subst RepeatsNoVariant (sym same) d);
       }
 
-  -- the canonical form is the end form
+  -- the canonical form of a tag is its end form
   pub form_is_end : (t c : TagForm) → IsCanonicalFormOf R t c → tag_end R C t ≡ c
   form_is_end t c h = reached_is_end (end_form R C) t c h.valid.proper h.reached h.canonical.at_rest
 
@@ -395,7 +398,7 @@ module _ (R : List EntryParts) (C : IsChecked R) where
   one_core_repeat c v w h k = one_second k.form.variants v w (subst (λ (x : CoreParts). IsSecondOccurrence x.variants v)
       (one_form c h.form k.form h.normal k.normal) h.second) k.second
 
-  -- where a variant is repeated in the core normal form of a core, it is not so that none is
+  -- it can't be that a variant is repeated in the core normal form of a core and that none is
   core_repeats_not : (c : CoreParts) (v : List ℕ) → IsRepeatOfCore R c v → HasDistinctForm R c → ⊥
   core_repeats_not c v h k = second_repeats h.form.variants v h.second
       (subst (λ (x : CoreParts). Distinct x.variants) (one_form c k.form h.form k.normal h.normal) k.distinct)

@@ -1,5 +1,7 @@
--- Each change of a proper tag leads to a proper one. The end form of a tag: each step keeps it, each proper tag
--- reaches it, and no step leads from it. It is the tag with its parts in their normal forms, and then its value.
+-- The *end form* of a tag is the tag with its parts in their normal forms, and then its value as a whole tag, if it has
+-- one. Each step leads to a tag of the same end form, steps from a proper tag reach its end form, and no step leads
+-- from that: so steps are confluent (`has_end_forms`, `steps_confluent`). A *change* is what a step does to a tag: a
+-- step is a change from a proper tag to a proper one, and each change of a proper tag is a step.
 use Rattle.std.proofs.Common.{◌≡◌, ◌≢◌, ℕ, inl, inr, true, List, [], ◌∷◌, Option, Some, None, refl, sym, ap, ◌∙◌, subst, All, arith}
 use Rattle.std.proofs.lemmas.Bool.{cases_Bool}
 use Rattle.lt_tag.specs.Parts.{CoreParts, ExtensionParts, TagForm, LangTag, PrivateUse, Grandfathered}
@@ -31,7 +33,7 @@ use Rattle.lt_canon.specs.Laws.{HasEndForms, StepsAreConfluent}
 use Rattle.lt_canon.specs.Corollaries.{OneCanonicalTag}
 use Rattle.lt_canon.specs.Settled.{IsReplacedWhole}
 
--- `t` where there is no value, else `end` of the value
+-- `end` of the value, or `t` if there is no value
 abbrev pub or_value : TagForm → (TagForm → TagForm) → Option TagForm → TagForm
 or_value t end None = t
 or_value t end (Some u) = end u
@@ -91,7 +93,7 @@ module _ (R : List EntryParts) (C : IsChecked R) where
   abbrev pub core_end : CoreParts → CoreParts
   core_end = normal_core R C.passes.core_conditions
 
-  -- core steps keep the core normal form and reach it, and none leads from it
+  -- a core step leads to a core of the same core normal form, core steps reach that form, and none leads from it
   pub cores_formed : IsFormOf (CoreStep R) core_end
   cores_formed = normal_cores R C.passes.core_conditions
 
@@ -103,11 +105,11 @@ module _ (R : List EntryParts) (C : IsChecked R) where
   abbrev pub extensions_end : List ExtensionParts → List ExtensionParts
   extensions_end = normal_extensions R C.registry C.passes.core_conditions
 
-  -- steps on extensions keep their normal form and reach it, and none leads from it
+  -- a step on extensions leads to extensions of the same normal form, steps reach that form, and none leads from it
   pub extensions_end_formed : IsFormOf (ExtensionsStep R) extensions_end
   extensions_end_formed = extensions_formed R C.registry C.passes.core_conditions
 
-  -- a value, which is a core alone, with its core in core normal form
+  -- a value with its core in core normal form; a value is a *core alone*: a langtag without extensions and private use
   abbrev pub value_end : TagForm → TagForm
   value_end (LangTag c es ps) = LangTag (core_end c) es ps
   value_end t = t
@@ -128,8 +130,8 @@ module _ (R : List EntryParts) (C : IsChecked R) where
   tag_end (PrivateUse ps) = PrivateUse ps
   tag_end (Grandfathered n) = whole_end (Grandfathered n)
 
-  -- the end form of a langtag with extensions: its core `d`, which is in core normal form, and its extensions in normal
-  -- form
+  -- the end form of a langtag with extensions has its core `d`, which is in core normal form, and its extensions in
+  -- their normal form
   pub lang_end_some : (d : CoreParts) (es : List ExtensionParts) (ps : List (List ℕ)) → es ≢ []
       → lang_end d es ps ≡ LangTag d (extensions_end es) ps
   lang_end_some d es ps h = grind arith
@@ -220,8 +222,8 @@ module _ (R : List EntryParts) (C : IsChecked R) where
     pub at_rest : ((CanBeReplacedWhole s → whole_value R s ≡ None) → NoChange R s) → NoChange R r
     pub distinct : RepeatsNoVariant s → RepeatsNoVariant r
 
-  -- where `r` is `s` with its value taken, `r` is reached from `s`, is at rest if `s` is but for its value, and repeats
-  -- no variant if `s` repeats none
+  -- if `r` is `s` with its value taken, steps from `s` reach `r`, no step leads from `r` if only the one to its value
+  -- leads from `s`, and `r` repeats no variant if `s` repeats none
   pub replaced : (s r : TagForm) → IsReplacedWhole R s r → Replaced s r
   replaced s r (inl v) =
       let u = v.settled in
@@ -260,8 +262,8 @@ module _ (R : List EntryParts) (C : IsChecked R) where
   pub settled_rests : (t r : TagForm) → IsReplacedWhole R (parts_end t) r → Rests (TagStep R) r
   settled_rests t r w u s = (replaced (parts_end t) r w).at_rest (parts_end_rests t) u s.change
 
-  -- `o` is the value of a tag `t` that can be replaced whole, or None: the value with its core in core normal form, or
-  -- else the tag, is what comes of `t`
+  -- if `o` is the value of a tag `t` that can be replaced whole, or None, then what `t` is replaced by is the value
+  -- with its core in core normal form, or `t` itself
   whole_replaced : (t : TagForm) → CanBeReplacedWhole t → (o : Option TagForm) → whole_value R t ≡ o
       → IsReplacedWhole R t (or_value t value_end o)
   whole_replaced t h None e = inr (record { none = λ _. e; same = refl })
@@ -299,7 +301,7 @@ module _ (R : List EntryParts) (C : IsChecked R) where
   pub tag_reached : (t : TagForm) → IsProper R t → IsReached R t (tag_end t)
   tag_reached t P = settled_reached t (tag_end t) (end_replaced t) P
 
-  -- `tag_end` is an end form: each step keeps it, and steps reach it from each proper tag
+  -- `tag_end` gives end forms: each step leads to a tag of the same end form, and steps reach it from each proper tag
   pub end_form : IsEndForm (IsProper R) (TagStep R) tag_end
   end_form = record { to = λ a b s. s.to; kept = λ a b s. change_kept a b s.change; reached = tag_reached }
 

@@ -1,4 +1,5 @@
--- What a refusal of tags says of the texts that they were read from.
+-- If texts are read as tags, and a tag is refused, that is the refusal of the texts: of two texts that are compared for
+-- equivalence, and of a text that is tested for validity. The crates above need this.
 use Rattle.std.proofs.Common.{ℕ, List}
 use Rattle.lt_tag.specs.Faults.{HasTag}
 use Rattle.lt_tag.specs.Parts.{TagForm}
@@ -12,7 +13,7 @@ use Rattle.lt_canon.specs.TextAnswers.{IsPairRefusal, IsValidityRefusal}
 use Rattle.lt_canon.specs.declared.refusals.Refusal.{Refusal}
 use Rattle.lt_canon.specs.declared.refusals.Refusal.TheVariants as refusals
 
--- two texts are read as tags `t` and `u`, of which one is refused: that is the refusal of the pair of texts
+-- if two texts are read as tags `t` and `u`, and one of these is refused, that is the refusal of the pair of texts
 pub pair_refused : (R : List EntryParts) (first second : List ℕ) (t u : TagForm) (refusal : Refusal) → HasTag first t → HasTag second u
     → IsFirstRefusal R t u refusal → IsPairRefusal R first second (of_refusal refusal)
 pair_refused R first second t u (refusals.Invalid fault) p q owed =
@@ -21,7 +22,7 @@ pair_refused R first second t u (refusals.ReplacementRepeats v) p q owed =
     record { tag = t; read = p; holds = record { tag = u; read = q; holds = owed } }
 pair_refused R first second t u refusals.OutOfMemory p q owed = tt
 
--- the text is read as a tag `t`, which `validate` refuses: that is the refusal of the text
+-- if the text is read as a tag `t`, and `validate` refuses this, that is the refusal of the text
 pub validity_refused : (R : List EntryParts) (text : List ℕ) (t : TagForm) (refused : ValidRefusal) → HasTag text t
     → validity.IsRefusal R t refused → IsValidityRefusal R text (of_refusal (of_valid refused))
 validity_refused R text t (checks.Fault fault) p owed = record { tag = t; read = p; holds = owed }

@@ -1,4 +1,6 @@
--- Traces, and the runs on the parts of a tag that explain its canonical form.
+-- A *trace* is steps that lead from a tag to another, and a *run* is a trace of which each step is the first that leads
+-- on. These lemmas show that `verify` finds what is wrong with a trace, and that a run on the core of a tag, and then
+-- the step Whole or a run on its extensions, make the one explanation that `explain` answers.
 use Rattle.std.proofs.Common.{◌≡◌, ℕ, ◌+◌, ◌<◌, inl, inr, List, [], ◌∷◌, ◌++◌, Some, None, refl, sym, ap, ◌∙◌, subst}
 use Rattle.std.proofs.Common.{length, take, drop, get_or, false, Ordering, arith, Bool, ◌≤◌, ◌≢◌, rules}
 use Rattle.std.specs.Prelude.{if◌then◌else◌}
@@ -64,13 +66,13 @@ trace_cut : (R : List EntryParts) (xs ys : List Step) (t v : TagForm) → IsTrac
 trace_cut R [] ys t v h = (t, refl, h)
 trace_cut R (x ∷ xs) ys t v h = let rest = trace_cut R xs ys h.0 v h.2 in (rest.0, (h.0, h.1, rest.1), rest.2)
 
--- `validate` refuses the tag `t`: that is the fault of every trace from it
+-- if `validate` refuses the tag `t`, that is the fault of every trace from it
 pub invalid_trace : (R : List EntryParts) (t end : TagForm) (steps : List Step) (refused : ValidRefusal)
     → IsRefusal R t refused → IsTraceFault R t steps end (of_invalid refused)
 invalid_trace R t end steps refused h = grind arith
 
--- the steps before index `i` lead from `t` to `here`, from which step `i` leads nowhere: it is the misstep, number `i +
--- 1`; `default` stands for an index past the end
+-- if the steps before index `i` lead from `t` to `here`, from which step `i` leads nowhere, that is the misstep, with
+-- the number `i + 1`; `default` stands for an index past the end
 pub misstep_here : (R : List EntryParts) (t : TagForm) (steps : List Step) (i : ℕ) (default : Step) (here
     : TagForm) (fault : ApplyFault) → i < length steps → IsTrace R t (take i steps) here
     → IsApplyFault R here (get_or steps i default) fault → fault ≡ apply_faults.NoSuchStep → IsMisstep R t steps (i + 1)
@@ -80,29 +82,29 @@ misstep_here R t steps i default here fault h led stuck e =
     let none = subst (IsApplyFault R here (get_or steps i default)) e stuck in
     search (rules, there, nth, none)
 
--- the steps before index `i` lead from `t` to `here`, and step `i` from there to `next`: so the steps up to it lead to
--- `next`
+-- if the steps before index `i` lead from `t` to `here`, and step `i` leads from there to `next`, then the steps up to
+-- it and with it lead to `next`; `default` stands for an index past the end
 pub trace_here : (R : List EntryParts) (t : TagForm) (steps : List Step) (i : ℕ) (default : Step) (here next : TagForm)
     → i < length steps → IsTrace R t (take i steps) here → LeadsBy R here (get_or steps i default) next
     → IsTrace R t (take (i + 1) steps) next
 trace_here R t steps i default here next h led on =
     rw (take_more steps i default h) (trace_append R (take i steps) (get_or steps i default ∷ []) t here next led (next, on, refl))
 
--- following the steps from a valid tag to no end gives `fault`: that is the fault of the trace; `S`, `xs` and `told`
--- stand for the same entries, steps and fault
+-- if `follow` refuses the steps from a valid tag with `fault`, that is the fault of the trace; `S`, `xs` and `told` are
+-- the same entries, steps and fault
 pub follow_fault : (R S : List EntryParts) (t end : TagForm) (steps xs : List Step) (fault told : TraceFault) → S ≡ R
     → xs ≡ steps → told ≡ fault → IsValid R t → IsFollowFault S t xs fault → IsTraceFault R t steps end told
 follow_fault R S t end steps xs fault told e f same V h = let k = rw (e, f) at h in rw same (grind arith)
 
--- the steps lead from a valid tag to `end`, and comparison finds that `last`, the last tag of the trace, is another:
--- the fault is WrongEnd
+-- if the steps lead from a valid tag to `end`, and `last`, the last tag of the trace, compares as another, the fault of
+-- the trace is WrongEnd
 pub ends_elsewhere : (R : List EntryParts) (t end last : TagForm) (steps : List Step) (same : Bool) → IsValid R t
     → IsTrace R t steps end → same ≡ eq_by_cmp tag_cmp end last → same ≡ false
     → IsTraceFault R t steps last faults.WrongEnd
 ends_elsewhere R t end last steps same V led e wrong =
     (V, record { tag = end; led = led; other = λ is. let yes = (same_exactly tag_total tags_apart end last same e).1 is in cc })
 
--- where a fault other than OutOfMemory is reported, the steps are no valid trace
+-- a trace with a fault other than OutOfMemory is not valid
 pub fault_excludes : (R : List EntryParts) (t end : TagForm) (steps : List Step) (fault : TraceFault)
     → IsTraceFault R t steps end fault → fault ≢ no_trace_memory → IsValidTrace R t steps end → ⊥
 fault_excludes R t end steps (faults.Invalid fault) h n v = (valid_law R t v.valid.proper.tag).0 v.valid fault.kind fault.place h.there
@@ -158,14 +160,14 @@ module _ (R : List EntryParts) (c : CoreParts) (es : List ExtensionParts) (ps : 
   abbrev here : TagForm
   here = LangTag c es ps
 
-  -- the rank in the tag of a step on its core: that of its kind, at most 6
+  -- the rank in the tag of a step on its core is that of its kind, at most 6
   core_leads_rank : (step : Step) (d : CoreParts) → CoreLeads R 0 c step d → (rank_in here step ≡ kind_rank step) × (kind_rank step ≤ 6)
   core_leads_rank step d l =
       let low : step.place ≤ length (spell_core c) = subst (λ (x : Step). x.place ≤ length (spell_core c)) l.1
       (omega (arith, core_high R 0 c d l.0)) in
       (grind (arith, nat_tests), subst (λ (x : Step). kind_rank x ≤ 6) l.1 (core_rank R 0 c d l.0).most)
 
-  -- the rank in the tag of a step on its extensions: at least 8, so that it comes after Whole (7)
+  -- the rank in the tag of a step on its extensions is at least 8, so that it comes after Whole (7)
   extensions_lead_rank : (step : Step) (fs : List ExtensionParts) → ExtensionsLeads R (length (spell_core c)) es step fs
       → (rank_in here step ≡ extension_rank step) × (8 ≤ extension_rank step)
   extensions_lead_rank step fs l =
@@ -205,7 +207,7 @@ module _ (R : List EntryParts) (c : CoreParts) (es : List ExtensionParts) (ps : 
           },
         )
 
-    -- where no step on the core is left, the first on the extensions is the first of all
+    -- if no step on the core leads on, the first on the extensions is the first of all steps on the tag
     pub extensions_is_first : (step : Step) (fs : List ExtensionParts) → IsProper R here → NoneLeads (CoreLeads R 0 c)
         → IsFirst (ExtensionsLeads R (length (spell_core c)) es) extension_rank step fs → IsProper R (LangTag c fs ps)
         × IsFirst (LeadsBy R here) (rank_in here) step (LangTag c fs ps)
@@ -258,13 +260,13 @@ one_explanation R t a b xs ys h k = one_run R t a b xs ys h.is_run k.is_run h.fo
 pub few_in_tag : (t : TagForm) (es : List ExtensionParts) → IsTagValue t → es ≡ extensions_of t → length (spell_extensions es) ≤ 1049600
 few_in_tag t es v e = let f = fits t v.counts in rw e (omega (arith, f.0, few_subtags (extensions_of t) f.1))
 
--- a langtag that is no core alone has extensions or private use
+-- a langtag that is no core alone, as `core_alone` tells, has extensions or private use
 more_than_core : (core : CoreParts) (es : List ExtensionParts) (ps : List (List ℕ))
     → ((k : CoreParts) → LangTag core es ps ≡ core_alone k → ⊥) → 0 < length es + length ps
 more_than_core core [] [] h = absurd (h core refl)
 more_than_core core _ _ h = omega arith
 
--- a run of steps, each of which is a move, is a chain of moves
+-- if each step that leads on is a `Move`, a run of steps is a chain of such moves
 run_star : {A : Type 0} (Leads : A → Step → A → Type 0) (rank : A → Step → ℕ) (Move : A → A → Type 0)
     → ((a : A) (step : Step) (b : A) → Leads a step b → Move a b) → (run : List Step) (a b : A)
     → IsRun Leads rank a run b → Star Move a b
@@ -277,7 +279,7 @@ module _ (R : List EntryParts) where
   run_trace [] t end h = h
   run_trace (step ∷ run) t end h = (h.0, h.1.leads, run_trace run h.0 end h.2)
 
-  -- where no step leads on from a core, the core is at rest
+  -- if no step leads on from a core, the core is at rest
   core_rests : (d : CoreParts) → NoneLeads (CoreLeads R 0 d) → Rests (CoreStep R) d
   core_rests d none e s = none (core_label R 0 s) e (s, refl)
 
@@ -313,8 +315,8 @@ module _ (R : List EntryParts) where
           inr (ap (rank_in t) same, omega (arith, ap (λ (x : Step). x.place) same));
     }
 
-    -- steps from `t` to `u` make `mid` of `old`, and then steps from there to rest make `new`: so steps from `t` to
-    -- rest do
+    -- if a run from `t` to `u` makes `mid` of the steps `old`, and a run from there to a tag at rest makes `new` of
+    -- `mid`, then a run from `t` to a tag at rest makes `new` of `old`
     pub first_adds : (t u : TagForm) (old mid new : List Step) → Adds (LeadsBy R) rank_in t u old mid
         → LeadsToRest R u mid new → LeadsToRest R t old new
     first_adds t u old mid new h k = record {
@@ -324,7 +326,7 @@ module _ (R : List EntryParts) where
       at_rest = k.at_rest;
     }
 
-    -- no step leads on from a tag whose core and extensions are at rest, and that has no value: its explanation adds
+    -- no step leads on from a tag whose core and extensions are at rest, and that has no value, so its explanation adds
     -- none
     at_rest_explained : (t : TagForm) (old : List Step) → RestsOnCore R t → Rests (ExtensionsStep R) (extensions_of t)
         → (CanBeReplacedWhole t → whole_value R t ≡ None) → LeadsToRest R t old old
@@ -334,15 +336,16 @@ module _ (R : List EntryParts) where
       at_rest = λ u s. at_end R t (λ c e. core_rests c (k c e)) m w u s.change;
     }
 
-    -- no step leads on from a tag that can be replaced whole but has no value, and whose core is at rest
+    -- no step leads on from a tag that can be replaced whole but has no value, and whose core is at rest, so its
+    -- explanation adds none
     pub valueless_explained : (t : TagForm) (old : List Step) → CanBeReplacedWhole t → RestsOnCore R t
         → whole_value R t ≡ None → LeadsToRest R t old old
     valueless_explained (LangTag c es ps) old h k e = at_rest_explained (LangTag c es ps) old k (rw h.0 (none_rests R)) (λ _. e)
     valueless_explained t old h k e = at_rest_explained t old k (none_rests R) (λ _. e)
 
-    -- a tag whose whole record is `entry`, with this number and the value `value`: Whole, which makes `mid` of `old`,
-    -- and the steps on the core of the value to `form`, which make `new`, lead to rest; `copied` is the core that these
-    -- steps begin with
+    -- If the record of a tag as a whole is `entry`, with this number and the value `value`, then Whole, which makes
+    -- `mid` of `old`, and the steps on the core of the value to `form`, which make `new` of `mid`, lead to a tag at
+    -- rest. `copied` is a copy of that core, with which these steps begin.
     pub value_rests_by : (t value : TagForm) (entry : EntryParts) (core copied form : CoreParts) (number : ℕ) (old mid
         new : List Step) → IsProper R t → CanBeReplacedWhole t → RestsOnCore R t → Some entry ≡ whole R t
         → Some value ≡ tag_of entry.value → Some core ≡ core_of value → copied ≡ core → number ≡ entry.number
@@ -365,8 +368,8 @@ module _ (R : List EntryParts) where
         first_adds t (core_alone copied) old mid new one (first_adds (core_alone copied) (core_alone form) mid new new
         (adds_on_core copied form [] [] mid new (value_plain R C t (core_alone copied) is).valid.proper a).1 rest)
 
-    -- a tag of a core alone, `core`: the steps on the core to `d`, which make `mid` of `old`, lead to the tag of `d`
-    -- alone
+    -- for a tag that is the core `core` without extensions and private use, the steps on the core to `d`, which make
+    -- `mid` of `old`, lead to `core_alone d`, which is proper
     pub plain_explained : (t : TagForm) (core d k : CoreParts) (old mid : List Step) → IsProper R t
         → Some core ≡ core_of t → t ≡ core_alone k → AddsOnCore R 0 core d old mid → IsProper R (core_alone d)
         × Adds (LeadsBy R) rank_in t (core_alone d) old mid
@@ -375,8 +378,9 @@ module _ (R : List EntryParts) where
         let on = adds_on_core core d [] [] old mid (rw same at P) a in
         (on.0, rw same on.1)
 
-    -- a langtag of more than a core: the steps on its core to `d`, which make `mid` of `old`, and then those on its
-    -- extensions to `fs`, which make `new`, lead to rest; the extensions begin after `start` subtags
+    -- for a langtag with extensions or private use, the steps on its core to `d`, which make `mid` of `old`, and then
+    -- those on its extensions to `fs`, which make `new` of `mid`, lead to a tag at rest; the extensions begin after
+    -- `start` subtags
     pub langtag_explained : (t : TagForm) (core d : CoreParts) (es fs : List ExtensionParts) (start : ℕ) (old mid new
         : List Step) → IsProper R t → Some core ≡ core_of t → es ≡ extensions_of t
         → ((k : CoreParts) → t ≡ core_alone k → ⊥) → AddsOnCore R 0 core d old mid → NoneLeads (CoreLeads R 0 d)

@@ -1,4 +1,6 @@
--- Langtags whose subtags stay as they are, which are their own canonical forms.
+-- For a core without extlangs and variants the short test `core_valued` finds the first fault of the tag, or whether a
+-- subtag has a value: `canonical` needs this. A langtag whose subtags *stay* as they are is its own canonical form:
+-- `append_usual_text` needs this. At the end are the laws of traces.
 use Rattle.std.proofs.Common.{◌≡◌, ℕ, inr, List, [], ◌∷◌, ◌++◌, Some, None, refl, sym, ap, ◌∙◌, subst, false, arith}
 use Rattle.std.proofs.Common.{Bool, Err, Ok, All, rules}
 use Rattle.std.specs.Prelude.{MatchResult, Result}
@@ -42,7 +44,7 @@ use Rattle.lt_canon.specs.TraceLaws.{TracesReachTheirEnd, TracesHaveOneEnd}
 use Rattle.lt_canon.proofs.CanonicalForms.{settled_canonical}
 
 -- on a core without extlangs and variants the short test `core_valued` finds the fault that `core_check` finds, or none
--- as that does
+-- if that finds none
 usual_told : (R : List EntryParts) (c : CoreParts) → IsUsual c → (r : Result Bool ValidFault) → core_valued R c ≡ r
     → MatchResult r (λ _. core_check R false 0 c ≡ Ok tt) (λ fault. core_check R false 0 c ≡ Err fault)
 unfolding core_valued core_check variants_check
@@ -50,7 +52,8 @@ usual_told R c u (Ok b) h = grind arith
 usual_told R c u (Err fault) h = grind arith
 
 module _ (R : List EntryParts) (t : TagForm) (c : CoreParts) (u : IsUsual c) (k : t ≡ core_alone c) where
-  -- a fault of the short test is the first fault of the tag `t`, which is the core `c` alone
+  -- a fault of the short test is the first fault of the tag `t`, which is the core `c` alone: without extensions and
+  -- private use
   pub usual_refused : (fault : ValidFault) → core_valued R c ≡ Err fault → IsFirstFault R t fault.kind fault.place
   usual_refused fault h =
       first_same (Counted false (HasFault R t)) (HasFault R t) fault.kind fault.place
@@ -106,7 +109,7 @@ module _ (R : List EntryParts) (text : List ℕ) (c : CoreParts) (stay : StaysAs
       let name = found_name R (core_alone c) e h in
       grind (arith, bytes_eq-Decides)
 
-  -- the core alone that a text which stays is read as is its own canonical form
+  -- if a text that stays is read as the core `c` alone, this is its own canonical form
   pub stays_canonical : IsChecked R → IsCanonicalFormOf R (core_alone c) (core_alone c)
   stays_canonical C =
       let usual : IsUsual c = record { extlangs = stay.extlangs; variants = stay.variants } in
@@ -117,7 +120,8 @@ module _ (R : List EntryParts) (text : List ℕ) (c : CoreParts) (stay : StaysAs
       (usual_settled R (core_alone c) c usual refl value valued)
       (inr (record { none = λ _. grind (arith, no_value); same = refl }))
 
--- the text of the canonical form of the tag that `text` is read as was appended to `old`, so its canonical text was
+-- if the text of the canonical form of the tag that `text` is read as was appended to `old`, the canonical text of
+-- `text` was appended
 pub appended : (R : List EntryParts) (text : List ℕ) (tag form : TagForm) (old new : List ℕ) → HasTag text tag
     → IsCanonicalFormOf R tag form
     → new ≡ old ++ conventional (spell form) → AppendsCanonicalText R text old new

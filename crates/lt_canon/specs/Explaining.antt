@@ -22,7 +22,8 @@ is_of_source (LangTag c es ps) step = nat_le (kind_rank step) 6 && nat_le (lengt
 is_of_source (PrivateUse ps) step = false
 is_of_source (Grandfathered n) step = false
 
--- the rank of a step on a tag; those of steps on a source lie between those of DropTrue and of SwapFields
+-- the rank of a step on a tag: of the steps that lead on, one of the least rank is the first; the ranks of steps on a
+-- source lie between those of DropTrue and of SwapFields
 abbrev pub rank_in : TagForm → Step → ℕ
 rank_in t step = if is_of_source t step then extension_rank step else kind_rank step
 

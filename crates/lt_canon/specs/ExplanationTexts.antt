@@ -19,8 +19,8 @@ tag_line t = text_of t ++ 10 ∷ []
 abbrev pub step_line : Step → List ℕ → List ℕ
 step_line step text = name_of step.kind ++ 32 ∷ (decimal step.place ++ 32 ∷ (decimal step.number ++ 32 ∷ text))
 
--- `lines` begin with the line of the step, which leads from `t` to the tag `after`; of that tag and the lines after it,
--- `rest`, `Rest` is true
+-- `lines` begin with the line of the step, which leads from `t` to the tag `after`; `Rest` is true of that tag and of
+-- `rest`, the lines after the first
 pub record StepPrinted (R : List EntryParts) (t : TagForm) (step : Step)
     (Rest : TagForm → List ℕ → Type 0) (lines : List ℕ) : Type 0 where
   pub after : TagForm

@@ -15,7 +15,8 @@ use Rattle.lt_tag.specs.Lists.{longest_text}
 abbrev pub StepsAreConfluent : List EntryParts → Type 0
 StepsAreConfluent R = IsConfluent (IsProper R) (TagStep R)
 
--- Each proper tag has an end that steps reach, that each step keeps, and from which none leads.
+-- Each proper tag has an end: steps reach it, each step leads to a tag that has the same end, and no step leads from
+-- the end.
 pub record HasEndForms (R : List EntryParts) : Type 0 where
   pub end : TagForm → TagForm
   pub kept : (t u : TagForm) → TagStep R t u → end t ≡ end u

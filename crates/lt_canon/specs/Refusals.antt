@@ -34,7 +34,7 @@ IsRefusedWith R t (refusals.Invalid fault) = IsFirstFault R t fault.kind fault.p
 IsRefusedWith R t (refusals.ReplacementRepeats v) = IsRepeatOf R t v
 IsRefusedWith R t refusals.OutOfMemory = Unit {0}
 
--- the refusal of a tag that the test of validity refused
+-- the refusal of a tag that `validate` refuses with this
 abbrev pub of_valid : ValidRefusal → Refusal
 of_valid (checks.Fault fault) = refusals.Invalid fault
 of_valid checks.OutOfMemory = refusals.OutOfMemory
@@ -47,7 +47,7 @@ of_valid_fault fault = refusals.Invalid fault
 abbrev pub no_memory : Refusal
 no_memory = refusals.OutOfMemory
 
--- the refusal of a text that is not read as a tag, by the kind of its fault
+-- the refusal of a text that is not read as a tag for this fault, of this kind
 abbrev pub of_fault_kind : TagFaultKind → TagFault → TextRefusal
 of_fault_kind kinds.OutOfMemory fault = texts.OutOfMemory
 of_fault_kind _ fault = texts.NotATag fault

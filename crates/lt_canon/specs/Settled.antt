@@ -42,7 +42,8 @@ pub record IsSecondInSources (es : List ExtensionParts) (v : List ℕ) : Type 0 
   pub there : es ≡ before ++ extension ∷ after
   pub own : IsSecondInSource extension v
 
--- `u` is the value `t` of a whole tag with its core in core normal form
+-- `t` is a core without extensions and private use, as the value of a whole tag is, and `u` is that with its core in
+-- core normal form
 pub record IsSettledValue (R : List EntryParts) (t u : TagForm) : Type 0 where
   pub core : CoreParts
   pub form : CoreParts
@@ -61,7 +62,7 @@ pub record IsSettledLangTag (R : List EntryParts) (c : CoreParts) (es : List Ext
   pub normal : IsNormalForm (ExtensionsStep R) es extensions
   pub distinct : AllByRecursion HasDistinctSource extensions
 
--- `s` is the tag with its core and its extensions in their normal forms
+-- `s` is the tag with its core and its extensions in their normal forms; a tag without a core stays as it is
 abbrev pub IsSettledTag : List EntryParts → TagForm → TagForm → Type 0
 IsSettledTag R (LangTag c es ps) s = IsSettledLangTag R c es ps s
 IsSettledTag R t s = s ≡ t
@@ -82,7 +83,7 @@ pub record StaysWhole (R : List EntryParts) (t u : TagForm) : Type 0 where
 abbrev pub IsReplacedWhole : List EntryParts → TagForm → TagForm → Type 0
 IsReplacedWhole R t u = HasSettledValue R t u ⊎ StaysWhole R t u
 
--- the answer is the canonical form of the tag, or why it has none
+-- the answer is the canonical form of the tag, or the refusal that says why it has none
 abbrev pub IsCanonicalAnswer : List EntryParts → TagForm → Result TagForm Refusal → Type 0
 IsCanonicalAnswer R t (Ok c) = IsCanonicalFormOf R t c
 IsCanonicalAnswer R t (Err refusal) = IsRefusedWith R t refusal

@@ -48,7 +48,7 @@ trace_fault_name_of (faults.NoSuchStep n) = codes "NoSuchStep"
 trace_fault_name_of faults.WrongEnd = codes "WrongEnd"
 trace_fault_name_of faults.OutOfMemory = codes "OutOfMemory"
 
--- the fault of a trace whose tag the test of validity refused
+-- the fault of a trace whose tag `validate` refuses with this
 abbrev pub of_invalid : ValidRefusal → TraceFault
 of_invalid (checks.Fault fault) = faults.Invalid fault
 of_invalid checks.OutOfMemory = faults.OutOfMemory

@@ -1,5 +1,5 @@
--- Langtags of a language, and at most a script and a region, and whether these have values. No public contract cites
--- this; it is shown to agree with what is valid and what rests.
+-- Langtags of a language, and at most a script and a region, and whether these subtags have values. No public contract
+-- cites this; it is shown to agree with which tags are valid, and from which no step leads on.
 use Rattle.std.specs.Prelude.{ℕ, ◌≡◌, ◌+◌, Bool, false, ◌||◌, List, [], Option, Some, None, is_some, length, Result, Ok}
 use Rattle.std.specs.Prelude.{Err}
 use Rattle.std.specs.Option.{option_to_list}
@@ -21,7 +21,7 @@ pub record IsUsual (c : CoreParts) : Type 0 where
 abbrev pub Test : Type 0
 Test = Result Bool ValidFault
 
--- the fault of the first test, or else what `next` makes of its answer
+-- the fault of the first test, if it has one, or else what `next` makes of its answer
 abbrev pub on_test : Test → (Bool → Test) → Test
 on_test (Ok holds) next = next holds
 on_test (Err fault) next = Err fault
@@ -37,8 +37,8 @@ abbrev pub part_valued : List EntryParts → Kind → ValidFaultKind → ℕ →
 part_valued R kind fault place (Some s) = one_valued fault place (entry R kind s)
 part_valued R kind fault place None = Ok false
 
--- whether the language, the script or the region of a core has a value; without an entry, the fault, at the place of
--- the subtag: 1, 2, and for a region 3 after a script
+-- whether the language, the script or the region of a core has a value; or the fault of the first of them that has no
+-- entry, at its place: 1 for the language, 2 for the script, and for the region 2, or 3 after a script
 unfoldable pub core_valued : List EntryParts → CoreParts → Test
 core_valued R c =
     on_test (one_valued faults.UnknownLanguage 1 (entry R kinds.Language c.language)) (λ language.

@@ -1,7 +1,8 @@
 //! Canonical tags (RFC 5646, 4.5).
 //!
-//! A tag is settled, and then *replaced whole*: by the value of its record as a whole tag, if it may be and has one,
-//! with the core of that settled.
+//! First a tag is settled: its core and its extensions come to their normal forms. Then it is *replaced whole*: if it
+//! can be, and its record as a whole tag has a value, that value, with its core settled, takes its place. *Shortcuts*
+//! lead at once to the ends of a table's chains of values.
 ghost use Rattle.std.specs.Prelude.{◌≡◌, false, All, IfOk, IfErr};
 ghost use Rattle.lt_tag.specs.Parts.{LangTag};
 ghost use Rattle.lt_registry.specs.Validity.{IsValid};
@@ -27,8 +28,8 @@ use std::alloc::Global;
 /// `yue`.
 ///
 /// - `Invalid`, with the fault that `validate` answers, exactly if the tag is not valid.
-/// - `ReplacementRepeats` exactly if the tag is valid and steps can repeat a variant of it. When no core step
-///   leads on, it names the first variant from the left that has occurred before: in the core or, if none has
+/// - `ReplacementRepeats` exactly if the tag is valid and steps can repeat a variant of it. It names the first
+///   variant from the left that has occurred before, once no core step leads on: in the core or, if none has
 ///   there, in the source of the `t` extension.
 /// - `OutOfMemory` where memory runs out.
 ///
@@ -72,9 +73,9 @@ pub(crate) fn canonical_of<L: Lookup>(
     Ok(replaced_whole(alloc, table, shortcuts, settled)?)
 }
 
-/// Whether a core or an extension of a tag may not be in its normal form. True promises only that the tag is valid, and
-/// false that it is settled as it stands. Refused with `Invalid` exactly if the tag is not valid, or where memory runs
-/// out.
+/// Whether the core or an extension of a tag may be out of its normal form. True says only that the tag is valid, and
+/// false also that it is settled as it stands. Refused with `Invalid` exactly if the tag is not valid, and with
+/// `OutOfMemory` where memory runs out.
 #[tactic(auto, using(crate::proofs::UsualForms::usual_refused, crate::proofs::UsualForms::usual_valid, crate::proofs::UsualForms::usual_settled))]
 fn needs_settling<L: Lookup>(alloc: Global, table: &L, tag: &Tag) -> Result<bool, Refusal>
     ensures valid { IfOk result (λ needs. IsValid (L.listed table.now) tag.now) }
@@ -91,8 +92,8 @@ fn needs_settling<L: Lookup>(alloc: Global, table: &L, tag: &Tag) -> Result<bool
 }
 
 /// The langtag of these parts, with its core and its extensions in their normal forms. Refused with
-/// `ReplacementRepeats` if a variant occurs twice in one of these forms, or where memory runs out. The parts must be
-/// those of a valid langtag, the table must pass the check, and the shortcuts must be the table's.
+/// `ReplacementRepeats` if a variant occurs twice in one of these forms, and with `OutOfMemory` where memory runs out.
+/// The parts must be those of a valid langtag, the table must pass the check, and the shortcuts must be the table's.
 #[tactic(auto, using(crate::proofs::CanonicalForms::transforms_have_parts, crate::proofs::CanonicalForms::core_refused, crate::proofs::CanonicalForms::form_count, crate::proofs::CanonicalForms::form_spells_none))]
 fn settled_langtag<L: Lookup>(
     alloc: Global,
@@ -155,8 +156,8 @@ fn replaced_whole<L: Lookup>(
 }
 
 /// The preferred value of a record of a whole tag, with its core in core normal form. The value must be a valid langtag
-/// that is a core alone (`plain`), as C9 of the check asks, the table must pass the check, and the shortcuts must be
-/// the table's.
+/// without extensions and private use (`plain`), as C9 of the check asks. The table must pass the check, and the
+/// shortcuts must be the table's.
 #[tactic(auto, using(crate::proofs::TagForm::ending_chains, crate::proofs::CanonicalForms::value_spells_none))]
 fn settled_value<L: Lookup>(
     alloc: Global,

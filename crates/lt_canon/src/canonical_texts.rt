@@ -1,4 +1,4 @@
-//! Canonical texts.
+//! Canonical texts: a text is read as a tag, and the canonical form of that tag is written.
 ghost use Rattle.std.specs.Prelude.{◌≡◌, IfOk, IfErr, OnOk, OnErr};
 ghost use Rattle.lt_canon.specs.Texts.{AppendsCanonicalText, IsCanonicalTextOf, IsTextRefusal, RefusesTextOnlyRepeats};
 

@@ -23,7 +23,7 @@ pub fn equivalent<L: Lookup>(
     ensures answer { IfOk result (λ answer. IsEquivalenceAnswer (L.listed checked.now) first.now second.now answer) }
     ensures refusal { IfErr result (λ refusal. IsFirstRefusal (L.listed checked.now) first.now second.now refusal) }
 {
-    // Does nothing but tell the proof that equal canonical forms tell equivalence.
+    // Does nothing but tell the proof that tags are equivalent exactly if their canonical forms are equal.
     confluence(checked);
     let first_form = canonical(alloc, checked, first)?;
     let second_form = canonical(alloc, checked, second)?;

@@ -27,8 +27,8 @@ use std::alloc::Global;
 /// - on the source of a `t` extension the steps on a core;
 /// - the leftmost SwapFields.
 ///
-/// Refused as `canonical` refuses: with `Invalid` if the tag is not valid, with `ReplacementRepeats` if steps can repeat a
-/// variant of it, and with `OutOfMemory` where memory runs out.
+/// Refused as `canonical` refuses: with `Invalid` if the tag is not valid, with `ReplacementRepeats` if steps can
+/// repeat a variant of it, and with `OutOfMemory` where memory runs out.
 #[tactic(auto, using(crate::proofs::CanonicalForms::refused))]
 pub fn explain<L: Lookup>(alloc: Global, checked: &Checked<L>, tag: &Tag) -> Result<Trace, Refusal>
     ensures ok { IfOk result (λ trace. IsExplanation (L.listed checked.now) tag.now trace.steps.items trace.last) }
@@ -39,9 +39,9 @@ pub fn explain<L: Lookup>(alloc: Global, checked: &Checked<L>, tag: &Tag) -> Res
     Ok(Trace { steps, last })
 }
 
-/// Takes the first step on a tag, and goes on so until there is none. It gives back `steps` with these at the end, so
-/// that the last leads to a tag at rest. The tag must be proper, and the table must pass the check. The 0 is the number
-/// of subtags before the core.
+/// Takes the first step that leads on from a tag, and goes on so until there is none. It gives back `steps` with the
+/// steps taken at the end; the last of them leads to a tag at rest. The tag must be proper, and the table must pass the
+/// check. The 0 for `explain_core` is the number of subtags before the core.
 #[tactic(auto, using(crate::proofs::TagForm::ending_chains, crate::proofs::TraceLemmas::coreless_explained, crate::proofs::TraceLemmas::transforms_of))]
 fn explain_tag<L: Lookup>(
     alloc: Global,
@@ -69,9 +69,9 @@ fn explain_tag<L: Lookup>(
     Ok(steps)
 }
 
-/// Takes the Whole step of a tag (`plain`: which may be replaced whole), if its record has a value, and then the steps
-/// on the core of the value. It gives back `steps` with these at the end. The tag must be proper, grandfathered or a
-/// core alone, and no step may lead on from its core (`at_rest`); and the table must pass the check.
+/// Takes the Whole step of a tag, if its record as a whole tag has a value, and then the steps on the core of the
+/// value. It gives back `steps` with these at the end. The tag must be proper, and either grandfathered or without
+/// extensions and private use (`plain`). No step may lead on from its core (`at_rest`). The table must pass the check.
 #[tactic(auto, using(crate::proofs::TagForm::ending_chains, crate::proofs::TraceLemmas::valueless_explained))]
 fn explain_whole<L: Lookup>(
     alloc: Global,

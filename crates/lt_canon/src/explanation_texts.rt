@@ -13,7 +13,7 @@ use lt_tag::{OutOfMemory, Tag, append_tag, read_tag};
 use std::alloc::Global;
 use std::marker::Model;
 
-/// Appends the text of a tag in conventional case, ended by a line feed.
+/// Appends the text of a tag in conventional case, and a line feed. The only refusal is running out of memory.
 fn append_tag_line(lines: &mut Vec<u8>, tag: &Tag) -> Result<(), OutOfMemory>
     ensures { OnOk result (lines.new.items ≡ lines.old.items ++ tag_line tag.now) }
 {
@@ -23,6 +23,7 @@ fn append_tag_line(lines: &mut Vec<u8>, tag: &Tag) -> Result<(), OutOfMemory>
 }
 
 /// Appends the line of a step: its kind, its place, the number of its record, and the tag `after`, to which it leads.
+/// The only refusal is running out of memory.
 fn append_step(
     lines: &mut Vec<u8>,
     alloc: Global,
@@ -39,7 +40,7 @@ fn append_step(
 
 /// The lines of an explanation, each of which is made when it is asked for (RFC 5646, 4.5), so that they are not all in
 /// memory at once. A contract sees what is *left* of the explanation: the tag `here`, the steps from there, and the
-/// last tag. Each value keeps that these steps lead from `here`, which is proper, to that tag.
+/// last tag. It always holds that these steps lead from `here`, which is proper, to that last tag.
 pub struct ExplanationLines<'t, L: Lookup> {
     table: &'t L,
     /// The tag to which the steps led that were taken.
@@ -50,7 +51,7 @@ pub struct ExplanationLines<'t, L: Lookup> {
     taken: usize,
 }
 
-// Written by hand: the proof of a function that drops these lines then has this one call to go through, and not the drop
+// Written by hand: the proof of a function that drops these lines goes through this one call, and not through the drop
 // of each vector.
 impl<L: Lookup> Drop for ExplanationLines<'_, L> {
     fn drop(self) {
@@ -77,7 +78,7 @@ impl<'t, L: Lookup> Model for ExplanationLines<'t, L> {
 }
 
 impl<'t, L: Lookup> ExplanationLines<'t, L> {
-    /// The lines that [`explanation_text`] gives for a text, or why there are none.
+    /// The lines that [`explanation_text`] gives for a text, none of which is given yet. It is refused as that is.
     pub fn new(
         alloc: Global,
         checked: &'t Checked<L>,
@@ -101,8 +102,8 @@ impl<'t, L: Lookup> ExplanationLines<'t, L> {
     /// may have been appended.
     #[tactic(auto, using(crate::proofs::LinesLeft::step_leads))]
     pub fn append_line(&mut self, alloc: Global, lines: &mut Vec<u8>) -> Result<bool, OutOfMemory>
-        // `line`: that of the first step that was left, or the last line. `kept` is only on `self`, since a part of the
-        // line may be in `lines`.
+        // `line`: the line is that of the first step that was left, or the last line. `kept` speaks only of `self`,
+        // since `lines` may have a part of the line.
         ensures line { IfOk result (λ more. AppendsLine self.old self.new lines.old.items lines.new.items more) }
         ensures kept { OnErr result (self.new ≡ self.old) }
     {

@@ -14,10 +14,11 @@ use lt_subtag::Subtag;
 use lt_tag::{Tag, copy_extensions, copy_subtags};
 use std::alloc::Global;
 
-/// The extlang form of a tag (RFC 5646, 4.5): the canonical form and, if its language is registered as an extlang too, the
-/// Prefix of that extlang in front of it. `cmn-Hans` gives `zh-cmn-Hans`. A Prefix of 4 to 8 letters can't be before an
-/// extlang, so a tag whose language has such a Prefix is left in its canonical form. The sources of `t` extensions are left
-/// so too. The extlang form is valid, and its canonical form is that of the tag. It is refused as `canonical` refuses.
+/// The extlang form of a tag (RFC 5646, 4.5): the canonical form and, if its language is registered as an extlang too,
+/// the Prefix of that extlang in front of it. `cmn-Hans` gives `zh-cmn-Hans`. A Prefix of 4 to 8 letters can't be
+/// before an extlang, so a tag whose language has such a Prefix is left in its canonical form. The sources of `t`
+/// extensions are left in their canonical forms too. The extlang form is valid, and its canonical form is that of the
+/// tag. It is refused as `canonical` refuses.
 #[tactic(auto, using(crate::proofs::CanonicalForms::refused, crate::proofs::CanonicalForms::extlang_answer, crate::proofs::CanonicalForms::coreless_extlang, crate::proofs::CanonicalForms::prefixless_extlang))]
 pub fn extlang_form<L: Lookup>(
     alloc: Global,

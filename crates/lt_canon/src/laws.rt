@@ -18,16 +18,18 @@ use lt_registry::Lookup;
 
 /// What holds of the steps of a registry that passes the check (RFC 5646, 4.5).
 ///
-/// - Each proper tag has an end that steps reach, that each step keeps, and from which none leads.
+/// - Each proper tag has an end: steps reach it, each step leads to a tag that has the same end, and no step leads
+///   from the end.
 /// - Tags that steps reach from one proper tag lead on to a common one.
 /// - A class of equivalent tags has at most one canonical tag.
-/// - A valid tag reaches a canonical tag and can repeat no variant, or it can repeat one and is equivalent to
-///   no canonical tag; of two valid tags that are equivalent both can or neither.
-/// - Valid tags that can repeat none are equivalent exactly if their canonical forms are equal, and exactly if
-///   the texts of these are.
+/// - From a valid tag steps reach a canonical tag and can repeat no variant, or they can repeat one and the tag is
+///   equivalent to no canonical tag; of two valid tags that are equivalent, steps can repeat a variant of both or of
+///   neither.
+/// - Valid tags of which steps can repeat no variant are equivalent exactly if their canonical forms are equal, and
+///   exactly if the texts of these forms are.
 /// - A canonical form is its own canonical form; a canonical text is its own canonical text, unless it has more
 ///   than 1,024 bytes.
-/// - Where a valid tag can repeat a variant, there is one variant that the refusal names.
+/// - If steps can repeat a variant of a valid tag, there is one variant that the refusal names, and only one.
 #[tactic(auto, using(crate::proofs::TagForm::has_end_forms, crate::proofs::TagForm::steps_confluent, crate::proofs::TagForm::one_canonical_tag, crate::proofs::RepeatedVariants::canonical_or_repeats, crate::proofs::RepeatedVariants::repeats_have_no_form, crate::proofs::RepeatedVariants::equivalence_is_equality, crate::proofs::RepeatedVariants::repeats_are_named, crate::proofs::CanonicalForms::text_equality))]
 pub fn confluence<L: Lookup>(checked: &Checked<L>)
     ensures ends { HasEndForms (L.listed checked.now) }
@@ -46,8 +48,9 @@ pub fn confluence<L: Lookup>(checked: &Checked<L>)
     let _ = checked.table();
 }
 
-/// Each proper tag has an end that steps reach, that each step keeps, and from which none leads; so tags that steps
-/// reach from one proper tag lead on to a common one, and a class of equivalent tags has at most one canonical tag.
+/// Each proper tag has an end: steps reach it, each step leads to a tag that has the same end, and no step leads from
+/// the end. So tags that steps reach from one proper tag lead on to a common one, and a class of equivalent tags has at
+/// most one canonical tag.
 #[tactic(auto, using(crate::proofs::TagForm::has_end_forms, crate::proofs::TagForm::steps_confluent, crate::proofs::TagForm::one_canonical_tag))]
 pub fn steps_are_confluent()
     ensures ends { (R : List EntryParts) → IsChecked R → HasEndForms R }
@@ -55,9 +58,9 @@ pub fn steps_are_confluent()
     ensures one { (R : List EntryParts) → IsChecked R → OneCanonicalTag R }
 {}
 
-/// A valid tag reaches a canonical tag and can repeat no variant, or it can repeat one and is equivalent to no
-/// canonical tag; of two valid tags that are equivalent both can repeat a variant or neither; and two that can
-/// repeat none are equivalent exactly if their canonical forms are equal.
+/// From a valid tag steps reach a canonical tag and can repeat no variant, or they can repeat one and the tag is
+/// equivalent to no canonical tag. Of two valid tags that are equivalent, steps can repeat a variant of both or of
+/// neither. Two valid tags of which steps can repeat none are equivalent exactly if their canonical forms are equal.
 #[tactic(auto, using(crate::proofs::RepeatedVariants::canonical_or_repeats, crate::proofs::RepeatedVariants::repeats_have_no_form, crate::proofs::RepeatedVariants::repeat_together, crate::proofs::RepeatedVariants::equivalence_is_equality))]
 pub fn tags_are_canonical_or_repeat()
     ensures canonical { (R : List EntryParts) → IsChecked R → CanonicalOrRepeats R }
@@ -66,9 +69,9 @@ pub fn tags_are_canonical_or_repeat()
     ensures equality { (R : List EntryParts) → IsChecked R → EquivalenceIsEquality R }
 {}
 
-/// A valid tag has a canonical form or can repeat a variant; a canonical form is its own canonical form, and a
-/// canonical text its own canonical text, unless it has more than 1,024 bytes; valid tags that can repeat none are
-/// equivalent exactly if the texts of their canonical forms are equal.
+/// A valid tag has a canonical form, or steps can repeat a variant of it. A canonical form is its own canonical form,
+/// and a canonical text its own canonical text, unless it has more than 1,024 bytes. Valid tags of which steps can
+/// repeat no variant are equivalent exactly if the texts of their canonical forms are equal.
 #[tactic(auto, using(crate::proofs::RepeatedVariants::canonical_or_repeats, crate::proofs::CanonicalForms::twice_is_once, crate::proofs::CanonicalForms::equal_texts_tell))]
 pub fn canonical_forms()
     ensures canonical { (R : List EntryParts) → IsChecked R → CanonicalOrRepeats R }
@@ -77,7 +80,7 @@ pub fn canonical_forms()
     ensures equal_texts { (R : List EntryParts) → IsChecked R → EquivalenceIsEqualText R }
 {}
 
-/// Where a valid tag can repeat a variant, there is one variant that the refusal names.
+/// If steps can repeat a variant of a valid tag, there is one variant that the refusal names, and only one.
 #[tactic(auto, using(crate::proofs::RepeatedVariants::repeats_are_named))]
 pub fn repeats_are_named()
     ensures { (R : List EntryParts) → IsChecked R → RepeatsAreNamed R }
@@ -89,13 +92,13 @@ pub fn extlang_forms_lead_back()
     ensures { (R : List EntryParts) → IsChecked R → ExtlangFormsLeadBack R }
 {}
 
-/// The end of a trace is reached from the tag, and so equivalent to it, in every registry.
+/// Steps reach the end of a trace from its tag, so that the two are equivalent, in every registry.
 #[tactic(auto, using(crate::proofs::UsualForms::traces_reach_their_end))]
 pub fn traces_reach_their_end()
     ensures { (R : List EntryParts) → TracesReachTheirEnd R }
 {}
 
-/// The steps of a trace lead from a tag to one end, in every registry.
+/// A list of steps leads from a tag to one end at most, in every registry.
 #[tactic(auto, using(crate::proofs::UsualForms::trace_determined))]
 pub fn traces_have_one_end()
     ensures { (R : List EntryParts) → TracesHaveOneEnd R }

@@ -3,13 +3,13 @@
 //!
 //! Words of this crate: `checked` is a table that passes the check, and `L.listed checked.now`, mostly `R`, are its
 //! records. A *value* is the Preferred-Value of a record. A *step* replaces a subtag or a whole tag by its value, or
-//! puts parts of extensions in order. A *proper* tag is valid but for variants that may occur twice, and steps lead to
-//! proper ones. A valid tag is *canonical* if no step leads on. A core (language to variants) or a list of extensions
-//! has a *normal form*, in which steps end, and is *settled* in it. The *source* of a `t` extension is the langtag in
-//! it. Steps can *repeat* a variant: lead to a tag in which one occurs twice. A tag is of the *usual* kind if it is a
-//! language, alone or with a script, a region or both. A subtag *stays* if it is registered without a value, and no
-//! record replaces a whole tag of the usual kind with it as the language. `from_gives` is what a proof knows of the
-//! refusal that `?` makes of another.
+//! puts parts of extensions in order. A *proper* tag is valid, except that variants may occur twice in it, and steps
+//! lead to proper tags. A valid tag is *canonical* if no step leads on. A core (language to variants) or a list of
+//! extensions has a *normal form*, in which steps end, and is *settled* in it. The *source* of a `t` extension is the
+//! langtag in it. Steps can *repeat* a variant: lead to a tag in which one occurs twice. A tag is of the *usual* kind
+//! if it is a language, alone or with a script, a region or both. A subtag *stays* if it is registered without a value,
+//! and no record replaces a whole tag of the usual kind with it as the language. `from_gives` is what a proof knows of
+//! the refusal that `?` makes of another.
 #![tactic(auto)]
 
 mod canonical_tags;

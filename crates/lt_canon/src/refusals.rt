@@ -14,8 +14,8 @@ pub enum Refusal {
     /// The tag is not valid, for this fault (RFC 5646, 2.2.9).
     #[error("{0}: mend the subtag at this place, or take a registry by which it is valid")]
     Invalid(ValidFault),
-    /// Steps can repeat a variant, so the tag has no canonical form. It is this variant that occurs twice where
-    /// no core step leads on.
+    /// Steps can repeat a variant, so the tag has no canonical form: once no core step leads on, this variant occurs
+    /// twice.
     #[error("replacements can repeat a variant: take one of the variants out")]
     ReplacementRepeats(Subtag),
     /// Memory ran out.
@@ -74,8 +74,8 @@ pub enum TextRefusal {
     /// The tag is not valid, for this fault (RFC 5646, 2.2.9).
     #[error("{0}: mend the subtag at this place, or take a registry by which it is valid")]
     Invalid(ValidFault),
-    /// Steps can repeat a variant, so the tag has no canonical form. It is this variant that occurs twice where
-    /// no core step leads on.
+    /// Steps can repeat a variant, so the tag has no canonical form: once no core step leads on, this variant occurs
+    /// twice.
     #[error("replacements can repeat a variant: take one of the variants out")]
     ReplacementRepeats(Subtag),
     /// Memory ran out.
@@ -84,8 +84,8 @@ pub enum TextRefusal {
 }
 
 impl TextRefusal {
-    /// The refusal's name, as it is printed: `ReplacementRepeats`, `OutOfMemory`, or, for a text that is no tag or a tag
-    /// that is not valid, the name of its fault.
+    /// The refusal's name, as it is printed: `ReplacementRepeats`, `OutOfMemory`, or, for a text that is no tag or a
+    /// tag that is not valid, the name of its fault.
     pub fn name(&self) -> &'static str
         ensures { result.now ≡ text_refusal_name_of self.now }
     {

@@ -22,8 +22,8 @@ pub(crate) fn second_occurrence(variants: &[Subtag]) -> Option<Subtag>
     None
 }
 
-/// The first variant from the left that has occurred before in the source of an extension, or None if none has. Memory is
-/// taken only for the parts of a `t` extension in which a subtag occurs twice.
+/// The first variant from the left that has occurred before in the source of an extension, or None if none has. Memory
+/// is taken only for the parts of a `t` extension in which a subtag occurs twice.
 fn second_in_source(alloc: Global, extension: &Extension) -> Result<Option<Subtag>, OutOfMemory>
     ensures { IfOk result (λ found. MatchOption found
         (HasDistinctSource extension.now)
@@ -45,8 +45,8 @@ fn second_in_source(alloc: Global, extension: &Extension) -> Result<Option<Subta
     }
 }
 
-/// The first variant from the left that has occurred before in the source of one of some extensions, or None if none has.
-/// Memory is taken only for the parts of a `t` extension in which a subtag occurs twice.
+/// The first variant from the left that has occurred before in the source of one of the extensions, or None if none
+/// has. Memory is taken only for the parts of a `t` extension in which a subtag occurs twice.
 #[tactic(auto, using(crate::proofs::RepeatedVariants::sources_here, crate::proofs::RepeatedVariants::sources_more))]
 pub(crate) fn second_in_sources(
     alloc: Global,

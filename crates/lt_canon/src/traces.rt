@@ -40,8 +40,8 @@ pub enum TraceFault {
 }
 
 impl TraceFault {
-    /// The fault's name, as it is printed: `NoSuchStep`, `WrongEnd`, `OutOfMemory`, or, for a tag that is not valid, the
-    /// name of its fault, such as `UnknownLanguage`.
+    /// The fault's name, as it is printed: `NoSuchStep`, `WrongEnd`, `OutOfMemory`, or, for a tag that is not valid,
+    /// the name of its fault, such as `UnknownLanguage`.
     pub fn name(self) -> &'static str
         ensures { result.now ≡ trace_fault_name_of self }
     {
@@ -105,7 +105,7 @@ pub fn verify<L: Lookup>(
     tag: &Tag,
     trace: &Trace,
 ) -> Result<(), TraceFault>
-    // `exact`: but for lack of memory, no right trace is refused.
+    // `exact`: a right trace is refused only where memory runs out.
     ensures ok { OnOk result (IsValidTrace (L.listed checked.now) tag.now trace.now.steps.items trace.now.last) }
     ensures equivalent { OnOk result (AreEquivalent (L.listed checked.now) tag.now trace.now.last) }
     ensures err { IfErr result (λ fault. IsTraceFault (L.listed checked.now) tag.now trace.now.steps.items trace.now.last fault) }

@@ -38,8 +38,8 @@ fn is_valued(entry: Option<&Entry>, kind: ValidFaultKind, place: u32) -> Result<
     }
 }
 
-/// Whether a script or a region has a preferred value. False if there is no such subtag. Refused with `fault`, at this place,
-/// if it is not registered.
+/// Whether a script or a region has a preferred value. False if `part` is None. Refused with `fault`, at this place, if
+/// the subtag is not registered.
 fn is_part_valued<L: Lookup>(
     table: &L,
     kind: Kind,

@@ -1,4 +1,4 @@
-//! Canonical texts of langtags whose subtags stay as they are.
+//! Canonical texts of langtags whose subtags *stay* as they are: no look-up is needed for them.
 ghost use Rattle.std.specs.Prelude.{◌≡◌, ◌↔◌, false, IsTrue, IfOk, OnErr};
 ghost use Rattle.lt_check.specs.Staying.{IsStaying};
 ghost use Rattle.lt_canon.specs.Texts.{AppendsCanonicalText};
@@ -7,11 +7,11 @@ use lt_check::Checked;
 use lt_registry::Lookup;
 use lt_tag::OutOfMemory;
 
-/// Appends to `texts` the canonical text of `text`, as [`append_canonical_text`](crate::append_canonical_text) does,
-/// if one flag for each subtag tells it, without a look-up in the registry. The flags tell it of a langtag of the usual
-/// form, each subtag of which stays as it is (RFC 5646, 4.5). The usual form is a language of 2 or 3 letters, alone or
-/// with a script, a region or both. `zh-hant-tw` is such a text, and `iw` is none. True if the text was appended; of any
-/// other text it appends nothing and gives false. Refused only where memory runs out.
+/// Appends to `texts` the canonical text of `text`, as [`append_canonical_text`](crate::append_canonical_text) does, if
+/// flags, one for each subtag, tell this text without a look-up in the registry. They do for a langtag of the usual
+/// form each subtag of which stays as it is (RFC 5646, 4.5). The usual form is a language of 2 or 3 letters, alone or
+/// with a script, a region or both. `zh-hant-tw` is such a text, and `iw` is none. True if a text was appended; for any
+/// other text it appends nothing and gives false. Refused only where memory runs out, and then `texts` is as it was.
 #[inline(always)]
 pub fn append_usual_text<L: Lookup>(
     checked: &Checked<L>,

@@ -1,4 +1,5 @@
--- What is found in a list of codes.
+-- Lemmas on `find`, which gives the first element that passes a test, and on the places of elements in a list with one
+-- more at its end. The index of a table (IndexLemmas) needs them.
 use Rattle.std.proofs.Common.{◌≡◌, ◌++◌, ◌∙◌, ℕ, Bool, true, List, [], ◌∷◌, inl, inr, refl, sym, ap, length, Some}
 use Rattle.std.specs.Prelude.{find, slice_get, zero, suc}
 use Rattle.std.specs.List.{All}
@@ -21,18 +22,18 @@ find_holds P p (y ∷ xs) x all h = elim (cases_Bool (p y)) [
   | inr not ↦ find_holds P p xs x (All-tail P y xs all) (rw not at h)
 ]
 
--- an element that is at the place i is there, with one element more at the end, too
+-- an element at the place i is still there if one element more is put at the end
 pub get_before : {X : Type 0} (xs : List X) (x y : X) (i : ℕ) → slice_get xs i ≡ Some y → slice_get (xs ++ x ∷ []) i ≡ Some y
 get_before [] x y i h = cc
 get_before (z ∷ xs) x y zero h = h
 get_before (z ∷ xs) x y (suc i) h = get_before xs x y i h
 
--- an element put last is at the place that is the length before
+-- an element that is put at the end is at the place that was the length of the list
 pub get_last : {X : Type 0} (xs : List X) (x : X) → slice_get (xs ++ x ∷ []) (length xs) ≡ Some x
 get_last [] x = refl
 get_last (z ∷ xs) x = get_last xs x
 
--- a list is one longer with one element more
+-- a list with one element more at its end is one longer
 pub length-last : {X : Type 0} (xs : List X) (x : X) → length (xs ++ x ∷ []) ≡ suc (length xs)
 length-last [] x = refl
 length-last (z ∷ xs) x = ap suc (length-last xs x)

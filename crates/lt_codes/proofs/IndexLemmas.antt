@@ -1,4 +1,5 @@
--- The places of the codes of a table: at the number of each three letters, the place of the first such code, from 1.
+-- A table has, at the number of each three letters, the place of the first code that they are, counted from 1, or 0 if
+-- they are none. `CodeTable::push` keeps this when it adds a code, and so `registered` finds the first code of a text.
 use Rattle.std.proofs.Common.{◌≡◌, ◌≢◌, ◌<◌, ◌-◌, ◌++◌, ◌∙◌, ◌⊎◌, ℕ, true, false, List, [], ◌∷◌, inl, inr, refl, sym}
 use Rattle.std.proofs.Common.{ap, arith, subst, length, Some, None, get_or, set, replicate, length-set}
 use Rattle.std.specs.Prelude.{Option, slice_get, zero, suc, bytes_eq, IsSome}
@@ -34,7 +35,7 @@ found_none codes text each none = by_found (found_in codes text) refl
 
 -- what is found for a text, with one more code x behind the others
 module _ (codes : List Code) (x : Code) (text : List ℕ) where
-  -- where x is not the text, the same is found
+  -- if x is not the text, the same is found as without x
   found_other : bytes_eq x.code (folded text) ≡ false → found_in (codes ++ x ∷ []) text ≡ found_in codes text
   found_other other = find-append (λ c. bytes_eq c.code (folded text)) codes (x ∷ []) ∙ rw other (by_found (found_in codes text))
     where
@@ -42,11 +43,11 @@ module _ (codes : List Code) (x : Code) (text : List ℕ) where
       by_found None = refl
       by_found (Some c) = refl
 
-  -- where x is the text, and none before it is, x is found
+  -- if x is the text, and no code before it is, x is found
   found_last : found_in codes text ≡ None → bytes_eq x.code (folded text) ≡ true → found_in (codes ++ x ∷ []) text ≡ Some x
   found_last none same = find-append (λ c. bytes_eq c.code (folded text)) codes (x ∷ []) ∙ rw (none, same) refl
 
-  -- where a code before x is found, it is found still
+  -- if a code before x is found, it is still found
   found_before : (c : Code) → found_in codes text ≡ Some c → found_in (codes ++ x ∷ []) text ≡ Some c
   found_before c some = find-append (λ c. bytes_eq c.code (folded text)) codes (x ∷ []) ∙ rw some refl
 
@@ -56,7 +57,7 @@ module _ (codes : List Code) (x : Code) (text : List ℕ) where
   place_stays zero other none = found_other (other refl) ∙ none
   place_stays (suc i) other some = (some.0, found_before some.0 some.1, get_before codes x some.0 i some.2)
 
-  -- where x is the text, and none before it is, the last place is the text's
+  -- if x is the text, and no code before it is, the last place is that of the text
   place_last : (place : ℕ) → place ≡ length (codes ++ x ∷ []) → found_in codes text ≡ None
       → bytes_eq x.code (folded text) ≡ true → IsPlaceOf (codes ++ x ∷ []) text place
   place_last place is none same = subst (IsPlaceOf (codes ++ x ∷ []) text) (sym (is ∙ length-last codes x))
@@ -88,7 +89,7 @@ indexed_none places is = record {
       (sym (ap (λ l. get_or l n 0) is ∙ get_or-replicate {A = ℕ} numbers n 0 0 (number_small text n has))) refl;
 }
 
--- one more code x with the number n, at which a code before has its place: the places stay
+-- if a code x with the number n is added, and `places` already has a place at n, `places` is still right
 pub indexed_known : (codes : List Code) (places : List ℕ) (x : Code) (n : ℕ) → AreIndexed codes places → IsCode x
     → number_of x.code ≡ Some n → get_or places n 0 ≢ 0 → AreIndexed (codes ++ x ∷ []) places
 indexed_known codes places x n old code is taken = record {
@@ -100,7 +101,7 @@ indexed_known codes places x n old code is taken = record {
       (old.place text m has);
 }
 
--- one more code x with the number n, which has no place yet: it gets the place of x
+-- if a code x with the number n is added, and `places` has none at n yet, it is right with the place of x put there
 pub indexed_new : (codes : List Code) (places : List ℕ) (x : Code) (n : ℕ) → AreIndexed codes places → IsCode x
     → number_of x.code ≡ Some n → get_or places n 0 ≡ 0
     → AreIndexed (codes ++ x ∷ []) (set places n (length (codes ++ x ∷ [])))
@@ -122,15 +123,15 @@ indexed_new codes places x n old code is free = record {
         subst (IsPlaceOf (codes ++ x ∷ []) text) (sym (get_or-set_other places n m (length (codes ++ x ∷ [])) 0 other))
         (place_stays codes x text (get_or places m 0) (λ _. other_code x text n m is has other) (old.place text m has))
 
--- what `places` has at the number n of a text is the place of the text; `place` is also the default, which no number
--- in range needs
+-- what `places` has at the number n of a text is the place of the text; `place` stands also for an index past the end,
+-- which n never is
 pub place_at : (codes : List Code) (places : List ℕ) (text : List ℕ) (n place : ℕ) → AreIndexed codes places
     → number_of text ≡ Some n → place ≡ get_or places n place → IsPlaceOf codes text place
 place_at codes places text n place indexed has is =
     let within : n < length places = omega (arith, number_small text n has, indexed.full) in
     subst (IsPlaceOf codes text) (sym (is ∙ get_or_default_zero places n place within)) (indexed.place text n has)
 
--- where the place of a text is not 0, the code there is the one that is found for the text
+-- if the place of a text is not 0, the code at that place, counted from 1, is the one that is found for the text
 pub at_place : (codes : List Code) (text : List ℕ) (place : ℕ) → (place ≡ 0 → ⊥) → IsPlaceOf codes text place
     → (c : Code) × (found_in codes text ≡ Some c) × (slice_get codes (place - 1) ≡ Some c)
 at_place codes text zero some none = absurd (some refl)

@@ -1,4 +1,5 @@
--- The numbers of texts of three letters.
+-- Texts of three letters have the same number exactly if they differ only in letter case: so a code can be looked up by
+-- the number of a text.
 use Rattle.std.proofs.Common.{◌≡◌, ◌≤◌, ◌<◌, ◌+◌, ◌-◌, ◌*◌, ◌∙◌, ℕ, true, List, [], ◌∷◌, inl, inr, refl, sym, arith, Some, None}
 use Rattle.std.specs.Prelude.{Option}
 use Rattle.std.specs.Char.{is_ascii_alphabetic, to_ascii_lowercase}
@@ -7,7 +8,7 @@ use Rattle.std.proofs.lemmas.Grind.{common_steps}
 use Rattle.lt_subtag.specs.Bytes.{folded}
 use Rattle.lt_codes.specs.Index.{letter_of, number_from, number_of}
 
--- a byte in lower case is a letter exactly where the byte is one
+-- a byte in lower case is a letter exactly if the byte is one
 lower-alphabetic : (b : ℕ) → is_ascii_alphabetic (to_ascii_lowercase b) ≡ is_ascii_alphabetic b
 lower-alphabetic b = grind (arith, common_steps)
 
@@ -42,7 +43,7 @@ letter_is b n h = elim (cases_Bool (is_ascii_alphabetic b)) [
   | inr not ↦ let none : None ≡ Some n = rw not at h in cc
 ]
 
--- the numbers of the three letters of a text, whose own number is n
+-- the text is three letters, in some letter case, whose numbers are a, b and c, and its own number is n
 pub record HasLetters (text : List ℕ) (n : ℕ) : Type 0 where
   pub a : ℕ
   pub b : ℕ
@@ -51,7 +52,8 @@ pub record HasLetters (text : List ℕ) (n : ℕ) : Type 0 where
   pub number : n ≡ (a * 26 + b) * 26 + c
   pub folds : folded text ≡ (97 + a) ∷ (97 + b) ∷ (97 + c) ∷ []
 
--- three bytes whose letters have a number n have letters of these numbers; x, y and z are what is found for each
+-- three bytes that have the number n as a text are letters whose numbers make n; x, y and z are the numbers that are
+-- found for them
 by_letters : (a b c n : ℕ) (x y z : Option ℕ) → letter_of a ≡ x → letter_of b ≡ y → letter_of c ≡ z
     → number_from x y z ≡ Some n → HasLetters (a ∷ b ∷ c ∷ []) n
 by_letters a b c n (Some x) (Some y) (Some z) ax by cz h =
@@ -72,7 +74,7 @@ has_letters (a ∷ b ∷ []) n h = cc
 has_letters (a ∷ b ∷ c ∷ []) n h = by_letters a b c n (letter_of a) (letter_of b) (letter_of c) refl refl refl h
 has_letters (a ∷ b ∷ c ∷ d ∷ text) n h = cc
 
--- texts of one number differ in letter case alone
+-- texts of the same number differ only in letter case
 pub one_number : (text other : List ℕ) (n : ℕ) → number_of text ≡ Some n → number_of other ≡ Some n → folded text ≡ folded other
 one_number text other n h k =
     let x = has_letters text n h in

@@ -1,4 +1,5 @@
--- The codes of a row.
+-- The row of a line's fields is *sound*: each of its codes has its form. So its codes can be in a table (`IsCode`), as
+-- `add_row` requires.
 use Rattle.std.proofs.Common.{◌≡◌, ◌≤◌, ◌==◌, ◌&&◌, ◌∙◌, ℕ, true, List, [], ◌∷◌, inl, inr, refl, sym, ap, arith, subst, length, Some, None}
 use Rattle.std.specs.Prelude.{IsSome, Option, Result, Ok, Err}
 use Rattle.std.specs.List.{All}
@@ -20,7 +21,7 @@ pub record AreLetters (count : ℕ) (code : List ℕ) : Type 0 where
   pub letters : is_alphabetic code ≡ true
   pub long : length code ≡ count
 
--- what is found to be this many letters is, where r is what was read of the field
+-- a code that `if_letters` gives of r, what a field was read as, is this many letters
 letters_are : (count : ℕ) (r : Result (List ℕ) SubtagFault) (code : List ℕ) → if_letters count r ≡ Some code → AreLetters count code
 letters_are count (Err fault) code h = cc
 letters_are count (Ok s) code h = elim (cases_Bool (is_alphabetic s && (length s == count))) [
@@ -68,7 +69,7 @@ pub record IsSoundRow (row : Row) : Type 0 where
   pub terminologic : (code : List ℕ) → row.terminologic ≡ Some code → AreLetters 3 code
   pub two_letters : (code : List ℕ) → row.two_letters ≡ Some code → AreLetters 2 code
 
--- the code that a field gives, of those that may be empty, has this many letters
+-- the code that a field which may be empty gives, if it gives one, is this many letters
 option_is : (count : ℕ) (field : List ℕ) (given : Option (List ℕ)) (code : List ℕ)
     → code_or_none count field ≡ Some given → given ≡ Some code → AreLetters count code
 option_is count [] given code h is = cc
@@ -81,7 +82,7 @@ option_is count (byte ∷ field) given code h is = by_read (code_of count (byte 
         let one : s ≡ code = cc in
         letters_are count (subtag_of (byte ∷ field)) code (e ∙ ap (λ (l : List ℕ). Some l) one)
 
--- the row of three fields that have their forms is sound; x, y and z are what is found for each
+-- the row of three fields that have their forms is sound; x, y and z are the codes that the fields are found to be
 from_is : (b t w : List ℕ) (x : Option (List ℕ)) (y z : Option (Option (List ℕ))) (row : Row) → code_of 3 b ≡ x
     → code_or_none 3 t ≡ y → code_or_none 2 w ≡ z
     → row_from x y z ≡ Some row → IsSoundRow row

@@ -1,4 +1,5 @@
--- What is before the first of some byte in a text, and after it.
+-- A text is cut at the first of some byte, as `split_first` does: at hyphens for ranges and first subtags, at vertical
+-- bars for the fields of a line, and at line feeds for the lines of a text.
 use Rattle.std.proofs.Common.{◌≡◌, ◌≢◌, ◌<◌, ◌+◌, ◌++◌, ◌==◌, ◌&&◌, ◌∙◌, ℕ, false, List, [], ◌∷◌, refl, sym, ap, arith}
 use Rattle.std.proofs.Common.{length, take, drop, length-append, suc}
 use Rattle.std.specs.Prelude.{is_some}
@@ -15,11 +16,11 @@ use Rattle.lt_codes.specs.Rows.{code_of, fields_of, is_range}
 
 -- lemmas on the first place of a byte
 module _ (byte : ℕ) where
-  -- b is another byte than that
+  -- b is not `byte`
   abbrev other : ℕ → Type 0
   other = λ b. b ≢ byte
 
-  -- behind a front that is free of the byte, it is first
+  -- if `byte` follows a front that is free of it, its first place is the length of the front
   place : (front rest : List ℕ) → IsFreeOf byte front → position_or_len (λ b. b == byte) (front ++ byte ∷ rest) ≡ length front
   place [] rest free = rw (eq-eqb byte byte refl) refl
   place (b ∷ front) rest free = rw (
@@ -27,36 +28,36 @@ module _ (byte : ℕ) where
     place front rest (All-tail other b front free),
   ) (omega arith)
 
-  -- in a text that is free of the byte, its place is the length
+  -- in a text that is free of `byte`, the length stands for its place
   place_none : (text : List ℕ) → IsFreeOf byte text → position_or_len (λ b. b == byte) text ≡ length text
   place_none [] free = refl
   place_none (b ∷ text) free = rw (ne_eqb b byte (All-head other b text free), place_none text (All-tail other b text free)) (omega arith)
 
-  -- of a front, a byte and a rest, the rest is left without the first two
+  -- a front, `byte` and a rest, without the first two, are the rest
   drop_past : (front rest : List ℕ) → drop (length front + 1) (front ++ byte ∷ rest) ≡ rest
   drop_past [] rest = refl
   drop_past (b ∷ front) rest =
       let next : length (b ∷ front) + 1 ≡ suc (length front + 1) = omega arith in
       ap (λ n. drop n ((b ∷ front) ++ byte ∷ rest)) next ∙ drop_past front rest
 
-  -- what is before the first such byte is a front that is free of it
+  -- if `byte` follows a front that is free of it, what is before the first `byte` is the front
   pub before_found : (text front rest : List ℕ) → IsFreeOf byte front → text ≡ front ++ byte ∷ rest
       → before_first (λ b. b == byte) text ≡ front
   before_found text front rest free is =
       ap (before_first (λ b. b == byte)) is ∙ ap (λ n. take n (front ++ byte ∷ rest)) (place front rest free)
       ∙ take-append-le (length front) front (byte ∷ rest) (omega arith) ∙ take_all (length front) front (omega arith)
 
-  -- what is behind the first such byte is the rest
+  -- if `byte` follows a front that is free of it, what is after the first `byte` is the rest
   pub after_found : (text front rest : List ℕ) → IsFreeOf byte front → text ≡ front ++ byte ∷ rest
       → after_first (λ b. b == byte) text ≡ rest
   after_found text front rest free is =
       ap (after_first (λ b. b == byte)) is ∙ ap (λ n. drop (n + 1) (front ++ byte ∷ rest)) (place front rest free) ∙ drop_past front rest
 
-  -- before a byte that is not in the text is the whole text
+  -- if `byte` is not in a text, what is before the first `byte` is the whole text
   pub before_none : (text : List ℕ) → IsFreeOf byte text → before_first (λ b. b == byte) text ≡ text
   before_none text free = ap (λ n. take n text) (place_none text free) ∙ take_all (length text) text (omega arith)
 
-  -- behind a byte that is not in the text is nothing
+  -- if `byte` is not in a text, nothing is after the first `byte`
   pub after_none : (text : List ℕ) → IsFreeOf byte text → after_first (λ b. b == byte) text ≡ []
   after_none text free = ap (λ n. drop (n + 1) text) (place_none text free) ∙ drop_all (length text + 1) text (omega arith)
 
@@ -74,7 +75,7 @@ range_none field free =
     ap (λ (l : List ℕ). is_some (code_of 3 l) && is_some (code_of 3 (before_first (λ byte. byte == 45) field)))
     (after_none 45 field free)
 
--- the first subtag of a text with a hyphen (45) is as long as what is before it
+-- the first subtag of a text with a hyphen (45) is as long as what is before the first hyphen
 pub first_found : (text first rest : List ℕ) → IsFreeOf 45 first × (text ≡ first ++ 45 ∷ rest) → length first ≡ length (first_subtag text)
 first_found text first rest split = sym (ap length (before_found 45 text first rest split.0 split.1))
 
@@ -106,12 +107,13 @@ field_some rest none =
 
 -- ---- lines
 
--- a text without a line feed (10), in front of one, is the first line, and those of a shorter text follow
+-- if a line feed (10) follows a text without one, that text is the first line; the lines of `after`, which is shorter
+-- than the whole, follow
 pub line_next : (text line after : List ℕ) → IsFreeOf 10 line × (text ≡ line ++ 10 ∷ after)
     → (lines_of text ≡ line ∷ lines_of after) × (length after < length text)
 line_next text line after split =
     (ap lines_of split.1 ∙ lines_of-ended line after split.0, omega (arith, ap length split.1, length-append line (10 ∷ after)))
 
--- a text without a line feed (10), not empty, is one line
+-- a text without a line feed (10) that is not empty is one line, and no text is left
 pub line_last : (text : List ℕ) → IsFreeOf 10 text → (length text ≡ 0 → ⊥) → (lines_of text ≡ text ∷ lines_of []) × (0 < length text)
 line_last text free some = (lines_of-last text free (omega (arith, some)), omega (arith, some))

@@ -1,4 +1,5 @@
--- Reading the lines of a table.
+-- The loop of `CodeTable::from_bytes` over the lines of a text: the codes of the lines so far are in the table, until
+-- all lines are read or one is refused. A line adds the codes of its row, or has the fault that is answered.
 use Rattle.std.proofs.Common.{◌≡◌, ◌≤◌, ◌<◌, ◌+◌, ◌++◌, ◌&&◌, ◌∙◌, ℕ, Bool, true, false, List, [], ◌∷◌, refl, sym, ap}
 use Rattle.std.proofs.Common.{arith, subst, length, append_assoc, append-nil, length-append, Some, None}
 use Rattle.std.specs.Prelude.{Option, Result, Ok, Err}
@@ -28,7 +29,7 @@ module _ (before after : List Code) (line b t w : List ℕ) (utf8 : IsUtf8 line)
   pub range_adds : of_range b t w ≡ true → after ≡ before → (more : List Code) × AddsLine before line (Ok more) × (after ≡ before ++ more)
   range_adds is same = ([], (row_of_fields (Some []) (rw is refl), All-nil (Agrees before)), same ∙ sym (append-nil before))
 
-  -- a field doesn't have the form of its code
+  -- if the fields make no row, the line is one of which a field lacks its form
   pub bad_code : of_range b t w ≡ false → row_of b t w ≡ None → IsRow line None
   bad_code not none = row_of_fields None (rw (not, none) refl)
 
@@ -40,7 +41,7 @@ module _ (before after : List Code) (line b t w : List ℕ) (utf8 : IsUtf8 line)
   row_adds row (Err kinds.OutOfMemory) not is adds = tt
   row_adds row (Err kind) not is adds = absurd adds
 
--- one line more adds its codes to those of the lines before
+-- if a line after those before adds its codes to theirs, it and those before add them all
 add_more : (start : List Code) (before : List (List ℕ)) (line : List ℕ) (codes more : List Code)
     → AddLines start before codes → AddsLine codes (content_of line) (Ok more)
     → AddLines start (before ++ line ∷ []) (codes ++ more)
@@ -49,7 +50,8 @@ add_more start [] line codes more is adds =
 add_more start (first ∷ before) line codes more lines adds =
     (lines.0, lines.1, add_more (start ++ lines.0) before line codes more lines.2 adds)
 
--- the lines of a text before `rest` are read, and their codes are in `table`; `line` is the number of the next line
+-- The lines of a text before `rest` are read, and their codes are in `table`. `line` is the number of the next line; by
+-- `room` it is at most one more than the bytes before `rest`.
 pub record IsRead (text : List ℕ) (table : List Code) (rest : List ℕ) (line : ℕ) : Type 0 where
   pub short : length text ≤ longest_table
   pub mark : List ℕ
@@ -76,7 +78,8 @@ read_none text mark rest table short split none = record {
   room = omega (arith, ap length split.whole, length-append mark rest);
 }
 
--- one line more, `part`, is read, whose codes are in `table'` too; `after` is left
+-- if the next line, `part`, adds its codes to those of `table`, which makes `table'`, one line more is read, and
+-- `after` is left
 pub read_next : (text : List ℕ) (table : List Code) (rest : List ℕ) (line : ℕ) → IsRead text table rest line
     → (part after : List ℕ) (table' : List Code)
     → (lines_of rest ≡ part ∷ lines_of after) × (length after < length rest)
@@ -94,7 +97,7 @@ read_next text table rest line r part after table' next adds = record {
   room = omega (arith, r.room, next.1);
 }
 
--- all lines are read: the text is a table of these codes
+-- if no line is left, the text is a table of these codes
 pub read_done : (text : List ℕ) (table : List Code) (rest : List ℕ) (line : ℕ) → IsRead text table rest line
     → lines_of rest ≡ [] → IsTable text table
 read_done text table rest line r none = record {
@@ -106,7 +109,7 @@ read_done text table rest line r none = record {
       ∙ ap (λ (l : List (List ℕ)). r.before ++ l) (sym none) ∙ sym r.there) r.codes;
 }
 
--- the next line, `part`, is refused with this kind of fault, and so is the text
+-- if the next line, `part`, is refused with this kind of fault, so is the text, with the number of the line
 pub read_refused : (text : List ℕ) (table : List Code) (rest : List ℕ) (line : ℕ) → IsRead text table rest line
     → (part after : List ℕ) (table' : List Code) (kind : TableFaultKind)
     → (lines_of rest ≡ part ∷ lines_of after) × (length after < length rest)

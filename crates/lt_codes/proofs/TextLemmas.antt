@@ -1,4 +1,5 @@
--- The length of a text whose first subtag is replaced.
+-- A text whose first subtag is replaced by `CodeTable::replace` is at most one byte shorter. A crate above needs this
+-- to bound the length of lines.
 use Rattle.std.proofs.Common.{◌≡◌, ◌≤◌, ◌+◌, ◌∙◌, ℕ, List, refl, ap, arith, length, length-append, length-drop, drop, Some, None}
 use Rattle.std.specs.Prelude.{Option, bytes_eq}
 use Rattle.std.specs.List.{All}

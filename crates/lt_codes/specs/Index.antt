@@ -1,4 +1,5 @@
--- How the codes of a table are looked up: three letters have a number, at which the place of their code is listed.
+-- How the codes of a table are looked up: three letters have a number, and at that number the place of their code is
+-- listed.
 use Rattle.std.specs.Prelude.{◌≡◌, ◌≤◌, ℕ, List, [], ◌∷◌, ◌+◌, ◌-◌, ◌*◌, Option, Some, None, IsSome, if◌then◌else◌}
 use Rattle.std.specs.Prelude.{zero, suc, length, slice_get, slice_index}
 use Rattle.std.specs.List.{All}

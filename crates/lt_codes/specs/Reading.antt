@@ -44,8 +44,8 @@ EndsTable remaining before after read (Ok codes) = HoldsTable remaining before a
 EndsTable remaining before after read (Err fault) =
     FailsRead before after read fault ⊎ RefusesRead remaining before after read fault
 
--- a table was read from a device, which was `before` and is `after`; `remaining` tells what its own reader has still
--- to give
+-- A table was read from a device, which was `before` and is `after`: the bytes `read` in as many calls as `reads`,
+-- which are at most `most_reads`. `remaining` tells what the reader of the device has still to give.
 pub record ReadsTable {I : Type 0} (remaining : I → Option (List ℕ)) (before after : Device I)
     (result : Result (List Code) TableFault) : Type 0 where
   pub read : List ℕ

@@ -45,7 +45,7 @@ AddLines before [] codes = codes ≡ before
 AddLines before (line ∷ lines) codes =
     (more : List Code) × AddsLine before (content_of line) (Ok more) × AddLines (before ++ more) lines codes
 
--- the most bytes of a table: 1 MiB (this project's own)
+-- the most bytes of a table: 1 MiB (a rule of this project)
 abbrev pub longest_table : ℕ
 longest_table = 1048576
 
@@ -57,7 +57,8 @@ pub record IsTable (text : List ℕ) (codes : List Code) : Type 0 where
   pub split : SplitsMark text mark rest
   pub lines : AddLines [] (lines_of rest) codes
 
--- the first line that is refused, and why
+-- a line of the text is refused with this fault, which has the number of the line, counted from 1; the lines before it
+-- add `codes`, and a byte order mark is no part of the lines
 pub record RefusesLine (text : List ℕ) (fault : TableFault) : Type 0 where
   pub short : length text ≤ longest_table
   pub mark : List ℕ

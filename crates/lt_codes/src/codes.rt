@@ -1,5 +1,5 @@
-//! Codes of languages, and what is registered for them. A contract sees a table as its codes, and not the numbers and
-//! places by which they are looked up.
+//! Codes of languages, and what is registered for them. A contract sees a table as its codes, and does not see the
+//! numbers and places by which they are looked up.
 ghost use Rattle.std.specs.Prelude.{◌≡◌, ◌<◌, ◌≤◌, ◌++◌, ◌∷◌, [], IfOk, IfSome, IsSome, MatchBool, OnOk, length, option_map};
 ghost use Rattle.std.specs.List.{All};
 ghost use Rattle.lt_subtag.specs.Bytes.{folded};
@@ -25,7 +25,8 @@ const NUMBERS: usize = 17_576;
 #[derive(Debug, Drop)]
 pub struct CodeTable {
     codes: Vec<Code>,
-    /// By the number of each three letters the place of their code, counted from 1; or 0 where there is none.
+    /// For each three letters, at their number, the place of the code that they are, counted from 1; 0 if they are
+    /// none.
     places: Vec<usize>,
 }
 
@@ -54,7 +55,7 @@ fn letter_of(byte: u8) -> Option<usize>
 }
 
 /// The number of a text of three letters, whatever their case: the letters are its digits to the base 26. So it is
-/// below 17,576, and an index of `places`. None for any other text.
+/// below 17,576, and an index of `places`. `aac` has 2. None for any other text.
 fn number_of(text: &[u8]) -> Option<usize>
     ensures number { result ≡ spec.number_of text.now }
     ensures small { IfSome result (λ number. number < 17576) }
@@ -74,7 +75,7 @@ impl CodeTable {
     ghost use Rattle.lt_codes.specs.Codes.{found_in, registered_text};
     ghost use Rattle.lt_codes.specs.Index.{IsCode, number_of};
 
-    /// A table without codes. Refused where memory runs out.
+    /// A table without codes. Refused only where memory runs out.
     pub(crate) fn new(alloc: Global) -> Result<CodeTable, AllocError>
         ensures { IfOk result (λ table. table ≡ []) }
     {
@@ -92,8 +93,8 @@ impl CodeTable {
     }
 
     /// Adds a code after the others, with the subtag that is registered for it. The code must be three letters in lower
-    /// case, and the subtag at least two bytes long, so that a text gets at most one byte shorter by it. Refused where
-    /// memory runs out.
+    /// case, and the subtag at least two bytes long, so that replacing a code makes a text at most one byte shorter.
+    /// Refused only where memory runs out.
     pub(crate) fn push(&mut self, code: Subtag, registered: Subtag) -> Result<(), AllocError>
         requires { IsCode (record { code = code; registered = registered }) }
         ensures { OnOk result (self.new ≡ self.old ++ record { code = code; registered = registered } ∷ []) }
@@ -109,8 +110,8 @@ impl CodeTable {
         Ok(())
     }
 
-    /// The subtag that is registered for a code, whatever the case of its letters: that of the first code that is this
-    /// text. None if the text is no code of the table.
+    /// The subtag that is registered for a code, whatever the case of its letters: that of the first code in the table
+    /// that is this text. None if the text is no code of the table.
     pub(crate) fn registered(&self, text: &[u8]) -> Option<&Subtag>
         ensures { option_map (λ subtag. subtag.now) result ≡ option_map (λ c. c.registered) (found_in self.now text.now) }
     {

@@ -5,17 +5,18 @@ ghost use Rattle.lt_codes.specs.declared.faults.TableFaultKind.TheVariants as ki
 
 use std::alloc::AllocError;
 
-/// What is wrong with a line of a table, or why it was not read. Of several things that are wrong with one line the first in
-/// this order is answered; the last three come when they happen.
+/// What is wrong with a line of a table, or why the table was not read. If several things are wrong with one line, the
+/// first in this order is answered; the last three come when they happen.
 #[derive(Clone, Copy, Debug, PartialEq, Eq)]
 pub enum TableFaultKind {
     /// The line is no UTF-8.
     NotUtf8,
-    /// The line has not five fields, with four vertical bars between them.
+    /// The line doesn't have five fields, with four vertical bars between them.
     BadRow,
-    /// A field has not the form of its code: three letters, or two in the third. The second and the third may be empty.
+    /// One of the first three fields lacks its form: three letters, but two in the third. The second and the third may
+    /// be empty.
     BadCode,
-    /// An earlier line has one of the codes, and another is registered for it there.
+    /// An earlier line has one of the codes, and another subtag is registered for it there.
     RepeatedCode,
     /// The table has more than 1,048,576 bytes.
     TableTooLong,
@@ -56,7 +57,7 @@ impl From<AllocError> for TableFaultKind {
 pub struct TableFault {
     /// What is wrong.
     pub kind: TableFaultKind,
-    /// The number of the line, counted from 1: for a table that is too long, a failed read or a refusal of memory that of the
-    /// line that was being read.
+    /// The number of the line, counted from 1. For `TableTooLong`, `Read` and `OutOfMemory` it is the number of the
+    /// line that was reached.
     pub line: u64,
 }

@@ -12,7 +12,7 @@ use lt_stream::{Pieces, ToolFault, run_pieces};
 use std::alloc::Global;
 use std::io::Read;
 
-/// The bytes that were read, up to the first piece by which they are too many for a table.
+/// The bytes that were read, up to the piece that makes them too many for a table, and with it.
 #[derive(Drop)]
 struct Whole {
     bytes: Vec<u8>,
@@ -60,8 +60,9 @@ fn kind_of(fault: ToolFault) -> TableFaultKind
 }
 
 impl CodeTable {
-    /// The table that a reader gives, which [`CodeTable::from_bytes`] defines. No more is read once the bytes are too many; a
-    /// read that fails is answered by `Read`.
+    /// The table that a reader gives: what [`CodeTable::from_bytes`] answers of all its bytes. Once they are too many
+    /// for a table, no more is read. A read that fails is answered by `Read`, and running out of memory by
+    /// `OutOfMemory`.
     pub fn read<R: Read>(alloc: Global, input: &mut Device<R>) -> Result<CodeTable, TableFault>
         ensures { ReadsTable R.remaining input.old input.new result }
     {

@@ -35,8 +35,9 @@ fn next_field(rest: &[u8]) -> Option<(&[u8], &[u8])>
     split_first(b'|', rest)
 }
 
-/// The first three fields of a line, which are codes. The other two are names, and are left out. None if the line doesn't
-/// have five fields, with a vertical bar between each two: then it has no three such fields b, t and w.
+/// The first three fields of a line, which are codes. The other two are names, and are left out. None if the line
+/// doesn't have five fields, with a vertical bar between each two: then no `b`, `t` and `w` are its first three of
+/// five.
 #[tactic(auto, using(crate::proofs::SplitLemmas::field_some))]
 pub(crate) fn fields_of(line: &[u8]) -> Option<Fields<'_>>
     ensures { MatchOption result ((b t w : List ℕ) → HasFields line.now b t w → ⊥)
@@ -56,7 +57,7 @@ pub(crate) fn fields_of(line: &[u8]) -> Option<Fields<'_>>
     }
 }
 
-/// Whether bytes are lower-case letters alone.
+/// Whether each byte is a lower-case letter.
 fn is_alphabetic(bytes: &[u8]) -> bool
     ensures { result ≡ shapes.is_alphabetic bytes.now }
 {
@@ -80,7 +81,8 @@ fn code_of(field: &[u8], count: usize) -> Option<Subtag>
     }
 }
 
-/// The code that a field is, or Some(None) if the field is empty. None if the field is neither empty nor `count` letters.
+/// The code that a field is, or Some(None) if the field is empty. None if the field is neither empty nor `count`
+/// letters.
 fn code_or_none(field: &[u8], count: usize) -> Option<Option<Subtag>>
     ensures { result ≡ spec.code_or_none count field.now }
 {
@@ -111,7 +113,7 @@ impl Fields<'_> {
         is_range(self.bibliographic) && self.terminologic.is_empty() && self.two_letters.is_empty()
     }
 
-    /// The codes of the row, of three, three and two letters, or None if a field isn't such a code. The second and the
+    /// The codes of the row, of three, three and two letters. None if a field isn't such a code; the second and the
     /// third may be empty.
     pub(crate) fn row(&self) -> Option<Row>
         ensures { result ≡ spec.row_of self.now.bibliographic.now self.now.terminologic.now self.now.two_letters.now }
@@ -128,8 +130,8 @@ impl Fields<'_> {
 }
 
 impl Row {
-    /// The subtag that is registered for the codes of the row: the code of two letters, else the terminologic one, else the
-    /// bibliographic one.
+    /// The subtag that is registered for the codes of the row: the code of two letters, else the terminologic one, else
+    /// the bibliographic one.
     pub(crate) fn registered(&self) -> Subtag
         ensures { result ≡ spec.registered_in self.now }
     {

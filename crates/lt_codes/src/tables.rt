@@ -36,8 +36,9 @@ pub(crate) fn line_reached(bytes: &[u8]) -> u64
     feeds as u64 + 1
 }
 
-/// Adds the codes of a row. Each of them must be three letters in lower case, and what is registered for them at least two
-/// bytes long. Refused with `RepeatedCode` if the table has another subtag for one of them, or where memory runs out.
+/// Adds the codes of a row. Each of them must be three letters in lower case, and the subtag that is registered for
+/// them at least two bytes long. Refused with `RepeatedCode` if the table has another subtag for one of them, and with
+/// `OutOfMemory` where memory runs out.
 fn add_row(table: &mut CodeTable, row: Row) -> Result<(), TableFaultKind>
     requires { All IsCode (codes_in row) }
     ensures { AddsRow table.old table.new row result }
@@ -111,12 +112,13 @@ fn content(line: &[u8]) -> &[u8]
 
 impl CodeTable {
     /// The table that a text is: lines of five fields in UTF-8, `ger|deu|de|German|allemand`. The first field is the
-    /// bibliographic code, the second the terminologic one, if it is another, and the third that of two letters, if there is
-    /// one. A byte order mark before the first line is no part of it, nor is a carriage return that ends a line. A line whose
-    /// first field is a range, `qaa-qtz`, and whose second and third fields are empty adds nothing.
+    /// bibliographic code, the second the terminologic one, if it is another, and the third that of two letters, if
+    /// there is one. A byte order mark before the first line is no part of it, nor is a carriage return that ends a
+    /// line. A line whose first field is a range, `qaa-qtz`, and whose second and third fields are empty adds nothing.
     ///
-    /// A text of more than 1,048,576 bytes is refused as `TableTooLong`. Of any other text the first line that is not so is
-    /// refused, by the first of [`TableFaultKind`]. `OutOfMemory` comes where memory runs out.
+    /// A text of more than 1,048,576 bytes is refused as `TableTooLong`. Any other text is refused at its first line
+    /// with a fault, with the first fault of that line in the order of [`TableFaultKind`]. `OutOfMemory` comes where
+    /// memory runs out.
     pub fn from_bytes(alloc: Global, text: &[u8]) -> Result<CodeTable, TableFault>
         ensures table { IfOk result (λ table. IsTable text.now table) }
         ensures refused { IfErr result (RefusesTable text.now) }

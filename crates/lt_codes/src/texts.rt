@@ -17,9 +17,10 @@ fn first_end(text: &[u8]) -> usize
 }
 
 impl CodeTable {
-    /// Puts a text into a buffer with the subtag that is registered for its first subtag in place of that: of `eng-US` it
-    /// puts `en-US`. Tells whether the table has that first subtag as a code, whatever the case of its letters. If not,
-    /// the buffer stays as it is: the clause says that the same text would be put. Refused only where memory runs out.
+    /// Puts a text, with the subtag that is registered for its first subtag in the place of that one, into `buffer`,
+    /// whose bytes it replaces: for `eng-US` it puts `en-US`. Tells whether the table has that first subtag as a code,
+    /// whatever the case of its letters. If not, the buffer stays as it is: the clause says that the text itself would
+    /// be put. Refused only where memory runs out; the buffer may have a part of the text then.
     pub fn replace(&self, text: &[u8], buffer: &mut Vec<u8>) -> Result<bool, AllocError>
         ensures { IfOk result (λ done. MatchBool done (buffer.new.items ≡ registered_text self.now text.now) (registered_text self.now text.now ≡ text.now)) }
     {

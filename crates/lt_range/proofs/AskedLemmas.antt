@@ -1,4 +1,5 @@
--- The preferences that a header asks for.
+-- `preferences_of` gives for each element of a header its preference, or refuses the range of one. By these lemmas
+-- `header_preferences` answers what the header asks for, or why it gives no preferences.
 use Rattle.std.proofs.Common.{◌≡◌, ◌<◌, ◌+◌, ◌++◌, ◌∷◌, ◌∙◌, false, ℕ, List, [], length, get_or, map, refl, sym, ap, subst, arith}
 use Rattle.std.proofs.lemmas.List.{get_or_append_left, get_or_push, get_or-map, length-append, length-map}
 use borrow.Author.Count.{below_more}
@@ -20,7 +21,7 @@ use Rattle.lt_range.specs.declared.preferences.Preference.{Preference}
 use Rattle.lt_range.specs.declared.refusals.RangeRefusal.{RangeRefusal}
 use Rattle.lt_range.specs.declared.refusals.RangeRefusal.TheVariants as refusals
 
--- the next preference is that of the next element
+-- if the preferences of the first n elements are followed by that of the next, they are those of the first n + 1
 pub preference_next : (R : List EntryParts) (elements : List ElementParts) (n : ℕ) (all : List Preference) (p
     : Preference) → ArePreferencesOf R elements n all
     → IsPreferenceOf R (element_at_place elements n) p → ArePreferencesOf R elements (n + 1) (all ++ p ∷ [])
@@ -34,12 +35,12 @@ preference_next R elements n all p h k =
           (subst (λ (x : Preference). IsPreferenceOf R (element_at_place elements n) x) (sym (get_or_push all p none n h.counted)) k);
     }
 
--- the element that is read at a place, as contracts see it
+-- the element at a place, as contracts see it, is the one at that place of the elements as contracts see them
 pub part_at : (elements : List WeightedRange) (n : ℕ) (d : WeightedRange) → n < length elements
     → parts_of (get_or elements n d) ≡ element_at_place (map parts_of elements) n
 part_at elements n d within = sym (get_or-map parts_of elements n d (record { range = []; weight = 0 }) within)
 
--- the refusal of the range at a place is that of an element
+-- the refusal of the range at a place is that of the range of one of the elements
 pub refused_at : (R : List EntryParts) (elements : List WeightedRange) (n : ℕ) (d : WeightedRange) (refusal
     : RangeRefusal) → n < length elements
     → IsRangeRefusal R (get_or elements n d).range.now refusal → IsElementRefusal R (map parts_of elements) refusal
@@ -49,12 +50,12 @@ refused_at R elements n d refusal within h = record {
   refused = subst (λ (e : ElementParts). IsRangeRefusal R e.range refusal) (part_at elements n d within) h;
 }
 
--- memory may run out at any element
+-- OutOfMemory may be answered at any element
 pub memory_at : (R : List EntryParts) (elements : List WeightedRange) (n : ℕ) → n < length elements
     → IsElementRefusal R (map parts_of elements) refusals.OutOfMemory
 memory_at R elements n within = record { place = n; within = omega (arith, within, length-map elements parts_of); refused = tt }
 
--- the preference of the range at a place is that of its element
+-- a preference with the range by which the text of an element matches, and with its weight, is that of the element
 pub preference_at : (R : List EntryParts) (elements : List WeightedRange) (n : ℕ) (d : WeightedRange) (range
     : RangeParts) → n < length elements
     → IsExtlangRange R (get_or elements n d).range.now range
@@ -65,7 +66,7 @@ preference_at R elements n d range within h = record {
   weight = ap (λ (e : ElementParts). e.weight) (part_at elements n d within);
 }
 
--- the fault of a header, by its kind, is why it gives no preferences
+-- the fault of a header, of this kind, is why it gives no preferences
 by_kind : (R : List EntryParts) (header : List ℕ) (fault : AcceptFault) (kind : AcceptFaultKind) → fault.kind ≡ kind
     → IsFault (elements_of header) fault → IsHeaderRefusal R header (of_accept_fault fault)
 by_kind R header fault (kinds.BadRange f) e h = rw e (rw e at h)

@@ -1,5 +1,5 @@
--- The tags of which a service serves one: what the loop over their texts adds and refuses, and that the spelling does
--- not matter.
+-- The loop of `Available::of_texts` adds the list of subtags of each text, or is refused at the first text that has
+-- none. Texts of equivalent tags have equal lists, so it doesn't matter how the tags are spelled.
 use Rattle.std.proofs.Common.{◌≡◌, ◌<◌, ◌+◌, ◌++◌, ◌∷◌, ◌∙◌, Bor, ℕ, inl, List, [], get_or, length, map, sym, ap, subst, arith}
 use Rattle.std.proofs.lemmas.List.{get_or_append_left, get_or_default, get_or_push, get_or-map, length-append, length-map, same_lists}
 use borrow.Author.Count.{below_more}
@@ -13,7 +13,7 @@ use Rattle.lt_range.specs.Lookup.{tag_at}
 use Rattle.lt_range.specs.Matched.{HasExtlangList, HasSubtags}
 use Rattle.lt_range.proofs.MatchLaws.{determined, list_of_text, same_list}
 
--- the next list is that of the next text
+-- if the lists of the first n texts are followed by that of the next, they are those of the first n + 1
 pub available_next : (R : List EntryParts) (texts : List (List ℕ)) (n : ℕ) (lists : List (List (List ℕ))) (list : List
     (List ℕ)) → AreAvailable R texts n lists
     → HasSubtags R (text_at texts n) list → AreAvailable R texts (n + 1) (lists ++ list ∷ [])
@@ -25,12 +25,13 @@ available_next R texts n lists list h k = record {
       (subst (λ (x : List (List ℕ)). HasSubtags R (text_at texts n) x) (sym (get_or_push lists list [] n h.counted)) k);
 }
 
--- the text that is read at a place, as contracts see it
+-- the text at a place, as contracts see it, is the one at that place of the texts as contracts see them
 pub text_read : (texts : List (Bor (List ℕ))) (n : ℕ) (d : Bor (List ℕ)) → n < length texts
     → (get_or texts n d).now ≡ text_at (map (λ (text : Bor (List ℕ)). text.now) texts) n
 text_read texts n d within = sym (get_or-map (λ (text : Bor (List ℕ)). text.now) texts n d [] within)
 
--- the refusal of the text at a place, before which each has its list, is that of the list of texts
+-- if each text before a place has its list, the refusal of the text there, with its number, is that of the list of
+-- texts
 pub refused_at : (R : List EntryParts) (texts : List (Bor (List ℕ))) (n : ℕ) (d : Bor (List ℕ)) (lists : List
     (List (List ℕ))) (refused : AvailableRefusal) → n < length texts
     → AreAvailable R (map (λ (text : Bor (List ℕ)). text.now) texts) n lists → refused.place ≡ n + 1
@@ -45,7 +46,7 @@ refused_at R texts n d lists refused within before numbered h = inl (record {
   refusal = subst (λ (s : List ℕ). IsTextRefusal R s refused.refusal) (text_read texts n d within) h;
 })
 
--- tags that are equivalent one by one have one list
+-- lists of texts whose tags are equivalent one by one have the same lists of subtags
 pub serve_alike : (R : List EntryParts) → IsChecked R → EquivalentListsServeAlike R
 serve_alike R C texts others a b alike h k =
     let as_many : length a ≡ length b = h.counted ∙ alike.as_many ∙ sym k.counted in

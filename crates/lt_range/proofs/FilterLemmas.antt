@@ -1,4 +1,5 @@
--- Lemmas on what filtering selects.
+-- The two loops of filtering, over the tags for one range and over the ranges: the places that were found so far, with
+-- those that the rest selects, are the places of all. So the answers of `filter_basic` and `filter_extended` are right.
 use Rattle.std.proofs.Common.{◌≡◌, ℕ, ◌<◌, ◌≤◌, ◌+◌, inl, inr, List, [], ◌∷◌, ◌++◌, length, get_or, take, drop, refl, sym, ap, ◌∙◌, subst}
 use Rattle.std.proofs.lemmas.List.{append_assoc, append-nil, drop_more, take_more}
 use Rattle.std.proofs.Math.ListN.{drop_of_length-le}
@@ -11,7 +12,7 @@ next_is xs i x within is = drop_more xs i x within ∙ ap (λ y. y ∷ drop (i +
 
 -- the loop over tags that adds the places of those of which `P` is true
 module _ (P : List (List ℕ) → Type 0) (tags : List (List (List ℕ))) where
-  -- `found` are the places of the first `i` tags: with the places of the other tags, they are those of all
+  -- `found` are the places so far, of the first `i` tags: with those of the other tags they are those of all
   abbrev pub GoOn : ℕ → List ℕ → Type 0
   GoOn i found = (more : List ℕ) → ArePlaces P i (drop i tags) more → ArePlaces P 0 tags (found ++ more)
 
@@ -39,8 +40,8 @@ module _ (P : List (List ℕ) → Type 0) (tags : List (List (List ℕ))) where
 
 -- the loop over the ranges of a priority list; `M` says that a range matches a tag
 module _ (M : RangeParts → List (List ℕ) → Type 0) (ranges : List RangeParts) (tags : List (List (List ℕ))) where
-  -- `found` are the places that the first `i` ranges select: with those that the other ranges select, they are what all
-  -- select
+  -- `found` are the places so far, that the first `i` ranges select: with those that the other ranges select they are
+  -- what all select
   abbrev pub SelectsOn : ℕ → List ℕ → Type 0
   SelectsOn i found = (more : List ℕ) → Selects M (take i ranges) (drop i ranges) tags more → Selects M [] ranges tags (found ++ more)
 

@@ -1,4 +1,6 @@
--- A text is read as a range exactly if it is one by the grammar.
+-- A text is read as a range exactly if it is that range by the grammar (RFC 4647, 2.2): the law
+-- `ranges_are_read_by_their_grammar`. A piece is a *written form* of a subtag or of `*` if it is that, letter case
+-- aside.
 use Rattle.std.proofs.Common.{◌≡◌, ℕ, Bool, true, false, List, [], ◌∷◌, ◌++◌, map, cond, refl, sym, ap, ◌∙◌, subst, arith}
 use Rattle.std.specs.Prelude.{◌↔◌, Option, Some, None, option_to_list, Result, Ok, Err}
 use Rattle.std.specs.List.{list_all}
@@ -86,7 +88,7 @@ later_back p (Some s) f =
 first_form : (p : List ℕ) (o : Option (List ℕ)) → first_piece p ≡ Ok o → IsForm is_first p o
 first_form p o h = go (is_star p) refl (subtag_of p) refl h
   where
-    -- a first piece that is read as a subtag is a written form of `o` if the subtag has letters alone
+    -- a first piece that is read as a subtag of only letters is a written form of the `o` that it is read as
     letters : (s : List ℕ) (a : Bool) → is_alphabetic s ≡ a → subtag_of p ≡ Ok s
         → cond a (Ok (Some s)) (Err faults.BadFirst) ≡ Ok o → IsForm is_first p o
     letters s false e k g = absurd (cc)
@@ -117,7 +119,7 @@ record AreForms (ps named : List (List ℕ)) : Type 0 where
   fit : list_all (λ o. option_map_or is_subtag o true) others ≡ true
   is : named ≡ named_of others
 
--- the subtags other than `*`, with one subtag or `*` more in front
+-- the subtags of a range with `o` in front are `o`, if it is a subtag, and then those of the range
 named_more : (o : Option (List ℕ)) (os : RangeForm) → option_to_list o ++ named_of os ≡ named_of (o ∷ os)
 named_more None os = refl
 named_more (Some s) os = refl
@@ -129,7 +131,8 @@ record AreRead (a : Result (Option (List ℕ)) RangeFault) (b : Result (List (Li
   here_is : a ≡ Ok here
   others_are : b ≡ Ok others
 
--- if a piece and those after it are read as subtags, neither reading has a fault
+-- if a piece and those after it are read as the subtags `named`, neither reading has a fault, and `named` are what they
+-- read
 with_piece_ok : (a : Result (Option (List ℕ)) RangeFault) (b : Result (List (List ℕ)) RangeFault) (named : List
     (List ℕ)) → with_piece a b ≡ Ok named
     → (r : AreRead a b) × (named ≡ option_to_list r.here ++ r.others)
@@ -213,7 +216,7 @@ range_read (p ∷ ps) (o ∷ os) fits e =
     let others : map written os ≡ map folded ps = cc in
     rw (first_back p o (record { same = here; fits = fits.0 }), later_forms_back ps os others fits.1) (parts o)
   where
-    -- a range of a first piece `q` and the subtags after it has the parts of its form
+    -- a first piece that is read as `q`, and the subtags after it, make the range with the parts of their form
     parts : (q : Option (List ℕ)) → begun (Ok q) (Ok (named_of os)) ≡ Ok (parts_of (q ∷ os))
     parts None = refl
     parts (Some s) = refl

@@ -1,5 +1,5 @@
--- What is read of a header is in the grammar of Accept-Language, and what is in the grammar is read: element by
--- element.
+-- A header is read exactly if it is in the grammar of Accept-Language, and with the same elements: the law
+-- `headers_are_read_by_their_grammar`. It is shown for each piece between commas, and then for all.
 use Rattle.std.proofs.Common.{◌≡◌, ℕ, ◌+◌, Bool, true, false, List, [], ◌∷◌, ◌++◌, refl, sym, ap, ◌∙◌, subst}
 use Rattle.std.specs.Prelude.{◌↔◌, Option, Some, None, option_to_list, Result, Ok, Err, IsOk}
 use Rattle.std.specs.List.{list_all}
@@ -26,7 +26,7 @@ fault_none (Err fault) basic h = absurd (cc)
 fault_none (Ok range) false h = absurd (cc)
 fault_none (Ok range) true h = (refl, refl)
 
--- the range has no fault, and what follows it is a weight: these make the element
+-- the range has no fault, what follows it is a weight, `number`, and the element has this range and this weight
 record IsWithout (range : List ℕ) (fault : Option AcceptFaultKind) (weight : Option ℕ) (element : Option ElementParts) : Type 0 where
   number : ℕ
   no_fault : fault ≡ None
@@ -113,7 +113,7 @@ piece_read piece (Some element) p =
     ∙ ap element_at (rest_append is_blank p.before (p.text ++ p.after) p.blank_before ∙ ap (rest is_blank) split)
     ∙ at_range element.range e.weight p.after element.weight e.is_range e.has_weight p.blank_after
 
--- the first piece is read as `element`, and those after it as `others`: `elements` are all of them
+-- the first piece is read as `element`, and those after it as `others`; `elements` are all of these
 record IsReadOf (first : Result (Option ElementParts) AcceptFaultKind) (read : Result (List ElementParts) AcceptFault)
     (elements : List ElementParts) : Type 0 where
   element : Option ElementParts
@@ -122,7 +122,7 @@ record IsReadOf (first : Result (Option ElementParts) AcceptFaultKind) (read : R
   read_is : read ≡ Ok others
   is : elements ≡ option_to_list element ++ others
 
--- where the first piece and those after it are read as `elements`, each of both is read
+-- if the first piece and those after it are together read as `elements`, neither reading has a fault
 with_element_ok : (place : ℕ) (first : Result (Option ElementParts) AcceptFaultKind)
     (read : Result (List ElementParts) AcceptFault) (elements : List ElementParts)
     → with_element place first read ≡ Ok elements → IsReadOf first read elements

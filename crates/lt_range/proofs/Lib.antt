@@ -1,3 +1,4 @@
+-- Lemmas on language ranges, the header and matching; `pub` are those that crates above may use.
 pub mod FrontLemmas
 pub mod TurnLemmas
 pub mod PieceLemmas

@@ -1,4 +1,6 @@
--- What holds of matching by extlang forms, by a registry that passes the check.
+-- The laws of matching by extlang forms, for a registry that passes the check: equivalent tags match the same ranges,
+-- equivalent ranges match the same tags, a range that is a valid tag matches only if equivalent tags match as they are
+-- spelled, and a tag is matched by one list of subtags, and a text matches by one range.
 use Rattle.std.proofs.Common.{◌≡◌, ℕ, Bool, true, false, inl, inr, List, [], ◌∷◌, ◌++◌, Ok, sym, ap, ◌∙◌, subst}
 use Rattle.lt_tag.specs.Parts.{TagForm}
 use Rattle.lt_tag.specs.WellFormed.{spell}
@@ -48,7 +50,8 @@ module _ (R : List EntryParts) (C : IsChecked R) where
   pub list_of_text : (text : List ℕ) (t : TagForm) (list : List (List ℕ)) → HasTag text t → HasSubtags R text list → HasExtlangList R t list
   list_of_text text t list read h = subst (λ (x : TagForm). HasExtlangList R x list) (one_tag_of_text text h.tag t h.read read) h.holds
 
-  -- the texts `a` and `b` are read as equivalent valid tags: they match by one range
+  -- if the texts `a` and `b` are read as equivalent valid tags, the range by which `a` matches is that by which `b`
+  -- does
   same_range : (a b : List ℕ) (t u : TagForm) (range : RangeParts) → HasTag a t → HasTag b u → IsValid R t → IsValid R u
       → AreEquivalent R t u
       → IsExtlangRange R a range → IsExtlangRange R b range

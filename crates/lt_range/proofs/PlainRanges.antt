@@ -1,4 +1,6 @@
--- Texts that are no valid tags, and the ranges by which they match.
+-- A text that is no valid tag matches by the range that it is, with its first subtag in its extlang form, if this by
+-- itself is a tag that has one. `extlang_range` and `known_subtags` need this: when a text is no valid tag, and which
+-- range or refusal follows.
 use Rattle.std.proofs.Common.{◌≡◌, ◌∙◌, ◌∷◌, ◌++◌, false, ℕ, inl, inr, List, Ok, Err, IfOk, IfErr, refl, sym, subst}
 use Rattle.std.specs.Prelude.{Result}
 use Rattle.lt_tag.specs.Parts.{TagForm}
@@ -43,19 +45,19 @@ module _ (R : List EntryParts) (text : List ℕ) where
       h.holds.is_form.canonical_form.repeats_none (subst (λ (t : TagForm). CanRepeat R t) (one_tag_of_text text a.0 h.tag a.1 h.read) a.3)
   refused_none texts.OutOfMemory owed other = absurd (other refl)
 
-  -- a text that is refused, but not for lack of memory, is no tag that has an extlang form; `kind` is the refusal as the
-  -- program tells it apart
+  -- a text that is refused, but not for lack of memory, is no tag that has an extlang form; `kind` is the refusal as
+  -- the program tells it apart
   pub none_of : (refusal kind : TextRefusal) → refusal ≡ kind → IsTextRefusal R text refusal
       → (kind ≡ texts.OutOfMemory → ⊥) → HasNoSubtags R text
   none_of refusal kind is owed other = refused_none refusal owed (λ e. other (sym is ∙ e))
 
-  -- `r` is what a text that is no valid tag matches by: where it is a range, the text matches by it
+  -- if `r` is the range of a text that is no valid tag, the text matches by it
   pub plain_ok : (r : Result RangeParts RangeRefusal) → IsNoValidTag R text
       → IfOk r (λ range. IsRangeOfText R text range) → IfOk r (λ range. IsExtlangRange R text range)
   plain_ok (Ok range) n h = inr (n, h)
   plain_ok (Err refusal) n h = tt
 
-  -- `r` is what a text that is no valid tag matches by: where it is a refusal, the text is refused so
+  -- if `r` is why a text that is no valid tag is no range, the text is refused so
   pub plain_err : (r : Result RangeParts RangeRefusal) → IsNoValidTag R text → IfErr r (IsPlainRefusal text)
       → IfErr r (λ refusal. IsRangeRefusal R text refusal)
   plain_err (Ok range) n h = tt
@@ -63,7 +65,8 @@ module _ (R : List EntryParts) (text : List ℕ) where
   plain_err (Err (refusals.ReplacementRepeats v)) n h = absurd h
   plain_err (Err refusals.OutOfMemory) n h = tt
 
--- where the first subtag of a range has the subtags `list`, the range with these in its place matches
+-- if the first subtag of a range by itself is a tag that is matched by the subtags `list`, the range with these in its
+-- place is the one that matches
 pub some_as : (R : List EntryParts) (written : RangeParts) (s : List ℕ) (ss list : List (List ℕ)) (r : Result RangeParts
     OutOfMemory) → written.wild ≡ false → written.named ≡ s ∷ ss
     → HasSubtags R s list → IfOk r (λ range. range ≡ range_of_tag (list ++ ss))
@@ -73,7 +76,7 @@ some_as R written s ss list (Ok range) w n has is =
     rw (w, n) here
 some_as R written s ss list (Err e) w n has is = tt
 
--- where the first subtag of a range has none, the range matches as it is
+-- if the first subtag of a range by itself is no such tag, the range matches as it is
 pub none_as : (R : List EntryParts) (written : RangeParts) (s : List ℕ) (ss : List (List ℕ)) → written.wild ≡ false
     → written.named ≡ s ∷ ss → HasNoSubtags R s
     → MatchesAs R written.wild written.named written

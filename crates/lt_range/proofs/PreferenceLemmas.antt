@@ -1,4 +1,6 @@
--- The weight of a tag, and the tags that are accepted.
+-- The loops that look for the longest range that matches a tag, which decides its weight, or for the longest tag, and
+-- the loop of `filter_accepted` over the ranges: if what they found is right up to a place, it is with the next one
+-- too.
 use Rattle.std.proofs.Common.{false, ◌≡◌, ◌<◌, ◌≤◌, ◌+◌, ◌++◌, ◌∷◌, ◌∙◌, ℕ, List, [], Option, Some, None, inl, inr}
 use Rattle.std.proofs.Common.{length, drop, sym, ap, refl, subst, arith}
 use Rattle.std.proofs.lemmas.List.{append_assoc, append-nil, drop_more}
@@ -11,7 +13,7 @@ use Rattle.lt_range.specs.Preferences.{AreAcceptedFrom, AreAccepted, Decides, No
 use Rattle.lt_range.specs.declared.preferences.Preference.{Preference}
 
 module _ (P : ℕ → Type 0) (long : ℕ → ℕ) where
-  -- there is one longest place
+  -- of the first n places at most one is the longest
   pub one_longest : (n p q : ℕ) → IsLongestOf P long n p → IsLongestOf P long n q → p ≡ q
   one_longest n p q h k =
       let a : long p ≤ long q = k.longest p h.within h.holds in
@@ -20,7 +22,8 @@ module _ (P : ℕ → Type 0) (long : ℕ → ℕ) where
       let d : q < p → long q < long p = λ l. h.first q l k.holds in
       grind arith
 
-  -- the next place is the longest so far, if `P` is true of it and it is longer than what was found
+  -- the next place, n, is the longest so far if `P` is true of it and it is longer than the place that was found
+  -- (`best`)
   pub longest_next : (n : ℕ) (best : Option ℕ) → MayBeLongest P long n best → P n → IsLonger long best n → IsLongestOf P long (n + 1) n
   longest_next n None none p longer = record {
     within = omega arith;
@@ -35,7 +38,8 @@ module _ (P : ℕ → Type 0) (long : ℕ → ℕ) where
     first = λ i l h. omega (arith, longer, found.longest i l h);
   }
 
-  -- what was found is the longest with the next place too, if `P` is not true of that, or it is not longer
+  -- the place that was found is still the longest with the next place, n, if `P` is not true of that, or if that is not
+  -- longer
   pub longest_same : (n : ℕ) (best : Option ℕ) → MayBeLongest P long n best → (P n → IsLonger long best n → ⊥)
       → MayBeLongest P long (n + 1) best
   longest_same n None none other = below_more (λ (i : ℕ). P i → ⊥) n none (λ h. other h tt)
@@ -48,7 +52,7 @@ module _ (P : ℕ → Type 0) (long : ℕ → ℕ) where
   }
 
 module _ (all : List Preference) (tag : List (List ℕ)) where
-  -- one range decides the weight of a tag
+  -- one range decides the weight of a tag at most
   pub one_decides : (p q : ℕ) → Decides all tag p → Decides all tag q → p ≡ q
   one_decides p q h k = one_longest (Matched all tag) (length_at all) (length all) p q h k
 
@@ -66,8 +70,8 @@ module _ (all : List Preference) (tag : List (List ℕ)) where
 
 -- the loop over the ranges, each of which accepts the tags whose weight it decides
 module _ (all : List Preference) (tags : List (List (List ℕ))) where
-  -- `found` are the places that the first `i` ranges accept: with those that the others accept, they are what all
-  -- accept
+  -- `found` are the places so far, of the tags that the first `i` ranges accept: with those that the other ranges
+  -- accept they are what all accept
   abbrev pub AcceptsOn : ℕ → List ℕ → Type 0
   AcceptsOn i found = (more : List ℕ) → AreAcceptedFrom all i (drop i all) tags more → AreAccepted all tags (found ++ more)
 

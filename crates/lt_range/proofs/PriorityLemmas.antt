@@ -1,4 +1,5 @@
--- A stable sort by falling weights gives a priority list.
+-- The elements of a header whose weight is not 0, sorted by falling weights with a stable sort, are its priority list:
+-- `by_priority` needs this.
 use Rattle.std.proofs.Common.{◌≡◌, ℕ, ◌<◌, Bool, List, [], ◌∷◌, length, refl, sym, ap, ◌∙◌, arith}
 use Rattle.std.specs.Prelude.{◌==◌, not, filter, IsPermutation}
 use Rattle.std.specs.Ordering.{is_lt, nat_cmp}
@@ -21,7 +22,7 @@ ties_are : (x : WeightedRange) (es : List WeightedRange) → filter (ties comes_
 ties_are x [] = refl
 ties_are x (e ∷ es) = grind (arith, nat_tests, ties_are x es)
 
--- where there are no elements, none has this weight
+-- of no elements none has this weight
 of_none : (weight : ℕ) (es : List WeightedRange) → length es ≡ 0 → of_weight weight es ≡ []
 of_none weight [] h = refl
 of_none weight (e ∷ es) h = absurd (omega arith)
@@ -34,17 +35,18 @@ same_of_weight (e ∷ es) ys moved stable weight =
     let x : WeightedRange = record e { weight = weight } in
     sym (ties_are x ys) ∙ stable x ∙ ties_are x (e ∷ es)
 
--- among elements with a weight that is not 0, none has weight 0
+-- none of the elements whose weight is not 0 has weight 0
 zero_of_others : (es : List WeightedRange) → of_weight 0 (filter has_weight es) ≡ []
 zero_of_others [] = refl
 zero_of_others (e ∷ es) = grind (arith, nat_tests, zero_of_others es)
 
--- among the elements with a weight that is not 0 are all of a weight above 0, in their order
+-- to leave out the elements of weight 0 leaves those of a weight above 0 as they are, in their order
 others_stay : (weight : ℕ) (es : List WeightedRange) → 0 < weight → of_weight weight (filter has_weight es) ≡ of_weight weight es
 others_stay weight [] h = refl
 others_stay weight (e ∷ es) h = grind (arith, nat_tests, others_stay weight es h)
 
--- `xs` are the elements whose weight is not 0, and `ys` these, sorted by weight and stable: they are the priority list
+-- if `xs` are the elements whose weight is not 0, and `ys` are `xs` after a stable sort by weight, `ys` are the
+-- priority list
 pub sorted_is_priority : (es xs ys : List WeightedRange) → xs ≡ filter has_weight es → IsPermutation xs ys
     → IsSortedBy comes_first ys → IsStableBy comes_first xs ys
     → IsPriorityList es ys

@@ -1,4 +1,5 @@
--- The bytes of a language range are those of a word: so an element of a header is cut just after its range.
+-- The bytes of a language range are those of a *word*, neither white space nor a semicolon: so an element of a header
+-- is cut just after its range. HeaderLaws needs this.
 use Rattle.std.proofs.Common.{◌≡◌, ℕ, Bool, true, false, List, [], ◌∷◌, length, cond, refl, subst, arith}
 use Rattle.std.specs.Prelude.{◌==◌, nat_le, Option, Some, None, Result, Ok, Err, IsOk}
 use Rattle.std.specs.List.{list_all, AllByRecursion, join_with_byte}
@@ -70,7 +71,7 @@ first_word p h = go (is_star p) refl h
     go true e k = star_word p e
     go false e k = subtag_word p (of_first_ok (subtag_of p) k)
 
--- where a piece and those after it are read together, both are read
+-- if a piece and those after it are together read without a fault, so is each of the two
 with_piece_ok : (a : Result (Option (List ℕ)) RangeFault) (b : Result (List (List ℕ)) RangeFault) → IsOk (with_piece a b) → IsOk a × IsOk b
 with_piece_ok (Err fault) b h = absurd (cc)
 with_piece_ok (Ok s) (Err fault) h = absurd (cc)
@@ -83,7 +84,7 @@ later_words [] h = tt
 later_words (p ∷ ps) h =
     let both = with_piece_ok (later_piece p) (later_pieces ps) h in (later_word p both.0, later_words ps both.1)
 
--- where the first piece and those after it are read together, both are read
+-- if the first piece and those after it are together read without a fault, so is each of the two
 begun_ok : (a : Result (Option (List ℕ)) RangeFault) (b : Result (List (List ℕ)) RangeFault) → IsOk (begun a b) → IsOk a × IsOk b
 begun_ok (Err fault) b h = absurd (cc)
 begun_ok (Ok s) (Err fault) h = absurd (cc)

@@ -1,4 +1,5 @@
--- The first range that serves a tag, and the ranges that decide.
+-- The loop of `first_serving` over the tags finds the first range that serves one in a turn, and what this range serves
+-- is served in the turn. The loop of `all_deciding` finds for each tag the range that decides its weight.
 use Rattle.std.proofs.Common.{◌≡◌, ◌<◌, ◌+◌, ◌++◌, ◌∷◌, ◌∙◌, Bool, true, false, ℕ, List, [], Option, Some, None}
 use Rattle.std.proofs.Common.{inl, inr, length, refl, sym, ap, subst, arith}
 use Rattle.std.specs.Prelude.{◌⊎◌, slice_index_or}
@@ -28,8 +29,8 @@ turn_tells wild p = elim (leb_tells p.weight 0) [
 ]
 
 module _ (wild : Bool) (all : List Preference) (tags : List (List (List ℕ))) where
-  -- the next tag is not refused, and `index` is the first range that reaches it, before the first that serves a tag so
-  -- far
+  -- if the next tag, at the place n, is not refused, and `index` is the first range that reaches it, and comes before
+  -- `first`, the first range that serves a tag so far, then `index` is the first range that does
   pub next_serves : (n first index : ℕ) → IsFirstServing wild all tags n first → index < first
       → NoneOf (ReachesAt wild all (tag_at tags n)) index
       → ReachesAt wild all (tag_at tags n) index → (IsRefused all (tag_at tags n) → ⊥) → IsFirstServing wild all tags (n + 1) index
@@ -40,7 +41,8 @@ module _ (wild : Bool) (all : List Preference) (tags : List (List (List ℕ))) w
     serves = λ l. (n, omega arith, record { reached = reaches; allowed = allowed });
   }
 
-  -- no range before the first so far serves the next tag
+  -- if no range before `first`, the first so far, serves the next tag, `first` is still the first range that serves a
+  -- tag
   pub next_same : (n first : ℕ) → IsFirstServing wild all tags n first → NoneOf (ServesAt wild all tags n) first
       → IsFirstServing wild all tags (n + 1) first
   next_same n first so_far none = record {
@@ -49,7 +51,7 @@ module _ (wild : Bool) (all : List Preference) (tags : List (List (List ℕ))) w
     serves = λ l. let w = so_far.serves l in (w.0, omega (arith, w.1), w.2);
   }
 
-  -- a range before the first that serves a tag serves none
+  -- each range before `first`, the first that serves a tag, serves none
   pub none_before : (first : ℕ) → IsFirstServing wild all tags (length tags) first → (i : ℕ) → i < first → ServesBy wild all i tags None
   none_before first found i less = elim (turn_tells wild (at all i)) [
     | inl t ↦ inl (
@@ -62,7 +64,7 @@ module _ (wild : Bool) (all : List Preference) (tags : List (List (List ℕ))) w
     | inr n ↦ inr (n, refl)
   ]
 
-  -- the first range that serves a tag serves one
+  -- it can't be that `first`, the first range that serves a tag, serves none
   not_none : (first : ℕ) → IsFirstServing wild all tags (length tags) first → first < length all
       → Serves all (at all first).range tags None → ⊥
   not_none first found less (inl h) = let bad : None ≡ Some h.0 = h.2 in cc
@@ -73,7 +75,7 @@ module _ (wild : Bool) (all : List Preference) (tags : List (List (List ℕ))) w
         | inr m ↦ h.1 w.0 w.1 (record { matches = m; allowed = w.2.allowed })
       ]
 
-  -- what the first range serves that serves a tag is served in the turn
+  -- what `first`, the first range that serves a tag, serves is served in the turn
   pub first_serves : (first : ℕ) (served : Option ℕ) → IsFirstServing wild all tags (length tags) first → first < length all
       → Serves all (at all first).range tags served → ServesInTurn wild all tags served
   first_serves first None found less s = absurd (not_none first found less s)
@@ -85,7 +87,8 @@ module _ (wild : Bool) (all : List Preference) (tags : List (List (List ℕ))) w
   }
 
 module _ (all : List Preference) (tags : List (List (List ℕ))) where
-  -- `o` is the range that decides the weight of the next tag, if one does
+  -- if `found` has the deciding ranges of the first n tags, and `o` is that of the next tag, or None, then `found` with
+  -- `o` at its end has those of the first n + 1
   pub deciding_next : (n : ℕ) (found : List (Option ℕ)) (o : Option ℕ) → AreDeciding all tags n found
       → MayDecide all (tag_at tags n) o → AreDeciding all tags (n + 1) (found ++ o ∷ [])
   deciding_next n found o h m = record {

@@ -1,4 +1,5 @@
--- The subtags by which a text that stays as it is is matched.
+-- A text whose subtags *stay* as they are, and whose language is no extlang too, is matched by its own subtags:
+-- `staying_subtags` needs this.
 use Rattle.std.proofs.Common.{◌≡◌, [], ◌∷◌, ℕ, false, List, Option, None, Some, is_some, refl, sym, subst}
 use Rattle.std.specs.Option.{option_map_or}
 use Rattle.lt_tag.specs.Conventional.{conventional}
@@ -16,14 +17,14 @@ use Rattle.lt_canon.proofs.CanonicalForms.{extlang_answer, prefixless_extlang}
 use Rattle.lt_canon.proofs.StayingTags.{stays_canonical}
 use Rattle.lt_range.specs.Matched.{HasSubtags}
 
--- without an entry there is no Prefix
+-- a language without an entry as an extlang has no Prefix
 no_prefix : (found : Option EntryParts) → is_some found ≡ false
     → None ≡ prefix_of (option_map_or (λ (e : EntryParts). e.prefixes) found [])
 no_prefix None none = refl
 no_prefix (Some e) none = cc
 
 module _ (R : List EntryParts) (text : List ℕ) (stay : IsStaying R text) where
-  -- the pieces of the text in conventional case are its subtags
+  -- the text in conventional case has the same list of subtags as the text
   pub shown_listed : TextOfTagHasItsList → HasList (conventional (list_of text)) × (list_of (conventional (list_of text)) ≡ list_of text)
   shown_listed law =
       subst (λ (ss : List (List ℕ)). HasList (conventional ss) × (list_of (conventional ss) ≡ ss)) stay.1.read.spelled

@@ -1,5 +1,5 @@
--- Lemmas on subtags that are in a list, one after another, with no singleton passed over, as extended filtering asks:
--- to take each at its first place is enough.
+-- Subtags are *in turn* in a list if they are there one after another, with no singleton passed over, as extended
+-- filtering asks. To look for each only at its first place is enough: `are_in_turn` does so.
 use Rattle.std.proofs.Common.{◌≡◌, ℕ, ◌⊎◌, inl, inr, true, false, List, [], ◌∷◌, ◌++◌, sym, ap, ◌∙◌, arith, subst}
 use Rattle.std.specs.List.{list_all, AllByRecursion}
 use Rattle.std.proofs.lemmas.Bool.Decides.{nat_tests}
@@ -15,7 +15,8 @@ long_head x xs h = grind (arith, nat_tests)
 long_tail : (x : List ℕ) (xs : List (List ℕ)) → list_all is_no_singleton (x ∷ xs) ≡ true → list_all is_no_singleton xs ≡ true
 long_tail x xs h = grind (arith, nat_tests)
 
--- a subtag that is in a list with no singleton before it, and isn't the first there, is so in what follows the first
+-- a subtag that is in a list with no singleton before it, and isn't the first of the list, is also in what follows the
+-- first, with no singleton before it
 pub passed_next : (s first : List ℕ) (others : List (List ℕ)) → (first ≡ s → ⊥) → IsPassedTo (first ∷ others) s → IsPassedTo others s
 passed_next s first others other h = go h.passed h.there h.long
   where
@@ -50,13 +51,14 @@ passed_none s h = go h.passed h.there
     go [] there = cc
     go (p ∷ ps) there = cc
 
--- of two places of `s` in a list, after `passed` and after `passed_other`, the second is later
+-- of two places of `s` in a list, after `passed` and after `passed_other`, the second is later; `rest` and `other` are
+-- what follows the two, and `between` is what is between them
 pub record IsLater (s : List ℕ) (rest other passed passed_other : List (List ℕ)) : Type 0 where
   pub between : List (List ℕ)
   pub rest_is : rest ≡ between ++ s ∷ other
   pub passed_is : passed_other ≡ passed ++ s ∷ between
 
--- where `s` is at two places of a list and isn't among the subtags before the first, they are one place, or the second
+-- if `s` is at two places of a list, and isn't among the subtags before the first, the two are one place, or the second
 -- is later
 first_place : (s : List ℕ) (passed passed_other rest other : List (List ℕ)) → passed ++ s ∷ rest ≡ passed_other ++ s ∷ other
     → AllByRecursion (λ t. t ≡ s → ⊥) passed → (rest ≡ other) ⊎ IsLater s rest other passed passed_other
@@ -78,7 +80,7 @@ first_place s (p ∷ ps) (x ∷ xs) rest other same new =
           })
     ]
 
--- if subtags are in turn in a list, they are so with subtags before it that are no singletons
+-- if subtags are in turn in a list, they still are with subtags that are no singletons in front of the list
 more_before : (ss passed list : List (List ℕ)) → list_all is_no_singleton passed ≡ true → AreInTurn ss list → AreInTurn ss (passed ++ list)
 more_before [] passed list long h = tt
 more_before (s ∷ ss) passed list long h = (
@@ -115,7 +117,7 @@ turn_next s ss list rest f h =
 pub turn_back : (s : List ℕ) (ss list rest : List (List ℕ)) → FollowsFirst list s rest → AreInTurn ss rest → AreInTurn (s ∷ ss) list
 turn_back s ss list rest f h = (f.passed, rest, f.there, f.long, h)
 
--- if a subtag isn't in a list with no singleton before it, neither are it and others in turn
+-- if a subtag isn't in a list with no singleton before it, then it and others aren't in turn in the list
 pub turn_none : (s : List ℕ) (ss list : List (List ℕ)) → (IsPassedTo list s → ⊥) → AreInTurn (s ∷ ss) list → ⊥
 turn_none s ss list none h = none (record { passed = h.0; rest = h.1; there = h.2; long = h.3 })
 

@@ -1,4 +1,5 @@
--- Lemmas on weights, and what a text that is one is made of.
+-- What follows a range in a header is read as a weight exactly if it is a weight or nothing by the grammar (RFC 9110,
+-- 12.4.2), and then white space. HeaderLaws needs this.
 use Rattle.std.proofs.Common.{◌≡◌, ℕ, Bool, true, false, List, [], ◌∷◌, ◌++◌, length, cond, refl, sym, ap, ◌∙◌, arith, inl, inr, subst}
 use Rattle.std.specs.Prelude.{◌==◌, ◌&&◌, nat_le, Some, None}
 use Rattle.std.specs.List.{list_all}
@@ -44,7 +45,7 @@ qvalue_word (whole ∷ point ∷ decimals) n h = go (point == 46) refl h
     go true e k = let w = number_word whole decimals n k in grind (arith, nat_tests, w.0, w.1)
     go false e k = cc
 
--- what follows a range: the text of its weight, `n` in thousandths, or none, and then white space
+-- the text, which follows a range, is the text of the weight `n`, in thousandths, or of none, and then white space
 pub record IsEnding (text : List ℕ) (n : ℕ) : Type 0 where
   pub weight : List ℕ
   pub after : List ℕ
@@ -52,7 +53,7 @@ pub record IsEnding (text : List ℕ) (n : ℕ) : Type 0 where
   pub blank : IsWhiteSpace after
   pub is_weight : HasWeight weight n
 
--- `q=` (61 is the `=`), a qvalue of `n` thousandths, and then white space
+-- the text is `q=` (61 is the `=`), a qvalue of `n` thousandths, and then white space
 record IsParameter (text : List ℕ) (n : ℕ) : Type 0 where
   q : ℕ
   value : List ℕ
@@ -131,7 +132,7 @@ weight_is_ending text n h =
     let e = ending_at (front is_blank text) (rest is_blank text) n (all_front is_blank text) h in
     subst (λ (l : List ℕ). IsEnding l n) (sym (front_rest is_blank text)) e
 
--- a `q` ends white space
+-- white space ends before a `q`
 q_stops : (q : ℕ) (text : List ℕ) → is_q q ≡ true → Stops is_blank (q ∷ text)
 q_stops q text h = grind (arith, nat_tests)
 
@@ -145,7 +146,7 @@ parameter_read q value after n letter blank is_value =
     let none = rest_of_all is_blank after blank in
     rw (letter, value_is, after_is, none) is_value
 
--- the text, which follows a range, is read as the weight `n`, and its first byte, if it has one, ends the range
+-- the text is read as the weight `n` of the range that it follows, and its first byte, if it has one, ends the range
 pub record IsRead (text : List ℕ) (n : ℕ) : Type 0 where
   pub read : weight_of text ≡ Some n
   pub stops : Stops is_word_byte text

@@ -1,4 +1,5 @@
--- Lemmas on the front of a text that is made of some bytes, and what follows it.
+-- `front` and `rest` cut a text at the first byte that fails a test; together they are the text. Elements of a header
+-- are cut so, after white space and at the end of a word.
 use Rattle.std.proofs.Common.{◌≡◌, ℕ, Bool, true, false, List, [], ◌∷◌, ◌++◌, length, refl, ◌∙◌, arith}
 use Rattle.std.specs.List.{list_all}
 use Rattle.std.proofs.lemmas.Bool.Decides.{nat_tests}
@@ -20,12 +21,12 @@ module _ (p : ℕ → Bool) where
   all_front [] = refl
   all_front (b ∷ bs) = grind (arith, nat_tests, all_front bs)
 
-  -- where the rest of a text is empty, `p` is true of all its bytes
+  -- if the rest of a text is empty, `p` is true of all its bytes
   pub all_of_none : (text : List ℕ) → length (rest p text) ≡ 0 → list_all p text ≡ true
   all_of_none [] h = refl
   all_of_none (b ∷ bs) h = grind (arith, nat_tests, all_of_none bs)
 
-  -- where `p` is true of all bytes of a text, its rest is empty
+  -- if `p` is true of all bytes of a text, its rest is empty
   pub rest_of_all : (text : List ℕ) → list_all p text ≡ true → rest p text ≡ []
   rest_of_all [] h = refl
   rest_of_all (b ∷ bs) h = grind (arith, nat_tests, rest_of_all bs)
@@ -45,11 +46,13 @@ module _ (p : ℕ → Bool) where
   front_stops [] h = refl
   front_stops (y ∷ ys) h = rw h refl
 
-  -- `p` is true of all bytes of `xs`, and `ys` does not go on so: the rest of both is `ys`
+  -- if `p` is true of all bytes of `xs`, and `ys` is empty or begins with a byte of which `p` is false, the rest of the
+  -- two together is `ys`
   pub rest_is : (xs ys : List ℕ) → list_all p xs ≡ true → Stops ys → rest p (xs ++ ys) ≡ ys
   rest_is xs ys all stops = rest_append xs ys all ∙ rest_stops ys stops
 
-  -- `p` is true of all bytes of `xs`, and `ys` does not go on so: the front of both is `xs`
+  -- if `p` is true of all bytes of `xs`, and `ys` is empty or begins with a byte of which `p` is false, the front of
+  -- the two together is `xs`
   pub front_is : (xs ys : List ℕ) → list_all p xs ≡ true → Stops ys → front p (xs ++ ys) ≡ xs
   front_is [] ys all stops = front_stops ys stops
   front_is (x ∷ xs) ys all stops = grind (arith, nat_tests, front_is xs ys (grind (arith, nat_tests)) stops)
@@ -59,11 +62,11 @@ pub all_imply : (p q : ℕ → Bool) → ((b : ℕ) → p b ≡ true → q b ≡
 all_imply p q h [] all = refl
 all_imply p q h (x ∷ xs) all = grind (arith, nat_tests, h x, all_imply p q h xs)
 
--- a byte of a word ends white space
+-- white space ends before a byte of a word
 pub word_stops : (b : ℕ) (bs : List ℕ) → is_word_byte b ≡ true → Stops is_blank (b ∷ bs)
 word_stops b bs h = grind (arith, nat_tests)
 
--- white space, if there is some, ends a word
+-- a word ends before white space, and at the end of the text
 pub blank_stops : (xs : List ℕ) → list_all is_blank xs ≡ true → Stops is_word_byte xs
 blank_stops [] h = tt
 blank_stops (x ∷ xs) h = grind (arith, nat_tests)

@@ -35,8 +35,8 @@ pub record IsElementRefusal (R : List EntryParts) (elements : List ElementParts)
   pub within : place < length elements
   pub refused : IsRangeRefusal R (element_at_place elements place).range refusal
 
--- The preferences of a header: those of its ranges that are acceptable, from the greatest weight to the least, and then
--- those of the others, in the order of the header.
+-- The preferences of a header: first those of its acceptable ranges, whose weight is not 0, from the greatest weight to
+-- the least, and then those of the others, in the order of the header.
 pub record Asks (R : List EntryParts) (header : List ℕ) (preferences : List Preference) : Type 0 where
   pub acceptable : List WeightedRange
   pub not_acceptable : List WeightedRange

@@ -1,4 +1,4 @@
--- The tags of which a service serves one, as ranges are matched with them.
+-- The tags that a service has, of which it serves one to each reader, as ranges are matched with them.
 use Rattle.std.specs.Prelude.{ℕ, ◌≡◌, ◌<◌, ◌+◌, ◌⊎◌, List, [], length, slice_index_or}
 use Rattle.lt_registry.specs.Parts.{EntryParts}
 use Rattle.lt_canon.specs.Texts.{IsTextRefusal}

@@ -38,8 +38,8 @@ fault_by (Ok range) true = None
 abbrev pub range_fault : List ℕ → Option AcceptFaultKind
 range_fault text = fault_by (range_of text) (is_basic text)
 
--- the element of the text of a range, by the fault of the range, if it has one, and by the weight, if what follows the
--- range is one; or why there is no element
+-- the element of a range with this text, or its fault: the second argument is the fault of the range, if it has one,
+-- and the third is the weight that follows the range, None if what follows is no weight
 abbrev pub element_with : List ℕ → Option AcceptFaultKind → Option ℕ → Result (Option ElementParts) AcceptFaultKind
 element_with range (Some kind) weight = Err kind
 element_with range None None = Err kinds.BadWeight
@@ -53,7 +53,7 @@ element_at (b ∷ bs) =
     let others = rest is_word_byte (b ∷ bs) in
     element_with range (range_fault range) (weight_of others)
 
--- the element that is between two commas, or its fault
+-- the element that a piece between commas is, or its fault; Ok None if the piece is empty or white space
 unfoldable pub element_of : List ℕ → Result (Option ElementParts) AcceptFaultKind
 element_of piece = element_at (rest is_blank piece)
 

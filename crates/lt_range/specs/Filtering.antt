@@ -10,7 +10,7 @@ use Rattle.lt_range.specs.declared.filters.Scheme.TheVariants as schemes
 abbrev pub Matching : Type 1
 Matching = RangeParts → List (List ℕ) → Type 0
 
--- the two schemes of filtering (RFC 4647, 3.3.1 and 3.3.2)
+-- a range matches the subtags of a tag by one of the two schemes of filtering (RFC 4647, 3.3.1 and 3.3.2)
 abbrev pub Matches : Scheme → RangeParts → List (List ℕ) → Type 0
 Matches schemes.Basic range tag = MatchesBasic range tag
 Matches schemes.Extended range tag = MatchesExtended range tag

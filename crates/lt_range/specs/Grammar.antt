@@ -29,7 +29,7 @@ pub record IsWeight (text : List ℕ) (weight : ℕ) : Type 0 where
   pub letter : is_q q ≡ true
   pub is_value : qvalue_of value ≡ Some weight
 
--- [ weight ], in thousandths; without one it is 1 (RFC 9110, 12.4.2)
+-- [ weight ], in thousandths; without a weight it is 1, that is 1,000 thousandths (RFC 9110, 12.4.2)
 abbrev pub HasWeight : List ℕ → ℕ → Type 0
 HasWeight text weight = ((text ≡ []) × (weight ≡ 1000)) ⊎ IsWeight text weight
 
@@ -40,7 +40,7 @@ pub record IsElement (text : List ℕ) (element : ElementParts) : Type 0 where
   pub is_range : IsBasicRange element.range
   pub has_weight : HasWeight weight element.weight
 
--- [ element ]
+-- [ element ]: an element, or the empty text for None
 abbrev pub MayBeElement : List ℕ → Option ElementParts → Type 0
 MayBeElement text None = text ≡ []
 MayBeElement text (Some element) = IsElement text element

@@ -37,9 +37,10 @@ pub record IsRangeOfTag (R : List EntryParts) (text : List ℕ) (range : RangePa
   pub has : HasSubtags R text list
   pub is_range : range ≡ range_of_tag list
 
--- The range that matches in place of one that is no valid tag: its first subtag, if that alone is a tag that has an
--- extlang form, stands for the subtags of this form. So `iw-*` finds `he-IL`, and `yue-*` finds `zh-yue-HK` (this
--- project's own). In order: the entries, whether the range begins with `*`, its other subtags, the range that matches.
+-- The range that matches in place of one that is no valid tag: its first subtag, if that by itself is a tag that has an
+-- extlang form, stands for the subtags of this form. So `iw-*` finds `he-IL`, and `yue-*` finds `zh-yue-HK` (no RFC
+-- asks for that: it is a rule of this project). The arguments are the entries, whether the range begins with `*`, its
+-- other subtags, and the range that matches.
 abbrev pub MatchesAs : List EntryParts → Bool → List (List ℕ) → RangeParts → Type 0
 MatchesAs R true named range = range ≡ record { wild = true; named = named }
 MatchesAs R false [] range = range ≡ range_of_tag []
@@ -53,8 +54,8 @@ pub record IsRangeOfText (R : List EntryParts) (text : List ℕ) (range : RangeP
   pub read : range_of text ≡ Ok written
   pub matches : MatchesAs R written.wild written.named range
 
--- The range by which a text matches: of a valid tag its extlang form, of another text the range that it is, with its
--- first subtag in its extlang form (this project's own).
+-- The range by which a text matches: for a valid tag its extlang form, and for another text the range that it is, with
+-- its first subtag in its extlang form (no RFC asks for that: it is a rule of this project).
 abbrev pub IsExtlangRange : List EntryParts → List ℕ → RangeParts → Type 0
 IsExtlangRange R text range = IsRangeOfTag R text range ⊎ (IsNoValidTag R text × IsRangeOfText R text range)
 

@@ -31,7 +31,8 @@ pub record IsPassedTo (list : List (List ℕ)) (s : List ℕ) : Type 0 where
   pub there : list ≡ passed ++ s ∷ rest
   pub long : list_all is_no_singleton passed ≡ true
 
--- `rest` is what follows the first place of `s` in a list, and no singleton is before that
+-- `rest` is what follows the first occurrence of `s` in a list, and no singleton is before that; `passed`, what is
+-- before it, does not have `s`
 pub record FollowsFirst (list : List (List ℕ)) (s : List ℕ) (rest : List (List ℕ)) : Type 0 where
   pub passed : List (List ℕ)
   pub there : list ≡ passed ++ s ∷ rest
@@ -65,8 +66,8 @@ pub record IsLeft (range left : List (List ℕ)) : Type 0 where
   pub some : 0 < length left
   pub whole : (left ≡ range) ⊎ (ends_long left ≡ true)
 
--- Lookup: the tag is the range, or what is left of the range after it is cut from its end; `*` alone finds none (RFC
--- 4647, 3.4).
+-- Lookup: the tag is the range, or what is left of the range after it is cut from its end; a range that begins with `*`
+-- finds none (RFC 4647, 3.4).
 pub record FallsBackTo (range : RangeParts) (tag : List (List ℕ)) : Type 0 where
   pub named : range.wild ≡ false
   pub left : IsLeft range.named tag

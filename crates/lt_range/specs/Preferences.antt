@@ -109,9 +109,9 @@ abbrev pub MaySelect : List Preference → RangeParts → List (List (List ℕ))
 MaySelect all range tags None = NoneOf (SelectsAt all range tags) (length tags)
 MaySelect all range tags (Some place) = SelectsFirst all range tags place
 
--- A range serves the tag that lookup by it finds, of those that are not refused; where it finds none, the first of them
+-- A range serves the tag that lookup by it finds, of those that are not refused; if it finds none, the first of them
 -- that the range matches by basic filtering: `de-CH` serves `de`, and `de` serves `de-CH` (RFC 4647, 3.4 and 3.3.1;
--- that the second follows the first is this project's own).
+-- that filtering follows lookup is a rule of this project).
 abbrev pub Serves : List Preference → RangeParts → List (List (List ℕ)) → Option ℕ → Type 0
 Serves all range tags served =
     ((place : ℕ) × FallsTo all range tags place × (served ≡ Some place))
@@ -168,8 +168,8 @@ pub record ServesAt (wild : Bool) (all : List Preference) (tags : List (List (Li
   pub reached : ReachesAt wild all (tag_at tags place) index
   pub allowed : IsRefused all (tag_at tags place) → ⊥
 
--- in the turn the range at `first` is the first that serves one of the first `count` tags; `first` is past the last
--- range where none does
+-- in the turn the range at `first` is the first that serves one of the first `count` tags; if none does, `first` is the
+-- number of all ranges
 pub record IsFirstServing (wild : Bool) (all : List Preference) (tags : List (List (List ℕ))) (count first : ℕ)
     : Type 0 where
   pub within : first ≤ length all
@@ -199,8 +199,8 @@ pub record AreDeciding (all : List Preference) (tags : List (List (List ℕ))) (
   pub counted : length found ≡ count
   pub each : (place : ℕ) → place < count → MayDecide all (tag_at tags place) (slice_index_or found place None)
 
--- `found` are the places of the tags that are accepted by the ranges from `place` on; these are given as a list by
--- themselves too
+-- `found` are the places of the tags that are accepted by the ranges from `place` on; the third argument is the list of
+-- these ranges
 abbrev pub AreAcceptedFrom : List Preference → ℕ → List Preference → List (List (List ℕ)) → List ℕ → Type 0
 AreAcceptedFrom all place [] tags found = found ≡ []
 AreAcceptedFrom all place (p ∷ ps) tags found = (here rest : List ℕ) × (found ≡ here ++ rest)

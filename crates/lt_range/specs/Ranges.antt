@@ -14,8 +14,8 @@ RangeForm = List (Option (List ℕ))
 abbrev pub is_first : List ℕ → Bool
 is_first s = is_subtag s && is_alphabetic s
 
--- An extended language range: its first subtag is of letters alone or `*`, and each other of letters and digits or `*`
--- (RFC 4647, 2.2).
+-- An extended language range: its first subtag has only letters or is `*`, and each other is a subtag or `*` (RFC 4647,
+-- 2.2).
 abbrev pub IsLanguageRange : RangeForm → Type 0
 IsLanguageRange [] = ⊥
 IsLanguageRange (s ∷ ss) =

@@ -19,7 +19,7 @@ abbrev pub of_subtag : Result (List ℕ) SubtagFault → Result (Option (List �
 of_subtag (Ok s) = Ok (Some s)
 of_subtag (Err fault) = Err (faults.BadSubtag fault)
 
--- the first subtag of a range that was read, or its fault; it has to have letters alone
+-- the first subtag of a range that was read, or its fault; it must have only letters
 abbrev pub of_first : Result (List ℕ) SubtagFault → Result (Option (List ℕ)) RangeFault
 of_first (Ok s) = if is_alphabetic s then Ok (Some s) else Err faults.BadFirst
 of_first (Err fault) = Err (faults.BadSubtag fault)

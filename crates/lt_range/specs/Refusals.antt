@@ -11,8 +11,8 @@ use Rattle.lt_range.specs.Matched.{IsNoValidTag}
 use Rattle.lt_range.specs.declared.refusals.RangeRefusal.{RangeRefusal}
 use Rattle.lt_range.specs.declared.refusals.RangeRefusal.TheVariants as refusals
 
--- why a text matches as no range: it is neither a valid tag nor a range, or steps can repeat a variant of the tag;
--- OutOfMemory may be answered for any text
+-- why a text can't be used as a range: it is neither a valid tag nor a range, or it is a valid tag of which steps can
+-- repeat a variant; OutOfMemory may be answered for any text
 abbrev pub IsRangeRefusal : List EntryParts → List ℕ → RangeRefusal → Type 0
 IsRangeRefusal R text (refusals.NotARange fault) = IsNoValidTag R text × (range_of text ≡ Err fault)
 IsRangeRefusal R text (refusals.ReplacementRepeats v) = ReadsAs text (λ tag. IsRepeatOf R tag v)

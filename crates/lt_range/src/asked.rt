@@ -23,8 +23,8 @@ pub enum HeaderRefusal {
     /// crate answers it.
     #[error("{0}")]
     NotAHeader(AcceptFault),
-    /// One of its ranges is refused, for example a valid tag of which steps can repeat a variant. It is never that
-    /// memory ran out where a call of this crate answers it.
+    /// One of its ranges is refused, for example a valid tag of which steps can repeat a variant. This refusal is never
+    /// that memory ran out where a call of this crate answers it.
     #[error("{0}")]
     BadRange(RangeRefusal),
     /// Memory ran out.
@@ -33,8 +33,8 @@ pub enum HeaderRefusal {
 }
 
 impl HeaderRefusal {
-    /// The refusal's name: that of the header's fault, for example `BadWeight`, that of the range's refusal, for example
-    /// `ReplacementRepeats`, or `OutOfMemory`.
+    /// The refusal's name: that of the header's fault, for example `BadWeight`, that of the range's refusal, for
+    /// example `ReplacementRepeats`, or `OutOfMemory`.
     pub fn name(&self) -> &'static str
         ensures { result.now ≡ name_of self.now }
     {
@@ -76,7 +76,8 @@ impl From<OutOfMemory> for HeaderRefusal {
     }
 }
 
-/// The elements of a header: those that are acceptable by priority, and then the others.
+/// The elements of a header: first the acceptable ones by priority, and then the others. Refused only where memory runs
+/// out.
 fn all_elements(accept: AcceptLanguage<'_>) -> Result<Vec<WeightedRange<'_>>, OutOfMemory>
     ensures { IfOk result (λ all. all.items ≡ accept.entry.acceptable.items ++ accept.entry.not_acceptable.items) }
 {
@@ -88,7 +89,8 @@ fn all_elements(accept: AcceptLanguage<'_>) -> Result<Vec<WeightedRange<'_>>, Ou
     Ok(acceptable)
 }
 
-/// The preferences of elements, in their order. Refused at the first range that `extlang_range` refuses, with its refusal.
+/// The preferences of elements, in their order. Refused at the first range that `extlang_range` refuses, with its
+/// refusal, or where memory runs out.
 fn preferences_of<L: Lookup>(
     alloc: Global,
     checked: &Checked<L>,
@@ -107,9 +109,9 @@ fn preferences_of<L: Lookup>(
     Ok(all)
 }
 
-/// What an Accept-Language header asks for (RFC 9110, 12.5.4): each of its ranges, as [`extlang_range`] gives it, with its
-/// weight. Those that are acceptable come first, from the greatest weight to the least, and then the others, in the order
-/// of the header.
+/// What an Accept-Language header asks for (RFC 9110, 12.5.4): each of its ranges, as [`extlang_range`] gives it, with
+/// its weight. Those that are acceptable come first, from the greatest weight to the least, and then the others, in the
+/// order of the header.
 ///
 /// - `NotAHeader`, with the fault that `AcceptLanguage::read` answers, exactly where the text is no header.
 /// - `BadRange`, with the refusal of `extlang_range`, where that refuses one of the ranges.

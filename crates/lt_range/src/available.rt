@@ -1,4 +1,4 @@
-//! The tags of which a service serves one.
+//! The tags that a service has, of which it serves one to each reader.
 ghost use Rattle.std.specs.Prelude.{◌≡◌, IfErr, IfOk, length, map};
 ghost use Rattle.lt_canon.specs.Texts.{IsTextRefusal};
 ghost use Rattle.lt_range.specs.Available.{AreAvailable, IsAvailableRefusal, no_memory};
@@ -16,7 +16,7 @@ use std::alloc::{AllocFailed, Global};
 use std::marker::Model;
 use thiserror::Error;
 
-/// The tags of which a service serves one, prepared once for many readers.
+/// The tags that a service has, of which it serves one to each reader, prepared once for many readers.
 #[derive(Debug, Drop)]
 pub struct Available {
     tags: Vec<TagSubtags>,
@@ -52,8 +52,8 @@ impl From<AllocFailed<TagSubtags>> for AvailableRefusal {
     }
 }
 
-/// Reads a text as a tag, and gives the subtags by which this tag is matched. Refused if `subtags_of_text` refuses the text,
-/// with its refusal and `place`, the number of the text.
+/// Reads a text as a tag, and gives the subtags by which this tag is matched. Refused if `subtags_of_text` refuses the
+/// text, with its refusal and `place`, the number of the text.
 fn numbered_subtags<L: Lookup>(
     alloc: Global,
     checked: &Checked<L>,
@@ -71,8 +71,8 @@ fn numbered_subtags<L: Lookup>(
 }
 
 impl Available {
-    /// The tags that texts are read as, in their order. It is refused at the first text that `subtags_of_text` refuses,
-    /// with its refusal and the number of the text, from 1.
+    /// The tags that texts are read as, in their order. Refused at the first text that `subtags_of_text` refuses, with
+    /// its refusal and the number of the text, from 1, or where memory runs out.
     pub fn of_texts<L: Lookup>(
         alloc: Global,
         checked: &Checked<L>,
@@ -90,7 +90,7 @@ impl Available {
     }
 
     /// The place, counted from 0, of the tag to serve to a reader with these preferences, as [`best`](crate::best) says
-    /// (RFC 9110, 12.5.4). None where no preference serves a tag: the caller takes a default then.
+    /// (RFC 9110, 12.5.4). None if no preference serves a tag: the caller takes a default then.
     pub fn best(&self, preferences: &[Preference]) -> Option<usize>
         ensures { IsBest preferences.now self.now result }
     {

@@ -1,4 +1,4 @@
-//! Basic language ranges, which a header has: `*` alone, or a range without it.
+//! Basic language ranges, which a header has: `*`, or a range without a `*`.
 ghost use Rattle.std.specs.Prelude.{◌≡◌, None, OnOk, IfErr};
 ghost use Rattle.lt_range.specs.Elements as spec;
 
@@ -13,13 +13,13 @@ fn has_no_star(text: &[u8]) -> bool
     text.iter().all(|byte| *byte != b'*')
 }
 
-/// Checks that a text is a basic language range (RFC 4647, 2.1). Refused with `BadRange` if it is no language range, and
-/// with `ExtendedRange` if it has a `*` beside other subtags.
+/// Checks that a text is a basic language range (RFC 4647, 2.1). Refused with `BadRange` if it is no language range,
+/// with `ExtendedRange` if it has a `*` beside other subtags, and with `OutOfMemory` where memory runs out.
 pub(crate) fn check_range(alloc: Global, text: &[u8]) -> Result<(), AcceptFaultKind>
     ensures range { OnOk result (spec.range_fault text.now ≡ None) }
     ensures fault { IfErr result (spec.IsFoundFault (spec.range_fault text.now)) }
 {
-    // Only whether it is read counts: the element keeps the text.
+    // It is only asked whether the text is a range: an element keeps the text.
     let _range = LanguageRange::read(alloc, text)?;
     if !is_star(text) && !has_no_star(text) {
         return Err(AcceptFaultKind::ExtendedRange);

@@ -20,7 +20,7 @@ pub struct WeightedRange<'a> {
     pub weight: u16,
 }
 
-/// What is before, between and after the commas of a text.
+/// What is before, between and after the commas of a text; the whole text if it has no comma.
 pub(crate) fn cut_at_commas(alloc: Global, text: &[u8]) -> Result<Vec<&[u8]>, AllocError>
     ensures { IfOk result (λ found. map (λ piece. piece.now) found.items ≡ comma_pieces text.now) }
 {
@@ -28,7 +28,7 @@ pub(crate) fn cut_at_commas(alloc: Global, text: &[u8]) -> Result<Vec<&[u8]>, Al
 }
 
 /// The element that a piece between commas is, or None if the piece is empty or white space. Refused if `check_range`
-/// refuses its range, and else with `BadWeight` if what follows the range is no weight.
+/// refuses its range, with its fault, and else with `BadWeight` if what follows the range is no weight.
 #[tactic(auto, unfolding(crate::specs::Elements::element_of))]
 fn read_element(alloc: Global, piece: &[u8]) -> Result<Option<WeightedRange<'_>>, AcceptFaultKind>
     ensures element { IfOk result (λ element. element_of piece.now ≡ Ok (option_map parts_of element)) }
@@ -62,8 +62,8 @@ fn read_numbered<'a>(
     }
 }
 
-/// The elements that the pieces between commas are, in their order, without the empty ones. Refused with the fault of the
-/// first piece that has one; pieces are numbered from 1, the empty ones too.
+/// The elements that the pieces between commas are, in their order, without the empty ones. Refused with the fault of
+/// the first piece that has one, or where memory runs out. Pieces are numbered from 1, the empty ones too.
 pub(crate) fn read_elements<'a>(
     alloc: Global,
     pieces: &[&'a [u8]],

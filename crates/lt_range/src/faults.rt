@@ -7,7 +7,7 @@ use lt_tag::OutOfMemory;
 use std::alloc::{AllocError, AllocFailed};
 use thiserror::Error;
 
-/// Why a text is no language range (RFC 4647, 2.2), of its leftmost piece at fault.
+/// Why a text is no language range (RFC 4647, 2.2): the fault of its leftmost piece that has one.
 #[derive(Clone, Copy, Debug, Drop, Error, PartialEq, Eq)]
 pub enum RangeFault {
     /// A piece between hyphens is neither `*` nor a subtag, for this fault.
@@ -22,8 +22,8 @@ pub enum RangeFault {
 }
 
 impl RangeFault {
-    /// The fault's name: `BadFirst`, `OutOfMemory`, or that of a tag with this fault: `EmptySubtag`, `BadByte` or
-    /// `LongSubtag`.
+    /// The fault's name: `BadFirst`, `OutOfMemory`, or the name that the same fault of a tag has: `EmptySubtag`,
+    /// `BadByte` or `LongSubtag`.
     pub fn name(self) -> &'static str
         ensures { result.now ≡ name_of self }
     {

@@ -39,8 +39,8 @@ impl Scheme {
         true
     }
 
-    /// Adds the places of the tags that a range matches, without those that a range of `before` matches. The only
-    /// refusal is running out of memory.
+    /// Adds to `places` those of the tags that `range` matches and no range of `before` does. The only refusal is
+    /// running out of memory.
     fn append_places(
         self,
         places: &mut Vec<usize>,
@@ -77,8 +77,8 @@ impl Scheme {
 }
 
 /// The places, counted from 0, of the tags that a language priority list matches by basic filtering (RFC 4647, 3.3.1):
-/// first of those that its first range matches, in their order, then of the others that its second matches, and so on.
-/// The only refusal is running out of memory.
+/// first of those that its first range matches, in their order, then of others that its second range matches, and so
+/// on. The only refusal is running out of memory.
 pub fn filter_basic(
     alloc: Global,
     ranges: &[LanguageRange],
@@ -89,9 +89,9 @@ pub fn filter_basic(
     Scheme::Basic.filter(alloc, ranges, tags)
 }
 
-/// The places, counted from 0, of the tags that a language priority list matches by extended filtering (RFC 4647, 3.3.2):
-/// first of those that its first range matches, in their order, then of the others that its second matches, and so on. The
-/// only refusal is running out of memory.
+/// The places, counted from 0, of the tags that a language priority list matches by extended filtering (RFC 4647,
+/// 3.3.2): first of those that its first range matches, in their order, then of others that its second range matches,
+/// and so on. The only refusal is running out of memory.
 pub fn filter_extended(
     alloc: Global,
     ranges: &[LanguageRange],

@@ -1,4 +1,4 @@
-//! The header as a language priority list.
+//! Reading the Accept-Language header: as a language priority list, and the ranges that are not acceptable.
 ghost use Rattle.std.specs.Prelude.{◌≡◌, ◌==◌, not, filter, IfOk, IfErr};
 ghost use Rattle.lt_range.specs.Headers.{elements_of, IsFault};
 ghost use Rattle.lt_range.specs.Priority.{of_weight, IsPriorityList, IsReading};

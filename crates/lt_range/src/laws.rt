@@ -1,6 +1,6 @@
 //! The laws of language ranges, of the header, and of matching, for every registry that passes the check. Nothing is
-//! computed here: each contract is a law. They take nothing, and speak of every text, and every list `R` of entries
-//! that passes the check (`IsChecked R`).
+//! computed here: each contract is a law. The functions take nothing, and speak of every text, and of every list `R` of
+//! entries that passes the check (`IsChecked R`).
 ghost use Rattle.std.specs.Prelude.{◌≡◌, ◌↔◌, ℕ, List, Ok};
 ghost use Rattle.lt_registry.specs.Parts.{EntryParts};
 ghost use Rattle.lt_check.specs.Conditions.{IsChecked};
@@ -12,12 +12,13 @@ ghost use Rattle.lt_range.specs.Ranges.{IsRangeOf, RangeParts};
 ghost use Rattle.lt_range.specs.Reading.{range_of};
 ghost use Rattle.lt_range.specs.Preferences.{BestIsDetermined};
 
-/// A text is read exactly if it is a range by the grammar (RFC 4647, 2.2), and as the range that it is there.
+/// A text is read exactly if it is a range by the grammar (RFC 4647, 2.2), and then as the range that it is by that.
 pub fn ranges_are_read_by_their_grammar()
     ensures { (text : List ℕ) (range : RangeParts) → (range_of text ≡ Ok range) ↔ IsRangeOf text range }
 {}
 
-/// A text is read exactly if it is in the grammar of the header (RFC 9110, 12.5.4), and as the elements that it has there.
+/// A text is read exactly if it is a header by the grammar (RFC 9110, 12.5.4), and then as the elements that it has by
+/// that.
 #[tactic(auto, using(crate::proofs::HeaderLaws::read_by_grammar))]
 pub fn headers_are_read_by_their_grammar()
     ensures { (text : List ℕ) (elements : List ElementParts) → (elements_of text ≡ Ok elements) ↔ IsAcceptLanguage text elements }
@@ -42,8 +43,8 @@ pub fn equivalent_ranges_match_alike()
     ensures { (R : List EntryParts) → IsChecked R → EquivalentRangesMatchAlike R }
 {}
 
-/// If a range that is a valid tag matches a tag, then a valid tag that is equivalent to the range matches one that is
-/// equivalent to the tag, as the two are spelled (RFC 4647, 3).
+/// Matching by extlang forms finds no more than spelling explains: if a range that is a valid tag matches a tag, then a
+/// valid tag equivalent to the range matches a valid tag equivalent to the tag, as the two are spelled (RFC 4647, 3).
 #[tactic(auto, using(crate::proofs::MatchLaws::only_as_spelled))]
 pub fn ranges_match_only_as_spelled()
     ensures { (R : List EntryParts) → IsChecked R → MatchesOnlyAsSpelled R }

@@ -1,4 +1,4 @@
-//! What is matched: extlang forms.
+//! The subtags by which tags are matched, and the ranges that match them: those of extlang forms (RFC 5646, 4.5).
 ghost use Rattle.std.specs.Prelude.{◌≡◌, ◌∷◌, ℕ, List, IfOk, IfErr, IfSome, MatchOption};
 ghost use Rattle.lt_registry.specs.Entries.{is_registered};
 ghost use Rattle.lt_registry.specs.declared.entries.Kind.TheVariants as kinds;
@@ -17,8 +17,8 @@ use lt_tag::laws::text_of_tag_has_its_list;
 use lt_tag::{OutOfMemory, Tag, read_tag};
 use std::alloc::Global;
 
-/// The subtags by which a tag is matched: those of its extlang form (RFC 5646, 4.5), for example `zh`, `yue` and `HK` for
-/// `yue-HK`. Refused if `extlang_form` refuses the tag, with its refusal.
+/// The subtags by which a tag is matched: those of its extlang form (RFC 5646, 4.5), for example `zh`, `yue` and `HK`
+/// for `yue-HK`. Refused if `extlang_form` refuses the tag, with its refusal, or where memory runs out.
 pub fn extlang_subtags<L: Lookup>(
     alloc: Global,
     checked: &Checked<L>,
@@ -41,8 +41,9 @@ fn begins_with_extlang<L: Lookup>(table: &L, subtags: &TagSubtags) -> bool
     }
 }
 
-/// The subtags by which the tag of a text is matched, if one flag for each subtag tells that it stays as it is, and the
-/// language is no extlang too: `de-ch` is such a text. None of any other text. Refused only where memory runs out.
+/// The subtags by which the tag of a text is matched, if flags tell that each subtag stays as it is, and the language
+/// is not registered as an extlang too: `de-ch` is such a text. None for any other text. Refused only where memory runs
+/// out.
 fn staying_subtags<L: Lookup>(
     alloc: Global,
     checked: &Checked<L>,
@@ -83,8 +84,8 @@ pub fn subtags_of_text<L: Lookup>(
     Ok(extlang_subtags(alloc, checked, &tag)?)
 }
 
-/// Reads a text as a tag, and gives the subtags by which this tag is matched. None if the text is no valid tag, or if steps
-/// can repeat a variant of the tag. Refused only where memory runs out.
+/// Reads a text as a tag, and gives the subtags by which this tag is matched. None if the text is no valid tag, or if
+/// steps can repeat a variant of the tag. Refused only where memory runs out.
 pub fn known_subtags<L: Lookup>(
     alloc: Global,
     checked: &Checked<L>,
@@ -101,8 +102,8 @@ pub fn known_subtags<L: Lookup>(
     }
 }
 
-/// The range that matches in place of one that is no valid tag: its first subtag comes to its extlang form, if this subtag
-/// alone is a tag that has such a form. Refused only where memory runs out.
+/// The range that matches in place of `written`, which is no valid tag: if its first subtag by itself is a tag that has
+/// an extlang form, the subtags of this form take its place. Refused only where memory runs out.
 fn matching_range<L: Lookup>(
     alloc: Global,
     checked: &Checked<L>,
@@ -122,8 +123,8 @@ fn matching_range<L: Lookup>(
     }
 }
 
-/// The range by which a text that is no valid tag matches. Refused with `NotARange` if the text is no range, or where memory
-/// runs out.
+/// The range by which a text that is no valid tag matches. Refused with `NotARange` if the text is no range, and with
+/// `OutOfMemory` where memory runs out.
 fn range_of_text<L: Lookup>(
     alloc: Global,
     checked: &Checked<L>,
@@ -136,9 +137,9 @@ fn range_of_text<L: Lookup>(
     Ok(matching_range(alloc, checked, written)?)
 }
 
-/// The range by which a text matches. If the text is a valid tag, it is the range of the subtags of its extlang form (RFC
-/// 5646, 4.5). Else it is the range that the text is (RFC 4647, 2.2), with the first subtag in its extlang form, if this
-/// subtag alone is a valid tag. So `yue` is `zh-yue`, `iw-*` is `he-*`, and `zh-*` stays.
+/// The range by which a text matches. If the text is a valid tag, it is the range of the subtags of its extlang form
+/// (RFC 5646, 4.5). Else it is the range that the text is (RFC 4647, 2.2), with the first subtag in its extlang form,
+/// if this subtag by itself is a valid tag. So `yue` gives `zh-yue`, `iw-*` gives `he-*`, and `zh-*` stays.
 ///
 /// - `NotARange` exactly where the text is neither, with the fault that `LanguageRange::read` answers.
 /// - `ReplacementRepeats` where the text is a valid tag that `extlang_form` refuses so.

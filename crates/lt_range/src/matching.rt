@@ -36,8 +36,8 @@ fn is_no_singleton(subtag: &Subtag) -> bool
     subtag.bytes().len() != 1
 }
 
-/// What follows the first place of a subtag in a list, where the most is left for those to come. None if the subtag
-/// isn't there, or if a singleton is before it.
+/// What follows the first occurrence of a subtag in a list: after this one the most is left for the subtags to come.
+/// None if the subtag isn't in the list, or if a singleton is before it.
 fn after_subtag<'a>(list: &'a [Subtag], subtag: &Subtag) -> Option<&'a [Subtag]>
     ensures { MatchOption result (IsPassedTo list.now subtag.now → ⊥) (λ rest. FollowsFirst list.now subtag.now rest.now) }
 {
@@ -79,8 +79,8 @@ fn ends_long(list: &[Subtag]) -> bool
 }
 
 impl LanguageRange {
-    /// Whether the range matches a tag by basic filtering (RFC 4647, 3.3.1): the tag equals the range, or begins with the
-    /// range and a hyphen. A range that begins with `*` matches each tag. `de-de` matches `de-DE-1996`, but not
+    /// Whether the range matches a tag by basic filtering (RFC 4647, 3.3.1): the tag equals the range, or begins with
+    /// the range and a hyphen. A range that begins with `*` matches each tag. `de-de` matches `de-DE-1996`, but not
     /// `de-Latn-DE`.
     pub fn matches_basic(&self, tag: &TagSubtags) -> bool
         ensures { IsTrue result ↔ MatchesBasic self.now tag.now }
@@ -107,8 +107,8 @@ impl LanguageRange {
     }
 
     /// Whether lookup by the range finds a tag (RFC 4647, 3.4): the tag is the range, or what is left where the range
-    /// is cut from the end, a singleton with the subtag after it. `zh-Hant-CN-x-ab` finds `zh-Hant-CN` and `zh`, but not
-    /// `zh-Hant-CN-x`; and `*` finds none.
+    /// is cut from the end, a singleton with the subtag after it. `zh-Hant-CN-x-ab` finds `zh-Hant-CN` and `zh`, but
+    /// not `zh-Hant-CN-x`; and `*` finds none.
     pub fn falls_back_to(&self, tag: &TagSubtags) -> bool
         ensures { IsTrue result ↔ FallsBackTo self.now tag.now }
     {

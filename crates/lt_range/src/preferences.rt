@@ -1,5 +1,5 @@
-//! What a reader prefers: language ranges with weights. Calls take `all` of them, since one range may refuse a tag that
-//! another would serve.
+//! What a reader prefers: language ranges with weights. A call takes `all` of them, even if it asks about one range,
+//! since another range may refuse a tag that this one would serve.
 ghost use Rattle.std.specs.Prelude.{◌≡◌, ◌++◌, ◌↔◌, ◌<◌, ◌≤◌, ℕ, List, IsTrue, IfOk, IfSome, MatchOption, OnOk, length};
 ghost use Rattle.lt_range.specs.Filtering.{ArePlaces};
 ghost use Rattle.lt_range.specs.Preferences as spec;
@@ -84,8 +84,8 @@ fn selects(all: &[Preference], range: &LanguageRange, tag: &TagSubtags) -> bool
     range.matches_basic(tag) && !is_refused(all, tag)
 }
 
-/// Whether a range falls back to the tag at a place, and that tag is not refused and is longer than the one at `best`, if
-/// there is one. Both places must be within the list.
+/// Whether a range falls back to the tag at a place, and that tag is not refused and is longer than the one at `best`,
+/// if there is one. Both places must be within the list.
 fn falls_further(
     all: &[Preference],
     range: &LanguageRange,
@@ -121,8 +121,8 @@ fn looked_up(all: &[Preference], range: &LanguageRange, tags: &[TagSubtags]) -> 
     best
 }
 
-/// The place of the first tag that a range matches by basic filtering, of those that are not refused. None if it matches
-/// none of them.
+/// The place of the first tag that a range matches by basic filtering, of those that are not refused. None if it
+/// matches none of them.
 fn selected(all: &[Preference], range: &LanguageRange, tags: &[TagSubtags]) -> Option<usize>
     ensures { spec.MaySelect all.now range.now tags.now result }
 {
@@ -151,16 +151,16 @@ fn takes_turn(wild: bool, preference: &Preference) -> bool
     preference.weight != 0 && preference.range.begins_wild() == wild
 }
 
-/// Whether a range falls back to a tag, or matches it by basic filtering: so it serves it, or a better one, if that tag
-/// is not refused.
+/// Whether a range falls back to a tag, or matches it by basic filtering. If that tag is not refused, the range then
+/// serves it or a better one.
 fn reaches(range: &LanguageRange, tag: &TagSubtags) -> bool
     ensures { IsTrue result ↔ spec.Reaches range.now tag.now }
 {
     range.falls_back_to(tag) || range.matches_basic(tag)
 }
 
-/// The place of the first range that takes part in the turn (of those that begin with `*` if `wild`) and reaches a tag,
-/// of the first `count` ranges; `count` if none does. There must be as many ranges.
+/// Of the first `count` ranges, the place of the first that takes part in the turn (of those that begin with `*` if
+/// `wild`) and reaches a tag; `count` if none does. There must be at least `count` ranges.
 fn first_reaching(all: &[Preference], wild: bool, count: usize, tag: &TagSubtags) -> usize
     requires { count ≤ length all.now }
     ensures within { result ≤ count }
@@ -176,7 +176,8 @@ fn first_reaching(all: &[Preference], wild: bool, count: usize, tag: &TagSubtags
 }
 
 /// The place of the first range that serves a tag in the turn; the number of all ranges if none does. Each tag is asked
-/// once whether it is refused, so that the time grows with the ranges and the tags, and not with the square of either.
+/// once whether it is refused, so that the time grows with the number of ranges times that of tags, and not with the
+/// square of either.
 fn first_serving(all: &[Preference], wild: bool, tags: &[TagSubtags]) -> usize
     ensures { spec.IsFirstServing wild all.now tags.now (length tags.now) result }
 {
@@ -191,8 +192,8 @@ fn first_serving(all: &[Preference], wild: bool, tags: &[TagSubtags]) -> usize
     first
 }
 
-/// The place of the tag that is served in the turn of the ranges that begin with `*`, or of those that don't. None if none is
-/// served in this turn.
+/// The place of the tag that is served in the turn of the ranges that begin with `*`, or of those that don't. None if
+/// no tag is served in this turn.
 fn served_in_turn(all: &[Preference], wild: bool, tags: &[TagSubtags]) -> Option<usize>
     ensures { spec.ServesInTurn wild all.now tags.now result }
 {
@@ -205,10 +206,10 @@ fn served_in_turn(all: &[Preference], wild: bool, tags: &[TagSubtags]) -> Option
 }
 
 /// The place, counted from 0, of the tag to serve (RFC 9110, 12.5.4). A tag that is not acceptable is not served. The
-/// ranges have their turn in order, `*` after all others, and the first that serves a tag decides. It serves the longest
-/// tag to which it falls back (RFC 4647, 3.4), so that `de-CH` serves `de`. If it falls back to none, it serves the first
-/// that it matches by basic filtering (3.3.1), so that `de` serves `de-CH`, and `*` the first of all. None where no range
-/// serves a tag: the caller takes a default then.
+/// ranges have their turn in order, `*` after all others, and the first that serves a tag decides. It serves the
+/// longest tag to which it falls back (RFC 4647, 3.4), so that `de-CH` serves `de`. If it falls back to none, it serves
+/// the first that it matches by basic filtering (3.3.1), so that `de` serves `de-CH`, and `*` the first of all. None if
+/// no range serves a tag: the caller takes a default then.
 pub fn best(all: &[Preference], tags: &[TagSubtags]) -> Option<usize>
     ensures { spec.IsBest all.now tags.now result }
 {
@@ -218,8 +219,8 @@ pub fn best(all: &[Preference], tags: &[TagSubtags]) -> Option<usize>
     }
 }
 
-/// For each tag the place of the range that decides its weight, or None if no range matches it. The only refusal is running
-/// out of memory.
+/// For each tag the place of the range that decides its weight, or None if no range matches it. The only refusal is
+/// running out of memory.
 fn all_deciding(
     alloc: Global,
     all: &[Preference],
@@ -234,8 +235,9 @@ fn all_deciding(
     Ok(found)
 }
 
-/// Whether the range at a place, which must be within the list, accepts a tag. The tag is not looked at: `decided` is
-/// the place of the range that decides its weight, and the clause holds for each tag of which that is so.
+/// Whether the range at a place, which must be within the list, accepts a tag: it decides the weight of the tag, which
+/// is not 0. The tag is not looked at: `decided` is the place of the range that decides its weight, None if none does,
+/// and the clause holds for each tag of which that is so.
 fn accepts(all: &[Preference], decided: Option<usize>, place: usize) -> bool
     requires { place < length all.now }
     ensures { (tag : List (List ℕ)) → spec.MayDecide all.now tag decided → IsTrue result ↔ spec.Accepts all.now place tag }

@@ -40,7 +40,7 @@ pub(crate) fn is_star(piece: &[u8]) -> bool
     }
 }
 
-/// Whether a subtag has letters alone.
+/// Whether a subtag has only letters.
 fn is_alphabetic(subtag: &Subtag) -> bool
     ensures { result ≡ shapes.is_alphabetic subtag.now }
 {
@@ -60,8 +60,8 @@ fn later_piece(piece: &[u8]) -> Result<Option<Subtag>, RangeFault>
     }
 }
 
-/// The subtag that the first piece is, or None if the piece is `*`. Refused with `BadFirst` if the subtag has a digit, and
-/// with `BadSubtag` if the piece is neither a subtag nor `*`.
+/// The subtag that the first piece is, or None if the piece is `*`. Refused with `BadFirst` if the subtag has a digit,
+/// and with `BadSubtag` if the piece is neither a subtag nor `*`.
 fn first_piece(piece: &[u8]) -> Result<Option<Subtag>, RangeFault>
     ensures { result ≡ reading.first_piece piece.now }
 {
@@ -75,9 +75,9 @@ fn first_piece(piece: &[u8]) -> Result<Option<Subtag>, RangeFault>
     }
 }
 
-/// Adds the subtags between the hyphens of `pieces`, the text after the first piece, or None if that was the last; a
-/// `*` is left out. Refused with the fault of the first piece that is neither a subtag nor `*`, or where memory runs
-/// out.
+/// Adds to `named` the subtags that the pieces of `pieces` are; a `*` is left out. `pieces` is the text after the first
+/// hyphen, or None if there is none. Refused with the fault of the first piece that is neither a subtag nor `*`, or
+/// where memory runs out.
 fn append_pieces(named: &mut Vec<Subtag>, pieces: Option<&[u8]>) -> Result<(), RangeFault>
     ensures appended { OnOk result (AppendsRead named.old.items named.new.items (later_pieces (pieces_left pieces.entry))) }
     ensures refused { IfErr result (IsRefused (later_pieces (pieces_left pieces.entry))) }

@@ -1,4 +1,4 @@
-//! Why a text matches as no language range.
+//! Why a text can't be used as a language range.
 ghost use Rattle.std.specs.Prelude.{◌≡◌};
 ghost use Rattle.lt_range.specs.Refusals.{name_of, of_fault, no_memory};
 
@@ -8,15 +8,15 @@ use lt_tag::OutOfMemory;
 use std::alloc::AllocFailed;
 use thiserror::Error;
 
-/// Why a text matches as no language range.
+/// Why a text can't be used as a language range.
 #[derive(Debug, Drop, Error)]
 pub enum RangeRefusal {
     /// The text is no valid tag, and no range for this fault, which is never `OutOfMemory` where a call of this crate
     /// answers it.
     #[error("{0}")]
     NotARange(RangeFault),
-    /// Steps can repeat a variant of the valid tag, so that it has no canonical form. It is this variant that occurs
-    /// twice where no core step leads on.
+    /// The text is a valid tag, but steps can repeat a variant of it, so it has no canonical form: once no core step
+    /// leads on, this variant occurs twice.
     #[error("replacements can repeat a variant: take one of the variants out")]
     ReplacementRepeats(Subtag),
     /// Memory ran out.
@@ -25,8 +25,8 @@ pub enum RangeRefusal {
 }
 
 impl RangeRefusal {
-    /// The refusal's name, as it is printed: `ReplacementRepeats`, `OutOfMemory`, or for a text that is no range the name
-    /// of its fault, for example `BadByte`.
+    /// The refusal's name, as it is printed: `ReplacementRepeats`, `OutOfMemory`, or for a text that is no range the
+    /// name of its fault, for example `BadByte`.
     pub fn name(&self) -> &'static str
         ensures { result.now ≡ name_of self.now }
     {

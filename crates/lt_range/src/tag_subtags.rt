@@ -27,8 +27,8 @@ impl Model for TagSubtags {
 }
 
 impl TagSubtags {
-    /// The subtags between the hyphens of a text, each piece of which must be a subtag. The only refusal is running out of
-    /// memory.
+    /// The subtags that the pieces of a text between its hyphens are. Each piece must be a subtag. The only refusal is
+    /// running out of memory.
     pub(crate) fn of_text(alloc: Global, text: &[u8]) -> Result<TagSubtags, OutOfMemory>
         requires { HasList text.now }
         ensures { IfOk result (λ subtags. subtags ≡ list_of text.now) }

@@ -6,7 +6,7 @@ ghost use Rattle.lt_range.specs.Weights as spec;
 
 use crate::words::{after_blanks, cut_word};
 
-/// Whether a text has digits alone.
+/// Whether each byte of a text is a digit.
 fn are_digits(text: &[u8]) -> bool
     ensures { result ≡ list_all is_ascii_digit text.now }
 {
@@ -20,8 +20,8 @@ fn are_decimals(decimals: &[u8]) -> bool
     decimals.len() <= 3 && are_digits(decimals)
 }
 
-/// The value of the digit at an index, `place`, or 0 after the last. Whatever the byte is, the value is at most 207,
-/// that is 255 less 48, the byte `0`: so the sum in `thousandths` fits.
+/// The value of the digit at an index, `place`, or 0 after the last digit. Whatever the byte there is, the value is at
+/// most 207, which is 255 less 48 (the byte `0`): so the sum in `thousandths` fits.
 fn digit(decimals: &[u8], place: usize) -> u16
     ensures value { result ≡ spec.digit decimals.now place }
     ensures small { result ≤ 207 }
@@ -39,8 +39,8 @@ fn thousandths(decimals: &[u8]) -> u16
     100 * digit(decimals, 0) + 10 * digit(decimals, 1) + digit(decimals, 2)
 }
 
-/// The number with the digit `whole` before the point and these decimals, in thousandths. None if the number isn't from 0
-/// to 1, or if the decimals are more than three or not all digits.
+/// The number with the digit `whole` before the point and these decimals, in thousandths. None if the number isn't from
+/// 0 to 1, or if the decimals are more than three or not all digits.
 fn number(whole: u8, decimals: &[u8]) -> Option<u16>
     ensures { result ≡ spec.number_of whole decimals.now }
 {
@@ -66,7 +66,8 @@ fn qvalue(text: &[u8]) -> Option<u16>
     }
 }
 
-/// The value that `q=` gives, in thousandths. None if the text isn't this parameter, or if more than white space follows.
+/// The value that `q=` gives, in thousandths. None if the text isn't `q=` or `Q=` and a value that `qvalue` takes, with
+/// at most white space after it.
 fn parameter(text: &[u8]) -> Option<u16>
     ensures { result ≡ spec.parameter_of text.now }
 {
@@ -80,8 +81,8 @@ fn parameter(text: &[u8]) -> Option<u16>
     qvalue(word)
 }
 
-/// The weight of a range that `text` follows, in thousandths (RFC 9110, 12.4.2): 1000 if the text is only white space. None
-/// if it is neither that nor a weight.
+/// The weight of a range that `text` follows, in thousandths (RFC 9110, 12.4.2): 1000 if the text is empty or white
+/// space. None if it is neither that nor a weight, for example `;q=0.5`.
 pub(crate) fn weight(text: &[u8]) -> Option<u16>
     ensures { result ≡ spec.weight_of text.now }
 {

@@ -1,5 +1,6 @@
--- A load is bytes of a text in a vector, a lane for each, and a mask has a bit for each lane. From the mask of a load
--- to the bytes that pass a test, and the choice between two vectors, lane by lane.
+-- A *load* is bytes of a text in a vector, a lane for each, and a mask has a bit for each lane. These lemmas are for
+-- `run_of_8` and `fold_8`: the lowest bit set in the mask of a load tells how many bytes at its front pass a test, and
+-- a choice between two vectors, lane by lane, is a choice for each byte.
 use Rattle.std.proofs.Common.{◌≡◌, ℕ, ◌+◌, ◌%◌, ◌^◌, ◌<◌, ◌≤◌, eqb, Bool, true, not, List, [], ◌∷◌, map, length, get_or}
 use Rattle.std.proofs.Common.{cond, Fits, w8, refl, ap, ap₂, ◌∙◌, arith}
 use Rattle.std.proofs.lemmas.Bool.{agree_below, agree_below_at, eqb-true}
@@ -9,7 +10,8 @@ use Rattle.std.specs.List.{prefix_len}
 use lib.Lanes.{chunk, zip2, mask_l, top, sel_l, Each1}
 use Rattle.lt_subtag.specs.Lanes.{first_set}
 
--- two vectors that are f and g of each lane of v, joined lane by lane by h: each lane is h of the two
+-- if two vectors are f and g of each lane of v, and h joins them lane by lane, each lane that comes of it is h of the
+-- two
 pub joined : (h : ℕ → ℕ → ℕ) (f g : ℕ → ℕ) (v : List ℕ) {a b : List ℕ} → a ≡ map f v → b ≡ map g v → zip2 h a b ≡ map (λ x. h (f x) (g x)) v
 joined h f g v p q = zip2_of_maps h f g v p q
 
@@ -30,13 +32,13 @@ lanes_agree f g all [] h = refl
 lanes_agree f g all (x ∷ xs) h = ap₂ (λ y ys. y ∷ ys)
     (eqb-true _ _ (agree_below_at (λ x. eqb (f x) (g x)) (λ _. true) 256 x all h.0)) (lanes_agree f g all xs h.1)
 
--- lane by lane of v: g where f has its top bit (bit 7) set, else h
+-- a choice lane by lane gives g of a lane of v if f of that lane has its top bit (bit 7) set, else h of the lane
 select_is : (f g h : ℕ → ℕ) (v : List ℕ) → sel_l (map (top 7) (map f v)) (map g v) (map h v) ≡ map (λ x. cond (top 7 (f x)) (g x) (h x)) v
 select_is f g h [] = refl
 select_is f g h (x ∷ xs) = ap (λ r. cond (top 7 (f x)) (g x) (h x) ∷ r) (select_is f g h xs)
 
--- the vectors a, b and c are f, g and h of each lane of v: selected lane by lane, it is g where f has its top bit set,
--- else h
+-- if the vectors a, b and c are f, g and h of each lane of v, a choice lane by lane gives g of a lane if f of that lane
+-- has its top bit set, else h of the lane
 pub selected : (f g h : ℕ → ℕ) (v : List ℕ) {a b c : List ℕ} → a ≡ map f v → b ≡ map g v → c ≡ map h v
     → sel_l (map (top 7) a) b c ≡ map (λ x. cond (top 7 (f x)) (g x) (h x)) v
 selected f g h v {a} {b} {c} p q r = ap (λ x. sel_l (map (top 7) x) b c) p

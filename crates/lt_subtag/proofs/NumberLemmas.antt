@@ -1,4 +1,5 @@
--- The numbers of subtags are in their order.
+-- The numbers of subtags (`Subtag::number`) have the order of the subtags, and are equal exactly if the subtags are: so
+-- `==` and `cmp` of `Subtag` compare numbers in place of bytes.
 use Rattle.std.proofs.Common.{◌≡◌, ℕ, zero, suc, ◌+◌, ◌-◌, ◌*◌, ◌^◌, ◌<◌, ◌≤◌, eqb, true, List, [], ◌∷◌, ◌++◌, length}
 use Rattle.std.proofs.Common.{replicate, get_or, refl, sym, ap, ◌∙◌, arith, inl, inr}
 use Rattle.std.specs.Prelude.{nat_eq}
@@ -90,7 +91,8 @@ through_ordered u (x ∷ s) (y ∷ t) one are too =
     ]
 through_ordered u _ _ one are too = absurd (omega (arith, one))
 
--- m zeros after s and n after t, up to one length, keep their order: no subtag has a zero, which comes before any byte
+-- s with m zeros after it and t with n, up to the same length, keep their order: a zero comes before each byte of a
+-- subtag
 filled_ordered : (s t : List ℕ) (m n : ℕ) → list_all is_subtag_byte s ≡ true → list_all is_subtag_byte t ≡ true
     → length s + m ≡ length t + n
     → slice_cmp nat_cmp s t ≡ slice_cmp nat_cmp (s ++ replicate m 0) (t ++ replicate n 0)
@@ -108,7 +110,7 @@ filled_ordered (x ∷ s) (y ∷ t) m n h k one =
     (and_parts (is_subtag_byte y) _ k).1 (omega (arith, one)))
 filled_ordered _ _ m n h k one = absurd (omega (arith, one))
 
--- the eight padded bytes one by one: past the end of s they are 0
+-- the padded bytes of s, one by one, are the bytes at the indices 0 to 7, which are 0 past the end of s
 filled_by_index : (s : List ℕ) → length s ≤ 8
     → padded s ≡ get_or s 0 0 ∷ get_or s 1 0 ∷ get_or s 2 0 ∷ get_or s 3 0 ∷ get_or s 4 0 ∷ get_or s 5 0 ∷ get_or s 6 0 ∷ get_or s 7 0 ∷ []
 filled_by_index (a ∷ b ∷ c ∷ d ∷ e ∷ f ∷ g ∷ h ∷ i ∷ s) l = absurd (omega (arith, l))

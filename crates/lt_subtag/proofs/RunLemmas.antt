@@ -1,4 +1,6 @@
--- What the run of letters and digits at the front says of a piece.
+-- The *run* of a piece is how many letters and digits are at its front, once it is padded with zeros to eight bytes.
+-- All bytes of the piece are letters or digits exactly if the run is at least as long as the piece: `fold` tests this.
+-- Then the padded bytes in lower case are what `Subtag` keeps.
 use Rattle.std.proofs.Common.{◌≡◌, ℕ, zero, suc, ◌∷◌, ◌++◌, ◌<◌, ◌≤◌, ◌-◌, Bool, true, false, List, length, take}
 use Rattle.std.proofs.Common.{get_or, replicate, refl, sym, ap, ◌∙◌, subst, arith}
 use Rattle.std.specs.List.{list_all, prefix_len}
@@ -63,7 +65,7 @@ pub read_front : (s letters : List ℕ) → letters ≡ padded (folded s) → ta
 read_front s letters is =
     ap (take (length s)) is ∙ take_at (folded s) (replicate (8 - length (folded s)) 0) (length s) (length-map s to_ascii_lowercase)
 
--- the invariant of `Subtag` for a piece s of 1 to 8 letters and digits: `letters`, its padded lower case, has the
+-- the invariant of `Subtag` holds for a piece s of 1 to 8 letters and digits: `letters`, its padded lower case, has the
 -- subtag at its front and zeros after it
 pub read_holds : (s letters : List ℕ) → letters ≡ padded (folded s) → list_all is_ascii_alphanumeric s ≡ true → 0 < length s → length s ≤ 8
     → (length s ≤ 8) × (is_subtag (take (length s) letters) ≡ true) × (letters ≡ padded (take (length s) letters))

@@ -1,4 +1,5 @@
--- A piece of a text as eight bytes that are looked at together.
+-- What `Subtag::read` computes of the bytes of a piece together: the eight padded bytes, the number that they are, and
+-- the lowest bit that is set in a mask.
 use Rattle.std.specs.Prelude.{ℕ, ◌++◌, ◌-◌, ◌==◌, if◌then◌else◌, List, length, replicate}
 use Rattle.std.specs.Int.{from_be_bytes, w64}
 use lib.Count.{count_trailing_zeros}
@@ -7,8 +8,8 @@ use lib.Count.{count_trailing_zeros}
 abbrev pub padded : List ℕ → List ℕ
 padded s = s ++ replicate (8 - length s) 0
 
--- a subtag as one number, whose most significant byte is the first of the padded ones: numbers are in the order of
--- subtags
+-- a subtag as one number, whose most significant byte is the first of the padded ones: these numbers have the order of
+-- the subtags
 unfoldable pub number : List ℕ → ℕ
 number s = from_be_bytes w64 (padded s)
 

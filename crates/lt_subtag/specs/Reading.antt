@@ -1,4 +1,4 @@
--- What reading one piece of a text gives, and how a subtag is shown.
+-- What reading one piece of a text gives, how a subtag is shown in upper, lower or title case, and the names of faults.
 use Rattle.std.specs.Prelude.{ℕ, codes, if◌then◌else◌, List, length, nat_le, ◌==◌, Result, Ok, Err}
 use Rattle.std.specs.List.{list_all}
 use Rattle.std.specs.Char.{is_ascii_alphanumeric}

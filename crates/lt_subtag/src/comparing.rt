@@ -33,7 +33,7 @@ impl PartialOrd for Subtag {
 
     ghost laws = { texts_po };
 
-    /// The order of `cmp`, which any two subtags have.
+    /// `Some` of what `cmp` gives: any two subtags have an order.
     fn partial_cmp(&self, other: &Subtag) -> Option<Ordering> {
         Some(self.cmp(other))
     }

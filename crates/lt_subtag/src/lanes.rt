@@ -1,5 +1,5 @@
-//! Up to eight bytes of a text, looked at all at once, by which `Subtag::read` reads a piece. A vector has a lane for
-//! each byte, and a mask a bit for each lane.
+//! `Subtag::read` looks at the bytes of a piece, at most eight, all at once: with vectors, which have a lane for each
+//! byte, and with masks, which have a bit for each lane.
 ghost use Rattle.std.specs.Prelude.{◌≡◌, ◌≤◌, ◌<◌, true, false, length, take, IfSome, IfNone};
 ghost use Rattle.std.specs.List.{list_all, prefix_len};
 ghost use Rattle.std.specs.Char.{is_ascii_alphanumeric};
@@ -20,7 +20,7 @@ fn first_set(mask: u64, lanes: usize) -> usize
     }
 }
 
-/// The bytes, of which there must be at most eight, and zeros after them up to eight.
+/// The bytes, of which there must be at most eight, and then zeros: eight bytes in all.
 #[inline(always)]
 fn pad(bytes: &[u8]) -> [u8; 8]
     requires { length bytes.now ≤ 8 }
@@ -31,8 +31,8 @@ fn pad(bytes: &[u8]) -> [u8; 8]
     letters
 }
 
-/// How many of the first eight bytes of a text, which must have so many, are letters and digits, up to the first that
-/// is neither.
+/// How many of the first eight bytes of a text come before the first that is neither a letter nor a digit; 8 if there
+/// is none. The text must have at least eight bytes.
 #[inline(always)]
 fn run_of_8(text: &[u8]) -> usize
     requires { 8 ≤ length text.now }
@@ -46,7 +46,7 @@ fn run_of_8(text: &[u8]) -> usize
     first_set((no_letter & no_digit).to_bitmask(), 8)
 }
 
-/// The first eight bytes of a text, which must have so many, with their letters in lower case.
+/// The first eight bytes of a text, which must have at least eight, with their letters in lower case.
 #[inline(always)]
 fn fold_8(text: &[u8]) -> [u8; 8]
     requires { 8 ≤ length text.now }

@@ -1,5 +1,5 @@
 //! What the comparisons of subtags compute: each function only compares, and states a law by its contract. Equal
-//! subtags hash alike: `Hash` reads the lower-case bytes alone.
+//! subtags hash alike: `Hash` reads only the lower-case bytes.
 ghost use Rattle.std.specs.Prelude.{◌≡◌, ◌↔◌, IsTrue};
 ghost use Rattle.std.specs.Ordering.{nat_cmp};
 ghost use Rattle.std.specs.Cmp.Lexicographic.{slice_cmp};

@@ -270,29 +270,29 @@ impl Subtag {
     }
 }
 
-/// Whether the bytes are letters and digits alone, of either case.
+/// Whether each byte is a digit, or a letter of either case.
 fn is_alphanumeric(bytes: &[u8]) -> bool
     ensures { result ≡ list_all is_ascii_alphanumeric bytes.now }
 {
     bytes.iter().all(|byte| byte.is_ascii_alphanumeric())
 }
 
-/// Whether the bytes are lower-case letters alone.
+/// Whether each byte is a lower-case letter.
 fn is_alphabetic(bytes: &[u8]) -> bool
     ensures { result ≡ shapes.is_alphabetic bytes.now }
 {
     bytes.iter().all(|byte| byte.is_ascii_lowercase())
 }
 
-/// Whether the bytes are digits alone.
+/// Whether each byte is a digit.
 fn is_numeric(bytes: &[u8]) -> bool
     ensures { result ≡ shapes.is_numeric bytes.now }
 {
     bytes.iter().all(|byte| byte.is_ascii_digit())
 }
 
-/// The fault with which `Subtag::read` refuses a piece of more than 8 bytes, which the piece must have: `BadByte` if
-/// one is no letter or digit, else `TooLong`.
+/// The fault with which `Subtag::read` refuses a piece of more than 8 bytes: `BadByte` if a byte is no ASCII letter or
+/// digit, else `TooLong`. The piece must have more than 8 bytes.
 fn long_fault(bytes: &[u8]) -> SubtagFault
     requires { 8 < length bytes.now }
     ensures { Err result ≡ subtag_of bytes.now }

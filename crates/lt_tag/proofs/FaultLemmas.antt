@@ -1,4 +1,6 @@
--- Each text has a tag or a fault, and one fault alone.
+-- Each text has a tag or a fault, never both, and one fault at most, running out of memory aside: the laws of
+-- `reading_laws`. A *cause* is such a fault with its reason: too many bytes, a piece that is no subtag, or a list that
+-- no tag spells.
 use Rattle.std.proofs.Common.{◌≡◌, ℕ, ◌≤◌, ◌<◌, ◌+◌, ◌-◌, List, [], length, refl, sym, ap, subst, ◌∙◌, arith, inl, inr}
 use Rattle.std.proofs.Common.{◌⊎◌, zero, suc, ◌∷◌, ◌++◌}
 use Rattle.std.specs.Prelude.{Result, Ok, Err, Option, Some, None}
@@ -40,7 +42,7 @@ data Cause (text : List ℕ) : TagFaultKind → ℕ → Type 0 where
       → Cause text (kind_of fault) place
   bad : {kind : TagFaultKind} {place : ℕ} → HasBadList text → ListCause (list_of text) kind place → Cause text kind place
 
--- each fault but running out of memory has its cause
+-- each fault other than running out of memory has its cause
 cause : (text : List ℕ) (kind : TagFaultKind) (place : ℕ) → IsFault text kind place → (kind ≡ kinds.OutOfMemory → ⊥) → Cause text kind place
 cause text kinds.TooLong place f m = subst (λ (n : ℕ). Cause text kinds.TooLong n) (sym f.1) (long f.0)
 cause text kinds.EmptySubtag place f m = piece subtag_faults.Empty place f.0 f.1
@@ -99,7 +101,7 @@ one_list_cause list kind other place elsewhere (end b) (first n) = absurd (none_
 one_list_cause list kind other place elsewhere (end b) (later at n l) = absurd (none_misplaced list at n b)
 one_list_cause list kind other place elsewhere (end b) (end d) = (refl, refl)
 
--- if a and b are places of a first bad piece, a is not before b
+-- the place a of a first bad piece is not before the place b of one
 piece_before : (text : List ℕ) (fault other : SubtagFault) (a b : ℕ) → IsFirstBadPiece text fault a
     → IsFirstBadPiece text other b → a < b → ⊥
 piece_before text fault other a b p q less =
@@ -176,7 +178,7 @@ first_numbers list (suc n) l =
       ]
     ]
 
--- `done` gives a draft, and `done ++ rest` none: the first misplaced subtag of the list is in `rest`
+-- if `done` gives a draft, and `done ++ rest` none, the first misplaced subtag of the list is in `rest`
 first_misplaced : (done rest : List (List ℕ)) (draft : Draft) → 0 < length done → draft_of done ≡ Some draft
     → draft_of (done ++ rest) ≡ None → (place : ℕ) × IsFirstMisplaced (done ++ rest) place × (1 < place)
 first_misplaced done [] draft some has none = let same : draft_of (done ++ []) ≡ Some draft = ap draft_of (append-nil done) ∙ has in cc
@@ -209,7 +211,7 @@ module _ (text : List ℕ) (list : List (List ℕ)) (short : length text ≤ lon
   unlisted : IsNotGrandfathered (list_of text)
   unlisted = rw (← (text_list text list all).1) other
 
-  -- where the list gives a draft, the text has the draft's tag, or is unfinished
+  -- if the list gives a draft, the text has the tag that the draft is, or is unfinished
   drafted_list : (draft : Draft) → draft_of list ≡ Some draft → HasTagOrFault text
   drafted_list draft h = go (finished draft) refl
     where
@@ -234,7 +236,7 @@ module _ (text : List ℕ) (list : List (List ℕ)) (short : length text ≤ lon
             },
           )
 
-  -- where the list gives none, its first misplaced subtag is the fault: BadLanguage at 1, else Misplaced
+  -- if the list gives no draft, its first misplaced subtag is the fault: BadLanguage at place 1, else Misplaced
   misplaced_list : (place : ℕ) → draft_of list ≡ None → 0 < length list → IsFirstMisplaced list place → (1 < place)
       ⊎ (place ≡ 1) → HasTagOrFault text
   misplaced_list place none some m at =

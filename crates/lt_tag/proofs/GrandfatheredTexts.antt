@@ -1,5 +1,6 @@
--- Grandfathered lists: the pieces of a text compared with such a list, the first four subtags of a list, and the texts
--- that have such a list.
+-- A text has the list of a grandfathered tag exactly if it is the text of that tag in some letter case, and such a list
+-- has at most 3 subtags: so `number_of_text` compares texts, `number_of` compares the pieces of a text with a list, and
+-- `Core::literal` looks only at the first four subtags of a core.
 use Rattle.std.proofs.Common.{◌≡◌, ℕ, ◌≤◌, ◌<◌, ◌+◌, Bool, true, false, not, List, [], ◌∷◌, ◌++◌, length, take, drop}
 use Rattle.std.proofs.Common.{get_or, refl, sym, ap, ◌∙◌, arith, Bor, ◌-◌, zero, suc, map}
 use Rattle.std.specs.Prelude.{Option, Some, None, IsTrue, is_some, nat_le, IfSome, IfNone, slice_get, slice_index_or, sum_by}
@@ -25,7 +26,7 @@ use Rattle.lt_tag.proofs.LetterLemmas.{join_pieces, list_of_is, to_HasList}
 use Rattle.std.proofs.lemmas.List.Sums.{sum_by-cons}
 use Rattle.std.proofs.lemmas.Bool.Decides.{nat_tests}
 
--- in a list that goes on with x at index i, the subtag s that is read there is x
+-- if a list goes on with x after its first i subtags, the subtag s that is read at index i is x
 pub next_is : (list : List (List ℕ)) (i : ℕ) (s x : List ℕ) (more : List (List ℕ)) → i < length list
     → s ≡ get_or list i s → list ≡ take i list ++ x ∷ more → s ≡ x
 next_is list i s x more within read e =
@@ -33,13 +34,13 @@ next_is list i s x more within read e =
     let here : drop i list ≡ get_or list i s ∷ drop (i + 1) list = drop_more list i s within in
     read ∙ head_is (get_or list i s) x (drop (i + 1) list) more (sym here ∙ rest)
 
--- One step more. The pieces ps begin with the first i subtags of a list. Then comes the piece p, which is the next
--- subtag s, and then `more`. So ps begin with the first i + 1 subtags.
+-- One step more: if the pieces ps begin with the first i subtags of a list, and then comes the piece p, which is the
+-- next subtag s, and then `more`, the pieces ps begin with the first i + 1 subtags.
 pub one_more : (ps list : List (List ℕ)) (i : ℕ) (s p : List ℕ) (more : List (List ℕ)) → i < length list
     → s ≡ get_or list i s → s ≡ p → ps ≡ take i list ++ p ∷ more → ps ≡ take (i + 1) list ++ more
 one_more ps list i s p more within read same e = rw ((take_at_read list i s within).1, append_assoc (take i list), ← read, same) e
 
--- no subtag of the list is left: it equals the pieces ps exactly if no piece is left either, which r tells
+-- if no subtag of the list is left, it equals the pieces ps exactly if no piece is left either, which r tells
 pub at_end : (list ps : List (List ℕ)) (i : ℕ) (rest : Option (Bor (List ℕ))) (r : Bool) → length list ≤ i
     → ps ≡ take i list ++ pieces_left rest → is_some rest ≡ not r
     → (IsTrue r → list ≡ ps) × (list ≡ ps → IsTrue r)
@@ -87,7 +88,7 @@ to_front list number g =
     let same : length list ≡ length (grandfathered_list number) = ap length g.same in
     record { first = g.first; last = g.last; same = take_all 4 list (omega arith) ∙ g.same }
 
--- cutting to n before more is added, and again after, is cutting once after
+-- to cut a list to n elements, add others and cut again is to add them and cut once
 pub take-take_append : {X : Type 0} (n : ℕ) (xs ys : List X) → take n (take n xs ++ ys) ≡ take n (xs ++ ys)
 take-take_append zero xs ys = refl
 take-take_append (suc n) [] ys = refl
@@ -146,7 +147,8 @@ sum-onto_first : (b : ℕ) (ps : List (List ℕ)) → 0 < length ps
 sum-onto_first b [] n = absurd (omega arith)
 sum-onto_first b (p ∷ ps) n = omega (arith, sum_by-cons (λ (x : List ℕ). length x) (b ∷ p) ps, sum_by-cons (λ (x : List ℕ). length x) p ps)
 
--- the bytes of the pieces and the number of pieces: one more than the text has bytes, since a hyphen is between any two
+-- the bytes of the pieces and the number of pieces are together one more than the text has bytes, since a hyphen is
+-- between any two
 pub sum-pieces : (text : List ℕ) → sum_by length (pieces text) + length (pieces text) ≡ length text + 1
 sum-pieces [] = refl
 sum-pieces (b ∷ bs) =
@@ -159,7 +161,7 @@ sum-pieces (b ∷ bs) =
       some_pieces bs,
     )
 
--- the bytes and the number of the subtags of a grandfathered list: one more than its text has bytes
+-- the bytes and the number of the subtags of a grandfathered list are together one more than its text has bytes
 pub list_length : (list : List (List ℕ)) (number : ℕ) → IsGrandfathered list number
     → sum_by length list + length list ≡ length (known number) + 1
 unfolding grandfathered_list

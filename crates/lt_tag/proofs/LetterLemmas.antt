@@ -1,4 +1,6 @@
--- Letter case and the list of a text.
+-- Two texts have the same list exactly if they differ only in letter case, and the pieces of a text are read as subtags
+-- exactly if its list has only subtags. So texts of subtags are printed alike exactly if they differ only in letter
+-- case.
 use Rattle.std.proofs.Common.{◌≡◌, ℕ, ◌<◌, true, suc, List, [], ◌∷◌, length, map, refl, sym, ap, ◌∙◌, arith}
 use Rattle.std.specs.Prelude.{IsOk, slice_index_or, ◌↔◌}
 use Rattle.std.specs.List.{list_all, join_with_byte, onto_first}
@@ -31,8 +33,8 @@ pub join_pieces : (text : List ℕ) → join_with_byte 45 (pieces text) ≡ text
 join_pieces [] = refl
 join_pieces (b ∷ bs) = grind (arith, nat_tests, some_pieces bs, join_pieces bs, join_empty (pieces bs), join_onto b (pieces bs))
 
--- to put a byte on the first piece, and then make all lower case, is to put it in lower case on the pieces in lower
--- case
+-- to put a byte in front of the first piece and then make all lower case is to put it in lower case in front of the
+-- pieces in lower case
 folded_onto : (b : ℕ) (ps : List (List ℕ)) → map folded (onto_first b ps) ≡ onto_first (to_ascii_lowercase b) (map folded ps)
 folded_onto b [] = refl
 folded_onto b (p ∷ ps) = refl
@@ -42,21 +44,21 @@ pub list_of_is : (text : List ℕ) → list_of text ≡ pieces (folded text)
 list_of_is [] = refl
 list_of_is (b ∷ bs) = grind (arith, nat_tests, list_of_is bs, folded_onto b (pieces bs))
 
--- texts with the same list differ in letter case alone
+-- texts with the same list differ only in letter case
 pub same_letters : (a b : List ℕ) → list_of a ≡ list_of b → folded a ≡ folded b
 same_letters a b e =
     sym (join_pieces (folded a)) ∙ ap (join_with_byte 45) (sym (list_of_is a) ∙ e ∙ list_of_is b) ∙ join_pieces (folded b)
 
--- texts that differ in letter case alone have the same list
+-- texts that differ only in letter case have the same list
 pub same_list : (a b : List ℕ) → folded a ≡ folded b → list_of a ≡ list_of b
 same_list a b e = list_of_is a ∙ ap pieces e ∙ sym (list_of_is b)
 
--- a piece that in lower case has bytes of subtags alone is ASCII letters and digits
+-- a piece that in lower case has only bytes of subtags has only ASCII letters and digits
 bytes_from_lower : (p : List ℕ) → list_all is_subtag_byte (folded p) ≡ true → list_all is_ascii_alphanumeric p ≡ true
 bytes_from_lower [] h = refl
 bytes_from_lower (b ∷ p) h = grind (arith, nat_tests, bytes_from_lower p)
 
--- a piece of ASCII letters and digits has in lower case bytes of subtags alone
+-- a piece of only ASCII letters and digits has in lower case only bytes of subtags
 bytes_to_lower : (p : List ℕ) → list_all is_ascii_alphanumeric p ≡ true → list_all is_subtag_byte (folded p) ≡ true
 bytes_to_lower [] h = refl
 bytes_to_lower (b ∷ p) h = grind (arith, nat_tests, bytes_to_lower p)
@@ -95,7 +97,7 @@ to_HasList text h i n =
 pub printed_again : (text : List ℕ) → HasList text → list_of (conventional (list_of text)) ≡ list_of text
 printed_again text h = subtags_again (list_of text) (omega (arith, length-map (pieces text) folded, some_pieces text)) (from_HasList text h)
 
--- two texts of subtags are printed alike exactly if they differ in letter case alone
+-- two texts whose pieces are subtags are printed alike exactly if they differ only in letter case
 pub printed_alike : (a b : List ℕ) → HasList a → HasList b → (conventional (list_of a) ≡ conventional (list_of b)) ↔ (folded a ≡ folded b)
 printed_alike a b h k = (
   λ e. same_letters a b (sym (printed_again a h) ∙ ap list_of e ∙ printed_again b k),

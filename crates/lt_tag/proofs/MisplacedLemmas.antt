@@ -1,4 +1,6 @@
--- The value of a list, its first misplaced subtag, and what is known of a text while its subtags are read.
+-- A list whose draft misses nothing is spelled by the tag that the draft is; a list whose draft misses a subtag is
+-- unfinished; and a list without a draft has a first misplaced subtag. `HasRead` says what is known of a text while
+-- `read_unlisted` reads its subtags, and the lemmas after it give the tag or the fault with which that ends.
 use Rattle.std.specs.Prelude.{ℕ, List, [], ◌∷◌, Option, Some, None, option_and_then, Result, Ok, Err, IsOk}
 use Rattle.lt_tag.specs.Draft.{Draft, begun, drafted, InCore, InExtension, InPrivate, Alone, closed, finished, spell_draft}
 use Rattle.std.proofs.Common.{◌≡◌, ℕ, ◌<◌, List, [], ◌∷◌, ◌++◌, length, refl, sym, ap, ◌∙◌, arith, inl, inr, subst, ◌≤◌, ◌+◌, take, drop}
@@ -65,7 +67,7 @@ draft_is (s ∷ ss) draft h =
     let all = drafted_by_is first ss draft one.0 rest in
     (all.0, all.1 ∙ ap (λ (z : List (List ℕ)). z ++ ss) one.1))
 
--- no shaped value (a langtag or private use tag) spells a list that begins with one that gives no draft
+-- no shaped value (a langtag or private use tag) spells a list that begins with a list that gives no draft
 pub refused : (list rest : List (List ℕ)) → draft_of list ≡ None → 0 < length list → (form : TagForm) → IsShaped form
     → list ++ rest ≡ spell form → ⊥
 refused [] rest none n form k e = omega arith
@@ -152,8 +154,8 @@ length_spelled : (es : List ExtensionParts) → length es ≤ length (spell_exte
 length_spelled [] = omega arith
 length_spelled (e ∷ es) = omega (arith, length_spelled es, length-append e.subtags (spell_extensions es))
 
--- if a core, the extensions es and some subtags ss after them are at most 1,025 subtags, one extension more makes at
--- most 1,024
+-- if a core, the extensions es and some subtags ss after them are at most 1,025 subtags, es and one extension more are
+-- at most 1,024 extensions
 pub few_closed : (core : CoreParts) (es : List ExtensionParts) (ss : List (List ℕ))
     → length (spell_core core ++ (spell_extensions es ++ ss)) ≤ 1025 → 0 < length ss → length es + 1 ≤ 1024
 few_closed core es ss n some =
@@ -189,13 +191,13 @@ of_more [] t draft n h = absurd (omega arith)
 of_more (s ∷ ss) t draft n h = draft_of-append s ss (t ∷ []) ∙ ap (option_and_then (λ d. drafted_by d (t ∷ []))) h
     ∙ last_one (drafted draft t)
 
--- what is read without a fault has a value
+-- a reading without a fault has a value
 ok_is : {X : Type 0} (r : Result X TagFault) → IsOk r → (x : X) × (r ≡ Ok x)
 ok_is (Ok x) h = (x, refl)
 ok_is (Err fault) h = cc
 
--- a text that is not too long, whose pieces are the subtags of `list`: if this is neither grandfathered nor spelled by
--- a shaped value, it is not well-formed
+-- if the pieces of a text that is not too long are the subtags of `list`, and this is neither grandfathered nor spelled
+-- by a shaped value, the list of the text is not well-formed
 pub bad_list : (text : List ℕ) (list : List (List ℕ)) → length text ≤ longest_text → listed 1 (pieces text) ≡ Ok list
     → IsNotGrandfathered (list_of text)
     → ((form : TagForm) → IsShaped form → spell form ≡ list → ⊥) → HasBadList text
@@ -203,7 +205,7 @@ bad_list text list short all other none =
     let l = text_list text list all in
     record { short = short; listed = l.0; bad = λ w. elim w [ inl g ↦ other g.0 g.1 | inr v ↦ none v.0 v.1 (v.2 ∙ sym l.1) ] }
 
--- `done` gives a draft, and with s at its end none: s is the first misplaced subtag, whatever `others` follow
+-- if `done` gives a draft, and with s at its end none, then s is the first misplaced subtag, whatever `others` follow
 pub misplaced_behind : (done : List (List ℕ)) (s : List ℕ) (others : List (List ℕ)) (draft : Draft)
     → draft_of done ≡ Some draft → draft_of (done ++ s ∷ []) ≡ None
     → IsFirstMisplaced ((done ++ s ∷ []) ++ others) (length done + 1)
@@ -218,7 +220,7 @@ misplaced_behind done s others draft some none =
 
 -- a text whose first piece p is read as the subtag s, with the pieces `left` after it
 module _ (text : List ℕ) (p s : List ℕ) (left : List (List ℕ)) (split : pieces text ≡ p ∷ left) (read : read_at 1 p ≡ Ok s) where
-  -- the first subtag begins a draft: one piece is read
+  -- if the first subtag begins a draft, one piece is read
   pub read_first : (draft : Draft) → begun s ≡ Some draft → HasRead text 1 left draft
   read_first draft h = record {
     done = s ∷ [];
@@ -232,7 +234,7 @@ module _ (text : List ℕ) (p s : List ℕ) (left : List (List ℕ)) (split : pi
   pub fault_behind_first : (found : TagFault) → listed 2 left ≡ Err found → listed 1 (pieces text) ≡ Err found
   fault_behind_first found h = ap (listed 1) split ∙ listed_next 1 p left s read ∙ ap (with_front (s ∷ [])) h
 
-  -- the first subtag begins no draft, and the other pieces are subtags: the text has the fault BadLanguage
+  -- if the first subtag begins no draft, and the other pieces are subtags, the text has the fault BadLanguage
   pub misplaced_first : begun s ≡ None → IsOk (listed 2 left) → length text ≤ longest_text → IsNotGrandfathered (list_of text)
       → HasBadList text × IsFirstMisplaced (list_of text) 1 × (◌≡◌ {A = ℕ} 1 1)
   misplaced_first none ok short other =
@@ -247,13 +249,13 @@ module _ (text : List ℕ) (p s : List ℕ) (left : List (List ℕ)) (split : pi
 
 -- a text of which the first pieces are read, as many as `place` says, and p is the next, with `left` after it
 module _ (text : List ℕ) (place : ℕ) (draft : Draft) (p : List ℕ) (left : List (List ℕ)) (has : HasRead text place (p ∷ left) draft) where
-  -- the next piece is no subtag: its fault is that of the text
+  -- if the next piece is no subtag, its fault is that of the text
   pub fault_here : (found : TagFault) → read_at (place + 1) p ≡ Err found → listed 1 (pieces text) ≡ Err found
   fault_here found h = sym has.whole ∙ ap (with_front has.done) (listed_stop (place + 1) p left found h)
 
   -- the next piece is read as the subtag s
   module _ (s : List ℕ) (read : read_at (place + 1) p ≡ Ok s) where
-    -- the draft takes s: one piece more is read
+    -- if the draft takes s, one piece more is read
     pub read_next : (more : Draft) → drafted draft s ≡ Some more → HasRead text (place + 1) left more
     read_next more h =
         record {
@@ -272,7 +274,7 @@ module _ (text : List ℕ) (place : ℕ) (draft : Draft) (p : List ℕ) (left : 
     pub fault_behind : (found : TagFault) → listed (place + 1 + 1) left ≡ Err found → listed 1 (pieces text) ≡ Err found
     fault_behind found h = fault_behind_whole ∙ ap (with_front (has.done ++ s ∷ [])) h
 
-    -- the draft can't take s, and the pieces after it are subtags: the text has the fault Misplaced
+    -- if the draft can't take s, and the pieces after it are subtags, the text has the fault Misplaced
     pub misplaced_here : drafted draft s ≡ None → IsOk (listed (place + 1 + 1) left) → length text ≤ longest_text
         → IsNotGrandfathered (list_of text)
         → HasBadList text × IsFirstMisplaced (list_of text) (place + 1) × (1 < place + 1)
@@ -308,11 +310,11 @@ module _ (text : List ℕ) (place : ℕ) (draft : Draft) (has : HasRead text pla
   pub whole_length : length (list_of text) ≡ place
   whole_length = sym (ap length (text_list text has.done all_read).1) ∙ has.count
 
-  -- nothing is missing: the tag that the draft is spells the list of the text
+  -- if nothing is missing, the tag that the draft is spells the list of the text
   pub whole_value : (form : TagForm) → Some form ≡ finished draft → spell form ≡ list_of text
   whole_value form h = (finished_is draft form whole_draft.0 (sym h)).1 ∙ whole_draft.1
 
-  -- a subtag is missing: the text has the fault Unfinished
+  -- if a subtag is missing, the text has the fault Unfinished
   pub whole_unfinished : None ≡ finished draft → length text ≤ longest_text → IsNotGrandfathered (list_of text)
       → HasBadList text × Begins (list_of text) × (place + 1 ≡ length (list_of text) + 1)
   whole_unfinished h short other =

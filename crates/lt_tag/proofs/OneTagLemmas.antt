@@ -1,4 +1,5 @@
--- A list is spelled by one tag at most.
+-- A list is spelled by one tag at most. So a text is read as one tag at most, the text of a tag is read as that tag
+-- unless it is too long, and two tags have the same text exactly if they are equal: laws of `laws`.
 use Rattle.std.proofs.Common.{◌≡◌, ℕ, ◌≤◌, ◌<◌, ◌-◌, Bool, true, false, ◌&&◌, not, zero, suc, List, [], ◌∷◌, length}
 use Rattle.std.proofs.Common.{refl, sym, ap, ◌∙◌, arith, eqb}
 use Rattle.std.specs.Prelude.{slice_index_or, ◌↔◌}
@@ -38,7 +39,7 @@ no_later t ts i h n e =
     let whole = (bytes_decides t (slice_index_or ts i [])).1 e in
     cc
 
--- in a list whose texts differ a text is at one index alone
+-- in a list whose texts differ a text is at one index only
 one_place : (ts : List (List ℕ)) (i j : ℕ) → all_differ ts ≡ true → i < length ts → j < length ts
     → slice_index_or ts i [] ≡ slice_index_or ts j [] → i ≡ j
 one_place [] i j h m n e = absurd (omega arith)

@@ -1,4 +1,5 @@
--- The laws of the parts of extensions.
+-- The laws of `parts_laws`: the subtags of a `u` or `t` extension are spelled by one value of parts at most, and
+-- `core_of_list`, `unicode_of` and `transform_of` give a value exactly if it has its form and spells the subtags.
 use Rattle.std.proofs.Common.{◌≡◌, ℕ, ◌<◌, ◌↔◌, true, ◌&&◌, List, length, refl, sym, ap, ◌∙◌, inl, inr, arith}
 use Rattle.std.specs.Prelude.{Option, Some, None, option_map, nat_lt}
 use Rattle.std.specs.List.{list_all}
@@ -23,7 +24,7 @@ has_parts e h =
     let p : UForm = record { attributes = before is_key e.subtags; keywords = keywords_of e.subtags } in
     (p, u_found e.subtags p h.subtags h.some refl refl)
 
--- the parts of a `u` extension by its attributes and keywords, so that these decide whether two are equal
+-- the parts of a `u` extension with these attributes and keywords: equal ones make equal parts
 abbrev u_form : List (List ℕ) → List KeywordParts → UForm
 u_form attributes keywords = record { attributes = attributes; keywords = keywords }
 
@@ -58,7 +59,7 @@ u_forward ss p h =
     u_found ss p (grind (arith, nat_tests)) (grind (arith, nat_tests)) (ap (λ (z : UForm). z.attributes) (sym e))
     (ap (λ (z : UForm). z.keywords) (sym e))
 
--- of what parts with their forms spell, `unicode_of` gives these parts
+-- `unicode_of` gives parts with their forms again, of the subtags that they spell
 u_backward : (p : UForm) → IsU p → unicode_of (spell_u p) ≡ Some p
 unfolding unicode_of
 u_backward p h =
@@ -70,8 +71,8 @@ u_backward p h =
 pub u_decided : (ss : List (List ℕ)) (p : UForm) → (unicode_of ss ≡ Some p) ↔ IsUnicode ss p
 u_decided ss p = (u_forward ss p, λ k. ap unicode_of (sym k.spelled) ∙ u_backward p k.shaped)
 
--- o is the source that is found in the subtags before the first separator. If p has this source and the fields of the
--- subtags, which have values, the parts p are found in the subtags.
+-- If o is the source that is found in the subtags before the first separator, and p has this source and the fields of
+-- the subtags, which have values, the parts p are found in the subtags.
 t_at : (ss : List (List ℕ)) (p : TForm) (o : Option (Option CoreParts)) → source_of_list (before is_separator ss) ≡ o
     → option_map (with_fields (fields_of ss)) o ≡ Some p → list_all has_values (fields_of ss) ≡ true → 0 < length ss
     → IsFound ss p
@@ -90,7 +91,7 @@ t_forward ss p h =
       | inr a ↦ let impossible : None ≡ Some p = a.1 in cc
     ]
 
--- of what parts with their forms spell, `transform_of` gives these parts
+-- `transform_of` gives parts with their forms again, of the subtags that they spell
 t_backward : (p : TForm) → IsT p → transform_of (spell_t p) ≡ Some p
 unfolding transform_of
 t_backward p h =

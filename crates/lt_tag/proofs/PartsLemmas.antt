@@ -1,4 +1,5 @@
--- The subtags of the parts of extensions, and the parts that are found in subtags.
+-- The parts of a core, a `u` or a `t` extension are found again in the subtags that they spell; and parts that are
+-- found in subtags have their forms and spell these subtags. `split_u`, `split_t`, `join_u` and `join_t` need this.
 use Rattle.std.proofs.Common.{◌≡◌, ℕ, ◌≤◌, ◌<◌, Bool, true, not, List, [], ◌∷◌, ◌++◌, length, refl, sym, ap, ◌∙◌, arith, inl, inr}
 use Rattle.std.specs.Prelude.{Option, Some, None, IfSome, option_map, flat_map}
 use Rattle.std.specs.List.{list_all, AllByRecursion}
@@ -143,11 +144,11 @@ source_again : (source : Option CoreParts) → IfSome source IsCore → source_o
 source_again None h = refl
 source_again (Some core) h = ap (option_map Some) (core_again core h)
 
--- a source with its form, and the subtags that it spells
+-- a source has its form and spells these subtags
 abbrev IsSource : List (List ℕ) → Option CoreParts → Type 0
 IsSource subtags source = IfSome source IsCore × (spell_source source ≡ subtags)
 
--- o is the core that the subtags spell, if any: a source made of it has its form and spells them
+-- if o is the core that the subtags spell, or None, a source that is made of it has its form and spells them
 source_at : (ss : List (List ℕ)) (o : Option CoreParts) (source : Option CoreParts) → core_of_list ss ≡ o
     → option_map Some o ≡ Some source → IsSource ss source
 source_at ss None source e h = cc
@@ -253,8 +254,8 @@ pub source_fault : (fault : TransformFault) (ss subtags front : List (List ℕ))
 source_fault faults.BadTransform ss subtags front s f none = λ p h. let found = (t_again p h.shaped).source in cc
 source_fault faults.OutOfMemory ss subtags front s f none = tt
 
--- if a field of `rest`, the subtags from the first separator on, has no values, or a bad one, no parts spell the
--- subtags ss
+-- if a field of `rest`, the subtags from the first separator on, has no values, or one without the form of a value, no
+-- parts spell the subtags ss
 pub field_fault : (fault : TransformFault) (ss subtags rest : List (List ℕ)) → subtags ≡ ss
     → rest ≡ onward is_separator subtags → IsFieldFault fault rest → IsTransformFault fault ss
 field_fault faults.BadTransform ss subtags rest s r none = λ p h. let found = (t_again p h.shaped).values in cc (fields-onward subtags)

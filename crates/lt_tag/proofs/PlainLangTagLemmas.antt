@@ -1,4 +1,5 @@
--- Which lists are those of langtags without extensions and private use.
+-- `is_plain_langtag` keeps no core while it reads a list, but only what may follow (its *room*): that is enough to tell
+-- whether the list is that of a langtag without extensions and private use.
 use Rattle.std.proofs.Common.{◌≡◌, ◌↔◌, ℕ, ◌≤◌, ◌<◌, ◌+◌, Bool, true, false, not, List, [], ◌∷◌, ◌++◌, length, get_or}
 use Rattle.std.proofs.Common.{refl, sym, ap, ◌∙◌, arith, IsTrue, IfSome, IfNone, is_some}
 use Rattle.std.specs.Prelude.{Option, Some, None, option_map}
@@ -38,7 +39,7 @@ pub record HasRoom (subtags others : List (List ℕ)) (i : ℕ) (room : Room) : 
   pub so_far : IsSourceSoFar subtags others i core
   pub left : room_of core ≡ room
 
--- the core of the language alone, which `left` extlangs may follow
+-- at first the core has only the language, none of the others is read, and `left` extlangs may follow
 pub room_begin : (subtags others : List (List ℕ)) (language : List ℕ) → subtags ≡ language ∷ others
     → is_language language ≡ true → (left : ℕ) → left ≡ extlangs_left (of_language language)
     → HasRoom subtags others 0 (rooms.Extlangs left)
@@ -60,7 +61,7 @@ mapped_none : (o : Option CoreParts) → option_map room_of o ≡ None → o ≡
 mapped_none None h = refl
 mapped_none (Some core) h = cc
 
--- the subtag s, at index i of the others, may follow: `next` may follow it
+-- if the subtag s, at index i of the others, may follow, and `next` may follow it, then i + 1 of the others are read
 pub room_more : (subtags others : List (List ℕ)) (i : ℕ) (s : List ℕ) (room next : Room) → HasRoom subtags others i room
     → i < length others → s ≡ get_or others i s → room_after room s ≡ Some next → HasRoom subtags others (i + 1) next
 room_more subtags others i s room next h within read after =
@@ -77,7 +78,7 @@ source_none (s ∷ ss) h core e = grind (arith, nat_tests)
 no_langtag : (subtags : List (List ℕ)) → source_of_list subtags ≡ None → IsPlainLangTag subtags → ⊥
 no_langtag subtags h p = source_none subtags h p.core ((core_decided subtags p.core).1 (p.shaped, p.spelled))
 
--- the subtag s, at index i of the others, may not follow: the subtags are no langtag
+-- if the subtag s, at index i of the others, may not follow, the subtags are no langtag
 pub stops : (subtags others : List (List ℕ)) (i : ℕ) (s : List ℕ) (room : Room) → HasRoom subtags others i room
     → i < length others → s ≡ get_or others i s → room_after room s ≡ None → IsPlainLangTag subtags → ⊥
 stops subtags others i s room h within read after =
@@ -90,8 +91,8 @@ core_from_source : (subtags : List (List ℕ)) (core : CoreParts) → source_of_
 core_from_source [] core h = cc
 core_from_source (s ∷ ss) core h = grind (arith, nat_tests)
 
--- All subtags may follow. So they are a langtag exactly if they are not those of a grandfathered tag. `number` is that
--- tag's number, if there is such a tag, and b tells that there is none.
+-- Once all the others are read, the subtags are a langtag exactly if they are not those of a grandfathered tag.
+-- `number` is the number of that tag, None if there is no such tag, which b tells.
 pub ends_plain : (subtags others : List (List ℕ)) (i : ℕ) (room : Room) → HasRoom subtags others i room
     → length others ≤ i → (number : Option ℕ) → IfSome number (λ n. IsGrandfathered subtags n)
     → IfNone number (IsNotGrandfathered subtags) → (b : Bool) → is_some number ≡ not b → IsTrue b

@@ -1,4 +1,5 @@
--- What the shapes of its parts say of each subtag of a tag.
+-- By the shapes of its parts each subtag that a tag spells has 1 to 8 letters or digits; and each of a core has at
+-- least 2 and is no separator, so that a core can be the source of a `t` extension.
 use Rattle.std.proofs.Common.{◌≡◌, ℕ, ◌≤◌, ◌-◌, Bool, true, false, List, [], ◌∷◌, length, refl, arith, inl, inr, not, ap}
 use Rattle.std.specs.Prelude.{Option, Some, None, option_to_list}
 use Rattle.std.specs.List.{list_all, AllByRecursion}
@@ -29,7 +30,7 @@ pub record IsLong (s : List ℕ) : Type 0 where
   pub subtag : is_subtag s ≡ true
   pub long : 2 ≤ length s
 
--- 2 to 8 lower-case letters and digits are such a subtag
+-- 2 to 8 lower-case letters and digits are a subtag of this length
 subtag_from : (s : List ℕ) → list_all is_subtag_byte s ≡ true → 2 ≤ length s → length s ≤ 8 → IsLong s
 unfolding is_subtag
 subtag_from s h low high = record { subtag = grind (arith, nat_tests); long = low }
@@ -44,7 +45,7 @@ digits_bytes : (s : List ℕ) → is_numeric s ≡ true → list_all is_subtag_b
 digits_bytes [] h = refl
 digits_bytes (b ∷ s) h = grind (arith, nat_tests, digits_bytes s)
 
--- what has not exactly two characters is no separator
+-- a subtag that doesn't have exactly two characters is no separator
 pub length_no_separator : (s : List ℕ) → (length s ≡ 2 → ⊥) → is_separator s ≡ false
 unfolding is_separator
 length_no_separator [] h = refl
@@ -52,7 +53,7 @@ length_no_separator (a ∷ []) h = refl
 length_no_separator (a ∷ b ∷ []) h = absurd (h (omega arith))
 length_no_separator (a ∷ b ∷ c ∷ s) h = refl
 
--- letters alone are no separator, which has a digit
+-- a subtag of only letters is no separator, since a separator has a digit
 letters_no_separator : (s : List ℕ) → is_alphabetic s ≡ true → is_separator s ≡ false
 unfolding is_separator
 letters_no_separator [] h = refl

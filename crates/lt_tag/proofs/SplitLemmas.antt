@@ -1,4 +1,6 @@
--- Subtags split at their marks in one way.
+-- The subtags of an extension are cut at their *marks*, the keys or the separators, into keywords or fields: these
+-- spell the subtags, and are found again in what they spell. `AreKeywords` and `AreFields` say how far the loops of
+-- `read_keywords` and `read_fields` are.
 use Rattle.std.proofs.Common.{◌≡◌, ℕ, ◌≤◌, Bool, true, false, ◌==◌, not, List, [], ◌∷◌, ◌++◌, length, take, drop, refl, sym, ◌∙◌, arith, ap}
 use Rattle.std.specs.Prelude.{flat_map, unwrap_or, nat_lt}
 use Rattle.std.specs.List.{list_all, AllByRecursion, position, position_or_len}
@@ -15,12 +17,12 @@ use Rattle.lt_tag.proofs.ShapeLemmas.{all_weaker, length_no_separator}
 
 -- a mark is a subtag of which `mark` is true: a key or a separator
 module _ (mark : List ℕ → Bool) where
-  -- the subtags before the first mark, by its index, which is the length where there is none
+  -- to take as many subtags as the index of the first mark says, or all if there is none, gives those before it
   pub before_is : (ss : List (List ℕ)) → take (position_or_len mark ss) ss ≡ before mark ss
   before_is [] = refl
   before_is (s ∷ ss) = grind (arith, nat_tests, before_is ss, one-add (position_or_len mark ss))
 
-  -- the subtags from the first mark on, by its index
+  -- to leave out as many subtags gives the first mark and all after it
   pub onward_is : (ss : List (List ℕ)) → drop (position_or_len mark ss) ss ≡ onward mark ss
   onward_is [] = refl
   onward_is (s ∷ ss) = grind (arith, nat_tests, onward_is ss, one-add (position_or_len mark ss))
@@ -30,7 +32,8 @@ module _ (mark : List ℕ → Bool) where
   before_onward [] = refl
   before_onward (s ∷ ss) = grind (arith, nat_tests, before_onward ss)
 
-  -- a front without a mark is before the first mark of the whole
+  -- if a front has no mark, the subtags before the first mark of a whole list with it are the front and those of the
+  -- rest
   pub before-append : (front rest : List (List ℕ)) → list_all (λ (s : List ℕ). not (mark s)) front ≡ true
       → before mark (front ++ rest) ≡ front ++ before mark rest
   before-append [] rest h = refl
@@ -133,13 +136,13 @@ pub record AreKeywords (all done : List KeywordParts) (rest : List (List ℕ)) :
   pub at_key : before is_key rest ≡ []
   pub whole : done ++ keywords_of rest ≡ all
 
--- no keyword is read: the subtags from the first key on are left
+-- at first no keyword is read, and the subtags from the first key on are left
 pub keywords_begin : (ss rest : List (List ℕ)) (done : List KeywordParts) → done ≡ [] → rest ≡ onward is_key ss
     → AreKeywords (keywords_of ss) done rest
 keywords_begin ss rest done e r =
     record { at_key = rw r (before_onward is_key ss); whole = rw (e, r) (keywords-onward ss) }
 
--- `key` and `types`, the subtags up to the next key, are one keyword more; the subtags `after` are left
+-- if `key` and then `types`, the subtags up to the next key, are next, they are one keyword more, and `after` are left
 pub keywords_next : (all done more : List KeywordParts) (rest : List (List ℕ)) (key : List ℕ) (others types after : List
     (List ℕ)) → AreKeywords all done rest → rest ≡ key ∷ others
     → types ≡ before is_key others → after ≡ onward is_key others
@@ -151,7 +154,7 @@ keywords_next all done more rest key others types after h split t a m =
       whole = rw (m, t, a, append_assoc done, keywords-onward others) (rw (split, keyed) at h.whole);
     }
 
--- no subtag is left: the keywords so far are all
+-- if no subtag is left, the keywords so far are all
 pub keywords_end : (all done : List KeywordParts) (rest : List (List ℕ)) → AreKeywords all done rest → length rest ≡ 0 → done ≡ all
 keywords_end all done [] h n = sym (append-nil done) ∙ h.whole
 keywords_end all done (s ∷ ss) h n = absurd (omega arith)
@@ -167,7 +170,7 @@ pub record AreFields (all done : List FieldParts) (rest : List (List ℕ)) : Typ
   pub whole : done ++ fields_of rest ≡ all
   pub values : list_all has_values done ≡ true
 
--- no field is read: the subtags from the first separator on are left
+-- at first no field is read, and the subtags from the first separator on are left
 pub fields_begin : (ss rest : List (List ℕ)) (done : List FieldParts) → done ≡ [] → rest ≡ onward is_separator ss
     → AreFields (fields_of ss) done rest
 fields_begin ss rest done e r =
@@ -178,7 +181,8 @@ fields_split : (separator : List ℕ) (others : List (List ℕ)) → before is_s
     → fields_of (separator ∷ others) ≡ record { separator = separator; values = before is_separator others } ∷ fields_of others
 fields_split separator others h = rw (marked is_separator separator others h) refl
 
--- `separator` and `values`, the subtags up to the next separator, are one field more; the subtags `after` are left
+-- if `separator` and then `values`, the subtags up to the next separator, are next, they are one field more, and
+-- `after` are left
 pub fields_next : (all done more : List FieldParts) (rest : List (List ℕ)) (separator : List ℕ) (others values after
     : List (List ℕ)) → AreFields all done rest → rest ≡ separator ∷ others
     → values ≡ before is_separator others → after ≡ onward is_separator others → are_values values ≡ true
@@ -192,13 +196,13 @@ fields_next all done more rest separator others values after h split t a good m 
       values = rw m (list_all-more has_values done (record { separator = separator; values = values }) h.values good);
     }
 
--- one field without values, or with a bad one, among others: not all fields have values
+-- if one field among others has no values, or one without the form of a value, not all fields have values
 all_fail : (done rest : List FieldParts) (first : FieldParts) → has_values first ≡ false
     → list_all has_values (done ++ first ∷ rest) ≡ false
 all_fail [] rest first h = grind (arith, nat_tests)
 all_fail (d ∷ done) rest first h = grind (arith, nat_tests, all_fail done rest first h)
 
--- the next field has no values, or a bad one: not all fields have values
+-- if the next field has no values, or one without the form of a value, not all fields have values
 pub fields_fail : (all done : List FieldParts) (rest : List (List ℕ)) (separator : List ℕ) (others values : List
     (List ℕ)) → AreFields all done rest → rest ≡ separator ∷ others
     → values ≡ before is_separator others → are_values values ≡ false → list_all has_values all ≡ false
@@ -207,7 +211,7 @@ fields_fail all done rest separator others values h split t bad =
     let fails : are_values (before is_separator others) ≡ false = rw (← t) bad in
     rw (← whole, fields_split separator others (rw split at h.at_separator)) (all_fail done (fields_of others) _ fails)
 
--- no subtag is left: the fields so far are all, and have values
+-- if no subtag is left, the fields so far are all, and have values
 pub fields_end : (all done : List FieldParts) (rest : List (List ℕ)) → AreFields all done rest → length rest ≡ 0
     → (done ≡ all) × (list_all has_values done ≡ true)
 fields_end all done [] h n = (sym (append-nil done) ∙ h.whole, h.values)

@@ -1,4 +1,5 @@
--- Whether a text may be one of the 26 grandfathered tags, by its length and first byte, so that few are searched for.
+-- Whether a text may be one of the 26 grandfathered tags, by its length and first byte: so few texts are compared with
+-- the 26.
 use Rattle.std.specs.Prelude.{ℕ, ◌==◌, ◌||◌, Bool, false, if◌then◌else◌}
 
 -- whether one of the 26 texts has this many bytes and this first byte (105 is `i`, 110 `n`, 122 `z`, 101 `e`, 115 `s`,

@@ -10,12 +10,12 @@ use Rattle.lt_tag.specs.Spelling.{spell_core, is_extension_subtag}
 use Rattle.lt_tag.specs.Extensions.{is_long}
 use Rattle.lt_tag.specs.Growth.{of_language, grown_by}
 
--- the subtags before the first of which `mark` is true
+-- the subtags before the first subtag of which `mark` is true; all if there is none
 abbrev pub before : (List ℕ → Bool) → List (List ℕ) → List (List ℕ)
 before mark [] = []
 before mark (s ∷ ss) = if mark s then [] else s ∷ before mark ss
 
--- the subtags from the first on of which `mark` is true
+-- the first subtag of which `mark` is true, and all after it; none if there is none
 abbrev pub onward : (List ℕ → Bool) → List (List ℕ) → List (List ℕ)
 onward mark [] = []
 onward mark (s ∷ ss) = if mark s then s ∷ ss else onward mark ss

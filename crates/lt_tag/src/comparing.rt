@@ -33,14 +33,16 @@ fn compare_extensions(left: &[Extension], right: &[Extension]) -> Ordering
     left.cmp(right)
 }
 
-/// The order of two subtags, where None comes before any. The clause compares what the references show.
+/// The order of two subtags, each of which may be missing: None comes before any subtag. The clause compares the
+/// subtags behind the references.
 fn compare_options(left: Option<&Subtag>, right: Option<&Subtag>) -> Ordering
     ensures { result ≡ option_cmp subtag_cmp (option_copied left.entry) (option_copied right.entry) }
 {
     left.cmp(&right)
 }
 
-/// The order of two cores, where None comes before any. The clause compares what the references show.
+/// The order of two cores, each of which may be missing: None comes before any core. The clause compares the cores
+/// behind the references.
 fn compare_optional_cores(left: Option<&Core>, right: Option<&Core>) -> Ordering
     ensures { result ≡ option_cmp core_cmp (option_copied left.entry) (option_copied right.entry) }
 {
@@ -67,7 +69,7 @@ impl PartialOrd for Core {
 
     ghost laws = { partial_order_from_total core_total };
 
-    /// The order of `cmp`, which any two have.
+    /// `Some` of what `cmp` gives: any two cores have an order.
     fn partial_cmp(&self, other: &Core) -> Option<Ordering> {
         Some(self.cmp(other))
     }
@@ -82,8 +84,8 @@ impl Ord for Core {
 
     ghost matches_eq = { λ a b. refl };
 
-    /// By language, extlangs, script, region and variants, in this order. No script, and no region, comes before
-    /// any.
+    /// By language, extlangs, script, region and variants, in this order. A core without a script comes before one
+    /// with a script, and so it is with the region.
     fn cmp(&self, other: &Core) -> Ordering {
         self.language()
             .cmp(other.language())
@@ -129,7 +131,7 @@ impl PartialOrd for Extension {
 
     ghost laws = { partial_order_from_total extension_total };
 
-    /// The order of `cmp`, which any two have.
+    /// `Some` of what `cmp` gives: any two extensions have an order.
     fn partial_cmp(&self, other: &Extension) -> Option<Ordering> {
         Some(self.cmp(other))
     }
@@ -184,7 +186,7 @@ impl PartialOrd for Tag {
 
     ghost laws = { partial_order_from_total tag_total };
 
-    /// The order of `cmp`, which any two have.
+    /// `Some` of what `cmp` gives: any two tags have an order.
     fn partial_cmp(&self, other: &Tag) -> Option<Ordering> {
         Some(self.cmp(other))
     }

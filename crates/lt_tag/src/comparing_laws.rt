@@ -20,7 +20,7 @@ pub fn extension_equality(left: &Extension, right: &Extension) -> bool
     left == right
 }
 
-/// Two tags are equal exactly if their parts are; so exactly if their texts are.
+/// Two tags are equal exactly if their parts are; so exactly if the texts that `write_tag` gives for them are.
 pub fn tag_equality(left: &Tag, right: &Tag) -> bool
     ensures { IsTrue result ↔ (left.now ≡ right.now) }
 {

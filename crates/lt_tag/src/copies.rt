@@ -6,8 +6,8 @@ use crate::faults::OutOfMemory;
 use lt_subtag::Subtag;
 use std::alloc::Global;
 
-/// Equal subtags in a new vector, which takes no memory where there are none. The only refusal is running out
-/// of memory.
+/// Copies of the subtags in a new vector, which takes no memory if there are no subtags. The only refusal is running
+/// out of memory.
 pub fn copy_subtags(alloc: Global, subtags: &[Subtag]) -> Result<Vec<Subtag>, OutOfMemory>
     ensures { IfOk result (λ copy. copy.items ≡ subtags.now) }
 {
@@ -18,8 +18,8 @@ pub fn copy_subtags(alloc: Global, subtags: &[Subtag]) -> Result<Vec<Subtag>, Ou
     Ok(copy)
 }
 
-/// Equal extensions in a new vector, which takes no memory where there are none. The only refusal is running
-/// out of memory.
+/// Copies of the extensions in a new vector, which takes no memory if there are no extensions. The only refusal is
+/// running out of memory.
 pub fn copy_extensions(
     alloc: Global,
     extensions: &[Extension],

@@ -1,5 +1,5 @@
-//! Joining parts to `u` and `t` extensions. Parts spell the subtags after the singleton. A list to which a refused call
-//! was to add subtags is of no use, so no clause speaks of it.
+//! Joining parts to `u` and `t` extensions. Parts spell the subtags after the singleton. A refused call may have added
+//! some of its subtags to the list: no clause says what is in the list then.
 ghost use Rattle.std.specs.Prelude.{◌≡◌, ◌≤◌, ◌++◌, length, flat_map, IfOk, OnOk};
 ghost use Rattle.lt_tag.specs.Spelling.{spell_core};
 ghost use Rattle.lt_tag.specs.Extensions.{unicode, transform, spell_keyword, spell_u, IsU, spell_field, spell_t, IsT};

@@ -22,18 +22,20 @@ pub fn one_transform()
     ensures { (subtags : List (List ℕ)) (p q : TForm) → IsTransform subtags p → IsTransform subtags q → p ≡ q }
 {}
 
-/// `core_of_list` decides whether subtags are those of a core: it gives a core exactly if that is shaped and spells
-/// them.
+/// `core_of_list` decides whether subtags are those of a core: it gives a core exactly if that core has its shape and
+/// spells them.
 pub fn core_is_decided()
     ensures { (subtags : List (List ℕ)) (core : CoreParts) → (core_of_list subtags ≡ Some core) ↔ (IsCore core × (spell_core core ≡ subtags)) }
 {}
 
-/// `unicode_of` decides whether subtags are those of a `u` extension: it gives parts exactly if these spell them.
+/// `unicode_of` decides whether subtags are those of a `u` extension: it gives parts exactly if these have their forms
+/// and spell the subtags.
 pub fn unicode_is_decided()
     ensures { (subtags : List (List ℕ)) (parts : UForm) → (unicode_of subtags ≡ Some parts) ↔ IsUnicode subtags parts }
 {}
 
-/// `transform_of` decides whether subtags have the form of a `t` extension: it gives parts exactly if these spell them.
+/// `transform_of` decides whether subtags have the form of a `t` extension: it gives parts exactly if these have their
+/// forms and spell the subtags.
 pub fn transform_is_decided()
     ensures { (subtags : List (List ℕ)) (parts : TForm) → (transform_of subtags ≡ Some parts) ↔ IsTransform subtags parts }
 {}

@@ -9,7 +9,7 @@ use lt_subtag::Subtag;
 /// What may follow the subtags of a core (RFC 5646, 2.1).
 #[derive(Clone, Copy, Drop)]
 enum Room {
-    /// This many extlangs, or a script, a region or a variant.
+    /// At most this many extlangs, or a script, a region or a variant.
     Extlangs(u8),
     /// A region or a variant.
     Region,

@@ -17,14 +17,14 @@ pub(crate) trait Sink {
     /// The bytes that it is known to hold; of a formatter none are known.
     ghost held: { Self → List ℕ };
 
-    /// Takes bytes, after those before. The sink still holds what it held, also if it refuses the bytes, so that
-    /// `append_tag` can cut off what came after that.
+    /// Takes bytes at the end. The sink still holds what it held before, even if it refuses the bytes: so `append_tag`
+    /// can cut off what a refused call has added.
     fn add(&mut self, bytes: &[u8]) -> Result<(), Self::Refusal>
         ensures took { OnOk result (took self.old bytes.now self.new) }
         ensures kept { IsKept (held self.old) (held self.new) };
 
-    /// Takes the first `count` of nine bytes, as `add` does. `count` must be at most 9. Nine bytes are room for a hyphen
-    /// and a subtag.
+    /// Takes the first `count` of nine bytes, as `add` does. `count` must be at most 9. Nine bytes have room for a
+    /// hyphen and a subtag.
     fn add_front(&mut self, bytes: &[u8; 9], count: usize) -> Result<(), Self::Refusal>
         requires { count ≤ 9 }
         ensures took { OnOk result (took self.old (take count bytes.now) self.new) }
@@ -57,7 +57,7 @@ impl Sink for Vec<u8> {
 impl<W: fmt::Write> Sink for fmt::Formatter<W> {
     type Refusal = fmt::Error;
 
-    // Of a formatter with a width or another option nothing is said.
+    // Nothing is said of a formatter with a width or another option.
     ghost took = { λ old bytes new. IsPlainFormatter old → HasWritten W.write_str_gives old bytes new };
 
     ghost held = { λ _. [] };
@@ -68,7 +68,7 @@ impl<W: fmt::Write> Sink for fmt::Formatter<W> {
         self.write_str(text)
     }
 
-    /// Takes the front alone.
+    /// Takes only the first `count` bytes.
     fn add_front(&mut self, bytes: &[u8; 9], count: usize) -> fmt::Result {
         self.add(&bytes[..count])
     }

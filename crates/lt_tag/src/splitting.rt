@@ -1,5 +1,6 @@
-//! Splitting `u` and `t` extensions into their parts. A key begins each keyword, and a separator each field. A contract
-//! cuts subtags at the first: `before` gives those before it, and `onward` it and all after it.
+//! Splitting `u` and `t` extensions into their parts. A key begins each keyword, and a separator each field. Contracts
+//! cut subtags at the first key or separator: `before` gives the subtags before it, and `onward` gives it and all that
+//! follow.
 ghost use Rattle.std.specs.Prelude.{◌≡◌, ◌≤◌, ◌++◌, ⊤, true, false, length, position, IfOk, IfErr, OnOk};
 ghost use Rattle.std.specs.List.{list_all};
 ghost use Rattle.lt_subtag.specs.Shapes.{is_key, is_separator};
@@ -84,7 +85,7 @@ pub(crate) fn append(list: &mut Vec<Subtag>, subtags: &[Subtag]) -> Result<(), O
 }
 
 /// The keywords among the subtags of a `u` extension: each key, with the subtags up to the next key as its types.
-/// What is before the first key is left out. The only refusal is running out of memory.
+/// Subtags before the first key are left out. The only refusal is running out of memory.
 #[tactic(auto, using(crate::proofs::SplitLemmas::length_onward))]
 fn read_keywords(alloc: Global, subtags: &[Subtag]) -> Result<Vec<Keyword>, OutOfMemory>
     ensures { IfOk result (λ keywords. keywords.items ≡ keywords_of subtags.now) }
@@ -103,8 +104,8 @@ fn read_keywords(alloc: Global, subtags: &[Subtag]) -> Result<Vec<Keyword>, OutO
 }
 
 /// The fields among the subtags of a `t` extension: each separator, with the subtags up to the next separator as its
-/// values. What is before the first separator is left out. It is refused with `BadTransform` if a field has no
-/// values, or a value that doesn't have 3 to 8 letters or digits, and with `OutOfMemory`.
+/// values. Subtags before the first separator are left out. Refused with `BadTransform` if a field has no values, or a
+/// value that doesn't have 3 to 8 letters or digits, and with `OutOfMemory` where memory runs out.
 #[tactic(auto, using(crate::proofs::SplitLemmas::length_onward))]
 fn read_fields(alloc: Global, subtags: &[Subtag]) -> Result<Vec<Field>, TransformFault>
     ensures fields { IfOk result (λ fields. fields.items ≡ fields_of subtags.now) }
@@ -127,8 +128,9 @@ fn read_fields(alloc: Global, subtags: &[Subtag]) -> Result<Vec<Field>, Transfor
     Ok(fields)
 }
 
-/// The source that subtags spell, or None without a subtag. There must be at most 1,024 subtags, as a core has no more
-/// variants. It is refused with `BadTransform` if they aren't those of a core, and with `OutOfMemory`.
+/// The source that subtags spell; None if there is no subtag. There must be at most 1,024 subtags, as a core has no
+/// more variants. Refused with `BadTransform` if they aren't those of a core, and with `OutOfMemory` where memory runs
+/// out.
 fn read_source(alloc: Global, subtags: &[Subtag]) -> Result<Option<Core>, TransformFault>
     requires { length subtags.now ≤ longest_text }
     ensures source { IfOk result (λ source. source_of_list subtags.now ≡ Some source) }
@@ -152,7 +154,7 @@ fn read_source(alloc: Global, subtags: &[Subtag]) -> Result<Option<Core>, Transf
 /// The parts that spell a `u` extension (RFC 6067, 2.1), which must have the singleton `u`. There is one such value
 /// for each `u` extension. Its keys are the subtags of two characters. Its attributes are the subtags before the
 /// first key, and the types of a key are the subtags up to the next key. So `u-attr-co-trad` has the attribute `attr`
-/// and the keyword `co-trad`. By `few` they can be joined again. The only refusal is running out of memory.
+/// and the keyword `co-trad`. By `few` `join_u` takes these parts again. The only refusal is running out of memory.
 pub fn split_u(alloc: Global, extension: &Extension) -> Result<UParts, OutOfMemory>
     requires { extension.now.singleton ≡ unicode }
     ensures parts { IfOk result (λ parts. IsUnicode extension.now.subtags parts) }
@@ -168,7 +170,7 @@ pub fn split_u(alloc: Global, extension: &Extension) -> Result<UParts, OutOfMemo
 
 /// The parts that spell a `t` extension (RFC 6497, 2.2), which must have the singleton `t`: a source, fields, or a
 /// source and fields after it. So `t-he-m0-true` has the source `he` and the field `m0-true`. A separator may occur
-/// twice. There is at most one such value, which by `few` can be joined again. If there is none, the extension is
+/// twice. There is at most one such value, which by `few` `join_t` takes again. If there is none, the extension is
 /// refused with `BadTransform`, though its tag is well-formed. The other refusal is running out of memory.
 #[tactic(auto, using(crate::proofs::PartsLemmas::length_before))]
 pub fn split_t(alloc: Global, extension: &Extension) -> Result<TParts, TransformFault>
