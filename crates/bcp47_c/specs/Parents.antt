@@ -1,4 +1,5 @@
--- The parent of a tag.
+-- The parent of a tag, for the call `bcp47_write_parent`. The parts of a tag are its subtags; a singleton is one of one
+-- byte.
 use Rattle.std.specs.Prelude.{ℕ, ◌≡◌, ◌-◌, ◌+◌, ◌==◌, if◌then◌else◌, List, [], ◌∷◌, take, length, Option, Some, None}
 use Rattle.std.specs.Option.{option_map_or}
 use Rattle.lt_tag.specs.Parts.{TagForm}

@@ -1,4 +1,4 @@
-//! The parent of a tag.
+//! The parent of a tag: the tag without its last subtag, and without the singletons that then end it (RFC 4647, 3.4).
 ghost use Rattle.std.specs.Prelude.{◌≡◌, IfOk, IfErr, None};
 ghost use Rattle.std.specs.Option.{option_copied};
 ghost use Rattle.lt_tag.specs.Texts.{text_of};
@@ -29,8 +29,8 @@ fn show(alloc: Global, tag: &Tag) -> Result<Shown, OutOfMemory>
     Ok(Shown { text, parts })
 }
 
-/// The last of some parts that has more than one byte, so is no singleton. None if no part has; the None of the
-/// clause says that none was found before them.
+/// The last of some parts that has more than one byte, and so is no singleton. None if there is none. The None of the
+/// clause says that no such part comes before these.
 fn last_long(parts: &[Part]) -> Option<&Part>
     ensures { option_copied result ≡ spec.last_long None parts.now }
 {
