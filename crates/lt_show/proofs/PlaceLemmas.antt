@@ -1,4 +1,5 @@
--- Lemmas on where the parts of a tag are in its text.
+-- For the loop of `place`, which cuts a text at its hyphens and gives each piece the next kind: which parts it has at
+-- each turn (`Reached`), and that these are all parts at the end.
 use Rattle.std.proofs.Common.{◌≡◌, ℕ, ◌≤◌, ◌<◌, ◌+◌, ◌-◌, ◌==◌, true, false, List, [], ◌∷◌, ◌++◌, length, take, drop}
 use Rattle.std.proofs.Common.{refl, sym, ap, ◌∙◌, arith, append_assoc, length-drop, get_or}
 use Rattle.std.specs.Prelude.{Option, Some, None, position, is_some, unwrap_or}
@@ -44,7 +45,7 @@ placed_cut kinds text i start h d lt found =
     ∙ ap (λ n. part k start h ∷ placed n ks (pieces (drop (h + 1) rest))) sum
     ∙ ap (λ (x : List ℕ). part k start h ∷ placed (start + (h + 1)) ks (pieces x)) (drop-drop (h + 1) start text)
 
--- if the text has no hyphen from `start` on, what is left of it is one part
+-- if the text has no hyphen from `start` on, the rest of it is one part
 placed_last : (kinds : List PartKind) (text : List ℕ) (i start : ℕ) (d : PartKind) → i < length kinds → hyphen (drop start text) ≡ None
     → placed start (drop i kinds) (pieces (drop start text)) ≡ part (get_or kinds i d) start (length (drop start text)) ∷ []
 placed_last kinds text i start d lt found =
@@ -55,8 +56,8 @@ placed_last kinds text i start d lt found =
     ∙ ap (λ (x : List (List ℕ)). placed start (k ∷ ks) x) (pieces_one rest found)
     ∙ ap (λ (x : List Part). part k start (length rest) ∷ x) (none_placed (start + length rest + 1) ks)
 
--- `parts` are those of the first `i` kinds, and the text after them begins at `start`: with the parts of what is left,
--- they are all
+-- `parts` are those of the first `i` kinds, and the text behind them begins at `start`: with the parts of that text
+-- they are all parts
 pub record Reached (kinds : List PartKind) (text : List ℕ) (i start : ℕ) (parts : List Part) : Type 0 where
   pub within : start ≤ length text
   pub all : parts ++ placed start (drop i kinds) (pieces (drop start text)) ≡ placed 0 kinds (pieces text)

@@ -33,7 +33,7 @@ whole_by text (Some e) =
     record { place = 1; subject = subjects.Whole; start = 0; length = length text; listing = listings.Record e.number }
     ∷ []
 
--- the row of a whole tag, if a record registers it; a grandfathered tag has that of its one part alone (RFC 5646,
+-- the row of a whole tag, if a record registers it; a grandfathered tag has only the row of its one part (RFC 5646,
 -- 2.2.8)
 abbrev pub whole_rows : List EntryParts → TagForm → List Row
 whole_rows R (Grandfathered number) = []
