@@ -1,4 +1,5 @@
--- An end that is canonical but for the case of its letters follows each canonical core as it is, in lower case.
+-- For the functions that append an end without reading the text as a tag: an end that is canonical but for the case of
+-- its letters follows each canonical core in lower case, and an end of keywords follows it as their normal form.
 use Rattle.std.proofs.Common.{◌≡◌, ℕ, ◌<◌, ◌≤◌, ◌+◌, true, false, List, [], ◌∷◌, ◌++◌, refl, sym, ap, ◌∙◌, subst}
 use Rattle.std.proofs.Common.{subst₂, length, arith, inl, inr, ◌⊎◌, ◌==◌, ◌&&◌, ◌||◌, None}
 use Rattle.std.specs.Prelude.{Result, Ok, Err, OnOk, is_err}
@@ -148,7 +149,7 @@ module _ (R : List EntryParts) (C : IsChecked R) where
       ∙ ap (λ (l : List ℕ). 45 ∷ l) (after_first 117 rest))
       (unicode_text s rest (parts ss) (parts ss) is_u found (parts_rest ss r))
 
-  -- no extensions end as none
+  -- without extensions, the steps within extensions end without any
   x_ended : extensions_end R C [] ≡ []
   x_ended = rest_is_form (extensions_end_formed R C) [] (none_rests R)
 

@@ -1,4 +1,6 @@
--- What a source of fields says of an end: the subtags of a source and fields, and the text of a t extension.
+-- The proof of `fields_are_shared`: what follows one canonical source with fields, in the canonical text of a `t`
+-- extension, follows every canonical source with the same fields. So the cache may keep it for the fields. A `t`
+-- extension has a source, which is a langtag, and then fields: `it` and `-m0-names`.
 use Rattle.std.proofs.Common.{◌≡◌, ◌≢◌, ℕ, ◌≤◌, ◌==◌, true, not, List, [], ◌∷◌, ◌++◌, length, refl, sym, ap, ◌∙◌, subst}
 use Rattle.std.proofs.Common.{arith, false, Some, IfSome, flat_map, ◌-◌, take, drop, None}
 use Rattle.std.specs.List.{AllByRecursion, join_with_byte, list_all}
