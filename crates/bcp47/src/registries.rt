@@ -235,9 +235,9 @@ impl Registry {
         lt_cache::append_canonical_text(alloc, &self.checked, text, texts)
     }
 
-    /// The extlang form of a tag (RFC 5646, 4.5): its canonical form and, if the language of that is registered as an
-    /// extlang too, the Prefix of that extlang in front of it, unless that has 4 to 8 letters. `cmn-Hans` gives
-    /// `zh-cmn-Hans`. It is refused as `canonical` refuses.
+    /// The extlang form of a tag (RFC 5646, 4.5): its canonical form; and if the language of the canonical form is
+    /// registered as an extlang too, with the Prefix of that extlang in front, unless the Prefix has 4 letters or more.
+    /// `cmn-Hans` gives `zh-cmn-Hans`. It is refused as `canonical` refuses.
     pub fn extlang_form(&self, alloc: Global, tag: &Tag) -> Result<Tag, Refusal>
         ensures form { IfOk result (λ form. IsExtlangFormOf self.now tag.now form) }
         ensures refusal { IfErr result (λ refusal. IsRefusedWith self.now tag.now refusal) }
@@ -374,7 +374,7 @@ impl Registry {
     /// with the members `place`, `kind`, `text`, `listing` (`Record`, `Unregistered` or `Unlisted`), `record` (its number,
     /// or null) and `fields`, an array of objects with a `name` and a `body`: those fields of its record that
     /// [`is_shown`](crate::is_shown) shows. The records are those of the registry's file. The only refusal is running out of
-    /// memory, after which a front of it may have been appended.
+    /// memory, after which a part of it may have been appended.
     pub fn append_rows(
         &self,
         alloc: Global,

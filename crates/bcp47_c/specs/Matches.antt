@@ -1,4 +1,4 @@
--- Whether a language range matches a tag (RFC 4647, 3), and what `bcp47_handle_match` answers, which tells it.
+-- Whether a language range matches a tag (RFC 4647, 3), which `bcp47_handle_match` tells, and what that call answers.
 use Rattle.std.specs.Prelude.{ℕ, ◌≡◌, ◌≢◌, ◌⊎◌, ◌↔◌, if◌then◌else◌, Bool, IsTrue, List, [], Option, Some, None}
 use Rattle.lt_tag.specs.Faults.{HasTag}
 use Rattle.lt_tag.specs.Parts.{TagForm}

@@ -1,5 +1,5 @@
--- The tag that the name of a POSIX locale stands for, and what `bcp47_write_posix` answers, which writes it. No RFC
--- asks for that: it is a rule of this project.
+-- The tag that the name of a POSIX locale stands for, which `bcp47_write_posix` writes, and what that call answers. No
+-- RFC says which tag it is: that is a rule of this project.
 use Rattle.std.specs.Prelude.{ℕ, ◌≡◌, ◌==◌, ◌+◌, ◌||◌, ◌⊎◌, if◌then◌else◌, Bool, List, [], codes, drop, map, take, bytes_eq}
 use Rattle.std.specs.Prelude.{Option, Some, None, position}
 use Rattle.lt_tag.specs.Faults.{HasTag}

@@ -42,8 +42,8 @@ lengths_of f = record { name = length f.0; body = length f.1 }
 abbrev pub field_text : Field → List ℕ
 field_text f = f.0 ++ 0 ∷ (f.1 ++ 0 ∷ [])
 
--- the lengths and the texts of the fields are written and their number is answered, or that they do not fit; the room
--- for the lengths was `room` and is `filled`, and the buffer was `before` and is `after`
+-- the lengths and the texts of the fields are written, and their number is answered; or it is answered that they do not
+-- fit. The room for the lengths was `room` and is `filled`, and the buffer was `before` and is `after`.
 abbrev pub AreFieldsWritten : List Field → List FieldLengths → List FieldLengths → List ℕ → List ℕ → Outcome → Type 0
 AreFieldsWritten fields room filled before after o =
     AreDelivered (map lengths_of fields) (flat_map field_text fields) room filled before after o

@@ -1,5 +1,5 @@
--- A tag with one of its sections replaced or taken away (RFC 5646, 2.1), and what `bcp47_write_with` answers, which
--- writes it. The new section is given as a text, the value.
+-- A tag with one of its sections replaced or taken away (RFC 5646, 2.1), which `bcp47_write_with` writes, and what that
+-- call answers. The new section is given as a text, the value.
 use Rattle.std.specs.Prelude.{ℕ, ◌≡◌, ◌≢◌, ◌<◌, ◌≤◌, ◌+◌, ◌-◌, ◌⊎◌, Bool, true, false, not, List, [], ◌∷◌, ◌++◌, codes, drop, length}
 use Rattle.std.specs.Prelude.{Option, Some, None, IsSome, position}
 use Rattle.lt_tag.specs.Faults.{HasTag, IsFault}

@@ -1,6 +1,6 @@
 -- The list of tags that a handle keeps: which tag of it is served for an Accept-Language header, and which tags the
--- header accepts (RFC 9110, 12.5.4). And what the calls answer that tell this: `bcp47_handle_list`, `bcp47_handle_best`
--- and `bcp47_handle_filter`. The lists are the subtags of each tag's extlang form.
+-- header accepts (RFC 9110, 12.5.4). And what `bcp47_handle_list`, `bcp47_handle_best` and `bcp47_handle_filter`
+-- answer. A tag's list is the subtags of its extlang form.
 use Rattle.std.specs.Prelude.{ℕ, ◌≡◌, ◌⊎◌, List, [], ◌∷◌, Option, Some, None, drop, length, min, take}
 use Rattle.lt_registry.specs.Parts.{EntryParts}
 use Rattle.lt_range.specs.Asked.{Asks, IsHeaderRefusal}

@@ -65,9 +65,9 @@ use texts::classify;
 
 /// Opens the registry whose text the bytes are (RFC 5646, 3.1), in a handle that holds nothing: status 0.
 ///
-/// Status 7 says that the bytes are not in the format of a registry, 8 that a record gives no entry, and 9 that the
-/// entries do not pass the check, with the number of the fault and its line or record. Status 4 says that memory ran
-/// out. The handle then still holds nothing, and what is wrong is written to the buffer, for example
+/// Status 7 says that the bytes are not in the format of a registry, 8 that a record can't be read as an entry, and 9
+/// that the entries do not pass the check, with the number of the fault and its line or record. Status 4 says that
+/// memory ran out. The handle then still holds nothing, and what is wrong is written to the buffer, for example
 /// `jar BadLine line 3`.
 #[unsafe(no_mangle)]
 pub extern "C" fn bcp47_handle_open(
@@ -150,7 +150,7 @@ pub extern "C" fn bcp47_handle_entries(alloc: Global, handle: &mut Handle) -> us
     count
 }
 
-/// Writes the SHA-256 digest of bytes (FIPS 180-4), which has 32 bytes: status 0, or 5 if the buffer has fewer.
+/// Writes the SHA-256 digest of bytes (FIPS 180-4), which has 32 bytes: status 0, or 5 if the buffer is shorter.
 #[unsafe(no_mangle)]
 pub extern "C" fn bcp47_digest(bytes: &[u8], buffer: &mut [u8]) -> Outcome
     ensures { IsDelivered (ended 0) (sha256 bytes.now) buffer.old buffer.new result }
@@ -276,7 +276,7 @@ pub extern "C" fn bcp47_handle_show(
     outcome
 }
 
-/// How many steps the explanation of the tag that a text is read as has: status 0, and the number as the place. The
+/// Counts the steps in the explanation of the tag that a text is read as: status 0, and their number as the place. The
 /// other statuses are those of `bcp47_handle_canonical`. Only the variant of status 3 is written to the buffer.
 #[unsafe(no_mangle)]
 pub extern "C" fn bcp47_handle_count_steps(
@@ -396,8 +396,8 @@ pub extern "C" fn bcp47_handle_equal(
 /// If one of the two is refused, the outcome's `text` says which, 1 for the range and 2 for the tag:
 ///
 /// - Status 1 with 1: the range is neither a valid tag nor a range (RFC 4647, 2.2); the detail is the number of the
-/// fault of the leftmost piece that has one. Status 3 with 1: steps can repeat a variant of the range, which is written
-/// to the buffer.
+///   fault of the leftmost piece that has one. Status 3 with 1: steps can repeat a variant of the range; the variant
+///   is written to the buffer.
 /// - Status 1, 2 or 3 with 2: the range passes, but the tag is refused as by `bcp47_handle_canonical`.
 /// - Status 4: memory ran out. Status 14: the number is that of no scheme.
 #[unsafe(no_mangle)]

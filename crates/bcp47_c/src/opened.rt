@@ -270,8 +270,8 @@ impl Opened {
         }
     }
 
-    /// Tells how many steps the explanation of the tag that a text is read as has, or answers why there is none. If
-    /// steps can repeat a variant of the tag, the variant is written to the buffer.
+    /// Counts the steps in the explanation of the tag that a text is read as, or answers why there is none. If steps
+    /// can repeat a variant of the tag, the variant is written to the buffer.
     pub(crate) fn count_steps(&self, alloc: Global, text: &[u8], buffer: &mut [u8]) -> Outcome
         ensures { CountsSteps self.now.entries text.now buffer.old buffer.new result }
     {
@@ -290,7 +290,7 @@ impl Opened {
 
     /// Writes the fields of the kept record with this number, counted from 1: their lengths to the front of `room`, and
     /// their texts to the buffer. A record that is not there has no fields. If one of the two doesn't fit, nothing is
-    /// written, and BufferTooSmall is answered; or that memory ran out.
+    /// written, and BufferTooSmall is answered. If memory runs out, that is answered.
     pub(crate) fn record(
         &self,
         alloc: Global,

@@ -51,8 +51,8 @@ pub(crate) fn ended(status: u8) -> Said
     }
 }
 
-/// Writes a text to the front of a buffer, and answers what is `said`, with the text's length. Where the text doesn't
-/// fit, nothing is written, and the status is `BUFFER_TOO_SMALL`.
+/// Writes a text to the front of a buffer, and answers what is `said`, with the text's length. If the text doesn't fit,
+/// nothing is written, and the status is `BUFFER_TOO_SMALL`, with the same length.
 pub(crate) fn deliver(said: Said, text: &[u8], buffer: &mut [u8]) -> Outcome
     ensures { IsDelivered said text.now buffer.old buffer.new result }
 {

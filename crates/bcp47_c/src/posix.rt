@@ -198,8 +198,8 @@ fn tag_of(alloc: Global, name: &[u8]) -> Result<Vec<u8>, Said>
 }
 
 /// Writes the text, in conventional case, of the tag that the name of a POSIX locale stands for: `sr-Latn-RS` for
-/// `sr_RS.UTF-8@latin`. No RFC asks for that: it is a rule of this project. Hyphens stand for underscores, and the
-/// codeset is left out. The modifiers `latin`, `iqtelif`, `cyrillic` and `devanagari` name a script, `valencia` a
+/// `sr_RS.UTF-8@latin`. No RFC says which tag it is: that is a rule of this project. Hyphens stand for underscores, and
+/// the codeset is left out. The modifiers `latin`, `iqtelif`, `cyrillic` and `devanagari` name a script, `valencia` a
 /// variant, `saaho` a language; `euro` and `abegede` say nothing of the tag. `C` and `POSIX` stand for
 /// `en-US-u-va-posix`. It asks no registry.
 ///

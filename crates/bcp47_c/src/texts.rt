@@ -57,7 +57,7 @@ pub(crate) fn classify(
     deliver(said, shown, buffer)
 }
 
-/// How many steps the explanation of the tag that a text is read as has, or why there is none.
+/// The number of steps in the explanation of the tag that a text is read as, or why there is none.
 pub(crate) fn step_count(
     alloc: Global,
     registry: &Registry,

@@ -113,7 +113,7 @@ rest_single es ps = refl
 pub core_no_single : (c : CoreParts) → IsCore c → no_single (spell_core c) ≡ true
 core_no_single c k = core_all (λ (s : List ℕ). not (length s == 1)) (λ s l. ap not (ne_eqb (length s) 1 (λ e. omega (arith, l.long)))) c k
 
--- the list of a text that is read as a core alone is the subtags of the core
+-- the list of a text that is read as a tag of only a core is the subtags of the core
 pub core_list : (front : List ℕ) (c : CoreParts) → HasTag front (core_alone c) → list_of front ≡ spell_core c
 core_list front c read = sym read.spelled ∙ append-nil (spell_core c)
 

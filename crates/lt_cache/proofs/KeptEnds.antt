@@ -46,8 +46,8 @@ fields_apart line E K =
     ∙ list_single E.singleton E.rest E.single)) ∙ K.no_singleton in
     cc
 
--- if what is kept for the fields of an end was appended after `-t-` and its source, which is canonical, then the
--- canonical form of the end was appended, or nothing if `told` is false
+-- `told` says whether `-t-`, a canonical source, and what is kept for the fields of an end were appended. If so, that
+-- is the canonical form of the end; if not, nothing was appended.
 pub transformed_appended : (R : List EntryParts) (table : List (Option Kept)) (source fields end old middle new : List
     ℕ) (told : Bool) → IsCanonicalCore R source → IsTransformed source fields end → middle ≡ old
     → AppendsTransformed table source fields middle new told → AppendsEnd R table end old new told
@@ -58,8 +58,8 @@ transformed_appended R table source fields end old middle new true G T same h = 
   h.3 ∙ ap (λ (l : List ℕ). l ++ (45 ∷ 116 ∷ 45 ∷ folded source ++ h.0)) same,
 )
 
--- If nothing was appended by the fields of an end (`before` is false), and then what is kept for the end itself, its
--- canonical form was appended; or nothing if `told` is false.
+-- Nothing was appended by the fields of an end (`before` is false). If then what is kept for the end itself was
+-- appended (`told`), that is the canonical form of the end; if not, nothing was appended.
 pub kept_appended_after : (R : List EntryParts) (table : List (Option Kept)) (end old middle new : List ℕ) (before told
     : Bool) → IsEnd end → AppendsEnd R table end old middle before → before ≡ false
     → AppendsKept table end middle new told → AppendsEnd R table end old new told

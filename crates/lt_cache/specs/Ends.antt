@@ -40,7 +40,7 @@ pub record IsTransformed (source fields end : List ℕ) : Type 0 where
   pub whole : end ≡ 45 ∷ singleton ∷ 45 ∷ (source ++ fields)
   pub is_fields : IsFields fields
 
--- the text is read as a core alone, which is canonical (RFC 5646, 2.1 and 4.5)
+-- the text is read as a tag of only a core, and that tag is canonical (RFC 5646, 2.1 and 4.5)
 pub record IsCanonicalCore (R : List EntryParts) (front : List ℕ) : Type 0 where
   pub core : CoreParts
   pub read : HasTag front (core_alone core)

@@ -111,13 +111,13 @@ abbrev pub asked : Result ℕ Error → Result (Unit {0}) Fault
 asked (Ok n) = Ok tt
 asked (Err error) = Err (faults.Run tool_faults.Read)
 
--- the input was asked for no bytes, if the command reads it
+-- the input was read into an empty buffer, if the command reads it; if not, it is untouched
 abbrev pub AsksIf : {I : Type 0} → (reads : Bool) → Stream I → Result (Unit {0}) Fault → Type 0
 AsksIf false input result = IsUntouched input × (result ≡ Ok tt)
 AsksIf true input result = (answer : Result ℕ Error) × Asks input answer × (result ≡ asked answer)
 
--- what is done before a command is performed: if it reads the input, no bytes are read from that, to see whether it can
--- be read; if it can, the files are opened, and else the opener is not called
+-- what is done before a command is performed: if it reads the input, that is read into an empty buffer, to see whether
+-- it can be read; if it can, the files are opened, and else the opener is not called
 pub record Prepares {P F I : Type 0} (calls : P → List ℕ → Result F Error → P → Type 0) (command : Command)
     (registry : List ℕ) (before after : P) (input : Stream I) (result : Result (Files F) Fault) : Type 0 where
   pub asks : Result (Unit {0}) Fault

@@ -78,7 +78,7 @@ abbrev pub of_column_fault : ColumnFault → Fault
 of_column_fault (column_faults.Name line) = faults.Usage line
 of_column_fault (column_faults.Heading fault) = faults.Run fault
 
--- where a column is, by the search for its name
+-- where a column is, or why it is not found, by what the search for its name found
 abbrev pub place_of : Result FoundColumn ColumnFault → Result ColumnPlace Fault
 place_of (Ok found) = Ok (record { number = found.number; front = Some found.front })
 place_of (Err fault) = Err (of_column_fault fault)

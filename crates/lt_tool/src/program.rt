@@ -109,8 +109,8 @@ fn open_files<F: Read + Drop, P: FnMut(&str) -> io::Result<F>>(
     })
 }
 
-/// If a command reads the input, reads no bytes from it, to see whether it can be read. Refused with `Read` if it
-/// can't, for example since it is closed.
+/// If a command reads the input, makes one read of it into an empty buffer, to see whether it can be read. Refused with
+/// `Read` if it can't, for example because it is closed.
 fn ask<I: Read>(command: &Command, input: &mut Device<I>) -> Result<(), Fault>
     ensures { AsksIf (reads_input_of command.now) (stream I.remaining input.old input.new) result }
 {
@@ -123,9 +123,9 @@ fn ask<I: Read>(command: &Command, input: &mut Device<I>) -> Result<(), Fault>
     }
 }
 
-/// Opens the files that a command names; `registry` is the path that `@` means. If the command reads the input, no
-/// bytes are read from the input first, to see that it is not closed: a file that is opened could otherwise take the
-/// place of a closed input. Refused if the input can't be read or the opener gives an error.
+/// Opens the files that a command names; `registry` is the path that `@` means. If the command reads the input, a read
+/// into an empty buffer is made first, to see that the input is not closed: a file that is opened would take the place
+/// of a closed input. Refused if the input can't be read or the opener gives an error.
 fn prepare<F: Read + Drop, P: FnMut(&str) -> io::Result<F>, I: Read>(
     alloc: Global,
     command: &Command,
@@ -213,10 +213,9 @@ pub fn perform<F: Read, I: Read, O: Write, E: Write>(
 /// `opener` opens the files that the command names, in the order in which they are read: a registry before a table of
 /// codes, and an older registry before a newer one. It must be callable at any time, with any path. A file that can't
 /// be opened ends the run with `! File` on the standard error and the status 4. The name `@` is the file with the path
-/// `registry`. The name `-` is the standard input, if the command doesn't read that. If it does, no bytes are read from
-/// the input before a file is opened, to see that the input is not closed: a file that is opened could take its place.
-/// A closed input ends the run with `! Read` on the standard error and the status 4. Then all is done as by
-/// [`perform`].
+/// `registry`. The name `-` is the standard input, if the command doesn't read that. If it does, the input is read into
+/// an empty buffer before a file is opened, since a file would take the place of a closed input. A closed input ends
+/// the run with `! Read` on the standard error and the status 4. Then all is done as by [`perform`].
 pub fn run_program<F: Read + Drop, P: FnMut(&str) -> io::Result<F>, I: Read, O: Write, E: Write>(
     alloc: Global,
     command: &Command,

@@ -211,8 +211,8 @@ pub(crate) fn show_texts<L: Lookup, O: Write>(
     shown(any)
 }
 
-/// The refusal of a file that was to be read as a registry with its records: the one with which reading the registry
-/// alone ends, or that memory ran out.
+/// The refusal of a file that was to be read as a registry with its records: the one that reading only the registry
+/// gives, or that memory ran out.
 fn refusal_of(fault: RecordsFault) -> RegistryRefusal
     ensures { IsKeptRefusal fault result }
 {

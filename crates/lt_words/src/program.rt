@@ -192,8 +192,8 @@ fn new_program<'a>(alloc: Global) -> Command<'a>
         .subcommand_required(true)
 }
 
-/// The program with a further subcommand, which has this name, help and arguments. In the clause `.top` is the
-/// subcommand alone, without subcommands of its own.
+/// The program with one more subcommand, which has this name, help and arguments. In the clause `.top` is the
+/// subcommand without subcommands of its own.
 fn with_new<'a>(
     alloc: Global,
     program: Command<'a>,
