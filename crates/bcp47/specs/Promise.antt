@@ -24,8 +24,8 @@ use Rattle.bcp47.specs.declared.errors.RegistryError.TheVariants as errors
 pub record Promise (R : List EntryParts) : Type 0 where
   -- each record meets each of the twelve conditions
   pub checked : IsChecked R
-  -- Either steps lead from a valid tag to a canonical tag, from which no step leads, and can repeat no variant of the
-  -- tag; or they can repeat one.
+  -- Of a valid tag one of two things is true: steps lead from it to a canonical tag, from which no step leads, and can
+  -- repeat no variant of it; or steps can repeat a variant of it.
   pub canonical : CanonicalOrRepeats R
   -- a valid tag of which steps can repeat a variant is equivalent to no canonical tag
   pub formless : RepeatsHaveNoForm R

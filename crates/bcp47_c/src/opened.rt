@@ -33,8 +33,8 @@ use std::sync::Arc;
 /// How many bytes `texts` has room for at first: as many as the longest text that is read as a tag has.
 const TEXT_ROOM: usize = 1024;
 
-/// A registry, and the records and the list of tags that are kept with it. Other handles may hold all of these too.
-/// Besides, it has room in which each call makes its text.
+/// A registry, and the records and the list of tags that are kept with it. Other handles may hold all of these too. It
+/// also has room in which calls make their texts.
 #[derive(Drop)]
 pub(crate) struct Opened {
     registry: Arc<Registry>,

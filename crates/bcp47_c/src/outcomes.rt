@@ -20,7 +20,7 @@ pub struct Outcome {
     /// else 0.
     pub detail: u32,
     /// The place of the fault: a subtag, a line, a record, a step or a list element, each counted from 1. If a call
-    /// counts something (steps, parts, fields or tags), how many there are. Of `bcp47_handle_best` the place of the
+    /// counts something (steps, parts, fields or tags), how many there are. For `bcp47_handle_best`, the place of the
     /// tag, counted from 0. Else 0.
     pub place: u64,
     /// How many bytes the text has, also where it does not fit the buffer.

@@ -52,7 +52,7 @@ module _ (p : Field → Bool) (kept : (f : Field) → p f ≡ true → is_kept f
 kept_of : (f : Field) → is_of_entry f ≡ true → is_kept f ≡ true
 kept_of f is = or_right (is_shown f.0) (is_of_entry f) is
 
--- so are the fields of each of the names by which an entry is made, or a header told
+-- so are the fields with each of the names by which an entry is made or the header is known
 type_kept : (f : Field) → is_called type_name f ≡ true → is_kept f ≡ true
 type_kept f is = kept_of f (search (or_left, or_right))
 
@@ -73,7 +73,8 @@ date_kept f is = kept_of f (search (or_left, or_right))
 
 -- ---- a record
 
--- two records are alike: they have the same fields of all names by which an entry is made of a record
+-- two records are alike in all that makes an entry of one: in the first field of each of these names, in all their
+-- Prefixes, and in whether a field is repeated
 record Alike (r s : List Field) : Type 0 where
   types : body type_name r ≡ body type_name s
   subtags : body subtag_name r ≡ body subtag_name s

@@ -14,13 +14,13 @@ use Rattle.lt_tool.specs.declared.outcomes.Outcome.{Outcome}
 abbrev pub is_told : (at_terminal : Bool) → Command → Bool
 is_told at_terminal command = at_terminal || has_summary command
 
--- whether a person is told of a run with these words; nobody is if the words name no command
+-- whether a person is told of a run with these words; nobody is told if the words name no command
 abbrev pub is_asked : (at_terminal : Bool) → Result Command WordsFault → Bool
 is_asked at_terminal (Ok command) = is_told at_terminal command
 is_asked at_terminal (Err fault) = false
 
 -- The command that the words name was run; or they name none, nothing was opened or read, and the run says why. `calls`
--- relates the opener's state, a path, its answer and its next state; it is `before` the run, and `after` it.
+-- relates the opener's state, a path, its answer and its next state; its state was `before` and is `after`.
 abbrev pub ComesTo : {P F I O E : Type 0} → (P → List ℕ → Result F Error → P → Type 0) → (F → Option (List ℕ))
     → Result Command WordsFault → (registry : List ℕ) → (before after : P) → Stream I → Stream O → Stream E → Outcome
     → Type 0

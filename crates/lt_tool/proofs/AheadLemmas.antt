@@ -4,7 +4,7 @@ use Rattle.std.proofs.Common.{◌≡◌, ℕ, List, Option, None, Some, refl}
 use Rattle.std.specs.Fmt.{option_append}
 use Rattle.std.specs.Io.KnownBytes.{Keeps, prepend_known}
 
--- if a chain has the bytes `all` to give, those of `front` and then `rest`, they are known wherever `rest` is
+-- if the bytes `all` of a chain are those of `front` and then `rest`, they are known whenever the bytes of `rest` are
 pub ahead_is : (front : List ℕ) (rest all : Option (List ℕ)) → all ≡ option_append (Some front) rest → Keeps (prepend_known front rest) all
 ahead_is front None all is = tt
 ahead_is front (Some rest) all is = rw is refl

@@ -53,7 +53,8 @@ fn table_end(kind: TableFaultKind) -> Status
 pub enum Fault {
     /// A text is no tag, or its tag is refused.
     Text(TextRefusal),
-    /// The second of two texts is no tag, or its tag is refused. The first one is not at fault.
+    /// The second of two texts is no tag, or its tag is refused. The first one is a tag, and if the second is a tag
+    /// too, the first has a canonical form.
     OtherText(TextRefusal),
     /// A registry is refused.
     Registry(Role, RegistryRefusal),

@@ -38,7 +38,7 @@ pub(crate) struct Ground {
 pub(crate) struct LinesPlan {
     /// What they are answered by.
     pub(crate) ground: Ground,
-    /// What each line is: a tag, a row of TSV, or a line of a CSV record.
+    /// How the lines are read: each as a tag or as a row of TSV, or together as records of CSV.
     pub(crate) form: LineForm,
     /// The bytes of the input that were read already to find a column by its name; None if none was looked for.
     pub(crate) front: Option<Vec<u8>>,

@@ -237,7 +237,7 @@ pub record Reads (words : List Text) (command : Command) : Type 0 where
   pub names : Names words command
 
 -- Why the words name no command. Help and the version are answered only if they are asked for. Usage is answered only
--- to words that name no command, and do more than ask for help or for the version. OutOfMemory may be answered to any
+-- to words that name no command and don't ask only for help or only for the version. OutOfMemory may be answered to any
 -- words.
 abbrev pub IsRefused : List Text → WordsFault → Type 0
 IsRefused words (fault.Help text) = IsAmong kind.DisplayHelp (fault_of langtag words)
