@@ -26,7 +26,7 @@ none_placed start [] = refl
 none_placed start (k ∷ ks) = refl
 
 -- if the first hyphen from `start` on is `h` bytes further, the parts from `start` on are the one up to the hyphen and
--- those after it; `i` is the index of the next kind
+-- those after it; `i` is the index of the next kind, and `d` is only the default of `get_or`
 placed_cut : (kinds : List PartKind) (text : List ℕ) (i start h : ℕ) (d : PartKind) → i < length kinds → hyphen (drop start text) ≡ Some h
     → placed start (drop i kinds) (pieces (drop start text)) ≡ part (get_or kinds i d) start h
     ∷ placed (start + (h + 1)) (drop (i + 1) kinds) (pieces (drop (start + (h + 1)) text))
@@ -45,7 +45,8 @@ placed_cut kinds text i start h d lt found =
     ∙ ap (λ n. part k start h ∷ placed n ks (pieces (drop (h + 1) rest))) sum
     ∙ ap (λ (x : List ℕ). part k start h ∷ placed (start + (h + 1)) ks (pieces x)) (drop-drop (h + 1) start text)
 
--- if the text has no hyphen from `start` on, the rest of it is one part
+-- if the text has no hyphen from `start` on, the rest of the text is one part, of the kind at index `i`; `d` is only
+-- the default of `get_or`
 placed_last : (kinds : List PartKind) (text : List ℕ) (i start : ℕ) (d : PartKind) → i < length kinds → hyphen (drop start text) ≡ None
     → placed start (drop i kinds) (pieces (drop start text)) ≡ part (get_or kinds i d) start (length (drop start text)) ∷ []
 placed_last kinds text i start d lt found =
@@ -62,8 +63,8 @@ pub record Reached (kinds : List PartKind) (text : List ℕ) (i start : ℕ) (pa
   pub within : start ≤ length text
   pub all : parts ++ placed start (drop i kinds) (pieces (drop start text)) ≡ placed 0 kinds (pieces text)
 
--- one part was placed: `end` is the next hyphen's index in what is left, `size` the part's length, and `more` the parts
--- with it
+-- one part was placed, behind the `parts` before it: `end` is the next hyphen's index in the rest of the text, `size`
+-- the part's length, and `more` the parts with it; `kind` is only the default of `get_or`
 pub record Places (kinds : List PartKind) (text : List ℕ) (i start : ℕ) (parts : List Part) (end : Option ℕ) (size : ℕ)
     (more : List Part) : Type 0 where
   pub kind : PartKind

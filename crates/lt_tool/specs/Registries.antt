@@ -45,7 +45,7 @@ abbrev pub IsJudged : Reading → Result (List EntryParts) RegistryRefusal → T
 IsJudged reading (Ok entries) = HoldsRegistry reading entries
 IsJudged reading (Err refusal) = IsRegistryRefusal reading refusal
 
--- a registry is refused, with this fault
+-- the registry with this role is refused, and this is the fault for that
 abbrev pub IsRefusedAs : Role → Reading → Fault → Type 0
 IsRefusedAs role reading fault =
     (refusal : RegistryRefusal) × IsRegistryRefusal reading refusal × (fault ≡ faults.Registry role refusal)

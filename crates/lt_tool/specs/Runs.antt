@@ -59,7 +59,7 @@ tallies_after (Err tool_faults.Write) tallies = []
 tallies_after (Err tool_faults.OutOfMemory) tallies = []
 tallies_after end tallies = tallies
 
--- what a run over lines came to
+-- what a run over lines came to: how many were answered and refused, or the fault that ended it
 abbrev pub counted : Result Counts ToolFault → End
 counted (Ok counts) = Ok (answers.Lines counts)
 counted (Err fault) = Err (faults.Run fault)
@@ -121,7 +121,7 @@ IsFound (Ok None) result = result ≡ Ok (answers.Written status.Refused)
 IsFound (Ok (Some line)) result = PrintsLine line.items result
 IsFound (Err fault) result = result ≡ Err (faults.Run fault)
 
--- the lines of the input were searched for the one of which `Finds` is true
+-- the input was searched for the line of which `Finds` is true, and `result` is what the run came to by that
 pub record Searches {I : Type 0} (Finds : Finding) (input : Stream I) (result : End) : Type 0 where
   pub end : Result (Option (Vec ℕ Global)) ToolFault
   pub searches : SearchesLines Finds input.bytes input.before input.after end
@@ -138,7 +138,7 @@ MatchesLines plan None input output result =
 
 -- ---- explanations
 
--- what a run came to that wrote an explanation
+-- what a run that wrote an explanation came to: Done, or the fault that stopped the writing
 abbrev pub written : Result (Unit {0}) ToolFault → End
 written (Ok done) = Ok (answers.Written status.Done)
 written (Err fault) = Err (faults.Run fault)
@@ -151,7 +151,8 @@ ExplainsText R text output result =
     ⊎ ((lines : List ℕ) × (end : Result (Unit {0}) ToolFault) × IsExplanationTextOf R text lines
     × WritesAll output lines end × (result ≡ written end))
 
--- what a run came to that judged an explanation
+-- what a run that judged an explanation came to: it passed if the verdict is Right; else the verdict, or the fault that
+-- ended the judging, is its fault
 abbrev pub judged : Result Verdict ToolFault → End
 judged (Ok verdicts.Right) = Ok answers.Passed
 judged (Ok verdict) = Err (faults.Explanation verdict)
@@ -167,12 +168,12 @@ VerifiesText R text input result =
 
 -- ---- objects
 
--- what a run came to that answered lines with objects; `refused` says whether one of the lines was refused
+-- what a run that answered lines with objects came to: Refused if it refused one of them, Done if not, or its fault
 abbrev pub answered : (refused : Bool) → Result (Unit {0}) ToolFault → End
 answered refused (Ok done) = Ok (answers.Written (status_if refused))
 answered refused (Err fault) = Err (faults.Run fault)
 
--- the lines of the input were answered with JSON objects
+-- the lines of the input were answered with JSON objects; `refused` is whether one of the lines was refused
 pub record AnswersInJson {I O : Type 0} (R : List EntryParts) (input : Stream I) (output : Stream O)
     (result : End) : Type 0 where
   pub refused : Bool

@@ -53,7 +53,8 @@ abbrev pub EndsBlock : List EntryParts → (text head block : List ℕ) → (ref
 EndsBlock R text head block refused =
     (ending : List ℕ) × EndsShown R text ending refused × (block ≡ head ++ (ending ++ 10 ∷ []))
 
--- what is shown of a text with this refusal, after the bytes `head`: the line of the refusal, and an empty line
+-- what is shown of a text with this refusal, after the bytes `head`: the line of the refusal, and an empty line; the
+-- text is refused
 abbrev pub EndsRefused : TextRefusal → (head block : List ℕ) → (refused : Bool) → Type 0
 EndsRefused refusal head block refused =
     (line : List ℕ) × IsRefusalLine refusal line × (block ≡ head ++ (line ++ 10 ∷ [])) × (refused ≡ true)
@@ -145,7 +146,7 @@ abbrev pub WritesBlocks : {O : Type 0} → ((text block : List ℕ) → (refused
 WritesBlocks Shows [] output result = IsUntouched output × (result ≡ Ok false)
 WritesBlocks Shows (text ∷ texts) output result = WritesFirst (Shows text) (WritesBlocks Shows texts) output result
 
--- what a run came to that showed texts
+-- what a run that showed texts came to: Refused if one of the texts is (`any`), Done if not, or the fault that ended it
 abbrev pub shown : Result Bool ToolFault → End
 shown (Ok any) = Ok (answers.Written (status_if any))
 shown (Err fault) = Err (faults.Run fault)

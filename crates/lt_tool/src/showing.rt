@@ -33,7 +33,7 @@ fn told(refused: bool, end: Result<(), ToolFault>) -> Result<bool, ToolFault>
     }
 }
 
-/// Writes a block that was made in memory, and tells whether its text is `refused`. Refused itself if the write fails.
+/// Writes a block that was made in memory, and tells whether its text is `refused`. `Err` means that the write failed.
 fn write_block<O: Write>(
     block: &[u8],
     refused: bool,
