@@ -74,7 +74,8 @@ pub record Places (kinds : List PartKind) (text : List ℕ) (i start : ℕ) (par
   pub is_size : size ≡ unwrap_or end (length (take (length text - start) (drop start text)))
   pub pushed : more ≡ parts ++ part (get_or kinds i kind) start size ∷ []
 
--- if a hyphen ends the part, what is left begins after it
+-- if a hyphen ends the part, the next part begins behind that hyphen, and the parts so far with those from there are
+-- all
 pub reached_next : (kinds : List PartKind) (text : List ℕ) (i start : ℕ) (parts : List Part) (end : Option ℕ) (size
     : ℕ) (more : List Part) → Places kinds text i start parts end size more → is_some end ≡ true
     → Reached kinds text (i + 1) (start + (size + 1)) more

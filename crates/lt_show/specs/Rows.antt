@@ -1,4 +1,5 @@
--- The rows that `show` prints for a tag: one for each of its parts.
+-- The rows that `show` prints for a tag: one for the whole tag if that is registered as redundant, and one for each
+-- part.
 use Rattle.std.specs.Prelude.{ℕ, ◌+◌, List, [], ◌∷◌, ◌++◌, length, take, drop, Option, Some, None}
 use Rattle.lt_tag.specs.Parts.{TagForm, Grandfathered}
 use Rattle.lt_tag.specs.Texts.{text_of}
