@@ -32,7 +32,7 @@ fn copy_field(alloc: Global, field: &JarField) -> Result<JarField, OutOfMemory>
     })
 }
 
-/// Copies of those of a record's fields that are kept. They are refused only where memory runs out.
+/// Copies of the fields of a record that are kept. They are refused only where memory runs out.
 fn copy_fields(alloc: Global, fields: &[JarField]) -> Result<Vec<JarField>, OutOfMemory>
     ensures { IfOk result (λ copies. copies.items ≡ kept_fields fields.now) }
 {
@@ -45,7 +45,7 @@ fn copy_fields(alloc: Global, fields: &[JarField]) -> Result<Vec<JarField>, OutO
     Ok(copies)
 }
 
-/// Puts a record after the other records, with copies of those of these fields that are kept. It is refused only where memory
+/// Puts a record after the other records, with copies of those `fields` that are kept. It is refused only where memory
 /// runs out.
 fn push_record(
     alloc: Global,
@@ -79,8 +79,8 @@ impl Draft {
         }
     }
 
-    /// Keeps a record after the others, with copies of those of these fields that are kept. Once memory has run out for
-    /// a record, no more are kept, and the clause states nothing more. The file is still read to its end, since a fault
+    /// Keeps a record after the others, with copies of those `fields` that are kept. Once memory has run out for a
+    /// record, no more are kept, and the clause states nothing more. The file is still read to its end, since a fault
     /// of the file is answered before lack of memory.
     fn take(&mut self, alloc: Global, fields: &[JarField])
         ensures { Keeps fields.now self.old self.new }

@@ -1,4 +1,4 @@
-//! A row for each part of a tag.
+//! A row for each part of a tag, and one for the whole tag if that is registered as redundant.
 ghost use Rattle.std.specs.Prelude.{◌≡◌, ◌++◌, IfOk, OnOk, drop, take};
 ghost use Rattle.std.specs.Option.{option_copied};
 ghost use Rattle.lt_tag.specs.Texts.{text_of};
